@@ -1,7 +1,5 @@
 -- Attributes at the front of trees, one after another.
-use Rattle.rl_tokens.proofs.Common.{AllByRecursion, Bool, IsTrue, List, [], ap, append-nil, append_assoc, arith, cond,
-    false, inl, inr, length, length-append, list_any, map-append, refl, subst, sym, true, ℕ, ◌++◌, ◌<◌, ◌||◌, ◌∙◌, ◌∷◌,
-    ◌≡◌, ◌≢◌}
+use Rattle.rl_tokens.proofs.Common.{AllByRecursion, Bool, IsTrue, List, [], ap, append-nil, append_assoc, arith, cond, false, inl, inr, length, length-append, list_any, map-append, refl, subst, sym, true, ℕ, ◌++◌, ◌<◌, ◌||◌, ◌∙◌, ◌∷◌, ◌≡◌, ◌≢◌}
 use Rattle.std.specs.Cmp.Lexicographic.{nat_list_eq_equiv}
 use Rattle.std.specs.List.{IsDistinct}
 use Rattle.std.specs.Str.{bytes_eq}
@@ -14,9 +12,7 @@ use Rattle.rl_tokens.specs.Trees.{Tree}
 use Rattle.rl_tokens.specs.Buffers.{begins_ident, begins_mark, IsAfterMark}
 use Rattle.rl_grammar.specs.Fronts.{IsFront}
 use Rattle.rl_grammar.proofs.FrontLemmas.{one_front, front_rest}
-use Rattle.rl_attributes.specs.Attributes.{Attribute, IsAttribute, AreListed, names_of, is_named, NamesDiffer,
-    MissesName, RepeatsName, MissesEquals, MissesLiteral, MissesComma, RejectsNextAttribute, StandBefore,
-    RejectsAttributes, HasNewName}
+use Rattle.rl_attributes.specs.Attributes.{Attribute, IsAttribute, AreListed, names_of, is_named, NamesDiffer, MissesName, RepeatsName, MissesEquals, MissesLiteral, MissesComma, RejectsNextAttribute, StandBefore, RejectsAttributes, HasNewName}
 use Rattle.rl_attributes.specs.AttributeSteps.{IsNext}
 
 -- ---- one attribute
@@ -52,9 +48,9 @@ one_attribute trees a b r s h k =
     let names : a.name ≡ b.name = cc in
     let equals : h.at_equals ≡ k.at_equals = cc in
     let literals : h.at_literal ≡ k.at_literal = one_mark 61 k.at_equals h.at_literal k.at_literal
-        (subst (λ (t : List Tree). IsAfterMark 61 t h.at_literal) equals h.equals) k.equals in
+    (subst (λ (t : List Tree). IsAfterMark 61 t h.at_literal) equals h.equals) k.equals in
     let one = one_front k.at_literal a.literal b.literal r s (subst (λ (t : List Tree). IsFront t a.literal r) literals
-        h.set) k.set in
+    h.set) k.set in
     (ap (λ (n : SpannedText). attribute n a.literal) names ∙ ap (attribute b.name) one.0, one.1)
 
 -- what stands after an attribute is shorter
@@ -86,8 +82,14 @@ taken_none trees = record { stand = λ some. refl; on = λ more h. h }
 stand_more : (trees : List Tree) (done : List Attribute) (rest : List Tree) (a : Attribute) (following next : List Tree)
     → StandBefore trees done rest → IsAttribute rest a following → IsAfterMark 44 following next
     → StandBefore trees (done ++ a ∷ []) next
-stand_more trees [] rest a following next h i m = (following, next, subst (λ (t : List Tree). IsAttribute t a following)
-    (sym h) i, m, refl)
+stand_more trees [] rest a following next h i m = (
+  following,
+  next,
+  subst (λ (t : List Tree). IsAttribute t a following)
+      (sym h) i,
+  m,
+  refl,
+)
 stand_more trees (x ∷ xs) rest a following next (b, n, j, k, h) i m =
     (b, n, j, k, stand_more n xs rest a following next h i m)
 
@@ -156,13 +158,13 @@ distinct_before : (name : List ℕ) (xs ys : List (List ℕ)) → IsDistinct byt
 distinct_before name [] ys h = refl
 distinct_before name (x ∷ xs) ys h =
     rw (apart_from name x xs ys (IsDistinct-head bytes_eq x (xs ++ (name ∷ ys)) h))
-        (distinct_before name xs ys (IsDistinct-tail bytes_eq x (xs ++ (name ∷ ys)) h))
+    (distinct_before name xs ys (IsDistinct-tail bytes_eq x (xs ++ (name ∷ ys)) h))
 
 names_before : (done : List Attribute) (a : Attribute) (more : List Attribute) → NamesDiffer (done ++ (a ∷ more))
     → is_named a.name.text done ≡ false
 names_before done a more h =
     distinct_before a.name.text (names_of done) (names_of more)
-        (subst (IsDistinct bytes_eq) (map-append (λ x. x.name.text) done (a ∷ more)) h)
+    (subst (IsDistinct bytes_eq) (map-append (λ x. x.name.text) done (a ∷ more)) h)
 
 -- ---- at most one list
 
@@ -180,7 +182,7 @@ one_listing trees (x ∷ xs) (y ∷ ys) (b, i, inr (r, m, k)) (c, j, inr (s, n, 
     let one = one_attribute trees x y b c i j in
     let rests : r ≡ s = one_mark 44 c r s (subst (λ (t : List Tree). IsAfterMark 44 t r) one.1 m) n in
     ap (λ z. z ∷ xs) one.0 ∙ ap (λ zs. y ∷ zs) (one_listing s xs ys (subst (λ (t : List Tree). AreListed t xs) rests k)
-        l)
+    l)
 
 -- ---- what is rejected is no list
 
@@ -192,8 +194,7 @@ record GoesOn (list done : List Attribute) (rest : List Tree) : Type 0 where
 
 goes_on : (trees : List Tree) (done : List Attribute) (rest : List Tree) (list : List Attribute)
     → StandBefore trees done rest → rest ≢ [] → AreListed trees list → GoesOn list done rest
-goes_on trees [] rest list h some k = record { more = list; list_is = refl; listed = subst
-    (λ (t : List Tree). AreListed t list) h k }
+goes_on trees [] rest list h some k = record { more = list; list_is = refl; listed = subst (λ (t : List Tree). AreListed t list) h k }
 goes_on trees (x ∷ xs) rest [] (b, n, i, m, h) some k = absurd
     (no_attribute x b (subst (λ (t : List Tree). IsAttribute t x b) k i))
 goes_on trees (x ∷ xs) rest (y ∷ ys) (b, n, i, m, h) some (c, j, inl (e, f)) =
@@ -220,7 +221,7 @@ repeats_name done a more trees following e d i r =
     let q = i.named in
     let same : r.name ≡ a.name = cc in
     let again : is_named a.name.text done ≡ true = subst (λ (n : SpannedText). is_named n.text done ≡ true) same r.again
-        in
+    in
     let before = names_before done a more d in
     absurd (cc)
 
@@ -239,7 +240,7 @@ misses_literal seen a trees following scope e i m =
     let q = i.named in
     let equals : m.at_equals ≡ i.at_equals = cc in
     let literals : m.at_literal ≡ i.at_literal = one_mark 61 i.at_equals m.at_literal i.at_literal
-        (subst (λ (t : List Tree). IsAfterMark 61 t m.at_literal) equals m.equals) i.equals in
+    (subst (λ (t : List Tree). IsAfterMark 61 t m.at_literal) equals m.equals) i.equals in
     m.none a.literal following (subst (λ (t : List Tree). IsFront t a.literal following) (sym literals) i.set)
 
 misses_comma : {A : Type 0} (seen : List ℕ → Bool) (a : Attribute) (more : List Attribute) (trees : List Tree)
@@ -289,16 +290,10 @@ pub same_seen : {A : Type 0} (s t : List ℕ → Bool) (trees : List Tree) (scop
 same_seen s t trees scope e same r = record {
   why = elim r.why [
     | inl m ↦ inl m
-    | inr (inl m) ↦ inr (inl (record { name = m.name; following = m.following; named = m.named; again = sym
-        (same m.name.text) ∙ m.again; error = m.error }))
-    | inr (inr (inl m)) ↦ inr (inr (inl (record { name = m.name; following = m.following; begun = same_new s t trees
-        m.name m.following same m.begun; none = m.none; rejection = m.rejection })))
-    | inr (inr (inr (inl m))) ↦ inr (inr (inr (inl (record { name = m.name; at_equals = m.at_equals; at_literal =
-        m.at_literal; begun = same_new s t trees m.name m.at_equals same m.begun; equals = m.equals; none = m.none;
-        rejection = m.rejection }))))
-    | inr (inr (inr (inr m))) ↦ inr (inr (inr (inr (record { attribute = m.attribute; following = m.following; is =
-        m.is; anew = sym (same m.attribute.name.text) ∙ m.anew; some = m.some; none = m.none; rejection = m.rejection
-        }))))
+    | inr (inl m) ↦ inr (inl (record { name = m.name; following = m.following; named = m.named; again = sym (same m.name.text) ∙ m.again; error = m.error }))
+    | inr (inr (inl m)) ↦ inr (inr (inl (record { name = m.name; following = m.following; begun = same_new s t trees m.name m.following same m.begun; none = m.none; rejection = m.rejection })))
+    | inr (inr (inr (inl m))) ↦ inr (inr (inr (inl (record { name = m.name; at_equals = m.at_equals; at_literal = m.at_literal; begun = same_new s t trees m.name m.at_equals same m.begun; equals = m.equals; none = m.none; rejection = m.rejection }))))
+    | inr (inr (inr (inr m))) ↦ inr (inr (inr (inr (record { attribute = m.attribute; following = m.following; is = m.is; anew = sym (same m.attribute.name.text) ∙ m.anew; some = m.some; none = m.none; rejection = m.rejection }))))
   ];
 }
 

@@ -1,6 +1,5 @@
 -- Entries, one after another, and the names that are kept beside them.
-use Rattle.std.proofs.Common.{◌≡◌, ◌≢◌, ◌⊎◌, inl, inr, ℕ, zero, suc, ◌+◌, ◌<◌, Bool, true, false, cond, get_or, take,
-    drop, List, [], ◌∷◌, ◌++◌, refl, sym, ◌∙◌, ap, subst, Bor, string_bytes, arith}
+use Rattle.std.proofs.Common.{◌≡◌, ◌≢◌, ◌⊎◌, inl, inr, ℕ, zero, suc, ◌+◌, ◌<◌, Bool, true, false, cond, get_or, take, drop, List, [], ◌∷◌, ◌++◌, refl, sym, ◌∙◌, ap, subst, Bor, string_bytes, arith}
 use Rattle.std.specs.Prelude.{IsFalse, codes, All, Any, Result, Ok, Err, IfOk, IfErr, length}
 use Rattle.std.specs.BTreeSet.{BTreeSet, IsEmpty}
 use Rattle.std.specs.Str.{bytes_eq, chars}
@@ -13,13 +12,11 @@ use Rattle.std.proofs.lemmas.List.Elements.{All-push, All-same}
 use Rattle.rl_tokens.specs.declared.span.Span.{Span}
 use Rattle.rl_tokens.specs.declared.error.Error.{Error}
 use Rattle.rl_tokens.specs.declared.error.ErrorKind.{ErrorKind}
-use Rattle.rl_tokens.specs.declared.error.ErrorKind.TheVariants.{Expected, EndOfInput, Unexpected, Lex, Suffix,
-    NotInteger, TooLarge, NotFloat, Repeated, Number, Memory}
+use Rattle.rl_tokens.specs.declared.error.ErrorKind.TheVariants.{Expected, EndOfInput, Unexpected, Lex, Suffix, NotInteger, TooLarge, NotFloat, Repeated, Number, Memory}
 use Rattle.rl_tokens.specs.Errors.{memory_at}
 use Rattle.rl_tokens.specs.Texts.{SpannedText}
 use Rattle.rl_tokens.specs.Trees.{Tree, IdentTree}
-use Rattle.rl_tokens.specs.Buffers.{begins_ident, begins_mark, first_span, IsRest, IsAfterMark, StaysRest, MissesWord,
-    IsRejection}
+use Rattle.rl_tokens.specs.Buffers.{begins_ident, begins_mark, first_span, IsRest, IsAfterMark, StaysRest, MissesWord, IsRejection}
 use Rattle.rl_tokens.specs.Whole.{place_at, RejectsAll, LeavesTrees}
 use Rattle.rl_tokens.proofs.LexLaws.{one_list, never_both}
 use Rattle.rl_tokens.proofs.TreeRests.{rest_self}
@@ -30,15 +27,11 @@ use Rattle.rust_literals.specs.Literals.{kind_of, token_of, IsReadAs}
 use Rattle.rust_literals.proofs.ReadLemmas.{lex_memory}
 use Rattle.rl_attributes.specs.declared.attributes.Entry.{Entry}
 use Rattle.rl_attributes.specs.declared.attributes.Attrs.{Attrs}
-use Rattle.rl_attributes.specs.Attributes.{Attribute, IsAttribute, HasNewName, AreListed, names_of, is_named,
-    NamesDiffer, AreAttributes, AreAttributesOf, RejectsNextAttribute, RejectsAttributes, RejectsAttributeTrees,
-    RejectsAttributeText}
+use Rattle.rl_attributes.specs.Attributes.{Attribute, IsAttribute, HasNewName, AreListed, names_of, is_named, NamesDiffer, AreAttributes, AreAttributesOf, RejectsNextAttribute, RejectsAttributes, RejectsAttributeTrees, RejectsAttributeText}
 use Rattle.rl_attributes.specs.Entries.{attribute_of, attributes_of, IsReadEntry, HasName, EntriesDiffer}
 use Rattle.rl_attributes.specs.AttributeParsing.{entries_of, AreEntries, RunsAttrs, IsListOrMemory}
-use Rattle.rl_attributes.specs.AttributeSteps.{has_name, AddsName, IsNext, LacksMemoryInStep, RejectsStep, reported_at,
-    kind_reported_at}
-use Rattle.rl_attributes.proofs.AttributeLemmas.{AreTaken, taken_none, taken_more, taken_all, taken_begins, differ_more,
-    differ_none, named_more, refused_next, same_seen, one_listing}
+use Rattle.rl_attributes.specs.AttributeSteps.{has_name, AddsName, IsNext, LacksMemoryInStep, RejectsStep, reported_at, kind_reported_at}
+use Rattle.rl_attributes.proofs.AttributeLemmas.{AreTaken, taken_none, taken_more, taken_all, taken_begins, differ_more, differ_none, named_more, refused_next, same_seen, one_listing}
 
 -- The entries that were taken of the trees, the names that are kept of them, and what is left.
 pub record IsAt {A : Type 0} (trees : List Tree) (entries : List (Entry A)) (names : BTreeSet (Bor (List ℕ)))
@@ -68,7 +61,7 @@ pub at_next : {A : Type 0} (trees : List Tree) (entries more : List (Entry A)) (
     → IsAt trees more new next
 at_next trees entries more old new rest next entry at some n anew read adds left e =
     let grown : attributes_of more ≡ attributes_of entries ++ (attribute_of entry ∷ []) = ap attributes_of e
-        ∙ map_push attribute_of entries entry in
+    ∙ map_push attribute_of entries entry in
     record {
       taken = subst (λ (l : List Attribute). AreTaken trees l next) (sym grown)
           (taken_more trees (attributes_of entries) rest (attribute_of entry) next at.taken some n);
@@ -86,20 +79,17 @@ at_next trees entries more old new rest next entry at some n anew read adds left
 -- the trees end
 pub at_end : {A : Type 0} (trees : List Tree) (entries : List (Entry A)) (names : BTreeSet (Bor (List ℕ)))
     (rest : List Tree) → IsAt trees entries names rest → rest ≡ [] → AreEntries trees entries
-at_end trees entries names rest at e = record { are = record
-    { listed = taken_all trees (attributes_of entries) rest at.taken e; differ = at.differ }; read = at.read }
+at_end trees entries names rest at e = record { are = record { listed = taken_all trees (attributes_of entries) rest at.taken e; differ = at.differ }; read = at.read }
 
 -- an allocation failure for what a name begins
 pub at_memory : {A B : Type 0} (trees : List Tree) (entries : List (Entry A)) (names : BTreeSet (Bor (List ℕ)))
     (rest : List Tree) (e : Error B) → IsAt trees entries names rest → rest ≢ [] → LacksMemoryInStep rest e
     → LacksMemoryInStep trees e
-at_memory trees entries names rest e at some w = record { begun = taken_begins trees (attributes_of entries) rest
-    at.taken some w.begun; memory = w.memory }
+at_memory trees entries names rest e at some w = record { begun = taken_begins trees (attributes_of entries) rest at.taken some w.begun; memory = w.memory }
 
 pub next_memory : {B : Type 0} (rest next : List Tree) (a : Attribute) (e : Error B) → IsNext rest a next → e.kind
     ≡ Memory → LacksMemoryInStep rest e
-next_memory rest next a e n m = record { begun = subst (λ (ts : List Tree). begins_ident ts ≡ true) (sym n.is.named)
-    refl; memory = m }
+next_memory rest next a e n m = record { begun = subst (λ (ts : List Tree). begins_ident ts ≡ true) (sym n.is.named) refl; memory = m }
 
 -- what stops a step is rejected of all trees
 pub at_refusal : {A B : Type 0} (trees : List Tree) (entries : List (Entry A)) (names : BTreeSet (Bor (List ℕ)))
@@ -109,7 +99,7 @@ at_refusal trees entries names rest scope was e at some s (inl w) = inl (at_memo
 at_refusal trees entries names rest scope was e at some s (inr r) =
     let seen = same_seen (has_name names) (λ name. is_named name (attributes_of entries)) rest was e at.knows r in
     inr (subst (λ (z : Span). RejectsAttributes trees z e) s (refused_next trees (attributes_of entries) rest was e
-        at.taken at.differ some seen))
+    at.taken at.differ some seen))
 
 -- a new name, `=` and a literal are an attribute
 pub entry_taken : {A : Type 0} (seen : List ℕ → Bool) (trees at_equals at_literal rest : List Tree) (name : SpannedText)
@@ -119,7 +109,7 @@ pub entry_taken : {A : Type 0} (seen : List ℕ → Bool) (trees at_equals at_li
 entry_taken seen trees at_equals at_literal rest name text span value text_is span_is begun equals front =
     let spanned : List ℕ → Span → SpannedText = λ t s. record { text = t; span = s } in
     let same : name ≡ spanned text span = ap (λ t. spanned t name.span) (sym text_is)
-        ∙ ap (spanned text) (sym span_is) in
+    ∙ ap (spanned text) (sym span_is) in
     record {
       at_equals = at_equals;
       at_literal = at_literal;
@@ -172,8 +162,7 @@ pub value_refused : {A : Type 0} (seen : List ℕ → Bool) (trees at_equals at_
     → IsAfterMark 61 at_equals at_literal → was ≡ scope → RunsLit at_literal was (Err e) after
     → RejectsStep seen trees scope e
 value_refused {A = A} seen trees at_equals at_literal after scope was name e begun equals same (inl w) =
-    inl (record { begun = subst (λ (ts : List Tree). begins_ident ts ≡ true) (sym begun.named) refl; memory = ap
-        (λ (x : Error A). x.kind) w.1.error })
+    inl (record { begun = subst (λ (ts : List Tree). begins_ident ts ≡ true) (sym begun.named) refl; memory = ap (λ (x : Error A). x.kind) w.1.error })
 value_refused seen trees at_equals at_literal after scope was name e begun equals same (inr n) =
     inr (record {
       why = inr (inr (inr (inl (record {
@@ -232,7 +221,7 @@ told_refusal trees scope place e told (inl w) p t =
     inl (record { begun = w.begun; error = t ∙ ap (λ k. kind_reported_at k e.span place) w.memory ∙ ap memory_at p })
 told_refusal trees scope place e told (inr r) p t =
     let same : told ≡ e = t ∙ stays e.kind e.span place (no_memory (λ name. is_named name r.earlier) r.rest scope e
-        r.rejected) in
+    r.rejected) in
     inr (subst (RejectsAttributes trees scope) (sym same) r)
 
 -- ---- a whole text
@@ -240,8 +229,7 @@ told_refusal trees scope place e told (inr r) p t =
 pub text_refused : {A : Type 0} (text : List ℕ) (file : ℕ) (e : Error A) → RejectsAll (RunsAttrs {A = A}) text file e
     → RejectsAttributeText (chars text) file (length text) e
 text_refused text file e (inl u) = inl u
-text_refused {A = A} text file e (inr c) = inr (record { trees = c.trees; lexes = c.lexes; rejected = go c.rejected.why
-    })
+text_refused {A = A} text file e (inr c) = inr (record { trees = c.trees; lexes = c.lexes; rejected = go c.rejected.why })
   where
     go : ((rest : List Tree) × RunsAttrs c.trees (place_at file (length text)) (Err e) rest)
         ⊎ LeavesTrees (RunsAttrs {A = A}) c.trees (place_at file (length text)) e
@@ -253,7 +241,7 @@ one_text : (text : List ℕ) (file : ℕ) (xs ys : List Attribute) → AreAttrib
     → AreAttributesOf text file ys → xs ≡ ys
 one_text text file xs ys a b =
     one_listing b.trees xs ys (subst (λ (t : List Tree). AreListed t xs)
-        (one_list text file a.trees b.trees a.lexes b.lexes) a.are.listed) b.are.listed
+    (one_list text file a.trees b.trees a.lexes b.lexes) a.are.listed) b.are.listed
 
 pub exactly : {A : Type 0} (text : List ℕ) (file end : ℕ) (r : Result (Attrs A) (Error A))
     → IfOk r (λ attrs. AreAttributesOf text file (attributes_of (entries_of attrs)))
@@ -328,7 +316,7 @@ none_more {A = A} entries name i entry below is other none k d h has =
       | inr l ↦
           let at : k ≡ i = omega arith in
           let same : get_or entries k d ≡ entry = ap (λ n. get_or entries n d) at
-              ∙ get_or_default entries i d entry below ∙ sym is in
+          ∙ get_or_default entries i d entry below ∙ sym is in
           other (subst (λ (x : Entry A). HasName name x) same has)
     ]
 
@@ -337,7 +325,7 @@ pub parted_at : {X : Type 0} (xs : List X) (i : ℕ) (x : X) → i < length xs �
     ++ (x ∷ drop (i + 1) xs)
 parted_at xs i x below is =
     sym (take-append-drop i xs) ∙ ap (λ z. take i xs ++ z) (drop_more xs i x below
-        ∙ ap (λ z. z ∷ drop (i + 1) xs) (sym is))
+    ∙ ap (λ z. z ∷ drop (i + 1) xs) (sym is))
 
 -- what is rejected of the value of the one entry with a name
 pub value_rejected : {A : Type 0} (entries : List (Entry A)) (name : List ℕ) (value : Lit A) (P : Lit A → Type 0)

@@ -1,6 +1,5 @@
 -- What a reader asks of settings, and its errors.
-use Rattle.std.specs.Prelude.{◌≡◌, ◌≢◌, ◌⊎◌, ℕ, Bool as Truth, List, [], ◌∷◌, ◌++◌, All, Any, Option, Result, String,
-    IfSome, IsTrue, IsFalse, codes, string_bytes}
+use Rattle.std.specs.Prelude.{◌≡◌, ◌≢◌, ◌⊎◌, ℕ, Bool as Truth, List, [], ◌∷◌, ◌++◌, All, Any, Option, Result, String, IfSome, IsTrue, IsFalse, codes, string_bytes}
 use Rattle.std.specs.List.{list_any}
 use Rattle.std.specs.Option.{IsSomeAnd}
 use Rattle.std.specs.Str.{bytes_eq, chars}

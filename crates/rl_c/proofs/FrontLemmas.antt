@@ -1,15 +1,12 @@
 -- Trees that are literals, one after another, are cut from the tokens of a list.
 use Rattle.rl_grammar.proofs.Names.{HasReading, ReadsAs, SpannedText}
-use Rattle.rl_tokens.proofs.Common.{Bool, List, [], ap, arith, chars, false, if◌then◌else◌, inl, inr, map, refl, subst,
-    sym, true, ℕ, ◌++◌, ◌∙◌, ◌∷◌, ◌≡◌, ◌≤◌, ◌⊎◌}
+use Rattle.rl_tokens.proofs.Common.{Bool, List, [], ap, arith, chars, false, if◌then◌else◌, inl, inr, map, refl, subst, sym, true, ℕ, ◌++◌, ◌∙◌, ◌∷◌, ◌≡◌, ◌≤◌, ◌⊎◌}
 use Rattle.rl_tokens.specs.declared.kind.Kind.TheVariants.{Bool as BoolKind}
 use Rattle.rl_tokens.specs.declared.span.Span.{Span}
 use Rattle.rl_tokens.specs.Puncts.{Mark}
-use Rattle.rl_tokens.specs.Lexemes.{LexemeForm, LiteralForm, IdentifierForm, DelimiterForm, MarkForm, lexeme_text,
-    form_of}
+use Rattle.rl_tokens.specs.Lexemes.{LexemeForm, LiteralForm, IdentifierForm, DelimiterForm, MarkForm, lexeme_text, form_of}
 use Rattle.rl_tokens.specs.Lexing.{LexedToken, end_of, LexesUpTo, flat_form, flat_token, is_opener, delimiter_for}
-use Rattle.rl_tokens.specs.Trees.{Tree, GroupTree, IdentTree, PunctTree, LiteralTree, flat_trees, FlatToken, Opening,
-    Closing, FlatIdent, FlatPunct, FlatLiteral}
+use Rattle.rl_tokens.specs.Trees.{Tree, GroupTree, IdentTree, PunctTree, LiteralTree, flat_trees, FlatToken, Opening, Closing, FlatIdent, FlatPunct, FlatLiteral}
 use Rattle.rl_grammar.specs.Fronts.{IsFront, joined_span}
 use Rattle.rl_grammar.proofs.FrontLemmas.{minus_chars}
 use Rattle.rl_c.specs.declared.reading.Reading.{Reading}
@@ -88,8 +85,7 @@ begun_one : (file at : ℕ) (t : List ℕ) (w : LexedToken) (ws : List LexedToke
     → token_of file w ≡ token → rest ≡ trees → token.span ≡ record { file = file; lo = l.lo; hi = l.hi }
     → ReportsToken (form_of w.lexeme) (text_of w) l.reading → Begun file (w ∷ ws) l rest
 begun_one file at t w ws l token trees rest (after, _, _, _, cut) tail same left span reported =
-    let place = place_of file w.at (end_of w) l token.span span (sym (ap (λ (x : SpannedText). x.span) same)) in record
-        {
+    let place = place_of file w.at (end_of w) l token.span span (sym (ap (λ (x : SpannedText). x.span) same)) in record {
       more = ws;
       begins = inl (record { token = w; cuts_are = refl; reported = reported; lo_is = place.0; hi_is = place.1 });
       at = end_of w;
@@ -109,7 +105,7 @@ begun_two file at t w v ws l m x trees rest (after, _, _, _, number) tail is_min
     let later : end_of w ≤ v.at = omega (arith, here, no_longer after (lexeme_text v.lexeme ++ following) gap) in
     let both : joined_span m.span x.span ≡ record { file = file; lo = w.at; hi = end_of v } =
     ap (λ s. joined_span s x.span) (sym mark) ∙ ap (λ (z : SpannedText). joined_span (span_of file w) z.span) (sym same)
-        ∙ one_span file w v later in
+    ∙ one_span file w v later in
     let place = place_of file w.at (end_of v) l (joined_span m.span x.span) span both in record {
       more = ws;
       begins = inr (record {
@@ -140,8 +136,8 @@ begun file at t (w ∷ ws) l (LiteralTree x ∷ trees) token rest cut e (is, lef
     let f = literal_form (form_of w.lexeme) (text_of w) (span_of file w) x h.0 in
     let same : token_of file w ≡ token = f.1 ∙ sym is in
     begun_one file at t w ws l token trees rest cut h.1 same left span
-        (subst (λ (g : LexemeForm). ReportsToken g (text_of w) l.reading) (sym f.0)
-        (subst (λ (z : SpannedText). ReportsLiteral z.text l.reading) (sym same) reported))
+    (subst (λ (g : LexemeForm). ReportsToken g (text_of w) l.reading) (sym f.0)
+    (subst (λ (z : SpannedText). ReportsLiteral z.text l.reading) (sym same) reported))
 begun file at t [] l (IdentTree x ∷ trees) token rest cut e front span reported = absurd
     (no_head (FlatIdent x) (flat_trees trees) e)
 begun file at t (w ∷ ws) l (IdentTree x ∷ trees) token rest cut e (reads, is, left) span reported =
@@ -150,12 +146,12 @@ begun file at t (w ∷ ws) l (IdentTree x ∷ trees) token rest cut e (reads, is
     let same : token_of file w ≡ token = f.1 ∙ sym is in
     let (contents, suffix, truth) = subst (λ (z : SpannedText). ReadsAs BoolKind (chars z.text)) (sym f.1) reads in
     let literal : ReportsLiteral (text_of w) l.reading = subst (λ (z : SpannedText). ReportsLiteral z.text l.reading)
-        (sym same) reported in
+    (sym same) reported in
     let word : ReportsToken IdentifierForm (text_of w) l.reading =
-        ((truth.truth, truth.text_is), its_reading (text_of w) l.reading (BoolKind, (contents, suffix, truth)) literal)
-        in
+    ((truth.truth, truth.text_is), its_reading (text_of w) l.reading (BoolKind, (contents, suffix, truth)) literal)
+    in
     begun_one file at t w ws l token trees rest cut h.1 same left span
-        (subst (λ (g : LexemeForm). ReportsToken g (text_of w) l.reading) (sym f.0) word)
+    (subst (λ (g : LexemeForm). ReportsToken g (text_of w) l.reading) (sym f.0) word)
 begun file at t cuts l (PunctTree m ∷ []) token rest cut e front span reported = absurd front
 begun file at t cuts l (PunctTree m ∷ IdentTree x ∷ trees) token rest cut e front span reported = absurd front
 begun file at t cuts l (PunctTree m ∷ PunctTree x ∷ trees) token rest cut e front span reported = absurd front
@@ -164,19 +160,19 @@ begun file at t [] l (PunctTree m ∷ LiteralTree x ∷ trees) token rest cut e 
     (no_head (FlatPunct m) (FlatLiteral x ∷ flat_trees trees) e)
 begun file at t (w ∷ []) l (PunctTree m ∷ LiteralTree x ∷ trees) token rest cut e front span reported =
     absurd (no_head (FlatLiteral x) (flat_trees trees) (heads (flat_token file w) (FlatPunct m) []
-        (FlatLiteral x ∷ flat_trees trees) e).1)
+    (FlatLiteral x ∷ flat_trees trees) e).1)
 begun file at t (w ∷ v ∷ ws) l (PunctTree m ∷ LiteralTree x ∷ trees) token rest cut e (is_minus, reads, is, left) span
     reported =
     let h = heads (flat_token file w) (FlatPunct m) (map (flat_token file) (v ∷ ws)) (FlatLiteral x ∷ flat_trees trees)
-        e in
+    e in
     let k = heads (flat_token file v) (FlatLiteral x) (map (flat_token file) ws) (flat_trees trees) h.1 in
     let mark = mark_form (form_of w.lexeme) (text_of w) (span_of file w) m h.0 in
     let number = literal_form (form_of v.lexeme) (text_of v) (span_of file v) x k.0 in
     let literal : ReportsLiteral (45 ∷ x.text) l.reading = subst (λ (z : SpannedText). ReportsLiteral z.text l.reading)
-        is reported in
+    is reported in
     begun_two file at t w v ws l m x trees rest cut k.1 (mark.0 ∙ ap MarkForm is_minus) mark.1 number.0 number.1 left
-        (sym (ap (λ (z : SpannedText). z.span) is) ∙ span) (its_reading (45 ∷ x.text) l.reading
-        (subst HasReading (sym (minus_chars x.text)) reads) literal)
+    (sym (ap (λ (z : SpannedText). z.span) is) ∙ span) (its_reading (45 ∷ x.text) l.reading
+    (subst HasReading (sym (minus_chars x.text)) reads) literal)
 begun file at t cuts l (GroupTree d inside s ∷ trees) token rest cut e front span reported = absurd front
 
 literals_of : (file at : ℕ) (t : List ℕ) (cuts : List LexedToken) (trees : List Tree) (ls : List ListLiteral)

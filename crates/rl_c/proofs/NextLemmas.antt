@@ -1,6 +1,5 @@
 -- The literal at the front of a list.
-use Rattle.rl_tokens.proofs.Common.{List, None, Option, Some, [], ap, arith, chars, chars-nil, false, inl, inr, length,
-    subst, true, ℕ, ◌-◌, ◌∙◌, ◌≡◌, ◌≤◌}
+use Rattle.rl_tokens.proofs.Common.{List, None, Option, Some, [], ap, arith, chars, chars-nil, false, inl, inr, length, subst, true, ℕ, ◌-◌, ◌∙◌, ◌≡◌, ◌≤◌}
 use Rattle.std.specs.Prelude.{MatchOption}
 use Rattle.rl_tokens.specs.Cursors.{CursorState, IsCursorState}
 use Rattle.rl_tokens.specs.Lexemes.{LexemeForm, LiteralForm, IdentifierForm, DelimiterForm, MarkForm}
@@ -47,8 +46,12 @@ begins_with l n at r is = (subst (λ o. MatchOption o ((n.minus_at ≡ l.token.l
 
 takes_less : (old new : CursorState) (l : NextLiteral) → TakesNextLiteral old l new → length new.rest ≤ length old.rest
 takes_less old new l (inl t) = tail_length _ _ t.takes.following
-takes_less old new l (inr t) = omega (arith, tail_length _ _ t.takes_minus.following, tail_length _ _
-    t.takes_number.following)
+takes_less old new l (inr t) = omega (
+  arith,
+  tail_length _ _ t.takes_minus.following,
+  tail_length _ _
+      t.takes_number.following,
+)
 
 starts_in : (text borrowed : List ℕ) (start : CursorState) → borrowed ≡ text → start.text ≡ borrowed
     → Skipped (chars borrowed) (chars start.rest) → IsCursorState borrowed start.rest → Starts text start
@@ -69,8 +72,15 @@ begins text borrowed start new l n rest same of skipped state takes left reporte
   starts = starts_in text borrowed start same of skipped state;
   takes = takes;
   reported = reported;
-  rest_is = omega (arith, place, ap length same, ap length left, takes_less start new l takes, tail_length _ _
-      state.following);
+  rest_is = omega (
+    arith,
+    place,
+    ap length same,
+    ap length left,
+    takes_less start new l takes,
+    tail_length _ _
+        state.following,
+  );
 }
 
 pub ends : (text borrowed rest : List ℕ) → borrowed ≡ text → Skipped (chars borrowed) (chars rest) → rest ≡ []

@@ -1,10 +1,8 @@
 -- A text whose calls return an error is no list.
-use Rattle.rl_tokens.proofs.Common.{List, [], ap, chars, encode_utf8_all, inl, inr, none-some, refl, subst, sym, ℕ,
-    ◌++◌, ◌∙◌, ◌∷◌, ◌≡◌, ◌⊎◌}
+use Rattle.rl_tokens.proofs.Common.{List, [], ap, chars, encode_utf8_all, inl, inr, none-some, refl, subst, sym, ℕ, ◌++◌, ◌∙◌, ◌∷◌, ◌≡◌, ◌⊎◌}
 use Rattle.rl_tokens.specs.Skipping.{Skipped}
 use Rattle.rl_tokens.specs.Reading.{HasNoReading}
-use Rattle.rl_tokens.specs.Lexemes.{Lexeme, LexemeForm, LiteralForm, IdentifierForm, DelimiterForm, MarkForm,
-    lexeme_text, IsLexeme, form_of}
+use Rattle.rl_tokens.specs.Lexemes.{Lexeme, LexemeForm, LiteralForm, IdentifierForm, DelimiterForm, MarkForm, lexeme_text, IsLexeme, form_of}
 use Rattle.rl_tokens.specs.Lexing.{LexedToken, end_of, LexesUpTo, ErrorAt}
 use Rattle.rl_tokens.specs.Cursors.{CursorState, form_view}
 use Rattle.rl_tokens.specs.Mirrors.LexemeAt.{lexeme_at}
@@ -35,9 +33,12 @@ follow at t (w ∷ ws) r (after, first, is, _, more) = (after, first, is, follow
 -- the same from after white space and comments on
 past_gap : (t r : List ℕ) (ws : List LexedToken) (s : List ℕ) → Skipped t r → Follow t ws s → Follow r ws s
 past_gap t r [] s gap cut = subst (Skipped r) (one_rest t r s gap cut) (skipped_again t r gap)
-past_gap t r (w ∷ ws) s gap (after, first, is, more) =
-    (after, subst (Skipped r) (one_rest t r (lexeme_text w.lexeme ++ after) gap first) (skipped_again t r gap), is,
-        more)
+past_gap t r (w ∷ ws) s gap (after, first, is, more) = (
+  after,
+  subst (Skipped r) (one_rest t r (lexeme_text w.lexeme ++ after) gap first) (skipped_again t r gap),
+  is,
+  more,
+)
 
 no_token : (v : Lexeme) (x : List ℕ) → IsLexeme v x → [] ≡ lexeme_text v ++ x → ⊥
 no_token v x is e = none-some (form_of v, x) (ap lexeme_at e ∙ lexeme_at-past v x is)
@@ -52,7 +53,7 @@ same_token : (v w : Lexeme) (x y : List ℕ) → IsLexeme v x → IsLexeme w y �
     → SameToken v w x y
 same_token v w x y is js e =
     let p = same_pair (form_of v) (form_of w) x y (sym (lexeme_at-past v x is) ∙ ap lexeme_at e ∙ lexeme_at-past w y js)
-        in
+    in
     let q = one_front (lexeme_text v ++ x) (lexeme_text v) (lexeme_text w) x y refl e (v, is, refl) (w, js, refl) in
     record { form = p.0; text = q.0; rest = p.1 }
 
@@ -67,7 +68,7 @@ same_first : (t : List ℕ) (v w : LexedToken) (vs ws : List LexedToken) (r s : 
     → Follow t (w ∷ ws) s → SameFirst v w vs ws r s
 same_first t v w vs ws r s (x, p, is, one) (y, q, js, other) =
     let same : SameToken v.lexeme w.lexeme x y = same_token v.lexeme w.lexeme x y is js
-        (one_rest t (lexeme_text v.lexeme ++ x) (lexeme_text w.lexeme ++ y) p q) in
+    (one_rest t (lexeme_text v.lexeme ++ x) (lexeme_text w.lexeme ++ y) p q) in
     record { form = same.form; after = x; one = one; other = subst (λ z. Follow z ws s) (sym same.rest) other }
 
 -- no minus is reported as a token alone
@@ -81,24 +82,24 @@ same_literal : (t : List ℕ) (own cuts more : List LexedToken) (l m : ListLiter
     → BeginsWith cuts m more → Follow t own r → Follow t cuts [] → Follow r more []
 same_literal t own cuts more l m r (inl a) (inl b) one other =
     let f : SameFirst a.token b.token [] more r [] = same_first t a.token b.token [] more r []
-        (subst (λ z. Follow t z r) a.cuts_are one) (subst (λ z. Follow t z []) b.cuts_are other) in
+    (subst (λ z. Follow t z r) a.cuts_are one) (subst (λ z. Follow t z []) b.cuts_are other) in
     past_gap f.after r more [] f.one f.other
 same_literal t own cuts more l m r (inl a) (inr b) one other =
     let f : SameFirst a.token b.minus [] (b.number ∷ more) r [] = same_first t a.token b.minus [] (b.number ∷ more) r []
-        (subst (λ z. Follow t z r) a.cuts_are one) (subst (λ z. Follow t z []) b.cuts_are other) in
+    (subst (λ z. Follow t z r) a.cuts_are one) (subst (λ z. Follow t z []) b.cuts_are other) in
     absurd (no_minus (form_of a.token.lexeme) (form_of b.minus.lexeme) (encode_utf8_all (lexeme_text a.token.lexeme))
-        l.reading a.reported f.form b.is_minus)
+    l.reading a.reported f.form b.is_minus)
 same_literal t own cuts more l m r (inr a) (inl b) one other =
     let f : SameFirst a.minus b.token (a.number ∷ []) more r [] = same_first t a.minus b.token (a.number ∷ []) more r []
-        (subst (λ z. Follow t z r) a.cuts_are one) (subst (λ z. Follow t z []) b.cuts_are other) in
+    (subst (λ z. Follow t z r) a.cuts_are one) (subst (λ z. Follow t z []) b.cuts_are other) in
     absurd (no_minus (form_of b.token.lexeme) (form_of a.minus.lexeme) (encode_utf8_all (lexeme_text b.token.lexeme))
-        m.reading b.reported (sym f.form) a.is_minus)
+    m.reading b.reported (sym f.form) a.is_minus)
 same_literal t own cuts more l m r (inr a) (inr b) one other =
     let f : SameFirst a.minus b.minus (a.number ∷ []) (b.number ∷ more) r [] = same_first t a.minus b.minus
-        (a.number ∷ []) (b.number ∷ more) r [] (subst (λ z. Follow t z r) a.cuts_are one)
-        (subst (λ z. Follow t z []) b.cuts_are other) in
+    (a.number ∷ []) (b.number ∷ more) r [] (subst (λ z. Follow t z r) a.cuts_are one)
+    (subst (λ z. Follow t z []) b.cuts_are other) in
     let g : SameFirst a.number b.number [] more r [] = same_first f.after a.number b.number [] more r [] f.one f.other
-        in
+    in
     past_gap g.after r more [] g.one g.other
 
 -- something is left where an error stands
@@ -129,11 +130,11 @@ never_number new number after reading (inl none) is e form reported = none after
     (lexeme_text number.lexeme, (number.lexeme, is, refl), e)
 never_number new number after reading (inr (l, next, takes, bad)) is e form reported =
     let same : SameToken takes.cut.lexeme number.lexeme takes.after after = same_token takes.cut.lexeme number.lexeme
-        takes.after after takes.is_lexeme is (sym takes.begins ∙ e) in
+    takes.after after takes.is_lexeme is (sym takes.begins ∙ e) in
     let bytes : encode_utf8_all (lexeme_text number.lexeme) ≡ l.text.now = ap encode_utf8_all (sym same.text)
-        ∙ takes.is_cut.bytes_are in
+    ∙ takes.is_cut.bytes_are in
     wrong l bad (sym takes.is_cut.form_is ∙ same.form ∙ form) (subst (λ z. ReportsReading (45 ∷ z) reading) bytes
-        reported)
+    reported)
   where
     wrong : (l : Lent) → (((form_view l.form ≡ LiteralForm) → ⊥) ⊎ HasNoReading (45 ∷ chars l.text.now))
         → form_view l.form ≡ LiteralForm → ReportsReading (45 ∷ l.text.now) reading → ⊥
@@ -145,34 +146,42 @@ none_begins : (text : List ℕ) (start : CursorState) (cuts more : List LexedTok
     → HasNoNextLiteral start → BeginsWith cuts l more → Follow (chars text) cuts [] → ⊥
 none_begins text start cuts more l s (inl none) (inl one) cut =
     let (after, first, is, _) = subst (λ z. Follow (chars text) z []) one.cuts_are cut in
-    none after (lexeme_text one.token.lexeme, (one.token.lexeme, is, refl), one_rest (chars text) (chars start.rest)
-        (lexeme_text one.token.lexeme ++ after) s.skipped first)
+    none after (
+      lexeme_text one.token.lexeme,
+      (one.token.lexeme, is, refl),
+      one_rest (chars text) (chars start.rest)
+          (lexeme_text one.token.lexeme ++ after) s.skipped first,
+    )
 none_begins text start cuts more l s (inl none) (inr two) cut =
     let (after, first, is, _) = subst (λ z. Follow (chars text) z []) two.cuts_are cut in
-    none after (lexeme_text two.minus.lexeme, (two.minus.lexeme, is, refl), one_rest (chars text) (chars start.rest)
-        (lexeme_text two.minus.lexeme ++ after) s.skipped first)
+    none after (
+      lexeme_text two.minus.lexeme,
+      (two.minus.lexeme, is, refl),
+      one_rest (chars text) (chars start.rest)
+          (lexeme_text two.minus.lexeme ++ after) s.skipped first,
+    )
 none_begins text start cuts more l s (inr (borrowed, new, takes, none)) (inl one) cut =
     let (after, first, is, _) = subst (λ z. Follow (chars text) z []) one.cuts_are cut in
     let w = one.token.lexeme in
     let same : SameToken takes.cut.lexeme w takes.after after = same_token takes.cut.lexeme w takes.after after
-        takes.is_lexeme is (sym takes.begins ∙ one_rest (chars text) (chars start.rest) (lexeme_text w ++ after)
-        s.skipped first) in
+    takes.is_lexeme is (sym takes.begins ∙ one_rest (chars text) (chars start.rest) (lexeme_text w ++ after)
+    s.skipped first) in
     let form : form_of w ≡ form_view borrowed.form = sym same.form ∙ takes.is_cut.form_is in
     let bytes : encode_utf8_all (lexeme_text w) ≡ borrowed.text.now = ap encode_utf8_all (sym same.text)
-        ∙ takes.is_cut.bytes_are in
+    ∙ takes.is_cut.bytes_are in
     never (form_view borrowed.form) borrowed.text.now new l.reading none
-        (subst (λ z. ReportsToken (form_view borrowed.form) z l.reading) bytes
-        (subst (λ (f : LexemeForm). ReportsToken f (encode_utf8_all (lexeme_text w)) l.reading) form one.reported))
+    (subst (λ z. ReportsToken (form_view borrowed.form) z l.reading) bytes
+    (subst (λ (f : LexemeForm). ReportsToken f (encode_utf8_all (lexeme_text w)) l.reading) form one.reported))
 none_begins text start cuts more l s (inr (borrowed, new, takes, none)) (inr two) cut =
     let mine : Follow (chars text) (takes.cut ∷ []) (chars new.rest) = follow 0 (chars text) (takes.cut ∷ [])
-        (chars new.rest) (one_cut text start new borrowed s takes) in
+    (chars new.rest) (one_cut text start new borrowed s takes) in
     let f : SameFirst takes.cut two.minus [] (two.number ∷ more) (chars new.rest) [] = same_first (chars text) takes.cut
-        two.minus [] (two.number ∷ more) (chars new.rest) [] mine
-        (subst (λ z. Follow (chars text) z []) two.cuts_are cut) in
+    two.minus [] (two.number ∷ more) (chars new.rest) [] mine
+    (subst (λ z. Follow (chars text) z []) two.cuts_are cut) in
     let form : form_view borrowed.form ≡ MarkForm 45 = sym takes.is_cut.form_is ∙ f.form ∙ two.is_minus in
     let (after, gap, is, _) = f.other in
     let e : chars new.rest ≡ lexeme_text two.number.lexeme ++ after = one_rest f.after (chars new.rest)
-        (lexeme_text two.number.lexeme ++ after) f.one gap in
+    (lexeme_text two.number.lexeme ++ after) f.one gap in
     wrong new (subst (λ (g : LexemeForm). BeginsNone g borrowed.text.now new) form none) after is e
   where
     wrong : (new : CursorState) → ((◌≡◌ {A = ℕ} 45 45 → ⊥) ⊎ HasNoNumber new) → (after : List ℕ)
@@ -185,7 +194,7 @@ stuck : (text : List ℕ) (status at : ℕ) (cuts : List LexedToken) (ls : List 
     → BeginsNoLiteral text status at → Follow (chars text) cuts [] → AreLiterals cuts ls → ⊥
 stuck text status at cuts [] b cut nothing =
     some_left b.start status b.reported (one_rest (chars text) (chars b.start.rest) [] b.starts.skipped
-        (subst (λ z. Follow (chars text) z []) nothing cut))
+    (subst (λ z. Follow (chars text) z []) nothing cut))
 stuck text status at cuts (l ∷ ls) b cut (more, begins, _) = none_begins text b.start cuts more l b.starts b.none begins
     cut
 
@@ -205,11 +214,11 @@ none_from text [] status at cuts ls b cut are = stuck text status at cuts ls b c
 none_from text (n ∷ ns) status at cuts [] (begins, calls) cut nothing =
     let s : CutsOff text n = cuts_off text n begins in
     no_end (chars text) s.own (returned n) (chars s.rest) s.literal (follow 0 (chars text) s.own (chars s.rest) s.cut)
-        (subst (λ z. Follow (chars text) z []) nothing cut)
+    (subst (λ z. Follow (chars text) z []) nothing cut)
 none_from text (n ∷ ns) status at cuts (l ∷ ls) (begins, calls) cut (more, first, are) =
     let s : CutsOff text n = cuts_off text n begins in
     let rest : Follow (chars s.rest) more [] = same_literal (chars text) s.own cuts more (returned n) l (chars s.rest)
-        s.literal first (follow 0 (chars text) s.own (chars s.rest) s.cut) cut in
+    s.literal first (follow 0 (chars text) s.own (chars s.rest) s.cut) cut in
     none_from s.rest ns status at more ls (subst (λ z. CallsToError z ns status at) (left_is text n s) calls) rest are
 
 pub no_list : (text : List ℕ) (ns : List Next) (status at : ℕ) (ls : List ListLiteral) → CallsToError text ns status at

@@ -15,11 +15,11 @@ pub numeral_of : (t body digits : List ℕ) (reading : Reading) → IsUtf8 t →
 numeral_of t body digits reading u r is e =
     let f = r.found in
     let same : body_in t f.body ≡ body = ap (λ at. take (f.body.hi - at) (drop at t)) (sym r.reported.at_is)
-        ∙ ap (λ end. take (end - reading.at) (drop reading.at t)) (sym r.reported.end_is) ∙ sym is in
+    ∙ ap (λ end. take (end - reading.at) (drop reading.at t)) (sym r.reported.end_is) ∙ sym is in
     let x = chars (suffix_in t f.body) in
     let (contents, reads) : HasSuffix Float (chars t) x = subst (λ k. HasSuffix k (chars t) x) r.kind_is
-        r.is_found.reads in
+    r.is_found.reads in
     let found = found_float t f u r.kind_is r.is_found in
     let numeral : chars body ≡ reads.numeral = ap chars (sym same)
-        ∙ (float_once (chars t) (chars (body_in t f.body)) reads.numeral x x found.reads reads.reads).0 in
+    ∙ (float_once (chars t) (chars (body_in t f.body)) reads.numeral x x found.reads reads.reads).0 in
     (x, subst (λ v. ReadsFloat (chars t) v x) (reads.contents_is ∙ ap Digits (sym (e ∙ ap float_digits numeral))) reads)

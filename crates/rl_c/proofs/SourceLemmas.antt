@@ -1,6 +1,5 @@
 -- Where the next literal of a source stands.
-use Rattle.std.proofs.Common.{◌≡◌, ℕ, ◌-◌, List, drop, [], ◌∷◌, ◌++◌, length, sym, ap, subst, ◌∙◌}
-use Rattle.std.specs.Str.{chars, IsCharBoundary}
+use Rattle.rl_tokens.proofs.Common.{IsCharBoundary, List, [], ap, chars, drop, length, subst, sym, ℕ, ◌++◌, ◌-◌, ◌∙◌, ◌∷◌, ◌≡◌}
 use Rattle.rl_tokens.specs.Cursors.{CursorState}
 use Rattle.rl_tokens.specs.Sources.{IsCutUpTo, TakesLiteralAfter}
 use Rattle.rl_tokens.specs.declared.sources.SourceToken.{SourceToken}
@@ -22,12 +21,12 @@ pub found_token : (text borrowed rest left : List ℕ) (at : ℕ) (start new : C
     ≡ length borrowed - length left → FindsToken text at next l
 found_token text borrowed rest left at start new l next same is cut tail takes left_is lo hi place =
     let t : TakesLiteralAfter (cursor_at text at) l new = subst (λ z. TakesLiteralAfter z l new)
-        (stands_at text borrowed rest at start same is cut) takes in
+    (stands_at text borrowed rest at start same is cut) takes in
     let from : IsTail text (drop at text) = subst (λ z. IsTail z (drop at z)) same (subst (IsTail borrowed) cut tail) in
     let whole : IsTail text new.rest = tail_step text (drop at text) new.rest from
-        (tail_step (drop at text) t.between.rest new.rest t.passes.following t.takes.following) in
+    (tail_step (drop at text) t.between.rest new.rest t.passes.following t.takes.following) in
     let at_is : next.rest_at ≡ length text - length new.rest = place ∙ ap (λ z. length z - length left) same
-        ∙ ap (λ z. length text - length z) left_is in
+    ∙ ap (λ z. length text - length z) left_is in
     record {
       after = new;
       takes = t;
@@ -45,8 +44,8 @@ cut_on text at next l (done, cut) found =
     let t = found.takes.takes in
     let between = found.takes.between in
     let more : IsCutUpTo (chars between.text) (done ++ p.cuts) (chars between.rest) = subst
-        (λ z. IsCutUpTo (chars z) (done ++ p.cuts) (chars between.rest)) (sym p.same) (p.goes_on done cut) in
+    (λ z. IsCutUpTo (chars z) (done ++ p.cuts) (chars between.rest)) (sym p.same) (p.goes_on done cut) in
     let cuts = (done ++ p.cuts) ++ (t.cut ∷ []) in
     let whole : IsCutUpTo (chars text) cuts (chars found.after.rest) = subst
-        (λ z. IsCutUpTo (chars z) cuts (chars found.after.rest)) p.same (t.goes_on (done ++ p.cuts) more) in
+    (λ z. IsCutUpTo (chars z) cuts (chars found.after.rest)) p.same (t.goes_on (done ++ p.cuts) more) in
     (cuts, subst (λ z. IsCutUpTo (chars text) cuts (chars z)) (sym found.rest_is) whole)

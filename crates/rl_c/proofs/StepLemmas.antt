@@ -1,7 +1,6 @@
 -- A call that returned a literal cut off its tokens; and so all calls, up to the end, cut off those of
 -- the list.
-use Rattle.rl_tokens.proofs.Common.{IsUtf8, List, [], ap, arith, chars, drop, encodes-chars, inl, inr, length, map,
-    refl, subst, sym, ℕ, ◌++◌, ◌+◌, ◌-◌, ◌∙◌, ◌∷◌, ◌≡◌, ◌⊎◌}
+use Rattle.rl_tokens.proofs.Common.{IsUtf8, List, [], ap, arith, chars, drop, encodes-chars, inl, inr, length, map, refl, subst, sym, ℕ, ◌++◌, ◌+◌, ◌-◌, ◌∙◌, ◌∷◌, ◌≡◌, ◌⊎◌}
 use Rattle.rl_tokens.specs.Texts.{IsTail, byte_len}
 use Rattle.rl_tokens.specs.Skipping.{Skipped}
 use Rattle.rl_tokens.specs.Lexemes.{LexemeForm, lexeme_text, form_of}
@@ -39,9 +38,14 @@ returned n = record { lo = n.minus_at; hi = n.hi; reading = n.reading }
 after_gap : (a b : ℕ) (t u : List ℕ) (ws : List LexedToken) (r : List ℕ) → Skipped t u → a + byte_len t ≡ b + byte_len u
     → LexesUpTo b u ws r → LexesUpTo a t ws r
 after_gap a b t u [] r gap place cut = subst (Skipped t) (one_rest u u r (skipped_again t u gap) cut) gap
-after_gap a b t u (w ∷ ws) r gap place (after, first, is, at, more) =
-    (after, subst (Skipped t) (one_rest u u (lexeme_text w.lexeme ++ after) (skipped_again t u gap) first) gap, is, at
-        ∙ sym place, more)
+after_gap a b t u (w ∷ ws) r gap place (after, first, is, at, more) = (
+  after,
+  subst (Skipped t) (one_rest u u (lexeme_text w.lexeme ++ after) (skipped_again t u gap) first) gap,
+  is,
+  at
+      ∙ sym place,
+  more,
+)
 
 -- two cuts, one after the other
 joins : (a b : ℕ) (t u : List ℕ) (vs ws : List LexedToken) (r : List ℕ) → LexesUpTo a t vs u → a + byte_len t
@@ -54,9 +58,14 @@ shifts : (k a : ℕ) (t : List ℕ) (ws : List LexedToken) (r : List ℕ) → Le
     → LexesUpTo (k + a) t (map (shifted k) ws) r
 shifts k a t [] r cut = cut
 shifts k a t (w ∷ ws) r (after, first, is, at, more) =
-    let ends : k + end_of w ≡ end_of (shifted k w) = omega arith in
-    (after, first, is, omega (arith, at), subst (λ n. LexesUpTo n after (map (shifted k) ws) r) ends
-        (shifts k (end_of w) after ws r more))
+    let ends : k + end_of w ≡ end_of (shifted k w) = omega arith in (
+      after,
+      first,
+      is,
+      omega (arith, at),
+      subst (λ n. LexesUpTo n after (map (shifted k) ws) r) ends
+          (shifts k (end_of w) after ws r more),
+    )
 
 -- the literal of such tokens, before others
 shifts_literal : (k : ℕ) (own : List LexedToken) (l : ListLiteral) (more : List LexedToken) → BeginsWith own l []
@@ -130,7 +139,7 @@ two_cut text start between new l m starts s t =
     let same : between.text ≡ text = s.same ∙ starts.text_is in
     let Cut : List ℕ → Type 0 = λ z. LexesUpTo 0 (chars z) (s.cut ∷ t.cut ∷ []) (chars new.rest) in
     subst Cut same (t.goes_on (s.cut ∷ []) (subst (λ z. LexesUpTo 0 (chars z) (s.cut ∷ []) (chars between.rest))
-        (sym same) (one_cut text start between l starts s)))
+    (sym same) (one_cut text start between l starts s)))
 
 cuts_by : (text : List ℕ) (l : NextLiteral) (n : Next) (start new : CursorState) → Starts text start
     → n.rest_at + length new.rest ≡ length text → ReportsNext l n → TakesNextLiteral start l new → CutsOff text n
@@ -172,17 +181,19 @@ whole_from at text [] end = ([], end, refl)
 whole_from at text (n ∷ ns) (begins, calls) =
     let s : CutsOff text n = cuts_off text n begins in
     let (cuts, cut, are) = whole_from (at + n.rest_at) s.rest ns (subst (λ z. CallsToEnd z ns) (left_is text n s) calls)
-        in
+    in
     let mine = map (shifted at) s.own in
     let none : at + 0 ≡ at = omega arith in
     let first : LexesUpTo at (chars text) mine (chars s.rest) = subst
-        (λ k. LexesUpTo k (chars text) mine (chars s.rest)) none (shifts at 0 (chars text) s.own (chars s.rest) s.cut)
-        in
+    (λ k. LexesUpTo k (chars text) mine (chars s.rest)) none (shifts at 0 (chars text) s.own (chars s.rest) s.cut)
+    in
     let place : at + byte_len (chars text) ≡ (at + n.rest_at) + byte_len (chars s.rest) = omega
-        (arith, s.place, ap length (encodes-chars text s.is_text), ap length (encodes-chars s.rest s.following.is_text))
-        in
-    (mine ++ cuts, joins at (at + n.rest_at) (chars text) (chars s.rest) mine cuts [] first place cut,
-        (cuts, shifts_literal at s.own (returned n) cuts s.literal, are))
+    (arith, s.place, ap length (encodes-chars text s.is_text), ap length (encodes-chars s.rest s.following.is_text))
+    in (
+      mine ++ cuts,
+      joins at (at + n.rest_at) (chars text) (chars s.rest) mine cuts [] first place cut,
+      (cuts, shifts_literal at s.own (returned n) cuts s.literal, are),
+    )
 
 pub whole : (text : List ℕ) (ns : List Next) → CallsToEnd text ns → IsList text (placed 0 ns)
 whole text ns calls = let (cuts, cut, are) = whole_from 0 text ns calls in record

@@ -1,13 +1,11 @@
 -- The trees of a list are its literals.
 use Rattle.rl_grammar.proofs.Names.{HasReading, SpannedText, byte_len}
-use Rattle.rl_tokens.proofs.Common.{List, Some, [], ap, arith, chars, encode_utf8_all, if◌then◌else◌, inl, inr, map,
-    nat_tests, option_and_then, refl, subst, sym, true, ℕ, ◌++◌, ◌==◌, ◌∙◌, ◌∷◌, ◌≡◌, ◌≤◌}
+use Rattle.rl_tokens.proofs.Common.{List, Some, [], ap, arith, chars, encode_utf8_all, if◌then◌else◌, inl, inr, map, nat_tests, option_and_then, refl, subst, sym, true, ℕ, ◌++◌, ◌==◌, ◌∙◌, ◌∷◌, ◌≡◌, ◌≤◌}
 use Rattle.std.specs.Prelude.{min, max}
 use Rattle.rl_tokens.specs.declared.span.Span.{Span}
 use Rattle.rl_tokens.specs.Puncts.{Mark}
 use Rattle.rl_tokens.specs.Skipping.{Skipped}
-use Rattle.rl_tokens.specs.Lexemes.{LexemeForm, LiteralForm, IdentifierForm, DelimiterForm, MarkForm, lexeme_text,
-    form_of}
+use Rattle.rl_tokens.specs.Lexemes.{LexemeForm, LiteralForm, IdentifierForm, DelimiterForm, MarkForm, lexeme_text, form_of}
 use Rattle.rl_tokens.specs.Lexing.{LexedToken, end_of, LexesUpTo, after_form, open_groups, flat_form, flat_token}
 use Rattle.rl_tokens.specs.Trees.{Tree, IdentTree, PunctTree, LiteralTree, flat, flat_trees}
 use Rattle.rl_tokens.proofs.CutLemmas.{byte_len-append}
@@ -72,7 +70,7 @@ one_span file m l after =
     let lo : min m.at l.at ≡ m.at = omega (arith, after) in
     let hi : max (end_of m) (end_of l) ≡ end_of l = omega (arith, after) in
     ap (λ b. if b then record { file = file; lo = min m.at l.at; hi = max (end_of m) (end_of l) } else span_of file m)
-        same
+    same
     ∙ ap (λ n. let s : Span = record { file = file; lo = n; hi = max (end_of m) (end_of l) } in s) lo
     ∙ ap (λ n. let s : Span = record { file = file; lo = m.at; hi = n } in s) hi
 
@@ -112,9 +110,9 @@ two_more file m w more l ls is_minus is_number reported lo hi after ts =
       flat_is =
           ap (λ g. flat_form g (text_of m) (span_of file m) ∷ flat_token file w ∷ map (flat_token file) more) is_minus
           ∙ ap (λ g. flat_form (MarkForm 45) (text_of m) (span_of file m) ∷ flat_form g (text_of w) (span_of file w) ∷
-              map (flat_token file) more) is_number
+          map (flat_token file) more) is_number
           ∙ ap (λ z. flat_form (MarkForm 45) (text_of m) (span_of file m) ∷ flat_form LiteralForm (text_of w)
-              (span_of file w) ∷ z) ts.flat_is;
+          (span_of file w) ∷ z) ts.flat_is;
       none_open = stay m (w ∷ more) (ap (λ g. after_form [] g m.at) is_minus)
           (stay w more (ap (λ g. after_form [] g w.at) is_number) ts.none_open);
       fronts = (
@@ -131,14 +129,13 @@ two_more file m w more l ls is_minus is_number reported lo hi after ts =
 trees_of : (file at : ℕ) (t : List ℕ) (cuts : List LexedToken) (ls : List ListLiteral) → LexesUpTo at t cuts []
     → AreLiterals cuts ls → TreesOf file cuts ls
 trees_of file at t cuts [] cut nothing =
-    subst (λ z. TreesOf file z []) (sym nothing) (record { trees = []; flat_is = refl; none_open = refl; fronts = refl
-        })
+    subst (λ z. TreesOf file z []) (sym nothing) (record { trees = []; flat_is = refl; none_open = refl; fronts = refl })
 trees_of file at t cuts (l ∷ ls) cut (more, inl one, are) =
     let w = one.token in
     let (after, _, _, _, rest) = subst (λ z. LexesUpTo at t z []) one.cuts_are cut in
     let ts : TreesOf file more ls = trees_of file (end_of w) after more ls rest are in
     subst (λ z. TreesOf file z (l ∷ ls)) (sym one.cuts_are) (one_more file w more l ls
-        (tree_of file w l.reading (form_of w.lexeme) refl one.reported) one.lo_is one.hi_is ts)
+    (tree_of file w l.reading (form_of w.lexeme) refl one.reported) one.lo_is one.hi_is ts)
 trees_of file at t cuts (l ∷ ls) cut (more, inr two, are) =
     let m = two.minus in
     let w = two.number in
@@ -147,7 +144,7 @@ trees_of file at t cuts (l ∷ ls) cut (more, inr two, are) =
     let ts : TreesOf file more ls = trees_of file (end_of w) following more ls rest are in
     let later : end_of m ≤ w.at = omega (arith, place, no_longer after (lexeme_text w.lexeme ++ following) gap) in
     subst (λ z. TreesOf file z (l ∷ ls)) (sym two.cuts_are) (two_more file m w more l ls two.is_minus two.is_number
-        two.reported two.lo_is two.hi_is later ts)
+    two.reported two.lo_is two.hi_is later ts)
 
 pub list_of_trees : (text : List ℕ) (file : ℕ) (ls : List ListLiteral) → IsList text ls → IsListOfTrees text file ls
 list_of_trees text file ls is =

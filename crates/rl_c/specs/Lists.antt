@@ -2,16 +2,14 @@
 use Rattle.std.specs.Prelude.{◌≡◌, ℕ, ◌+◌, Bool, true, false, List, length, MatchOption}
 use Rattle.std.specs.Str.{chars}
 use Rattle.rl_tokens.specs.declared.lex_error.LexKind.{LexKind}
-use Rattle.rl_tokens.specs.declared.lex_error.LexKind.TheVariants.{DocComment, UnclosedComment, UnclosedQuote, Lifetime,
-    RawIdentifier, StrayCharacter, UnmatchedClose, UnclosedGroup, TooDeep, Memory}
+use Rattle.rl_tokens.specs.declared.lex_error.LexKind.TheVariants.{DocComment, UnclosedComment, UnclosedQuote, Lifetime, RawIdentifier, StrayCharacter, UnmatchedClose, UnclosedGroup, TooDeep, Memory}
 use Rattle.rl_tokens.specs.Cursors.{CursorState, IsCursorState}
 use Rattle.rl_tokens.specs.Lexemes.{LexemeForm, LiteralForm, IdentifierForm}
 use Rattle.rl_tokens.specs.Reading.{truth_text}
 use Rattle.rl_tokens.specs.Skipping.{Skipped}
 use Rattle.rl_grammar.specs.declared.next_literals.NextLiteral.{NextLiteral}
 use Rattle.rl_grammar.specs.declared.next_literals.RejectionKind.{RejectionKind}
-use Rattle.rl_grammar.specs.declared.next_literals.RejectionKind.TheVariants.{Lex, Group, UnmatchedClose as
-    UnmatchedListClose, NoLiteral}
+use Rattle.rl_grammar.specs.declared.next_literals.RejectionKind.TheVariants.{Lex, Group, UnmatchedClose as UnmatchedListClose, NoLiteral}
 use Rattle.rl_grammar.specs.NextLiterals.{TakesNextLiteral, HasNoNextLiteral, IsRejected}
 use Rattle.rl_c.specs.declared.next.Next.{Next}
 use Rattle.rl_c.specs.declared.reading.Reading.{Reading}

@@ -1,6 +1,5 @@
 -- The lines of a list, literal by literal.
-use Rattle.rl_tokens.proofs.Common.{IsUtf8, List, None, Option, Result, Some, [], ap, chars, chars-nil, length,
-    length-append, refl, string_bytes, subst, sym, ℕ, ◌++◌, ◌+◌, ◌∙◌, ◌∷◌, ◌≡◌}
+use Rattle.rl_tokens.proofs.Common.{IsUtf8, List, None, Option, Result, Some, [], ap, chars, chars-nil, length, length-append, refl, string_bytes, subst, sym, ℕ, ◌++◌, ◌+◌, ◌∙◌, ◌∷◌, ◌≡◌}
 use Rattle.std.proofs.Common.{IfErr, IfOk}
 use Rattle.std.specs.Prelude.{String, IfSome}
 use Rattle.std.specs.Option.{ok_or}
@@ -29,16 +28,14 @@ lengthened (Some lines) (Some longer) list lit h k = joins_more IsLineOfLit list
 -- no literal yet, and no line
 pub first_none : {A : Type 0} (text : List ℕ) (literals : Literals A) (lines : String A) → string_bytes lines ≡ []
     → HasReturned text 0 [] literals → HasLines text literals (Some lines)
-first_none text literals lines empty returned = record { list = []; returned = returned; lines_are = ap chars empty
-    ∙ chars-nil }
+first_none text literals lines empty returned = record { list = []; returned = returned; lines_are = ap chars empty ∙ chars-nil }
 
 -- one literal more, whose line is made
 pub first_more : {A : Type 0} (text : List ℕ) (old new : Literals A) (lines longer : Option (String A)) (lit : Lit A)
     (has : HasLines text old lines) → HasReturned text 0 (has.list ++ lit ∷ []) new
     → IfSome longer (Lengthens lines lit) → HasLines text new longer
 first_more text old new lines longer lit has returned pushed = record
-    { list = has.list ++ lit ∷ []; returned = returned; lines_are = lengthened lines longer has.list lit has.lines_are
-    pushed }
+    { list = has.list ++ lit ∷ []; returned = returned; lines_are = lengthened lines longer has.list lit has.lines_are pushed }
 
 -- the answer where the text is a list: its lines, or an allocation failure for them
 pub record Answers {A : Type 0} (text : List ℕ) (r : Result (String A) (Fault A)) : Type 0 where

@@ -20,8 +20,11 @@ pub refusal_fault : {A : Type 0} (command : Command) (input old : Option (List �
     → IfSome input (λ all. bytes ≡ all) → IsRejectionOf command bytes fault → IsErrorOf command input old old fault
 refusal_fault command input old bytes NotText e r = (Keeps-refl old, known (λ b. IsUtf8 b → ⊥) input bytes e r)
 refusal_fault command input old bytes Memory e r = Keeps-refl old
-refusal_fault command input old bytes (Literal error) e r = (Keeps-refl old, known
-    (λ b. IsRejectionOf command b (Literal error)) input bytes e r)
+refusal_fault command input old bytes (Literal error) e r = (
+  Keeps-refl old,
+  known
+      (λ b. IsRejectionOf command b (Literal error)) input bytes e r,
+)
 refusal_fault command input old bytes kind e r = absurd r
 
 -- all of the line was written
@@ -29,15 +32,22 @@ pub prints_known : (command : Command) (input old new : Option (List ℕ)) (byte
     → IfSome input (λ all. bytes ≡ all) → IsUtf8 bytes → Shows command (chars bytes) (chars line) → IsUtf8 line
     → Appends old new line → IfSome input (λ b. Prints command b old new)
 prints_known command input old new bytes line e u l w a =
-    known (λ b. Prints command b old new) input bytes e (u, (chars line, l, subst (λ z. Appends old new z)
-        (sym (encodes-chars line w)) a))
+    known (λ b. Prints command b old new) input bytes e (
+      u,
+      (
+        chars line,
+        l,
+        subst (λ z. Appends old new z)
+            (sym (encodes-chars line w)) a,
+      ),
+    )
 
 write_fault : {A : Type 0} (command : Command) (input old new : Option (List ℕ)) (bytes line : List ℕ) (fault : Fault A)
     → IfSome input (λ all. bytes ≡ all) → IsUtf8 bytes → Shows command (chars bytes) (chars line) → IsUtf8 line → fault
     ≡ Write → AppendsBeginning old new line → IsErrorOf command input old new fault
 write_fault {A = A} command input old new bytes line fault e u l w f a =
     let write : IsErrorOf {A = A} command input old new Write = known (λ b. PrintsBeginning command b old new) input
-        bytes e (u, (chars line, l, subst (λ z. AppendsBeginning old new z) (sym (encodes-chars line w)) a)) in
+    bytes e (u, (chars line, l, subst (λ z. AppendsBeginning old new z) (sym (encodes-chars line w)) a)) in
     subst (IsErrorOf command input old new) (sym f) write
 
 -- a beginning of the line was written

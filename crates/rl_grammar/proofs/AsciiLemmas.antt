@@ -1,6 +1,5 @@
 -- Where no character of ASCII stands at the front.
-use Rattle.rl_grammar.proofs.Names.{◌≡◌, ℕ, ◌≤◌, ◌<◌, false, ltb, eqb, List, [], ◌∷◌, None, refl, arith, ltb-false,
-    le-ltb, nat_tests, is_ascii_digit, digit_value, Kind, Str, ByteStr, first_passes, NoSign}
+use Rattle.rl_grammar.proofs.Names.{◌≡◌, ℕ, ◌≤◌, ◌<◌, false, ltb, eqb, List, [], ◌∷◌, None, refl, arith, ltb-false, le-ltb, nat_tests, is_ascii_digit, digit_value, Kind, Str, ByteStr, first_passes, NoSign}
 use Rattle.std.specs.Char.{is_ascii}
 use Rattle.rl_tokens.proofs.CommentBytes.{not_equal}
 use Rattle.rl_grammar.specs.Mirrors.NumberAt.{after_minus, radix_at, sign_at}
@@ -14,8 +13,14 @@ past : (c : ℕ) → is_ascii c ≡ false → 128 ≤ c
 past c h = omega (arith, ltb-false c 128 h)
 
 no_value : (c : ℕ) → 128 ≤ c → ltb (digit_value c) 16 ≡ false
-no_value c high = rw (not_below c 48 (omega arith), not_below c 58 (omega arith), not_below c 65 (omega arith),
-    not_below c 91 (omega arith), not_below c 97 (omega arith), not_below c 123 (omega arith)) refl
+no_value c high = rw (
+  not_below c 48 (omega arith),
+  not_below c 58 (omega arith),
+  not_below c 65 (omega arith),
+  not_below c 91 (omega arith),
+  not_below c 97 (omega arith),
+  not_below c 123 (omega arith),
+) refl
 
 pub no_digit : (t : List ℕ) → first_passes is_ascii t ≡ false → digit_at t ≡ None
 no_digit [] h = refl
@@ -34,10 +39,19 @@ unfolding escape_at
 no_escape kind [] h = refl
 no_escape kind (c ∷ cs) h =
     let high = past c h in
-    rw (not_equal c 120 (omega arith) high, not_equal c 117 (omega arith) high, not_equal c 10 (omega arith) high,
-        not_equal c 13 (omega arith) high, not_equal c 110 (omega arith) high, not_equal c 114 (omega arith) high,
-        not_equal c 116 (omega arith) high, not_equal c 92 (omega arith) high, not_equal c 39 (omega arith) high,
-        not_equal c 34 (omega arith) high, not_equal c 48 (omega arith) high) refl
+    rw (
+      not_equal c 120 (omega arith) high,
+      not_equal c 117 (omega arith) high,
+      not_equal c 10 (omega arith) high,
+      not_equal c 13 (omega arith) high,
+      not_equal c 110 (omega arith) high,
+      not_equal c 114 (omega arith) high,
+      not_equal c 116 (omega arith) high,
+      not_equal c 92 (omega arith) high,
+      not_equal c 39 (omega arith) high,
+      not_equal c 34 (omega arith) high,
+      not_equal c 48 (omega arith) high,
+    ) refl
 
 pub no_backslash : (t : List ℕ) → first_passes is_ascii t ≡ false → first_passes (λ c. eqb c 92) t ≡ false
 no_backslash [] h = refl
@@ -55,8 +69,11 @@ no_byte_opener (c ∷ cs) h = rw (not_equal c 39 (omega arith) (past c h)) (no_s
 pub no_opener : (t : List ℕ) → first_passes is_ascii t ≡ false → opener_at t ≡ None
 unfolding opener_at
 no_opener [] h = refl
-no_opener (c ∷ cs) h = let high = past c h in rw (not_equal c 39 (omega arith) high, not_equal c 98 (omega arith) high,
-    not_equal c 99 (omega arith) high) (no_string_opener Str (c ∷ cs) h)
+no_opener (c ∷ cs) h = let high = past c h in rw (
+  not_equal c 39 (omega arith) high,
+  not_equal c 98 (omega arith) high,
+  not_equal c 99 (omega arith) high,
+) (no_string_opener Str (c ∷ cs) h)
 
 pub no_quote : (q : ℕ) (t x : List ℕ) → q < 128 → first_passes is_ascii t ≡ false → t ≡ q ∷ x → ⊥
 no_quote q [] x low h e = absurd (cc)
@@ -84,5 +101,9 @@ pub no_radix_letter : (t : List ℕ) → first_passes is_ascii t ≡ false
     → ◌≡◌ {A = ℕ × List ℕ} (radix_at (48 ∷ t)) (10, 48 ∷ t)
 unfolding radix_at
 no_radix_letter [] h = refl
-no_radix_letter (c ∷ cs) h = let high = past c h in rw (not_equal c 98 (omega arith) high, not_equal c 111 (omega arith)
-    high, not_equal c 120 (omega arith) high) refl
+no_radix_letter (c ∷ cs) h = let high = past c h in rw (
+  not_equal c 98 (omega arith) high,
+  not_equal c 111 (omega arith)
+      high,
+  not_equal c 120 (omega arith) high,
+) refl

@@ -1,7 +1,5 @@
 -- A character of ASCII that stands for itself between single quotes.
-use Rattle.rl_grammar.proofs.Names.{◌≡◌, ◌<◌, ◌≤◌, ℕ, suc, zero, false, not, eqb, List, [], ◌∷◌, length, drop, get_or,
-    refl, sym, ap, subst, ◌∙◌, arith, inl, inr, eqb-true, cases_Bool, IsUtf8-drop, IsCharBoundary, IsAscii, IsUtf8,
-    Char, Plain}
+use Rattle.rl_grammar.proofs.Names.{◌≡◌, ◌<◌, ◌≤◌, ℕ, suc, zero, false, not, eqb, List, [], ◌∷◌, length, drop, get_or, refl, sym, ap, subst, ◌∙◌, arith, inl, inr, eqb-true, cases_Bool, IsUtf8-drop, IsCharBoundary, IsAscii, IsUtf8, Char, Plain}
 use Rattle.std.proofs.lemmas.Str.{IsCharBoundary-after_ascii, chars-IsAscii}
 use Rattle.std.specs.Str.{chars}
 use Rattle.rl_tokens.proofs.ScanLemmas.{ascii_first}
@@ -66,7 +64,7 @@ pub bare_text : (t b : List ℕ) (found : Found) → b ≡ t → IsUtf8 t → 3 
     → (get_or b 1 0 ≡ 92 → ⊥) → get_or b 1 0 < 128 → found ≡ OfUnit Char BareBody (get_or b 1 0) → IsFound t found
 bare_text t b found same u long first last other small found_is =
     let of_t = of_bytes b (subst IsUtf8 (sym same) u) (omega (arith, long, ap length same))
-        (ap (λ z. get_or z 0 0) same ∙ first) last other small in
+    (ap (λ z. get_or z 0 0) same ∙ first) last other small in
     subst (IsFound t) (sym found_is) (subst (λ z. IsFound z (OfUnit Char BareBody (get_or b 1 0))) same of_t)
   where
     of_bytes : (t : List ℕ) → IsUtf8 t → 3 ≤ length t → get_or t 0 0 ≡ 39 → get_or t 2 0 ≡ 39 → (get_or t 1 0 ≡ 92 → ⊥)
@@ -77,11 +75,11 @@ bare_text t b found same u long first last other small found_is =
     of_bytes (a ∷ b ∷ c ∷ x) u long first last other small =
         let At : ℕ → ℕ → List ℕ = λ p q. p ∷ b ∷ q ∷ x in
         let not_backslash : eqb b 92 ≡ false = elim (cases_Bool (eqb b 92))
-            [ inl e ↦ absurd (other (eqb-true b 92 e)) | inr e ↦ e ] in
+        [ inl e ↦ absurd (other (eqb-true b 92 e)) | inr e ↦ e ] in
         let text : IsUtf8 (At 39 39) = subst (λ q. IsUtf8 (At 39 q)) last (subst (λ p. IsUtf8 (At p c)) first u) in
         subst (λ p. IsFound (At p c) (OfUnit Char BareBody b)) (sym first)
-            (subst (λ q. IsFound (At 39 q) (OfUnit Char BareBody b)) (sym last)
-            (bare_found b x small not_backslash text))
+        (subst (λ q. IsFound (At 39 q) (OfUnit Char BareBody b)) (sym last)
+        (bare_found b x small not_backslash text))
 
 -- ---- the quote in front
 

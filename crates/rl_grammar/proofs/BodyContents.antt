@@ -1,6 +1,5 @@
 -- What the body of a string stands for.
-use Rattle.rl_grammar.proofs.Names.{◌≡◌, ◌⊎◌, inl, inr, ℕ, Bool, true, false, List, refl, sym, ap, subst, ◌∙◌,
-    both_ways, IsUtf8, Kind, Str, ByteStr, CStr, Characters, Bytes, ReadsQuoted, HasContents, quoted_contents}
+use Rattle.rl_grammar.proofs.Names.{◌≡◌, ◌⊎◌, inl, inr, ℕ, Bool, true, false, List, refl, sym, ap, subst, ◌∙◌, both_ways, IsUtf8, Kind, Str, ByteStr, CStr, Characters, Bytes, ReadsQuoted, HasContents, quoted_contents}
 use Rattle.std.specs.Prelude.{Result, Ok, Err, IfOk}
 use Rattle.std.specs.Str.{chars}
 use Rattle.rl_grammar.specs.Bodies.{HasBody, StandsFor}
@@ -46,13 +45,17 @@ other_kind kind (inr e) h = both_ways (is_bytes kind) h (ap is_bytes e)
 pub bytes_of_has : (kind : Kind) (t body bytes : List ℕ) (plain : Bool) → (kind ≡ ByteStr) ⊎ (kind ≡ CStr)
     → HasBody kind t body plain → HoldsBytes t bytes → HasContents kind t (Bytes bytes)
 bytes_of_has ByteStr t body bytes plain which has held =
-    let r = body_reads ByteStr t body plain has in
-    (has.suffix, subst (λ v. ReadsQuoted t ByteStr v has.suffix)
-        (r.contents_is ∙ ap Bytes (sym (held ByteStr (quoted_contents ByteStr has.value) has.suffix refl r))) r)
+    let r = body_reads ByteStr t body plain has in (
+      has.suffix,
+      subst (λ v. ReadsQuoted t ByteStr v has.suffix)
+          (r.contents_is ∙ ap Bytes (sym (held ByteStr (quoted_contents ByteStr has.value) has.suffix refl r))) r,
+    )
 bytes_of_has CStr t body bytes plain which has held =
-    let r = body_reads CStr t body plain has in
-    (has.suffix, subst (λ v. ReadsQuoted t CStr v has.suffix) (r.contents_is
-        ∙ ap Bytes (sym (held CStr (quoted_contents CStr has.value) has.suffix refl r))) r)
+    let r = body_reads CStr t body plain has in (
+      has.suffix,
+      subst (λ v. ReadsQuoted t CStr v has.suffix) (r.contents_is
+          ∙ ap Bytes (sym (held CStr (quoted_contents CStr has.value) has.suffix refl r))) r,
+    )
 bytes_of_has kind t body bytes plain which has held = absurd (other_kind kind which refl)
 
 -- a plain body is the contents of a string

@@ -1,8 +1,5 @@
 -- Runs of ASCII at the front of a text, which byte strings hold.
-use Rattle.rl_grammar.proofs.Names.{◌≡◌, ◌+◌, ◌<◌, ◌≤◌, ◌⊎◌, inl, inr, ℕ, suc, ◌==◌, ◌&&◌, ◌||◌, Bool, true, false, not,
-    cond, eqb, List, [], ◌∷◌, ◌++◌, length, nat_lt, refl, sym, ap, ◌∙◌, arith, and_from, and_parts, ltb-true, ne_eqb,
-    nat_tests, encodes-chars, list_all, prefix_len, IsUtf8, Kind, Str, ByteStr, CStr, Marks, is_plain, is_string,
-    is_ascii_other, is_other}
+use Rattle.rl_grammar.proofs.Names.{◌≡◌, ◌+◌, ◌<◌, ◌≤◌, ◌⊎◌, inl, inr, ℕ, suc, ◌==◌, ◌&&◌, ◌||◌, Bool, true, false, not, cond, eqb, List, [], ◌∷◌, ◌++◌, length, nat_lt, refl, sym, ap, ◌∙◌, arith, and_from, and_parts, ltb-true, ne_eqb, nat_tests, encodes-chars, list_all, prefix_len, IsUtf8, Kind, Str, ByteStr, CStr, Marks, is_plain, is_string, is_ascii_other, is_other}
 use Rattle.std.specs.Char.{is_ascii}
 use Rattle.std.specs.Str.{chars, encode_utf8_all}
 use Rattle.rl_tokens.proofs.CommentBytes.{cases128, encode_is_high, low_front}
@@ -16,8 +13,7 @@ use Rattle.std.proofs.Math.Bool.{and-true}
 
 -- of a test that passes all past ASCII
 high_cut : (q : ℕ → Bool) → PassesHigh q → (bs : List ℕ) → IsUtf8 bs → RunCut q bs
-high_cut q high bs u = record { boundary = run_boundary q high bs; cut = run_cut q high bs u; plain = run_plain q high
-    bs u; stops = run_stop q high bs u; behind = run_tail q high bs u }
+high_cut q high bs u = record { boundary = run_boundary q high bs; cut = run_cut q high bs u; plain = run_plain q high bs u; stops = run_stop q high bs u; behind = run_tail q high bs u }
 
 -- ASCII without marks
 other_low : (m : Marks) → PassesLow (is_ascii_other m)
@@ -59,7 +55,7 @@ inside_run m run e each = go run (ap (λ n. list_all (is_ascii_other n) run) (sy
     go [] h = refl
     go (c ∷ cs) h =
         let b = and_parts (is_ascii_other (record { first = 34; second = 13; third = 13; fourth = 13 }) c)
-            (list_all (is_ascii_other (record { first = 34; second = 13; third = 13; fourth = 13 })) cs) h in
+        (list_all (is_ascii_other (record { first = 34; second = 13; third = 13; fourth = 13 })) cs) h in
         and_from (is_inside ByteStr c) (list_all (is_inside ByteStr) cs) (inside_one c b.0) (go cs b.1)
 
 -- ---- texts of ASCII alone
@@ -96,8 +92,8 @@ all_bytes (c ∷ cs) = go (all_bytes cs) (cases128 c)
     go more (inr past) =
         let (b, bs, same, is, _) = encode_is_high c past in
         ap (λ z. list_all is_ascii (z ++ encode_utf8_all cs)) same
-            ∙ ap (λ z. z && list_all is_ascii (bs ++ encode_utf8_all cs)) (high_fails b is)
-            ∙ sym (ap (λ z. z && list_all is_ascii cs) (high_fails c past))
+        ∙ ap (λ z. z && list_all is_ascii (bs ++ encode_utf8_all cs)) (high_fails b is)
+        ∙ sym (ap (λ z. z && list_all is_ascii cs) (high_fails c past))
 
 -- a mark past ASCII is none
 no_mark : (m : Marks) → m ≡ record { first = 255; second = 255; third = 255; fourth = 255 } → (c : ℕ)

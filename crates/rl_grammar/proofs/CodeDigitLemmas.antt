@@ -1,13 +1,8 @@
 -- The digits of `\u{..}`, one at a time: what is read of them, and their flaw.
-use Rattle.rl_grammar.proofs.Names.{◌≡◌, ℕ, ◌+◌, ◌*◌, ◌≤◌, ◌<◌, ◌&&◌, Bool, true, false, not, cond, eqb, ltb, List, [],
-    ◌∷◌, Option, Some, None, refl, sym, ap, subst, ◌∙◌, inl, inr, arith, option_and_then, digit_value, scalar,
-    and_parts, both_ways, cases_Bool, eq-eqb, eqb-true, lt-ltb, ltb-true, ltb-false, ne_eqb, not-true, Kind,
-    allows_code, has_unicode, is_hex_digit}
+use Rattle.rl_grammar.proofs.Names.{◌≡◌, ℕ, ◌+◌, ◌*◌, ◌≤◌, ◌<◌, ◌&&◌, Bool, true, false, not, cond, eqb, ltb, List, [], ◌∷◌, Option, Some, None, refl, sym, ap, subst, ◌∙◌, inl, inr, arith, option_and_then, digit_value, scalar, and_parts, both_ways, cases_Bool, eq-eqb, eqb-true, lt-ltb, ltb-true, ltb-false, ne_eqb, not-true, Kind, allows_code, has_unicode, is_hex_digit}
 use Rattle.rl_grammar.specs.declared.flaws.FlawKind.TheVariants.{Unclosed, NoHexDigit, TooManyDigits}
-use Rattle.rl_grammar.specs.Mirrors.UnitAt.{CodeDigits, ◌>>=◌, brace_at, closed_at, code_digits_at, digit_at,
-    first_code_digits_at, number_if, unicode_at}
-use Rattle.rl_grammar.specs.Mirrors.UnitFlawAt.{FoundFlaw, code_flaw_at, code_flaw_of, first_digit_flaw_at, found_flaw,
-    is_code}
+use Rattle.rl_grammar.specs.Mirrors.UnitAt.{CodeDigits, ◌>>=◌, brace_at, closed_at, code_digits_at, digit_at, first_code_digits_at, number_if, unicode_at}
+use Rattle.rl_grammar.specs.Mirrors.UnitFlawAt.{FoundFlaw, code_flaw_at, code_flaw_of, first_digit_flaw_at, found_flaw, is_code}
 
 -- ---- what is read
 
@@ -40,7 +35,7 @@ digits_closed (c ∷ cs) v n last few = elim (cases_Bool (is_hex_digit c)) [
     | inr short ↦
         let less = below_six n few short in
         rw (a, short, digit_apart c 125 a refl, digit_apart c 95 a refl, lt-ltb n 6 less)
-            (digits_closed cs (v * 16 + digit_value c) (n + 1) (c ∷ cs) (omega (arith, less)))
+        (digits_closed cs (v * 16 + digit_value c) (n + 1) (c ∷ cs) (omega (arith, less)))
   ]
   | inr a ↦ elim (cases_Bool (eqb c 95)) [
     | inl b ↦ subst (λ x. closed_at (code_digits_at v n last (x ∷ cs)) ≡ unicode_digits_at v n (x ∷ cs))
@@ -90,7 +85,7 @@ digits_flaw_at kind v n (c ∷ cs) =
     cond (is_hex_digit c)
     (cond (eqb n 6) (found_flaw TooManyDigits (c ∷ cs))
     (cond (eqb n 5 && not (is_code kind (v * 16 + digit_value c)))
-        (found_flaw (code_flaw_of (v * 16 + digit_value c)) (c ∷ cs))
+    (found_flaw (code_flaw_of (v * 16 + digit_value c)) (c ∷ cs))
     (digits_flaw_at kind (v * 16 + digit_value c) (n + 1) cs)))
     (cond (eqb c 125) (found_flaw (code_flaw_of v) (c ∷ cs))
     (cond (eqb c 95) (digits_flaw_at kind v n cs) (found_flaw NoHexDigit (c ∷ cs))))
@@ -123,7 +118,7 @@ digits_flaw_is kind (c ∷ cs) v n last few good = elim (cases_Bool (is_hex_digi
               let parts = and_parts (eqb n 5) (not (is_code kind w)) bad in
               let six : n + 1 ≡ 6 = (let five = eqb-true n 5 parts.0 in omega arith) in
               rw bad (ap (λ m. code_flaw_at kind (code_digits_at w m (c ∷ cs) cs)) six
-                  ∙ no_code_six kind w (c ∷ cs) cs (not-true (is_code kind w) parts.1))
+              ∙ no_code_six kind w (c ∷ cs) cs (not-true (is_code kind w) parts.1))
           | inr fine ↦ rw fine (digits_flaw_is kind cs w (n + 1) (c ∷ cs) (omega (arith, less))
               (ap (λ b. b && not (is_code kind w)) (one_on n) ∙ fine))
         ])
@@ -149,7 +144,7 @@ first_flaw_is kind [] d h = absurd (cc)
 first_flaw_is kind (c ∷ cs) d h = elim (cases_Bool (is_hex_digit c)) [
   | inl a ↦
       let one : Some d ≡ Some (code_digits_at (digit_value c) 1 (c ∷ cs) cs) = h
-          ∙ ap (λ b. option_and_then found (cond b (Some (digit_value c, cs)) None)) a in
+      ∙ ap (λ b. option_and_then found (cond b (Some (digit_value c, cs)) None)) a in
       let same : d ≡ code_digits_at (digit_value c) 1 (c ∷ cs) cs = cc in
       rw a (ap (code_flaw_at kind) same)
   | inr a ↦

@@ -1,10 +1,5 @@
 -- What the decoders put together is what any reading holds.
-use Rattle.rl_grammar.proofs.Names.{◌≡◌, ℕ, ◌<◌, ◌||◌, Bool, true, false, not, cond, ltb, List, [], ◌∷◌, ◌++◌, length,
-    Some, refl, sym, ap, subst, ◌∙◌, arith, append-nil, encode_utf8, encode_utf8_all, AllByRecursion, list_all, IsUtf8,
-    scalar, and_from, and_parts, lt-ltb, ltb-true, encodes-append, encodes-chars, length-encode, Kind, Str, Char,
-    QuotedUnit, Letter, Plain, CrLf, Named, Hex, Unicode, Continuation, LowerN, LowerR, LowerT, Backslash, Apostrophe,
-    Quote, Zero, letter_value, unit_text, unit_value, hex_value, unicode_value, content_of, holds_characters, is_string,
-    is_single, is_plain, has_unicode, IsUnit, texts, values, Characters}
+use Rattle.rl_grammar.proofs.Names.{◌≡◌, ℕ, ◌<◌, ◌||◌, Bool, true, false, not, cond, ltb, List, [], ◌∷◌, ◌++◌, length, Some, refl, sym, ap, subst, ◌∙◌, arith, append-nil, encode_utf8, encode_utf8_all, AllByRecursion, list_all, IsUtf8, scalar, and_from, and_parts, lt-ltb, ltb-true, encodes-append, encodes-chars, length-encode, Kind, Str, Char, QuotedUnit, Letter, Plain, CrLf, Named, Hex, Unicode, Continuation, LowerN, LowerR, LowerT, Backslash, Apostrophe, Quote, Zero, letter_value, unit_text, unit_value, hex_value, unicode_value, content_of, holds_characters, is_string, is_single, is_plain, has_unicode, IsUnit, texts, values, Characters}
 use Rattle.std.specs.Char.{len_utf8}
 use Rattle.std.specs.Str.{chars}
 use Rattle.std.proofs.Math.Utf8.{scalars}
@@ -12,8 +7,7 @@ use Rattle.std.proofs.lemmas.Str.{chars-encodes, encode_ascii, scalars-chars}
 use Rattle.rl_tokens.specs.declared.kind.Kind.TheVariants.{Byte as ByteKind}
 use Rattle.rl_tokens.proofs.CutTrees.{scalars_parts}
 use Rattle.rl_grammar.specs.declared.quoted_forms.QuotedForm.{QuotedForm}
-use Rattle.rl_grammar.specs.declared.quoted_forms.QuotedForm.TheVariants.{Cooked as CookedForm, Raw as RawForm, Single
-    as SingleForm}
+use Rattle.rl_grammar.specs.declared.quoted_forms.QuotedForm.TheVariants.{Cooked as CookedForm, Raw as RawForm, Single as SingleForm}
 use Rattle.rl_grammar.specs.declared.units.Piece.{Piece}
 use Rattle.rl_grammar.specs.declared.units.Piece.TheVariants.{Character, Byte, Nothing}
 use Rattle.rl_grammar.specs.Mirrors.UnitAt.{piece_value, IsHeldBy, unit_at}
@@ -23,8 +17,7 @@ use Rattle.rl_grammar.specs.Decoded.{piece_bytes, in_bytes, HoldsBytes}
 use Rattle.rl_grammar.specs.Mirrors.Decodes.{Decodes}
 use Rattle.rl_grammar.proofs.UnitLemmas.{unit_nil}
 use Rattle.rl_grammar.proofs.RowLemmas.{row_start, row_step, row_run, row_once}
-use Rattle.rl_grammar.proofs.FormLemmas.{Formed, formed, parts_formed, formed_once, not_both, string_parts,
-    cooked_row_of_body, parts_read}
+use Rattle.rl_grammar.proofs.FormLemmas.{Formed, formed, parts_formed, formed_once, not_both, string_parts, cooked_row_of_body, parts_read}
 
 -- ---- values as bytes
 
@@ -107,7 +100,7 @@ pub raw_bytes : (t : List ℕ) (form : QuotedForm) (kind : Kind) (w body y : Lis
 raw_bytes t form kind w body y raw u p =
     let r : PartsAre RawForm kind t w (chars body) y = subst (λ f. PartsAre f kind t w (chars body) y) raw p in
     let bytes : body ≡ in_bytes kind w = sym (encodes-chars body u) ∙ ap encode_utf8_all r.1
-        ∙ sym (held_in_bytes kind r.0.inside) ∙ ap (in_bytes kind) (sym r.0.value_is) in
+    ∙ sym (held_in_bytes kind r.0.inside) ∙ ap (in_bytes kind) (sym r.0.value_is) in
     same_bytes t kind w y body (parts_formed RawForm kind t w (chars body) y r) bytes
 
 -- a string of plain characters does too
@@ -120,9 +113,9 @@ plain_bytes t CookedForm kind w body y h u p =
     let cs = chars body in
     let start = subst (BeginsRow kind cs []) (sym (append-nil cs)) (row_start kind cs) in
     let value : w ≡ content_of kind cs = (row_once kind cs w [] (content_of kind cs) []
-        (cooked_row_of_body kind t w cs y p) (row_run kind cs [] cs [] h start) (unit_nil kind) (unit_nil kind)).0 in
+    (cooked_row_of_body kind t w cs y p) (row_run kind cs [] cs [] h start) (unit_nil kind) (unit_nil kind)).0 in
     let bytes : body ≡ in_bytes kind w = sym (encodes-chars body u) ∙ sym (held_in_bytes kind cs)
-        ∙ ap (in_bytes kind) (sym value) in
+    ∙ ap (in_bytes kind) (sym value) in
     same_bytes t kind w y body (parts_formed CookedForm kind t w cs y p) bytes
 
 pub not_raw : (form : QuotedForm) (kind : Kind) (body : List ℕ) → is_plain_body form kind body ≡ false → form ≡ RawForm

@@ -1,8 +1,5 @@
 -- From what std says of bytes to characters.
-use Rattle.rl_grammar.proofs.Names.{◌≡◌, ◌≢◌, ℕ, ◌+◌, ◌<◌, ◌≤◌, ◌&&◌, Bool, true, false, not, eqb, List, [], ◌∷◌, ◌++◌,
-    length, take, drop, Option, Some, None, refl, sym, ap, subst, ◌∙◌, arith, ◌==◌, encode_utf8_all, MatchBool,
-    list_all, IsUtf8, IsCharBoundary, and_from, and_right, both_ways, eq-eqb, eqb-true, not_from_false, list_all-append,
-    encodes-chars, encodes-append, chars-append, chars-nil, IsUtf8-take, IsUtf8-drop, IsTail}
+use Rattle.rl_grammar.proofs.Names.{◌≡◌, ◌≢◌, ℕ, ◌+◌, ◌<◌, ◌≤◌, ◌&&◌, Bool, true, false, not, eqb, List, [], ◌∷◌, ◌++◌, length, take, drop, Option, Some, None, refl, sym, ap, subst, ◌∙◌, arith, ◌==◌, encode_utf8_all, MatchBool, list_all, IsUtf8, IsCharBoundary, and_from, and_right, both_ways, eq-eqb, eqb-true, not_from_false, list_all-append, encodes-chars, encodes-append, chars-append, chars-nil, IsUtf8-take, IsUtf8-drop, IsTail}
 use Rattle.std.proofs.Common.{take-append-drop, length-drop}
 use Rattle.std.specs.Prelude.{IfSome, IfNone, MatchOption}
 use Rattle.std.specs.Str.{chars, NoCharPasses, NonePass}
@@ -69,7 +66,7 @@ rsplit_once_some bs (Some x) m u =
     let a = around 34 bs m.0 m.1 u (omega arith) m.2.1 in
     let following : lacks 34 (chars (drop m.1 bs)) ≡ true = chars_lack 34 (drop m.1 bs) a.following m.2.0 in
     subst (λ y. CutAtLast bs y x.1.now) (sym m.3) (subst (CutAtLast bs (take m.0 bs)) (sym m.4)
-        (a.chars_are, following))
+    (a.chars_are, following))
 
 pub rsplit_once_none : (bs : List ℕ) (r : Option (Bor (List ℕ) × Bor (List ℕ))) → SplitLastQuote bs r → IsUtf8 bs
     → IfNone r (lacks 34 (chars bs) ≡ true)
@@ -85,7 +82,7 @@ contains_chars c bs true m small u =
     let ys = chars (drop m.1 bs) in
     let here : lacks c (c ∷ ys) ≡ false = ap (λ b. not b && lacks c ys) (eq-eqb c c refl) in
     sym (ap (lacks c) a.chars_are ∙ list_all-append (λ d. not (eqb d c)) xs (c ∷ ys)
-        ∙ and_right (lacks c xs) (lacks c (c ∷ ys)) here)
+    ∙ and_right (lacks c xs) (lacks c (c ∷ ys)) here)
 contains_chars c bs false m small u = sym (chars_lack c bs u m)
 
 -- a text has characters where it has bytes

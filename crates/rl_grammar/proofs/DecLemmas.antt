@@ -1,7 +1,5 @@
 -- Numbers in base ten of any size: the text spells the number, by digits alone, with no zero in front but of 0 itself.
-use Rattle.rl_grammar.proofs.Names.{◌≡◌, ℕ, suc, zero, ◌+◌, ◌*◌, ◌<◌, ◌≤◌, ◌^◌, Bool, true, false, eqb, ◌==◌, cond,
-    List, [], ◌∷◌, length, refl, sym, ap, ◌∙◌, arith, eqb-true, ne_eqb, nat_tests, digit_value, is_ascii_digit,
-    list_all, first_passes}
+use Rattle.rl_grammar.proofs.Names.{◌≡◌, ℕ, suc, zero, ◌+◌, ◌*◌, ◌<◌, ◌≤◌, ◌^◌, Bool, true, false, eqb, ◌==◌, cond, List, [], ◌∷◌, length, refl, sym, ap, ◌∙◌, arith, eqb-true, ne_eqb, nat_tests, digit_value, is_ascii_digit, list_all, first_passes}
 use Rattle.std.proofs.Common.{◌/◌, ◌%◌}
 use Rattle.std.proofs.lemmas.Bool.{agree_below_at}
 use Rattle.std.proofs.Math.Nat.{pow-succ'}
@@ -56,11 +54,11 @@ onto_value zero n ds h =
     let now : List ℕ = digit_glyph false (n % 10) ∷ ds in
     let last : n / 10 ≡ 0 = omega arith in
     value_step n ds now (n / 10 == 0) refl (no_times (10 ^ suc (length ds)) (spelled_number 10 now)
-        ∙ ap (λ q. q * 10 ^ suc (length ds) + spelled_number 10 now) (sym last))
+    ∙ ap (λ q. q * 10 ^ suc (length ds) + spelled_number 10 now) (sym last))
 onto_value (suc k) n ds h =
     let now : List ℕ = digit_glyph false (n % 10) ∷ ds in
     value_step n ds (digits_onto (suc k) 10 false (n / 10) now) (n / 10 == 0) refl
-        (onto_value k (n / 10) now (omega arith))
+    (onto_value k (n / 10) now (omega arith))
 
 pub dec_spells : (n : ℕ) → spelled_number 10 (dec n) ≡ n
 unfolding dec

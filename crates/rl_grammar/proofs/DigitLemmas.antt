@@ -1,7 +1,5 @@
 -- The digits of numbers.
-use Rattle.rl_grammar.proofs.Names.{◌≡◌, ℕ, suc, zero, ◌<◌, ◌≤◌, ◌^◌, List, [], ◌∷◌, ◌++◌, sym, ap, ◌∙◌, arith,
-    encodes-append, decimal, IsAscii, encode_utf8_all, Sign, NoSign, Minus, sign_text, IntReads, limit, float_digits,
-    FloatReads, Contents, Digits}
+use Rattle.rl_grammar.proofs.Names.{◌≡◌, ℕ, suc, zero, ◌<◌, ◌≤◌, ◌^◌, List, [], ◌∷◌, ◌++◌, sym, ap, ◌∙◌, arith, encodes-append, decimal, IsAscii, encode_utf8_all, Sign, NoSign, Minus, sign_text, IntReads, limit, float_digits, FloatReads, Contents, Digits}
 use Rattle.std.proofs.lemmas.Str.{chars-IsAscii}
 use Rattle.std.proofs.lemmas.List.{map-append}
 use Rattle.std.proofs.lemmas.List.Elements.{filter-append}
@@ -23,7 +21,7 @@ pub plain_more : (a b xs : List ℕ) (c : ℕ) → a ≡ encode_utf8_all (float_
 plain_more a b xs c e h =
     h ∙ ap (λ z. z ++ encode_utf8_all (float_digits (c ∷ []))) e
     ∙ sym (ap encode_utf8_all (float_digits-append xs (c ∷ []))
-        ∙ encodes-append (float_digits xs) (float_digits (c ∷ [])))
+    ∙ encodes-append (float_digits xs) (float_digits (c ∷ [])))
 
 -- a text has one numeral, and its digits are the digits
 pub same_numeral : (t b y ds n x : List ℕ) → FloatReads t b y → ds ≡ float_digits b → FloatReads t n x → ds
@@ -58,7 +56,7 @@ int_contents t y m bs w e c x r =
     let o = int_once t y x w.sign r.sign m r.magnitude w.reads r.reads in
     let s = int_sign t w.sign m y w.reads ∙ o.0 in
     let f : bs ≡ sign_text r.sign ++ decimal r.magnitude = e ∙ ap (λ k. sign_text k ++ decimal m) s
-        ∙ ap (λ k. sign_text r.sign ++ decimal k) o.1 in
+    ∙ ap (λ k. sign_text r.sign ++ decimal k) o.1 in
     r.contents_is ∙ ap Digits (sym (ap chars f ∙ ascii_signed r.sign r.magnitude r.within))
 
 -- what is written in three steps

@@ -1,11 +1,8 @@
 -- Rows of digits and underscores.
-use Rattle.rl_grammar.proofs.Names.{◌≡◌, ◌≢◌, ℕ, suc, ◌+◌, ◌*◌, ◌^◌, ◌<◌, ◌≤◌, Bool, true, false, not, ◌||◌, ◌==◌, cond,
-    List, [], ◌∷◌, Option, Some, None, length, refl, sym, ap, ◌∙◌, arith, ◌⊎◌, inl, inr, nat_lt, eqb-true, nat_tests,
-    pow-suc, digit_value, list_any, place_value, without_underscores, limit, after_run, is_row_part}
+use Rattle.rl_grammar.proofs.Names.{◌≡◌, ◌≢◌, ℕ, suc, ◌+◌, ◌*◌, ◌^◌, ◌<◌, ◌≤◌, Bool, true, false, not, ◌||◌, ◌==◌, cond, List, [], ◌∷◌, Option, Some, None, length, refl, sym, ap, ◌∙◌, arith, ◌⊎◌, inl, inr, nat_lt, eqb-true, nat_tests, pow-suc, digit_value, list_any, place_value, without_underscores, limit, after_run, is_row_part}
 use Rattle.std.proofs.Math.Nat.{mul-le-mul_left}
 use native.Mathlib.Numerals.{unary_clauses}
-use Rattle.rl_grammar.specs.Mirrors.NumberAt.{run, has_value, capped, append_digit, row_from, digit_row_at,
-    has_digit_at, magnitude_at, after_digits}
+use Rattle.rl_grammar.specs.Mirrors.NumberAt.{run, has_value, capped, append_digit, row_from, digit_row_at, has_digit_at, magnitude_at, after_digits}
 
 -- within the limit nothing is cut
 pub capped_within : (n : ℕ) → n ≤ limit → capped n ≡ Some n
@@ -40,8 +37,12 @@ place_step v r d n p = place_with v r d (r ^ n) p ∙ ap (λ q. v * q + (d * r ^
 
 -- what the row gives after digits of the value v, where these stand and then x
 abbrev At : ℕ → Bool → ℕ → List ℕ → List ℕ → Bool × Option ℕ × List ℕ
-At r some v ds x = (some || list_any (has_value r) ds, capped
-    (v * r ^ length (without_underscores ds) + place_value r (without_underscores ds)), x)
+At r some v ds x = (
+  some || list_any (has_value r) ds,
+  capped
+      (v * r ^ length (without_underscores ds) + place_value r (without_underscores ds)),
+  x,
+)
 
 -- nothing is added by what is false
 or_false : (a : Bool) → a ≡ (a || false)
@@ -65,8 +66,12 @@ at_end r some v x = ap (λ b. (b, capped v, x)) (or_false some) ∙ ap (λ n. (s
 at_mark : (r : ℕ) (some : Bool) (v : ℕ) (ds x : List ℕ) → r ≤ 36 → At r some v (95 ∷ ds) x ≡ At r some v ds x
 at_mark r some v ds x h =
     let e : nat_lt 36 r ≡ false = grind (arith, nat_tests) in
-    ap (λ b. (some || (b || list_any (has_value r) ds), capped
-        (v * r ^ length (without_underscores ds) + place_value r (without_underscores ds)), x)) e
+    ap (λ b. (
+      some || (b || list_any (has_value r) ds),
+      capped
+          (v * r ^ length (without_underscores ds) + place_value r (without_underscores ds)),
+      x,
+    )) e
 
 -- after a digit
 at_digit : (r : ℕ) (some : Bool) (v c : ℕ) (ds x : List ℕ) → (c == 95) ≡ false → nat_lt (digit_value c) r ≡ true
@@ -76,9 +81,13 @@ at_digit r some v c ds x n d =
     let kept : without_underscores (c ∷ ds) ≡ c ∷ w = ap (λ b. cond (not b) (c ∷ w) w) n in
     ap (λ k. (true, capped k, x)) (place_step v r (digit_value c) (length w) (place_value r w))
     ∙ ap (λ b. (b, capped (v * r ^ suc (length w) + (digit_value c * r ^ length w + place_value r w)), x))
-        (sym (or_true some (list_any (has_value r) ds)))
-    ∙ ap (λ b. (some || (b || list_any (has_value r) ds), capped
-        (v * r ^ suc (length w) + (digit_value c * r ^ length w + place_value r w)), x)) (sym d)
+    (sym (or_true some (list_any (has_value r) ds)))
+    ∙ ap (λ b. (
+      some || (b || list_any (has_value r) ds),
+      capped
+          (v * r ^ suc (length w) + (digit_value c * r ^ length w + place_value r w)),
+      x,
+    )) (sym d)
     ∙ ap (λ u. (some || list_any (has_value r) (c ∷ ds), capped (v * r ^ length u + place_value r u), x)) (sym kept)
 
 -- a run goes on with what passes
@@ -160,12 +169,19 @@ row_without r some m (c ∷ cs) = go (c == 95) (nat_lt (digit_value c) r) (row_w
     (row_without r true (append_digit r m (digit_value c)) cs)
   where
     go : (u g : Bool) → row_from r some None cs ≡ ((row_from r some m cs).0, None, (row_from r some m cs).2)
-        → row_from r true None cs ≡ ((row_from r true (append_digit r m (digit_value c)) cs).0, None,
-        (row_from r true (append_digit r m (digit_value c)) cs).2)
+        → row_from r true None cs ≡ (
+          (row_from r true (append_digit r m (digit_value c)) cs).0,
+          None,
+          (row_from r true (append_digit r m (digit_value c)) cs).2,
+        )
         → cond u (row_from r some None cs) (cond g (row_from r true None cs) (some, None, c ∷ cs))
-        ≡ ((cond u (row_from r some m cs) (cond g (row_from r true (append_digit r m (digit_value c)) cs)
-        (some, m, c ∷ cs))).0, None, (cond u (row_from r some m cs)
-        (cond g (row_from r true (append_digit r m (digit_value c)) cs) (some, m, c ∷ cs))).2)
+        ≡ (
+          (cond u (row_from r some m cs) (cond g (row_from r true (append_digit r m (digit_value c)) cs)
+              (some, m, c ∷ cs))).0,
+          None,
+          (cond u (row_from r some m cs)
+              (cond g (row_from r true (append_digit r m (digit_value c)) cs) (some, m, c ∷ cs))).2,
+        )
     go true g marked digit = marked
     go false true marked digit = digit
     go false false marked digit = refl
@@ -184,5 +200,5 @@ row_digit r some m n t c cs d e ne l q w =
     let b : nat_lt (digit_value c) r ≡ true = grind (arith, nat_tests) in
     ap (λ o. row_from r true o cs) (w ∙ ap (λ k. append_digit r m k) q)
     ∙ sym (ap (row_from r some m) e ∙ ap (λ x. cond x (row_from r some m cs)
-        (cond (nat_lt (digit_value c) r) (row_from r true (append_digit r m (digit_value c)) cs) (some, m, c ∷ cs))) a
-        ∙ ap (λ x. cond x (row_from r true (append_digit r m (digit_value c)) cs) (some, m, c ∷ cs)) b)
+    (cond (nat_lt (digit_value c) r) (row_from r true (append_digit r m (digit_value c)) cs) (some, m, c ∷ cs))) a
+    ∙ ap (λ x. cond x (row_from r true (append_digit r m (digit_value c)) cs) (some, m, c ∷ cs)) b)

@@ -1,15 +1,9 @@
 -- What the readers of the units of quoted literals give at each character, and how a text is completed.
-use Rattle.rl_grammar.proofs.Names.{◌≡◌, ℕ, suc, ◌+◌, ◌*◌, ◌^◌, ◌<◌, ◌≤◌, ◌||◌, ◌&&◌, Bool, true, false, not, cond, eqb,
-    ltb, List, [], ◌∷◌, ◌++◌, Option, Some, None, refl, sym, ap, subst, ◌∙◌, ◌⊎◌, inl, inr, arith, option_and_then,
-    AllByRecursion, IsScalar, digit_value, pow-suc, scalar, and_from, and_parts, and_right, both_ways, cases_Bool,
-    eqb-true, ltb-true, ltb-false, lt-ltb, le-ltb, eq-eqb, ne_eqb, or_right, Kind, Str, ByteStr, CStr, Byte, Char,
-    first_passes, content_of, is_blank, is_hex_digit, holds_characters, is_string, is_single, is_plain, is_line_end,
-    allows_code, may_be_hex, has_unicode}
+use Rattle.rl_grammar.proofs.Names.{◌≡◌, ℕ, suc, ◌+◌, ◌*◌, ◌^◌, ◌<◌, ◌≤◌, ◌||◌, ◌&&◌, Bool, true, false, not, cond, eqb, ltb, List, [], ◌∷◌, ◌++◌, Option, Some, None, refl, sym, ap, subst, ◌∙◌, ◌⊎◌, inl, inr, arith, option_and_then, AllByRecursion, IsScalar, digit_value, pow-suc, scalar, and_from, and_parts, and_right, both_ways, cases_Bool, eqb-true, ltb-true, ltb-false, lt-ltb, le-ltb, eq-eqb, ne_eqb, or_right, Kind, Str, ByteStr, CStr, Byte, Char, first_passes, content_of, is_blank, is_hex_digit, holds_characters, is_string, is_single, is_plain, is_line_end, allows_code, may_be_hex, has_unicode}
 use Rattle.std.proofs.Common.{leb}
 use Rattle.std.proofs.Math.Nat.{pow-le-pow_right}
 use Rattle.std.proofs.lemmas.Bool.{le-leb, leb-false}
-use Rattle.rl_grammar.specs.Mirrors.UnitAt.{found, number_if, digit_at, hex_at, unicode_at, after_blanks, named_in,
-    named_at, escape_at, line_feed_at, unit_at}
+use Rattle.rl_grammar.specs.Mirrors.UnitAt.{found, number_if, digit_at, hex_at, unicode_at, after_blanks, named_in, named_at, escape_at, line_feed_at, unit_at}
 use Rattle.rl_grammar.specs.Mirrors.UnitFlawAt.{is_code}
 use Rattle.rl_grammar.proofs.UnitLemmas.{holds_more, unicode_sound, plain_complete, quote_and_return}
 use Rattle.rl_grammar.proofs.CodeDigitLemmas.{below_six, digit_apart, unicode_digits_at, unicode_is}
@@ -34,8 +28,7 @@ pub record Completes {V : Type 0} (reader : Reader V) (front : List ℕ) : Type 
 -- one character, then whatever follows
 ends_by : {V : Type 0} (reader : Reader V) (front : List ℕ) (value : V) (c : ℕ) → IsScalar c → is_blank c ≡ false
     → ((r : List ℕ) → reader (front ++ (c ∷ r)) ≡ given value r) → Completes reader front
-ends_by reader front value c is no_blank h = record { ending = c ∷ []; value = value; are_characters = (is, tt);
-    no_blank = λ r g. no_blank; reads = h }
+ends_by reader front value c is no_blank h = record { ending = c ∷ []; value = value; are_characters = (is, tt); no_blank = λ r g. no_blank; reads = h }
 
 -- two of them
 ends_by_two : {V : Type 0} (reader : Reader V) (front : List ℕ) (value : V) (c d : ℕ) → IsScalar c → IsScalar d
@@ -73,9 +66,9 @@ hex_read kind c d r a b = rw (a, b) refl
 pub hex_one : (kind : Kind) → Completes (hex_at kind) []
 hex_one kind =
     let allowed : may_be_hex kind 65 ≡ true = and_from (allows_code kind 65) (not (holds_characters kind) || true)
-        (holds_more kind 65 refl) (or_right (not (holds_characters kind)) true refl) in
+    (holds_more kind 65 refl) (or_right (not (holds_characters kind)) true refl) in
     ends_by_two (hex_at kind) [] 65 52 49 refl refl refl (λ r. hex_read kind 52 49 r refl refl
-        ∙ ap (λ b. number_if b 65 r) allowed)
+    ∙ ap (λ b. number_if b 65 r) allowed)
 
 -- after the first one
 abbrev pub second : Kind → ℕ → Reader ℕ
@@ -90,10 +83,10 @@ pub hex_second : (kind : Kind) (c : ℕ) → is_hex_digit c ≡ true → (holds_
 hex_second kind c h low =
     let v = digit_value c in
     let allowed : may_be_hex kind (v * 16 + 1) ≡ true = and_from (allows_code kind (v * 16 + 1))
-        (not (holds_characters kind) || ltb (v * 16 + 1) 128) (holds_more kind (v * 16 + 1) (not_zero (v * 16)))
-        (low_allowed (holds_characters kind) v low (ltb-true v 16 h)) in
+    (not (holds_characters kind) || ltb (v * 16 + 1) 128) (holds_more kind (v * 16 + 1) (not_zero (v * 16)))
+    (low_allowed (holds_characters kind) v low (ltb-true v 16 h)) in
     ends_by (second kind c) [] (v * 16 + 1) 49 refl refl (λ r. hex_read kind c 49 r h refl
-        ∙ ap (λ b. number_if b (v * 16 + 1) r) allowed)
+    ∙ ap (λ b. number_if b (v * 16 + 1) r) allowed)
 
 -- a number that isn't allowed isn't, whatever follows
 pub never : (b : Bool) (n : ℕ) (r s : List ℕ) → number_if b n r ≡ None → number_if b n s ≡ None
@@ -117,10 +110,10 @@ past_hex kind c (d ∷ ds) h high =
     let parts = and_parts (holds_characters kind) (ltb 7 (digit_value c)) high in
     let n = digit_value c * 16 + digit_value d in
     let big : ltb n 128 ≡ false = le-ltb n 128 (let more : 7 < digit_value c = ltb-true 7 (digit_value c) parts.1 in
-        omega arith) in
+    omega arith) in
     let no_test : (not (holds_characters kind) || ltb n 128) ≡ false = ap (λ b. not b || ltb n 128) parts.0 ∙ big in
     let never_allowed : may_be_hex kind n ≡ false = and_right (allows_code kind n)
-        (not (holds_characters kind) || ltb n 128) no_test in
+    (not (holds_characters kind) || ltb n 128) no_test in
     go (is_hex_digit d) refl never_allowed
   where
     go : (b : Bool) → is_hex_digit d ≡ b → may_be_hex kind (digit_value c * 16 + digit_value d) ≡ false
@@ -230,7 +223,7 @@ grown v n few small bad =
     let last : v < 57344 = not_high v (omega arith) bad in
     let low : ltb (v * 16 + 1) 55296 ≡ false = le-ltb (v * 16 + 1) 55296 (omega arith) in
     rw low (and_from (leb 57344 (v * 16 + 1)) (ltb (v * 16 + 1) 1114112) (le-leb 57344 (v * 16 + 1) (omega arith))
-        (lt-ltb (v * 16 + 1) 1114112 (omega arith)))
+    (lt-ltb (v * 16 + 1) 1114112 (omega arith)))
 
 -- n digits stand, and spell v
 pub record Spelled (kind : Kind) (v n : ℕ) : Type 0 where
@@ -266,8 +259,8 @@ closing kind v n s = go (is_code kind v) refl
     go false e =
         let few = room kind v n s e in
         ends_by_two (coded kind v n) [] (v * 16 + 1) 49 125 refl refl refl
-            (λ r. digit_on kind v n 49 (125 ∷ r) refl (omega (arith, few))
-            ∙ closed_code kind (v * 16 + 1) (n + 1) r s.unicode (one_more kind v n s e))
+        (λ r. digit_on kind v n 49 (125 ∷ r) refl (omega (arith, few))
+        ∙ closed_code kind (v * 16 + 1) (n + 1) r s.unicode (one_more kind v n s e))
 
 pub spelled_on : (kind : Kind) (v n c : ℕ) → Spelled kind v n → is_hex_digit c ≡ true → eqb n 6 ≡ false
     → (eqb n 5 && not (is_code kind (v * 16 + digit_value c))) ≡ false → Spelled kind (v * 16 + digit_value c) (n + 1)
@@ -305,8 +298,7 @@ braced_none kind c t h = rw h refl
 
 pub first_spelled : (kind : Kind) (c : ℕ) → has_unicode kind ≡ true → is_hex_digit c ≡ true
     → Spelled kind (digit_value c) 1
-first_spelled kind c u h = record { unicode = u; few = omega arith; small =
-    (let small : digit_value c < 16 = ltb-true (digit_value c) 16 h in small); full = λ e. absurd (cc) }
+first_spelled kind c u h = record { unicode = u; few = omega arith; small = (let small : digit_value c < 16 = ltb-true (digit_value c) 16 h in small); full = λ e. absurd (cc) }
 
 pub braced_one : (kind : Kind) → has_unicode kind ≡ true → Completes (braced kind) []
 braced_one kind u = ends_by_two (braced kind) [] 1 49 125 refl refl refl

@@ -1,14 +1,12 @@
 -- Places of flaws, in bytes.
-use Rattle.rl_grammar.proofs.Names.{◌≡◌, ℕ, true, List, [], ◌+◌, ◌++◌, length, sym, ap, ◌∙◌, inl, inr, append_assoc,
-    encode_utf8_all, IsUtf8, encodes-append, encodes-chars, texts, HasReading, byte_len, Kind}
+use Rattle.rl_grammar.proofs.Names.{◌≡◌, ℕ, true, List, [], ◌+◌, ◌++◌, length, sym, ap, ◌∙◌, inl, inr, append_assoc, encode_utf8_all, IsUtf8, encodes-append, encodes-chars, texts, HasReading, byte_len, Kind}
 use Rattle.std.specs.Prelude.{Option, Some, None, IfSome}
 use Rattle.std.specs.Option.{is_some}
 use Rattle.std.specs.Str.{chars}
 use Rattle.std.proofs.lemmas.List.{length-append}
 use Rattle.rl_grammar.specs.declared.found.Found.{Found}
 use Rattle.rl_grammar.specs.declared.quoted_forms.QuotedForm.{QuotedForm}
-use Rattle.rl_grammar.specs.declared.quoted_forms.QuotedForm.TheVariants.{Cooked as CookedForm, Raw as RawForm, Single
-    as SingleForm}
+use Rattle.rl_grammar.specs.declared.quoted_forms.QuotedForm.TheVariants.{Cooked as CookedForm, Raw as RawForm, Single as SingleForm}
 use Rattle.rl_grammar.specs.FlawKinds.{IsPiece}
 use Rattle.rl_grammar.specs.Flaws.{IsPieceOf, StopsBefore}
 use Rattle.rl_grammar.specs.Forms.{form_opener}
@@ -31,9 +29,11 @@ front_bytes t rest ut ur s = cut_bytes t rest s.front ut ur s.text_is
 -- the piece is a tail of the text
 piece_cut : (form : QuotedForm) (kind : Kind) (inside piece rest t front : List ℕ) → t ≡ form_opener form kind ++ inside
     → t ≡ front ++ rest → IsPiece form kind inside piece rest → (before : List ℕ) × (t ≡ before ++ piece)
-piece_cut CookedForm kind inside piece rest t front text_is cut p =
-    (form_opener CookedForm kind ++ texts p.units, text_is ∙ ap (λ z. form_opener CookedForm kind ++ z) p.text_is
-    ∙ sym (append_assoc (form_opener CookedForm kind) (texts p.units) piece))
+piece_cut CookedForm kind inside piece rest t front text_is cut p = (
+  form_opener CookedForm kind ++ texts p.units,
+  text_is ∙ ap (λ z. form_opener CookedForm kind ++ z) p.text_is
+      ∙ sym (append_assoc (form_opener CookedForm kind) (texts p.units) piece),
+)
 piece_cut RawForm kind inside piece rest t front text_is cut p = (front, cut ∙ ap (λ z. front ++ z) (sym p))
 piece_cut SingleForm kind inside piece rest t front text_is cut p =
     (form_opener SingleForm kind, text_is ∙ ap (λ z. form_opener SingleForm kind ++ z) (sym p))

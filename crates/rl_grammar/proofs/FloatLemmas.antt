@@ -1,15 +1,9 @@
 -- A float is what `float_at` reads.
-use Rattle.rl_grammar.proofs.Names.{◌≡◌, ℕ, Bool, true, false, not, ◌&&◌, ◌||◌, ◌==◌, cond, List, [], ◌∷◌, ◌++◌, Some,
-    None, refl, sym, ap, subst, ◌∙◌, arith, append_assoc, and_parts, and_from, both_ways, eqb-true, false_from_ne_true,
-    not-true, nat_tests, is_ascii_digit, list_all, list_any, is_xid_continue, first_passes, is_underscore, xid_ok,
-    is_row_part, sign_text, is_exponent_letter, Fraction, NoFraction, Dot, fraction_text, IsFraction, FloatReads,
-    after_run}
-use Rattle.rl_tokens.specs.Numbers.{Exponent, NoExponent, Power, exponent_text, IsExponent, is_power_sign,
-    BeginsExponent}
+use Rattle.rl_grammar.proofs.Names.{◌≡◌, ℕ, Bool, true, false, not, ◌&&◌, ◌||◌, ◌==◌, cond, List, [], ◌∷◌, ◌++◌, Some, None, refl, sym, ap, subst, ◌∙◌, arith, append_assoc, and_parts, and_from, both_ways, eqb-true, false_from_ne_true, not-true, nat_tests, is_ascii_digit, list_all, list_any, is_xid_continue, first_passes, is_underscore, xid_ok, is_row_part, sign_text, is_exponent_letter, Fraction, NoFraction, Dot, fraction_text, IsFraction, FloatReads, after_run}
+use Rattle.rl_tokens.specs.Numbers.{Exponent, NoExponent, Power, exponent_text, IsExponent, is_power_sign, BeginsExponent}
 use Rattle.rl_tokens.proofs.Basics.{any_same, continue_not, digit_is_ten, word_continues, word_without}
 use Rattle.rl_tokens.proofs.StrictNumbers.{letter_no_part, suffix_no_part}
-use Rattle.rl_grammar.specs.Mirrors.NumberAt.{run, has_value, is_suffix, digit_row_at, has_digit_at, after_digits,
-    after_minus, sign_at, after_fraction, after_power_sign, power_at, after_exponent, float_at}
+use Rattle.rl_grammar.specs.Mirrors.NumberAt.{run, has_value, is_suffix, digit_row_at, has_digit_at, after_digits, after_minus, sign_at, after_fraction, after_power_sign, power_at, after_exponent, float_at}
 use Rattle.rl_grammar.proofs.DigitRowLemmas.{run_yes, run_no}
 use Rattle.rl_grammar.proofs.RunLemmas.{run_all, run_ends, run_join, run_past, suffix_complete, suffix_sound}
 use Rattle.rl_grammar.proofs.IntegerLemmas.{minus_past, chosen_some, sign_join}
@@ -87,15 +81,13 @@ trimmed (c ∷ cs) x h k = go (λ m. trimmed cs x (and_parts (is_row_part (has_v
     go rec true e =
         let q : c ≡ 95 = eqb-true c 95 e in
         let m : list_any (has_value 10) cs ≡ true = sym (ap (λ z. has_value 10 z || list_any (has_value 10) cs) q)
-            ∙ k in
+        ∙ k in
         let r = rec m in
-        record { more = r.more; is = (run_yes is_underscore c (cs ++ x) e).1
-            ∙ r.is; each = r.each; some = r.some; first = r.first }
+        record { more = r.more; is = (run_yes is_underscore c (cs ++ x) e).1 ∙ r.is; each = r.each; some = r.some; first = r.first }
     go rec false e =
         let a = and_parts (is_row_part (has_value 10) c) (list_all (is_row_part (has_value 10)) cs) h in
         let d : has_value 10 c ≡ true = digit_part (has_value 10 c) (c == 95) a.0 e in
-        record { more = c ∷ cs; is = (run_no is_underscore c (cs ++ x) e).1; each = h; some = k; first = digit_is_ten c
-            ∙ d }
+        record { more = c ∷ cs; is = (run_no is_underscore c (cs ++ x) e).1; each = h; some = k; first = digit_is_ten c ∙ d }
 
 -- a digit is no underscore
 pub digit_no_mark : (c : ℕ) → is_ascii_digit c ≡ true → (c == 95) ≡ false
@@ -122,7 +114,7 @@ unfolding power_at
 signed_past c us w h k =
     let n : (c == 95) ≡ false = grind (arith, nat_tests) in
     ap after_power_sign (run_off is_underscore us (c ∷ w) k ∙ (run_no is_underscore c w n).1)
-        ∙ ap (λ b. cond b w (c ∷ w)) h
+    ∙ ap (λ b. cond b w (c ∷ w)) h
 
 -- what is taken off before the digits of a power
 powered : (us sg row x : List ℕ) → list_all is_underscore us ≡ true → is_power_sign sg ≡ true
@@ -138,8 +130,7 @@ powered us [] row x a b each some =
       each = r.each;
       some = r.some;
     }
-powered us (c ∷ []) row x a b each some = record { more = row; is = signed_past c us (row ++ x) b a; each = each; some =
-    some }
+powered us (c ∷ []) row x a b each some = record { more = row; is = signed_past c us (row ++ x) b a; each = each; some = some }
 powered us (c ∷ d ∷ sg) row x a b each some = absurd (cc)
 
 -- an exponent, or the suffix that begins none
@@ -149,7 +140,7 @@ unfolding after_exponent
 power_past letter cs x l stops p =
     let y = run_past (is_row_part (has_value 10)) p.more x p.each stops in
     let some : has_digit_at 10 (power_at cs) ≡ true = ap (has_digit_at 10) p.is ∙ ap (list_any (has_value 10)) y.0
-        ∙ p.some in
+    ∙ p.some in
     ap (λ b. cond b (after_digits 10 (power_at cs)) (letter ∷ cs)) (and_from (is_exponent_letter letter) _ l some)
     ∙ ap (after_digits 10) p.is ∙ y.1
 
@@ -170,7 +161,7 @@ no_sign [] h = refl
 no_sign (c ∷ cs) h =
     let b = and_parts (is_xid_continue c) (list_all is_xid_continue cs) h in
     let e : (c == 43 || c == 45) ≡ false = ap (λ z. z || (c == 45)) (continue_not 43 c (omega arith) refl b.0)
-        ∙ continue_not 45 c (omega arith) refl b.0 in
+    ∙ continue_not 45 c (omega arith) refl b.0 in
     ap (λ z. cond z cs (c ∷ cs)) e
 
 -- after underscores a row with a digit begins with one
@@ -193,7 +184,7 @@ suffix_begins : (c : ℕ) (cs : List ℕ) → is_suffix (c ∷ cs) ≡ true → 
 unfolding power_at
 suffix_begins c cs h l k =
     let a = and_parts (is_xid_continue c) (list_all is_xid_continue cs)
-        (word_continues (c ∷ cs) (and_parts (not (c == 95)) (xid_ok (c ∷ cs)) h).1) in
+    (word_continues (c ∷ cs) (and_parts (not (c == 95)) (xid_ok (c ∷ cs)) h).1) in
     let n = no_sign (after_run is_underscore cs) (all_continue_run cs a.1) in
     let f = first_digit (after_run is_underscore cs) (run_ends is_underscore cs) (ap (has_digit_at 10) (sym n) ∙ k) in
     record {
@@ -214,7 +205,7 @@ no_exponent [] h k = refl
 no_exponent (c ∷ cs) h k =
     ap (λ b. cond b (after_digits 10 (power_at cs)) (c ∷ cs))
     (false_from_ne_true (is_exponent_letter c && has_digit_at 10 (power_at cs))
-        (λ e. let b = and_parts (is_exponent_letter c) _ e in k (suffix_begins c cs h b.0 b.1)))
+    (λ e. let b = and_parts (is_exponent_letter c) _ e in k (suffix_begins c cs h b.0 b.1)))
 
 -- the text of an exponent and what follows it
 power_text : (letter : ℕ) (us sg row x : List ℕ) → exponent_text (Power letter us sg row) ++ x
@@ -229,7 +220,7 @@ exponent_past NoExponent x h k = no_exponent x h k
 exponent_past (Power letter us sg row) x h (l, a, b, each, some) =
     ap after_exponent (power_text letter us sg row x)
     ∙ power_past letter (us ++ (sg ++ (row ++ x))) x l (suffix_no_part x (suffix_sound x h))
-        (powered us sg row x a b each (sym (any_same is_ascii_digit (has_value 10) digit_is_ten row) ∙ some))
+    (powered us sg row x a b each (sym (any_same is_ascii_digit (has_value 10) digit_is_ten row) ∙ some))
 
 -- the parts of a float, joined from the right
 float_text : (s w f e x : List ℕ) → (s ++ (w ++ (f ++ e))) ++ x ≡ s ++ (w ++ (f ++ (e ++ x)))
@@ -245,16 +236,16 @@ float_past t n x h =
     let u : List ℕ = h.whole ++ y in
     let stops : first_passes (is_row_part (has_value 10)) z ≡ false = exponent_stops h.exponent x ok h.is_exponent in
     let is : t ≡ sign_text h.sign ++ u = h.text_is ∙ ap (λ k. k ++ x) h.numeral_is
-        ∙ float_text (sign_text h.sign) h.whole (fraction_text h.fraction) (exponent_text h.exponent) x in
+    ∙ float_text (sign_text h.sign) h.whole (fraction_text h.fraction) (exponent_text h.exponent) x in
     let first : first_passes is_ascii_digit u ≡ true = passes_more is_ascii_digit h.whole y h.first in
     let unsigned : after_minus t ≡ u = ap after_minus is ∙ (minus_past h.sign u first).0 in
     let rest : after_exponent (after_fraction (after_digits 10 u)) ≡ x =
     ap (λ k. after_exponent (after_fraction k)) (run_past (is_row_part (has_value 10)) h.whole y h.each
-        (fraction_stops h.fraction z stops)).1
+    (fraction_stops h.fraction z stops)).1
     ∙ ap after_exponent (fraction_past h.fraction z h.is_fraction stops (no_dot h.exponent x ok h.is_exponent))
     ∙ exponent_past h.exponent x ok h.is_exponent in
     ap (λ k. cond (first_passes is_ascii_digit k && is_suffix (after_exponent (after_fraction (after_digits 10 k))))
-        (Some (after_exponent (after_fraction (after_digits 10 k)))) None) unsigned
+    (Some (after_exponent (after_fraction (after_digits 10 k)))) None) unsigned
     ∙ ap (λ k. cond (first_passes is_ascii_digit u && is_suffix k) (Some k) None) rest
     ∙ ap (λ b. cond b (Some x) None) (and_from (first_passes is_ascii_digit u) (is_suffix x) first ok)
 
@@ -276,8 +267,7 @@ fraction_sound (c ∷ cs) = go (c == 46) refl
       text_is = ap (λ k. k ∷ cs) (eqb-true c 46 e) ∙ ap (λ z. 46 ∷ z) (run_join (is_row_part (has_value 10)) cs)
           ∙ ap (λ z. 46 ∷ (digit_row_at 10 cs ++ z)) (sym (ap (λ b. cond b (after_digits 10 cs) (c ∷ cs)) e));
     }
-    go false e = record { fraction = NoFraction; is = tt; text_is = sym
-        (ap (λ b. cond b (after_digits 10 cs) (c ∷ cs)) e) }
+    go false e = record { fraction = NoFraction; is = tt; text_is = sym (ap (λ b. cond b (after_digits 10 cs) (c ∷ cs)) e) }
 
 -- the sign of a power
 abbrev power_sign : List ℕ → List ℕ
@@ -306,11 +296,11 @@ begins_true c cs b =
     let n : (b.digit == 95) ≡ false = digit_no_mark b.digit b.is_digit in
     let p : power_at cs ≡ b.digit ∷ b.rest =
     ap power_at w ∙ ap after_power_sign (run_off is_underscore b.underscores (b.digit ∷ b.rest) b.all_underscores
-        ∙ (run_no is_underscore b.digit b.rest n).1) ∙ digit_no_sign (b.digit ∷ b.rest) b.is_digit in
+    ∙ (run_no is_underscore b.digit b.rest n).1) ∙ digit_no_sign (b.digit ∷ b.rest) b.is_digit in
     let y = run_yes (is_row_part (has_value 10)) b.digit b.rest (ap (λ z. z || (b.digit == 95)) d) in
     and_from (is_exponent_letter c) _ (ap is_exponent_letter q ∙ b.is_letter)
     (ap (has_digit_at 10) p ∙ ap (list_any (has_value 10)) y.0
-        ∙ ap (λ z. z || list_any (has_value 10) (run (is_row_part (has_value 10)) b.rest)) d)
+    ∙ ap (λ z. z || list_any (has_value 10) (run (is_row_part (has_value 10)) b.rest)) d)
 
 -- what is taken as an exponent, or none
 record Powers (z : List ℕ) : Type 0 where
@@ -327,11 +317,10 @@ exponent_sound (c ∷ cs) = go (is_exponent_letter c && has_digit_at 10 (power_a
     go : (b : Bool) → (is_exponent_letter c && has_digit_at 10 (power_at cs)) ≡ b → Powers (c ∷ cs)
     go false e =
         let k : after_exponent (c ∷ cs) ≡ c ∷ cs = ap (λ b. cond b (after_digits 10 (power_at cs)) (c ∷ cs)) e in
-        record { exponent = NoExponent; is = subst (λ (z : List ℕ). BeginsExponent z → ⊥) (sym k)
-            (λ b. both_ways _ e (begins_true c cs b)); text_is = sym k }
+        record { exponent = NoExponent; is = subst (λ (z : List ℕ). BeginsExponent z → ⊥) (sym k) (λ b. both_ways _ e (begins_true c cs b)); text_is = sym k }
     go true e =
         let k : after_exponent (c ∷ cs) ≡ after_digits 10 (power_at cs) = ap
-            (λ b. cond b (after_digits 10 (power_at cs)) (c ∷ cs)) e in
+        (λ b. cond b (after_digits 10 (power_at cs)) (c ∷ cs)) e in
         let a = and_parts (is_exponent_letter c) (has_digit_at 10 (power_at cs)) e in
         let us : List ℕ = run is_underscore cs in
         let v : List ℕ = after_run is_underscore cs in
@@ -340,11 +329,17 @@ exponent_sound (c ∷ cs) = go (is_exponent_letter c && has_digit_at 10 (power_a
         let x : List ℕ = after_digits 10 (power_at cs) in
         record {
           exponent = Power c us (power_sign v) row;
-          is = (a.0, run_all is_underscore cs, sg.1, run_all (is_row_part (has_value 10)) (power_at cs), any_same
-              is_ascii_digit (has_value 10) digit_is_ten row ∙ a.1);
+          is = (
+            a.0,
+            run_all is_underscore cs,
+            sg.1,
+            run_all (is_row_part (has_value 10)) (power_at cs),
+            any_same
+                is_ascii_digit (has_value 10) digit_is_ten row ∙ a.1,
+          );
           text_is =
               ap (λ z. c ∷ z) (run_join is_underscore cs ∙ ap (λ z. us ++ z)
-                  (sg.0 ∙ ap (λ z. power_sign v ++ z) (run_join (is_row_part (has_value 10)) (power_at cs))))
+              (sg.0 ∙ ap (λ z. power_sign v ++ z) (run_join (is_row_part (has_value 10)) (power_at cs))))
               ∙ sym (power_text c us (power_sign v) row x)
               ∙ ap (λ z. exponent_text (Power c us (power_sign v) row) ++ z) (sym k);
         }
@@ -385,7 +380,7 @@ float_built t x first ok is =
         text_is =
             sign_join t
             ∙ ap (λ k. sign_text (sign_at t) ++ k) (run_join (is_row_part (has_value 10)) u
-                ∙ ap (λ k. w ++ k) (f.text_is ∙ ap (λ k. ft ++ k) (e.text_is ∙ ap (λ k. et ++ k) is)))
+            ∙ ap (λ k. w ++ k) (f.text_is ∙ ap (λ k. ft ++ k) (e.text_is ∙ ap (λ k. et ++ k) is)))
             ∙ sym (float_text (sign_text (sign_at t)) w ft et x);
       },
     )

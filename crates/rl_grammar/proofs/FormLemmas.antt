@@ -1,11 +1,7 @@
 -- Which form and kind a text's front tells, and the one reading of a quoted literal.
-use Rattle.rl_grammar.proofs.Names.{◌≡◌, ◌≢◌, ℕ, true, false, eqb, List, [], ◌∷◌, ◌++◌, length, Some, None, refl, sym,
-    ap, subst, ◌∙◌, inl, inr, append_assoc, append-nil, list_all, both_ways, cases_Bool, eqb-true, append_cancel_left,
-    append_cancel_right, Kind, Str, ByteStr, CStr, Byte, Char, Int, Float, BoolKind, Cooked, Single, is_string,
-    is_single, is_plain, opener, raw_opener, texts, unit_text, Contents, ReadsQuoted, quoted_contents}
+use Rattle.rl_grammar.proofs.Names.{◌≡◌, ◌≢◌, ℕ, true, false, eqb, List, [], ◌∷◌, ◌++◌, length, Some, None, refl, sym, ap, subst, ◌∙◌, inl, inr, append_assoc, append-nil, list_all, both_ways, cases_Bool, eqb-true, append_cancel_left, append_cancel_right, Kind, Str, ByteStr, CStr, Byte, Char, Int, Float, BoolKind, Cooked, Single, is_string, is_single, is_plain, opener, raw_opener, texts, unit_text, Contents, ReadsQuoted, quoted_contents}
 use Rattle.rl_grammar.specs.declared.quoted_forms.QuotedForm.{QuotedForm}
-use Rattle.rl_grammar.specs.declared.quoted_forms.QuotedForm.TheVariants.{Cooked as CookedForm, Raw as RawForm, Single
-    as SingleForm}
+use Rattle.rl_grammar.specs.declared.quoted_forms.QuotedForm.TheVariants.{Cooked as CookedForm, Raw as RawForm, Single as SingleForm}
 use Rattle.rl_grammar.specs.Mirrors.UnitAt.{found, unit_at}
 use Rattle.rl_grammar.specs.Rows.{BeginsRow, RowEnds}
 use Rattle.rl_grammar.specs.Forms.{has_form, form_opener, front_len, PartsAre, HasNoParts, is_plain_body}
@@ -27,19 +23,17 @@ string_tells : (kind : Kind) (pre t : List ℕ) (p : QuotedForm × Kind × List 
 string_tells kind pre [] p s o r h = absurd (cc)
 string_tells kind pre (c ∷ cs) p s o r h =
     let following : (q : ℕ) → eqb c q ≡ true → pre ++ (c ∷ cs) ≡ (pre ++ (q ∷ []))
-        ++ cs = λ q e. ap (λ z. pre ++ (z ∷ cs)) (eqb-true c q e) ∙ sym (append_assoc pre (q ∷ []) cs) in
+    ++ cs = λ q e. ap (λ z. pre ++ (z ∷ cs)) (eqb-true c q e) ∙ sym (append_assoc pre (q ∷ []) cs) in
     elim (cases_Bool (eqb c 34)) [
       | inl a ↦
           let same : (CookedForm, kind, cs) ≡ p = let e = rw a at h in cc in
-          subst (Reports (pre ++ (c ∷ cs))) same (record { has = s; text_is = following 34 a
-              ∙ ap (λ z. z ++ cs) (sym o) })
+          subst (Reports (pre ++ (c ∷ cs))) same (record { has = s; text_is = following 34 a ∙ ap (λ z. z ++ cs) (sym o) })
       | inr a ↦
           let h1 = rw a at h in
           elim (cases_Bool (eqb c 114)) [
             | inl b ↦
                 let same : (RawForm, kind, cs) ≡ p = let e = rw b at h1 in cc in
-                subst (Reports (pre ++ (c ∷ cs))) same (record { has = s; text_is = following 114 b
-                    ∙ ap (λ z. z ++ cs) (sym r) })
+                subst (Reports (pre ++ (c ∷ cs))) same (record { has = s; text_is = following 114 b ∙ ap (λ z. z ++ cs) (sym r) })
             | inr b ↦ let h2 = rw b at h1 in absurd (cc)
           ]
     ]
@@ -96,20 +90,19 @@ front_complete SingleForm kind r h = absurd (cc)
 -- the units of a cooked string are a row that goes as far as units go
 pub cooked_row : (kind : Kind) (t v x : List ℕ) (c : Cooked kind t v x)
     → BeginsRow kind (texts c.units ++ (34 ∷ x)) v (34 ∷ x)
-cooked_row kind t v x c = record { units = c.units; each = c.each; ends = row_ends_on c.units (34 ∷ x) refl c.ends;
-    text_is = refl; value_is = c.value_is }
+cooked_row kind t v x c = record { units = c.units; each = c.each; ends = row_ends_on c.units (34 ∷ x) refl c.ends; text_is = refl; value_is = c.value_is }
 
 cooked_row_of : (kind : Kind) (a v x : List ℕ) → Cooked kind (opener kind ++ a) v x → BeginsRow kind a v (34 ∷ x)
 cooked_row_of kind a v x c =
     let same : a ≡ texts c.units ++ (34 ∷ x) = append_cancel_left (opener kind) a (texts c.units ++ (34 ∷ x)) c.text_is
-        in
+    in
     subst (λ z. BeginsRow kind z v (34 ∷ x)) (sym same) (cooked_row kind (opener kind ++ a) v x c)
 
 cooked_once : (kind : Kind) (a v x w y : List ℕ) → Cooked kind (opener kind ++ a) v x
     → Cooked kind (opener kind ++ a) w y → (v ≡ w) × (x ≡ y)
 cooked_once kind a v x w y c d =
     let same = row_once kind a v (34 ∷ x) w (34 ∷ y) (cooked_row_of kind a v x c) (cooked_row_of kind a w y d)
-        (unit_quote kind x c.string) (unit_quote kind y c.string) in
+    (unit_quote kind x c.string) (unit_quote kind y c.string) in
     (same.0, let e = same.1 in cc)
 
 -- the units of a text that a run of plain characters begins
@@ -145,9 +138,9 @@ cooked_none kind a v rest row stuck h w b x p = h x (row_once kind a v rest w (3
 single_at : (kind : Kind) (a v x : List ℕ) → Single kind (opener kind ++ a) v x → unit_at kind a ≡ Some (v, 39 ∷ x)
 single_at kind a v x s =
     let same : a ≡ unit_text s.unit ++ (39 ∷ x) = append_cancel_left (opener kind) a (unit_text s.unit ++ (39 ∷ x))
-        s.text_is in
+    s.text_is in
     ap (unit_at kind) same ∙ unit_complete kind s.unit (39 ∷ x) s.is_unit (ends_before s.unit (39 ∷ x) refl)
-        ∙ ap (λ z. Some (z, 39 ∷ x)) (sym s.value_is)
+    ∙ ap (λ z. Some (z, 39 ∷ x)) (sym s.value_is)
 
 single_once : (kind : Kind) (a v x w y : List ℕ) → Single kind (opener kind ++ a) v x
     → Single kind (opener kind ++ a) w y → (v ≡ w) × (x ≡ y)
@@ -203,12 +196,9 @@ pub record Formed (t : List ℕ) (kind : Kind) (value suffix : List ℕ) : Type 
   pub parts : PartsAre form kind t value body suffix
 
 pub parts_formed : (form : QuotedForm) (k : Kind) (t v b x : List ℕ) → PartsAre form k t v b x → Formed t k v x
-parts_formed CookedForm k t v b x p = record { form = CookedForm; inside = _; body = b; has = p.0.string; text_is =
-    p.0.text_is; parts = p }
-parts_formed RawForm k t v b x p = record { form = RawForm; inside = _; body = b; has = p.0.string; text_is =
-    p.0.text_is; parts = p }
-parts_formed SingleForm k t v b x p = record { form = SingleForm; inside = _; body = b; has = p.0.single; text_is =
-    p.0.text_is; parts = p }
+parts_formed CookedForm k t v b x p = record { form = CookedForm; inside = _; body = b; has = p.0.string; text_is = p.0.text_is; parts = p }
+parts_formed RawForm k t v b x p = record { form = RawForm; inside = _; body = b; has = p.0.string; text_is = p.0.text_is; parts = p }
+parts_formed SingleForm k t v b x p = record { form = SingleForm; inside = _; body = b; has = p.0.single; text_is = p.0.text_is; parts = p }
 
 pub formed : (t : List ℕ) (k : Kind) (v : Contents) (x : List ℕ) (r : ReadsQuoted t k v x) → Formed t k r.value x
 formed t k v x r =
@@ -229,8 +219,7 @@ pub record HasParts (kind : Kind) (t value body suffix : List ℕ) : Type 0 wher
 
 pub cooked_has : (kind : Kind) (t v x : List ℕ) (c : Cooked kind t v x) → is_single kind ≡ false
     → HasParts kind t v (texts c.units) x
-cooked_has kind t v x c other = record { form = CookedForm; parts = (c, refl); front = refl; single = λ s b. absurd
-    (both_ways (is_single kind) other s) }
+cooked_has kind t v x c other = record { form = CookedForm; parts = (c, refl); front = refl; single = λ s b. absurd (both_ways (is_single kind) other s) }
 
 pub single_has : (kind : Kind) (t v x : List ℕ) (s : Single kind t v x) → HasParts kind t v (unit_text s.unit) x
 single_has kind t v x s = record { form = SingleForm; parts = (s, refl); front = refl; single = λ h b. refl }

@@ -1,6 +1,5 @@
 -- What a text that reads as a kind is found to be, and what it stands for.
-use Rattle.rl_grammar.proofs.Names.{◌≡◌, ℕ, ◌⊎◌, inl, inr, List, true, refl, sym, ap, subst, ◌∙◌, Kind, Str, ByteStr,
-    CStr, Int, Float, is_string, is_single, Contents, HasContents, HasNoReading, ReadsAs}
+use Rattle.rl_grammar.proofs.Names.{◌≡◌, ℕ, ◌⊎◌, inl, inr, List, true, refl, sym, ap, subst, ◌∙◌, Kind, Str, ByteStr, CStr, Int, Float, is_string, is_single, Contents, HasContents, HasNoReading, ReadsAs}
 use Rattle.std.proofs.lemmas.Bool.{or_left}
 use Rattle.std.specs.Str.{chars}
 use Rattle.rl_tokens.proofs.OneReading.{one_reading}

@@ -1,9 +1,5 @@
 -- What reading a text finds, from its parts.
-use Rattle.rl_grammar.proofs.Names.{◌≡◌, ℕ, ◌⊎◌, inl, inr, Bool, true, false, List, [], ◌++◌, length, take, drop, refl,
-    sym, ap, ap₂, subst, ◌∙◌, arith, rules, drop-append_seam, both_ways, append_cancel_right, IsCharBoundary-start,
-    IsUtf8-drop, chars-append, chars-nil, IsUtf8, IsCharBoundary, Kind, Str, ByteStr, CStr, Byte, Char, Int, Float,
-    BoolKind, IsTail, FloatReads, float_digits, is_string, is_single, Digits, Truth, HasNoInteger, HasSuffix, ReadsAs,
-    ReadsQuoted, quoted_contents, truth_text}
+use Rattle.rl_grammar.proofs.Names.{◌≡◌, ℕ, ◌⊎◌, inl, inr, Bool, true, false, List, [], ◌++◌, length, take, drop, refl, sym, ap, ap₂, subst, ◌∙◌, arith, rules, drop-append_seam, both_ways, append_cancel_right, IsCharBoundary-start, IsUtf8-drop, chars-append, chars-nil, IsUtf8, IsCharBoundary, Kind, Str, ByteStr, CStr, Byte, Char, Int, Float, BoolKind, IsTail, FloatReads, float_digits, is_string, is_single, Digits, Truth, HasNoInteger, HasSuffix, ReadsAs, ReadsQuoted, quoted_contents, truth_text}
 use Rattle.std.proofs.Common.{◌-◌}
 use Rattle.std.proofs.Math.Seq.{take-append_seam}
 use Rattle.std.proofs.lemmas.Str.{IsCharBoundary-at_seam, IsCharBoundary-end, IsUtf8-between}
@@ -12,8 +8,7 @@ use Rattle.std.specs.Str.{chars}
 use denote.Enum.Bare.{sameb, same_true, true_same}
 use Rattle.rl_tokens.specs.contracts.kind.Kind.{the_type}
 use Rattle.rl_grammar.specs.declared.quoted_forms.QuotedForm.{QuotedForm}
-use Rattle.rl_grammar.specs.declared.quoted_forms.QuotedForm.TheVariants.{Cooked as CookedForm, Raw as RawForm, Single
-    as SingleForm}
+use Rattle.rl_grammar.specs.declared.quoted_forms.QuotedForm.TheVariants.{Cooked as CookedForm, Raw as RawForm, Single as SingleForm}
 use Rattle.rl_grammar.specs.declared.found.Body.{Body}
 use Rattle.rl_grammar.specs.declared.found.Found.{Found}
 use Rattle.rl_grammar.specs.Bodies.{IsUnitValue}
@@ -75,7 +70,7 @@ single_plain : (kind : Kind) (t : List ℕ) (body : Body) → is_single kind ≡
     → IsQuotedAt kind t body → Whether body.plain kind t
 single_plain kind t body s none q =
     let other = q.plain_is ∙ single_form q.form kind (chars t) q.value (chars (body_in t body))
-        (chars (suffix_in t body)) s q.parts in
+    (chars (suffix_in t body)) s q.parts in
     ((λ e. absurd (both_ways body.plain other e)), (λ p. absurd (none p)))
 
 form_quoted : (form : QuotedForm) (kind : Kind) (t v b x : List ℕ) → PartsAre form kind t v b x
@@ -88,9 +83,9 @@ no_form : (kind : Kind) (t : List ℕ) (body : Body) → is_string kind ≡ fals
     → IsQuotedAt kind t body → ⊥
 no_form kind t body s o q = elim (form_quoted q.form kind (chars t) q.value (chars (body_in t body))
     (chars (suffix_in t body)) q.parts) [
-  | inl e ↦ both_ways (is_string kind) s e
-  | inr e ↦ both_ways (is_single kind) o e
-]
+      | inl e ↦ both_ways (is_string kind) s e
+      | inr e ↦ both_ways (is_single kind) o e
+    ]
 
 abbrev pub Of : Kind → Body → ℕ → Found
 Of kind body magnitude = record { kind = kind; body = body; magnitude = magnitude; truth = false; unit = 0 }
@@ -105,16 +100,11 @@ pub record Whole (t : List ℕ) (kind : Kind) (body : Body) : Type 0 where
   pub plain : Whether body.plain kind t
 
 pub quoted_whole : (t : List ℕ) (kind : Kind) (body : Body) → IsUtf8 t → IsQuotedAt kind t body → Whole t kind body
-quoted_whole t Str body u q = record { reads = (_, quoted_reads Str t body q); cut = quoted_cut Str t body u q; plain =
-    string_plain Str t body refl u q }
-quoted_whole t ByteStr body u q = record { reads = (_, quoted_reads ByteStr t body q); cut = quoted_cut ByteStr t body u
-    q; plain = string_plain ByteStr t body refl u q }
-quoted_whole t CStr body u q = record { reads = (_, quoted_reads CStr t body q); cut = quoted_cut CStr t body u q; plain
-    = string_plain CStr t body refl u q }
-quoted_whole t Byte body u q = record { reads = (_, quoted_reads Byte t body q); cut = quoted_cut Byte t body u q; plain
-    = single_plain Byte t body refl (λ p. p.reads) q }
-quoted_whole t Char body u q = record { reads = (_, quoted_reads Char t body q); cut = quoted_cut Char t body u q; plain
-    = single_plain Char t body refl (λ p. p.reads) q }
+quoted_whole t Str body u q = record { reads = (_, quoted_reads Str t body q); cut = quoted_cut Str t body u q; plain = string_plain Str t body refl u q }
+quoted_whole t ByteStr body u q = record { reads = (_, quoted_reads ByteStr t body q); cut = quoted_cut ByteStr t body u q; plain = string_plain ByteStr t body refl u q }
+quoted_whole t CStr body u q = record { reads = (_, quoted_reads CStr t body q); cut = quoted_cut CStr t body u q; plain = string_plain CStr t body refl u q }
+quoted_whole t Byte body u q = record { reads = (_, quoted_reads Byte t body q); cut = quoted_cut Byte t body u q; plain = single_plain Byte t body refl (λ p. p.reads) q }
+quoted_whole t Char body u q = record { reads = (_, quoted_reads Char t body q); cut = quoted_cut Char t body u q; plain = single_plain Char t body refl (λ p. p.reads) q }
 quoted_whole t kind body u q = absurd (no_form kind t body refl refl q)
 
 pub quoted_found : (t : List ℕ) (kind : Kind) (body : Body) (n : ℕ) (found : Found) → IsUtf8 t
@@ -146,9 +136,9 @@ abbrev pub form_at : (form : QuotedForm) (kind : Kind) (t inside v suffix : List
 form_at form kind t inside v suffix body front parts suffix_is stands plain lo =
     let b = chars (body_in t body) in
     let At : List ℕ → List ℕ → Type 0 = λ z x. (p : PartsAre form kind z v b (chars x))
-        × (body.lo ≡ front_len form kind z v b (chars x) p) in
+    × (body.lo ≡ front_len form kind z v b (chars x) p) in
     let whole = subst (λ z. At z suffix) (sym (front_sound (chars t) (form, kind, chars inside) front).text_is)
-        (parts, lo) in
+    (parts, lo) in
     let placed = subst (At (chars t)) (sym suffix_is) whole in
     record { form = form; value = v; parts = placed.0; plain_is = plain; lo_is = placed.1; stands = stands }
 
@@ -179,8 +169,7 @@ number_cut t b x n ub following e n_is =
     }
 
 number_stands : (t : List ℕ) (n : ℕ) (plain : Bool) → IsUtf8 t → IsCharBoundary t n → StandsIn t (NumberBody n plain)
-number_stands t n plain u h = record { ordered = omega arith; begins = IsCharBoundary-start t u; ends = h; following = h
-    }
+number_stands t n plain u h = record { ordered = omega arith; begins = IsCharBoundary-start t u; ends = h; following = h }
 
 integer_body : (t b x : List ℕ) (m n : ℕ) (plain : Bool) → IsUtf8 t → IsUtf8 b → HasMagnitude (chars t) m (chars x)
     → IsTail t x → t ≡ b ++ x → n ≡ length b → plain ≡ is_plain_integer (chars b)
@@ -188,7 +177,7 @@ integer_body : (t b x : List ℕ) (m n : ℕ) (plain : Bool) → IsUtf8 t → Is
 integer_body t b x m n plain ut ub within following e n_is plain_is =
     let c = number_cut t b x n ub following e n_is in
     let at : HasMagnitude (chars t) m (chars (drop n t)) = subst (λ z. HasMagnitude (chars t) m (chars z))
-        (sym c.suffix_is) within in
+    (sym c.suffix_is) within in
     let cut : IsSplitInteger (chars t) m (chars b) = record { suffix = chars x; within = within; cut = c.chars_cut } in
     record {
       reads = within_reads (chars t) (chars (drop n t)) m at;
@@ -241,9 +230,11 @@ pub float_alone : (t : List ℕ) (f : Found) → HasNoInteger (chars t) → IsFo
 float_alone t f none h =
     let back = sym h.kind in
     record {
-      reads = subst (λ k. HasSuffix k (chars t) (chars (suffix_in t f.body))) back
-          (Digits (float_digits (chars (body_in t f.body))), record
-          { numeral = chars (body_in t f.body); reads = h.reads; no_integer = none; contents_is = refl });
+      reads = subst (λ k. HasSuffix k (chars t) (chars (suffix_in t f.body))) back (
+        Digits (float_digits (chars (body_in t f.body))),
+        record
+            { numeral = chars (body_in t f.body); reads = h.reads; no_integer = none; contents_is = refl },
+      );
       cut = subst (λ k. IsSplit k t (body_in t f.body) (suffix_in t f.body)) back h.cut;
       stands = h.stands;
       plain = subst (λ k. Whether f.body.plain k t) back h.plain;
@@ -266,8 +257,7 @@ pub truth_found : (t : List ℕ) (b : Bool) → IsUtf8 t → chars t ≡ truth_t
 truth_found t b u e bytes =
     let nothing : drop (length t) t ≡ [] = drop-length t in
     record {
-      reads = (Truth b, record { truth = b; text_is = e; suffix_is = ap chars nothing
-          ∙ chars-nil; contents_is = refl });
+      reads = (Truth b, record { truth = b; text_is = e; suffix_is = ap chars nothing ∙ chars-nil; contents_is = refl });
       cut = (take_all t, nothing);
       stands = number_stands t (length t) false u (IsCharBoundary-end t);
       plain = ((λ h. absurd (cc)), (λ p. absurd p.reads));

@@ -1,6 +1,5 @@
 -- At most one literal begins the trees.
-use Rattle.rl_grammar.proofs.Names.{◌≡◌, ◌≢◌, ℕ, ◌<◌, Bool, false, List, [], ◌∷◌, length, refl, sym, ap, ap₂, ◌∙◌,
-    subst, arith, ◌↔◌, IsTrue, Kind, BoolKind, SpannedText, Truth, ReadsAs, HasNoReading, Reads, truth_text}
+use Rattle.rl_grammar.proofs.Names.{◌≡◌, ◌≢◌, ℕ, ◌<◌, Bool, false, List, [], ◌∷◌, length, refl, sym, ap, ap₂, ◌∙◌, subst, arith, ◌↔◌, IsTrue, Kind, BoolKind, SpannedText, Truth, ReadsAs, HasNoReading, Reads, truth_text}
 use Rattle.std.specs.Prelude.{Option, Some, None, IfSome, IfNone}
 use Rattle.std.specs.Option.{is_some}
 use Rattle.std.specs.Str.{chars}
@@ -71,8 +70,10 @@ one_kind t k l (v, x, r) (w, y, s) = (one_reading t k l v w x y r s).0
 -- what was found, or was not, decides whether the text reads as the kind
 pub found_as : (kind : Kind) (t : List ℕ) (o : Option Found) → IfSome o (IsFound t) → IfSome o (λ f. f.kind ≡ kind)
     → IfNone o (ReadsAs kind (chars t) → ⊥) → IsTrue (is_some o) ↔ ReadsAs kind (chars t)
-found_as kind t (Some f) found is none = ((λ h. subst (λ k. ReadsAs k (chars t)) is (found_reads t f found)),
-    (λ r. refl))
+found_as kind t (Some f) found is none = (
+  (λ h. subst (λ k. ReadsAs k (chars t)) is (found_reads t f found)),
+  (λ r. refl),
+)
 found_as kind t None found is none = ((λ h. absurd (cc)), (λ r. absurd (none r)))
 
 -- what one literal at the front reads as, each does
@@ -80,7 +81,7 @@ pub same_front : (k : Kind) (trees : List Tree) (token : SpannedText) (rest : Li
     → HasFrontOf k trees → ReadsAs k (chars token.text)
 same_front k trees token rest h (other, left, of) =
     subst (λ (x : SpannedText). ReadsAs k (chars x.text)) ((one_front trees other token left rest of.front h).0)
-        of.reads
+    of.reads
 
 -- where a literal that doesn't read as the kind begins the trees, none of the kind does
 pub other_of : (kind : Kind) (trees : List Tree) (token : SpannedText) (rest : List Tree) → IsFront trees token rest

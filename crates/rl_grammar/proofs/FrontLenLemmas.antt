@@ -1,13 +1,10 @@
 -- How many bytes stand before the body of a quoted literal.
-use Rattle.rl_grammar.proofs.Names.{◌≡◌, ℕ, zero, suc, ◌+◌, ◌<◌, List, [], ◌∷◌, ◌++◌, length, replicate, refl, sym, ap,
-    ◌∙◌, arith, append_assoc, encode_utf8_all, IsUtf8, encodes-append, encodes-chars, length-encode, Kind, Str, ByteStr,
-    CStr, Byte, Char, Int, Float, BoolKind, opener, raw_opener, byte_len}
+use Rattle.rl_grammar.proofs.Names.{◌≡◌, ℕ, zero, suc, ◌+◌, ◌<◌, List, [], ◌∷◌, ◌++◌, length, replicate, refl, sym, ap, ◌∙◌, arith, append_assoc, encode_utf8_all, IsUtf8, encodes-append, encodes-chars, length-encode, Kind, Str, ByteStr, CStr, Byte, Char, Int, Float, BoolKind, opener, raw_opener, byte_len}
 use Rattle.std.proofs.Common.{length-append}
 use Rattle.std.specs.Str.{chars}
 use Rattle.std.proofs.lemmas.Str.{len_utf8_ascii}
 use Rattle.rl_grammar.specs.declared.quoted_forms.QuotedForm.{QuotedForm}
-use Rattle.rl_grammar.specs.declared.quoted_forms.QuotedForm.TheVariants.{Cooked as CookedForm, Raw as RawForm, Single
-    as SingleForm}
+use Rattle.rl_grammar.specs.declared.quoted_forms.QuotedForm.TheVariants.{Cooked as CookedForm, Raw as RawForm, Single as SingleForm}
 use Rattle.rl_grammar.specs.Mirrors.OpenerAt.{found_opener, opener_at}
 use Rattle.rl_grammar.proofs.FormLemmas.{front_sound}
 
@@ -37,8 +34,13 @@ pub byte_len_append : (a b : List ℕ) → byte_len (a ++ b) ≡ byte_len a + by
 byte_len_append a b = ap length (encodes-append a b) ∙ length-append (encode_utf8_all a) (encode_utf8_all b)
 
 pub byte_len_ascii : (c : ℕ) (cs : List ℕ) → c < 128 → byte_len (c ∷ cs) ≡ 1 + byte_len cs
-byte_len_ascii c cs small = omega (arith, byte_len_append (c ∷ []) cs, length-append {A = ℕ}, length-encode c,
-    len_utf8_ascii c small)
+byte_len_ascii c cs small = omega (
+  arith,
+  byte_len_append (c ∷ []) cs,
+  length-append {A = ℕ},
+  length-encode c,
+  len_utf8_ascii c small,
+)
 
 pub hashes_long : (n : ℕ) → byte_len (replicate n 35) ≡ n
 hashes_long zero = refl
@@ -49,7 +51,7 @@ lo_of_cut : (front t opened : List ℕ) (lo : ℕ) → IsUtf8 t → IsUtf8 opene
     → lo + length opened ≡ length t → lo ≡ byte_len front
 lo_of_cut front t opened lo ut uo e at =
     let whole : t ≡ encode_utf8_all front ++ opened = sym (encodes-chars t ut) ∙ ap encode_utf8_all e
-        ∙ encodes-append front (chars opened) ∙ ap (λ z. encode_utf8_all front ++ z) (encodes-chars opened uo) in
+    ∙ encodes-append front (chars opened) ∙ ap (λ z. encode_utf8_all front ++ z) (encodes-chars opened uo) in
     omega (arith, at, ap length whole, length-append (encode_utf8_all front) opened)
 
 -- an opener
@@ -70,9 +72,18 @@ pub raw_lo : (kind : Kind) (t inside opened hashes rest : List ℕ) (n lo : ℕ)
 raw_lo kind t inside opened hashes rest n lo u w front cut quote are at =
     let o = raw_opener kind in
     let text : chars t ≡ (o ++ (hashes ++ (34 ∷ []))) ++ chars opened =
-        (front_sound (chars t) (RawForm, kind, chars inside) front).text_is
-        ∙ ap (λ z. o ++ z) (cut ∙ ap (λ z. hashes ++ z) quote ∙ sym (append_assoc hashes (34 ∷ []) (chars opened)))
-        ∙ sym (append_assoc o (hashes ++ (34 ∷ [])) (chars opened)) in
-    omega (arith, lo_of_cut (o ++ (hashes ++ (34 ∷ []))) t opened lo u w text at, byte_len_append o
-        (hashes ++ (34 ∷ [])), byte_len_append hashes (34 ∷ []), ap byte_len are, hashes_long n, byte_len_ascii 34 []
-        (omega arith), raw_opener_long kind)
+    (front_sound (chars t) (RawForm, kind, chars inside) front).text_is
+    ∙ ap (λ z. o ++ z) (cut ∙ ap (λ z. hashes ++ z) quote ∙ sym (append_assoc hashes (34 ∷ []) (chars opened)))
+    ∙ sym (append_assoc o (hashes ++ (34 ∷ [])) (chars opened)) in
+    omega (
+      arith,
+      lo_of_cut (o ++ (hashes ++ (34 ∷ []))) t opened lo u w text at,
+      byte_len_append o
+          (hashes ++ (34 ∷ [])),
+      byte_len_append hashes (34 ∷ []),
+      ap byte_len are,
+      hashes_long n,
+      byte_len_ascii 34 []
+          (omega arith),
+      raw_opener_long kind,
+    )

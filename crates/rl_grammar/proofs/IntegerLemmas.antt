@@ -1,19 +1,12 @@
 -- An integer is what `int_at` reads.
-use Rattle.rl_grammar.proofs.Names.{◌≡◌, ℕ, ◌<◌, ◌≤◌, ◌⊎◌, Bool, true, false, not, ◌&&◌, ◌||◌, ◌==◌, cond, List, [],
-    ◌∷◌, ◌++◌, Option, Some, None, refl, sym, ap, subst, ◌∙◌, arith, inl, inr, and_parts, and_from, both_ways, eqb-true,
-    false_from_ne_true, not-true, not_from_false, nat_tests, is_ascii_digit, list_all, list_any, IsTrue, first_passes,
-    xid_ok, is_row_part, place_value, without_underscores, Base, Binary, Octal, Decimal, Hexadecimal, radix, prefix,
-    Sign, NoSign, Minus, sign_text, IsAfterPrefix, IsSuffix, is_exponent_letter, IntReads, limit, decimal, Contents,
-    Digits, HasNoInteger, IsPast, after_run}
+use Rattle.rl_grammar.proofs.Names.{◌≡◌, ℕ, ◌<◌, ◌≤◌, ◌⊎◌, Bool, true, false, not, ◌&&◌, ◌||◌, ◌==◌, cond, List, [], ◌∷◌, ◌++◌, Option, Some, None, refl, sym, ap, subst, ◌∙◌, arith, inl, inr, and_parts, and_from, both_ways, eqb-true, false_from_ne_true, not-true, not_from_false, nat_tests, is_ascii_digit, list_all, list_any, IsTrue, first_passes, xid_ok, is_row_part, place_value, without_underscores, Base, Binary, Octal, Decimal, Hexadecimal, radix, prefix, Sign, NoSign, Minus, sign_text, IsAfterPrefix, IsSuffix, is_exponent_letter, IntReads, limit, decimal, Contents, Digits, HasNoInteger, IsPast, after_run}
 use Rattle.rl_tokens.specs.Texts.{begins}
 use Rattle.rl_tokens.specs.Numbers.{begins_base, IsExponentSuffix, AllowsSuffix}
 use Rattle.rl_tokens.specs.Reading.{ReadsInt}
 use Rattle.rl_tokens.proofs.Basics.{any_same, digit_is_ten}
 use Rattle.rl_tokens.proofs.StrictNumbers.{no_part}
 use Rattle.rl_grammar.specs.NumberShapes.{HasMagnitude}
-use Rattle.rl_grammar.specs.Mirrors.NumberAt.{run, has_value, is_suffix, digit_row_at, has_digit_at, magnitude_at,
-    after_digits, is_exponent_suffix, after_minus, sign_at, radix_at, may_begin_number, may_end, based_at, with_sign,
-    int_at, capped, capped_int}
+use Rattle.rl_grammar.specs.Mirrors.NumberAt.{run, has_value, is_suffix, digit_row_at, has_digit_at, magnitude_at, after_digits, is_exponent_suffix, after_minus, sign_at, radix_at, may_begin_number, may_end, based_at, with_sign, int_at, capped, capped_int}
 use Rattle.rl_grammar.proofs.DigitRowLemmas.{within_or_past, capped_within, capped_past}
 use Rattle.rl_grammar.proofs.RunLemmas.{run_all, run_ends, run_join, run_past, suffix_complete, suffix_sound}
 
@@ -33,11 +26,11 @@ unfolding is_exponent_suffix
 exponent_suffix_complete x e =
     let p = run_past (is_row_part (has_value 10)) e.run e.rest e.each e.whole in
     let some : has_digit_at 10 (e.run ++ e.rest) ≡ true = ap (list_any (has_value 10)) p.0
-        ∙ sym (any_same is_ascii_digit (has_value 10) digit_is_ten e.run) ∙ e.some in
+    ∙ sym (any_same is_ascii_digit (has_value 10) digit_is_ten e.run) ∙ e.some in
     let ends : is_suffix (after_digits 10 (e.run ++ e.rest)) ≡ true = ap is_suffix p.1
-        ∙ rest_suffix e.rest e.is_rest e.whole in
+    ∙ rest_suffix e.rest e.is_rest e.whole in
     ap is_exponent_suffix e.text_is ∙ and_from (is_exponent_letter e.letter) _ e.is_letter
-        (and_from (has_digit_at 10 (e.run ++ e.rest)) _ some ends)
+    (and_from (has_digit_at 10 (e.run ++ e.rest)) _ some ends)
 
 -- and what passes the test is one
 pub exponent_suffix_sound : (x : List ℕ) → is_exponent_suffix x ≡ true → IsExponentSuffix x
@@ -116,12 +109,12 @@ unfolding based_at
 based_past r ds x front each some stops ends =
     let p = run_past (is_row_part (has_value r)) ds x each stops in
     let Found : List ℕ → List ℕ → Option (ℕ × List ℕ) = λ row rest. cond
-        (may_begin_number r (ds ++ x) && (list_any (has_value r) row && may_end r rest))
-        (Some (place_value r (without_underscores row), rest)) None in
+    (may_begin_number r (ds ++ x) && (list_any (has_value r) row && may_end r rest))
+    (Some (place_value r (without_underscores row), rest)) None in
     ap (λ row. Found row (after_digits r (ds ++ x))) p.0
     ∙ ap (Found ds) p.1
     ∙ ap (λ b. cond b (Some (place_value r (without_underscores ds), x)) None)
-        (and_from (may_begin_number r (ds ++ x)) _ front (and_from (list_any (has_value r) ds) _ some ends))
+    (and_from (may_begin_number r (ds ++ x)) _ front (and_from (list_any (has_value r) ds) _ some ends))
 
 -- an integer is read, with its sign, magnitude and suffix
 pub int_past : (t : List ℕ) (s : Sign) (m : ℕ) (x : List ℕ) → IntReads t s m x → int_at t ≡ Some (s, m, x)
@@ -132,7 +125,7 @@ int_past t s m x h =
     let q = radix_past h.base w h.front in
     let p = minus_past s u q.1 in
     let b = based_past (radix h.base) h.digits x (base_begins h.base w h.front) h.each h.some
-        (no_part h.base x h.is_suffix h.is_suffix_of) (base_ends h.base x h.is_suffix h.is_suffix_of) in
+    (no_part h.base x h.is_suffix h.is_suffix_of) (base_ends h.base x h.is_suffix h.is_suffix_of) in
     let Of : Sign → ℕ × List ℕ → Option (Sign × ℕ × List ℕ) = λ sg k. with_sign sg (based_at k.0 k.1) in
     ap int_at h.text_is
     ∙ ap (λ sg. Of sg (radix_at (after_minus (sign_text s ++ u)))) p.1
@@ -264,7 +257,7 @@ based_sound : (r : ℕ) (t : List ℕ) (p : ℕ × List ℕ) → based_at r t �
 unfolding based_at
 based_sound r t p h =
     let k = chosen_some (may_begin_number r t && (has_digit_at r t && may_end r (after_digits r t)))
-        (magnitude_at r t, after_digits r t) p h in
+    (magnitude_at r t, after_digits r t) p h in
     let a = and_parts (may_begin_number r t) _ k.0 in
     let b = and_parts (has_digit_at r t) _ a.1 in
     record { front = a.0; some = b.0; ends = b.1; is = k.1 }
@@ -284,7 +277,7 @@ int_sound t p h =
     let Of : ℕ × List ℕ → Option (ℕ × List ℕ) = λ q. based_at q.0 q.1 in
     let r = based_sound (radix b.base) b.rest k.0 (sym (ap Of b.at) ∙ k.1) in
     let whole : (sign_at t, magnitude_at (radix b.base) b.rest, after_digits (radix b.base) b.rest)
-        ≡ p = ap (λ q. (sign_at t, q.0, q.1)) r.is ∙ k.2 in
+    ≡ p = ap (λ q. (sign_at t, q.0, q.1)) r.is ∙ k.2 in
     subst (λ (q : Sign × ℕ × List ℕ). IntReads t q.0 q.1 q.2) whole (int_built t b r.front r.some r.ends)
 
 -- What the code's reading says.
@@ -320,8 +313,7 @@ no_int t h = λ s m x r. let e = none_int (int_at t) h in let f = int_past t s m
 pub is_past : (t x : List ℕ) → Some (None, x) ≡ capped_int (int_at t) → IsPast t
 is_past t x h =
     let k = some_int (int_at t) (None, x) h in
-    record { sign = k.0.0; magnitude = k.0.1; suffix = k.0.2; reads = int_sound t k.0 k.1; past = capped_none k.0.1
-        (sym (ap (λ q. q.0) k.2)) }
+    record { sign = k.0.0; magnitude = k.0.1; suffix = k.0.2; reads = int_sound t k.0 k.1; past = capped_none k.0.1 (sym (ap (λ q. q.0) k.2)) }
 
 -- what is read with a magnitude is within the limit
 pub is_within : (t x : List ℕ) (m : ℕ) → Some (Some m, x) ≡ capped_int (int_at t) → HasMagnitude t m x
@@ -347,5 +339,4 @@ is_within_at t x y m k h e q = is_within t y m (ap (λ z. Some (Some m, z)) q �
 -- an integer within the limit is a literal
 pub within_reads : (t x : List ℕ) (m : ℕ) → HasMagnitude t m x → (v : Contents) × ReadsInt t v x
 within_reads t x m w =
-    (Digits (sign_text w.sign ++ decimal m), record { sign = w.sign; magnitude = m; reads = w.reads; within = w.within;
-        contents_is = refl })
+    (Digits (sign_text w.sign ++ decimal m), record { sign = w.sign; magnitude = m; reads = w.reads; within = w.within; contents_is = refl })

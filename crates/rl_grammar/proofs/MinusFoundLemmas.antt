@@ -1,7 +1,5 @@
 -- A number that was found, after a minus.
-use Rattle.rl_grammar.proofs.Names.{◌≡◌, ℕ, zero, suc, ◌+◌, ◌≤◌, ◌⊎◌, inl, inr, Bool, true, false, cond, ◌==◌, List, [],
-    ◌∷◌, ◌++◌, length, take, drop, refl, sym, ap, subst, ◌∙◌, arith, append_cancel_right, IsUtf8-take, IsUtf8-drop,
-    chars-append, IsUtf8, IsAscii, Int, Float, IsTail, NoSign, Minus, FloatReads, HasNoInteger, HasSuffix}
+use Rattle.rl_grammar.proofs.Names.{◌≡◌, ℕ, zero, suc, ◌+◌, ◌≤◌, ◌⊎◌, inl, inr, Bool, true, false, cond, ◌==◌, List, [], ◌∷◌, ◌++◌, length, take, drop, refl, sym, ap, subst, ◌∙◌, arith, append_cancel_right, IsUtf8-take, IsUtf8-drop, chars-append, IsUtf8, IsAscii, Int, Float, IsTail, NoSign, Minus, FloatReads, HasNoInteger, HasSuffix}
 use Rattle.std.proofs.Common.{length-take-le}
 use Rattle.std.proofs.lemmas.List.{take-append-drop}
 use Rattle.std.proofs.lemmas.Str.{IsUtf8-append, IsUtf8-from_ascii}
@@ -46,8 +44,7 @@ halves t f u h =
     let n = f.body.suffix_at in
     let front = IsUtf8-take t n u h.stands.following in
     let whole = sym (take-append-drop n t) in
-    record { whole = whole; front = front; back = IsUtf8-drop t n u h.stands.following; chars_cut = ap chars whole
-        ∙ chars-append (take n t) (drop n t) front }
+    record { whole = whole; front = front; back = IsUtf8-drop t n u h.stands.following; chars_cut = ap chars whole ∙ chars-append (take n t) (drop n t) front }
 
 abbrev Moved : Found → Found
 Moved f = Of f.kind (NumberBody (f.body.suffix_at + 1) f.body.plain) f.magnitude
@@ -85,20 +82,19 @@ negative_integer t f u sign h is =
     let b = following t n h.stands.following.0 u c in
     let w = h.integer is in
     let cut : IsSplitInteger (chars t) f.magnitude (chars (take n t)) = record
-        { suffix = chars x; within = w; cut = c.chars_cut } in
+    { suffix = chars x; within = w; cut = c.chars_cut } in
     let plain : f.body.plain ≡ is_plain_integer (chars (take n t)) =
     same_whether f.body.plain (is_plain_integer (chars (take n t))) (IsPlain Int t)
-        (subst (λ k. Whether f.body.plain k t) is h.plain) (whether_integer t (take n t) f.magnitude
-        (is_plain_integer (chars (take n t))) u c.front cut refl) in
+    (subst (λ k. Whether f.body.plain k t) is h.plain) (whether_integer t (take n t) f.magnitude
+    (is_plain_integer (chars (take n t))) u c.front cut refl) in
     let signed : is_plain_integer (45 ∷ chars (take n t)) ≡ is_plain_integer (chars (take n t)) = minus_plain
-        (chars (take n t)) (chars x) (ap sign_at (sym c.chars_cut) ∙ sign) in
+    (chars (take n t)) (chars x) (ap sign_at (sym c.chars_cut) ∙ sign) in
     let within : HasMagnitude (chars (45 ∷ t)) f.magnitude (chars x) = subst (λ z. HasMagnitude z f.magnitude (chars x))
-        (sym (minus_chars t)) (record { sign = Minus; reads = int_on (chars t) w.sign f.magnitude (chars x) sign
-        w.reads; within = w.within }) in
+    (sym (minus_chars t)) (record { sign = Minus; reads = int_on (chars t) w.sign f.magnitude (chars x) sign w.reads; within = w.within }) in
     subst (λ k. IsFound (45 ∷ t) (Of k (NumberBody (n + 1) f.body.plain) f.magnitude)) (sym is)
     (integer_found (45 ∷ t) (45 ∷ take n t) x f.magnitude (n + 1) f.body.plain (NumberBody (n + 1) f.body.plain) refl
-        b.text b.front within b.following b.cut b.place (plain ∙ sym signed
-        ∙ ap is_plain_integer (sym (minus_chars (take n t)))))
+    b.text b.front within b.following b.cut b.place (plain ∙ sym signed
+    ∙ ap is_plain_integer (sym (minus_chars (take n t)))))
 
 pub negative_float : (t : List ℕ) (f : Found) → IsUtf8 t → sign_at (chars t) ≡ NoSign → IsFound t f → f.kind ≡ Float
     → IsFound (45 ∷ t) (Moved f)
@@ -109,25 +105,25 @@ negative_float t f u sign h is =
     let b = following t n h.stands.following.0 u c in
     let (v, reads) : HasSuffix Float (chars t) (chars x) = subst (λ k. HasSuffix k (chars t) (chars x)) is h.reads in
     let same : reads.numeral ≡ chars (take n t) = append_cancel_right reads.numeral (chars (take n t)) (chars x)
-        (sym reads.reads.text_is ∙ c.chars_cut) in
+    (sym reads.reads.text_is ∙ c.chars_cut) in
     let r : FloatReads (chars t) (chars (take n t)) (chars x) = subst (λ z. FloatReads (chars t) z (chars x)) same
-        reads.reads in
+    reads.reads in
     let plain : f.body.plain ≡ is_plain_float (chars (take n t)) =
     same_whether f.body.plain (is_plain_float (chars (take n t))) (IsPlain Float t)
-        (subst (λ k. Whether f.body.plain k t) is h.plain) (whether_float t (take n t) (chars x)
-        (is_plain_float (chars (take n t))) u c.front r refl) in
+    (subst (λ k. Whether f.body.plain k t) is h.plain) (whether_float t (take n t) (chars x)
+    (is_plain_float (chars (take n t))) u c.front r refl) in
     let (m, q) = float_sound (45 ∷ chars t) (chars x) (float_at-minus (chars t) sign
-        ∙ float_past (chars t) (chars (take n t)) (chars x) r) in
+    ∙ float_past (chars t) (chars (take n t)) (chars x) r) in
     let none : HasNoInteger (45 ∷ chars t) = λ s k y i. reads.no_integer NoSign k y
-        ((without_minus (chars t) y s k i).0) in
+    ((without_minus (chars t) y s k i).0) in
     let zero_is : f.magnitude ≡ 0 = h.no_magnitude (λ e. other is e) in
     let to = sym (minus_chars t) in
     let found = float_found (45 ∷ t) (45 ∷ take n t) x m (n + 1) f.body.plain (NumberBody (n + 1) f.body.plain) refl
-        b.text b.front (subst (λ z. FloatReads z m (chars x)) to q) b.following b.cut b.place
-        (plain ∙ ap is_plain_float (sym (minus_chars (take n t)))) in
+    b.text b.front (subst (λ z. FloatReads z m (chars x)) to q) b.following b.cut b.place
+    (plain ∙ ap is_plain_float (sym (minus_chars (take n t)))) in
     subst (λ k. IsFound (45 ∷ t) (Of k (NumberBody (n + 1) f.body.plain) f.magnitude)) (sym is)
     (subst (λ k. IsFound (45 ∷ t) (Of Float (NumberBody (n + 1) f.body.plain) k)) (sym zero_is)
-        (float_alone (45 ∷ t) (Of Float (NumberBody (n + 1) f.body.plain) 0) (subst HasNoInteger to none) found))
+    (float_alone (45 ∷ t) (Of Float (NumberBody (n + 1) f.body.plain) 0) (subst HasNoInteger to none) found))
   where
     other : f.kind ≡ Float → f.kind ≡ Int → ⊥
     other e g = absurd (cc)

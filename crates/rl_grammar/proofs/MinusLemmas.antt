@@ -1,11 +1,7 @@
 -- Literals after a minus.
-use Rattle.rl_grammar.proofs.Names.{◌≡◌, ℕ, ◌⊎◌, inl, inr, Bool, true, false, cond, ◌==◌, ◌&&◌, List, [], ◌∷◌, ◌++◌,
-    Some, None, refl, sym, ap, subst, ◌∙◌, is_ascii_digit, Kind, Str, ByteStr, CStr, Byte, Char, Int, Float, BoolKind,
-    first_passes, is_string, is_single, opener, raw_opener, Sign, NoSign, Minus, IntReads, Contents, HasNoReading,
-    HasSuffix, ReadsQuoted, truth_text, both_ways, eqb-true}
+use Rattle.rl_grammar.proofs.Names.{◌≡◌, ℕ, ◌⊎◌, inl, inr, Bool, true, false, cond, ◌==◌, ◌&&◌, List, [], ◌∷◌, ◌++◌, Some, None, refl, sym, ap, subst, ◌∙◌, is_ascii_digit, Kind, Str, ByteStr, CStr, Byte, Char, Int, Float, BoolKind, first_passes, is_string, is_single, opener, raw_opener, Sign, NoSign, Minus, IntReads, Contents, HasNoReading, HasSuffix, ReadsQuoted, truth_text, both_ways, eqb-true}
 use Rattle.rl_tokens.specs.Reading.{ReadsBool}
-use Rattle.rl_grammar.specs.Mirrors.NumberAt.{sign_at, float_at, after_exponent, after_fraction, after_digits,
-    is_suffix}
+use Rattle.rl_grammar.specs.Mirrors.NumberAt.{sign_at, float_at, after_exponent, after_fraction, after_digits, is_suffix}
 use Rattle.rl_grammar.specs.NumberShapes.{ReadsNoNumber}
 use Rattle.rl_grammar.specs.WholeShapes.{IsSplit}
 use Rattle.rl_tokens.proofs.StrictNumbers.{without_minus, minus_int}
@@ -28,7 +24,7 @@ float_at-minus (c ∷ cs) h = go (c == 45) refl h
     go false e k =
         let Rest : List ℕ → List ℕ = λ u. after_exponent (after_fraction (after_digits 10 u)) in
         ap (λ u. cond (first_passes is_ascii_digit u && is_suffix (Rest u)) (Some (Rest u)) None)
-            (sym (ap (λ b. cond b cs (c ∷ cs)) e))
+        (sym (ap (λ b. cond b cs (c ∷ cs)) e))
 
 -- two minuses begin no float
 double_minus : (t : List ℕ) → sign_at t ≡ Minus → float_at (45 ∷ t) ≡ None
@@ -42,12 +38,10 @@ double_minus (c ∷ cs) h = go (c == 45) refl h
 
 -- where no number stands, none stands after a minus
 pub negative_none : (t : List ℕ) → sign_at t ≡ NoSign → ReadsNoNumber t → ReadsNoNumber (45 ∷ t)
-negative_none t e h Int c x r = h Int _ x (record { sign = NoSign; magnitude = r.magnitude; reads =
-    (without_minus t x r.sign r.magnitude r.reads).0; within = r.within; contents_is = refl })
+negative_none t e h Int c x r = h Int _ x (record { sign = NoSign; magnitude = r.magnitude; reads = (without_minus t x r.sign r.magnitude r.reads).0; within = r.within; contents_is = refl })
 negative_none t e h Float c x r =
     let f = float_sound t x (sym (float_at-minus t e) ∙ float_past (45 ∷ t) r.numeral x r.reads) in
-    h Float _ x (record { numeral = f.0; reads = f.1; no_integer = λ s m y q. r.no_integer Minus m y
-        (int_on t s m y e q); contents_is = refl })
+    h Float _ x (record { numeral = f.0; reads = f.1; no_integer = λ s m y q. r.no_integer Minus m y (int_on t s m y e q); contents_is = refl })
 negative_none t e h kind c x r = r
 
 -- no number stands after two minuses
@@ -63,14 +57,12 @@ negative_twice t e kind c x r = r
 
 -- a number stays one after a minus
 negative_int : (t x : List ℕ) → sign_at t ≡ NoSign → HasSuffix Int t x → HasSuffix Int (45 ∷ t) x
-negative_int t x e (c, r) = (_, record { sign = Minus; magnitude = r.magnitude; reads = int_on t r.sign r.magnitude x e
-    r.reads; within = r.within; contents_is = refl })
+negative_int t x e (c, r) = (_, record { sign = Minus; magnitude = r.magnitude; reads = int_on t r.sign r.magnitude x e r.reads; within = r.within; contents_is = refl })
 
 negative_float : (t x : List ℕ) → sign_at t ≡ NoSign → HasSuffix Float t x → HasSuffix Float (45 ∷ t) x
 negative_float t x e (c, r) =
     let f = float_sound (45 ∷ t) x (float_at-minus t e ∙ float_past t r.numeral x r.reads) in
-    (_, record { numeral = f.0; reads = f.1; no_integer = λ s m y q. r.no_integer NoSign m y
-        ((without_minus t y s m q).0); contents_is = refl })
+    (_, record { numeral = f.0; reads = f.1; no_integer = λ s m y q. r.no_integer NoSign m y ((without_minus t y s m q).0); contents_is = refl })
 
 pub negative_reads : (t x : List ℕ) (k : Kind) → sign_at t ≡ NoSign → (k ≡ Int) ⊎ (k ≡ Float) → HasSuffix k t x
     → HasSuffix k (45 ∷ t) x

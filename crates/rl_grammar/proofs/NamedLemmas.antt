@@ -1,6 +1,5 @@
 -- The table of what a backslash and a character of ASCII stand for.
-use Rattle.rl_grammar.proofs.Names.{◌≡◌, ◌∙◌, ◌||◌, ◌<◌, ℕ, true, cond, eqb, ltb, List, [], ◌∷◌, Option, Some, None,
-    Kind, refl, sym, ap, subst, inl, inr, eqb-true, ltb-true, option_and_then}
+use Rattle.rl_grammar.proofs.Names.{◌≡◌, ◌∙◌, ◌||◌, ◌<◌, ℕ, true, cond, eqb, ltb, List, [], ◌∷◌, Option, Some, None, Kind, refl, sym, ap, subst, inl, inr, eqb-true, ltb-true, option_and_then}
 use Rattle.std.proofs.Math.ListN.{get_or}
 use Rattle.std.proofs.lemmas.Bool.{agree_below_at, or_cases}
 use Rattle.std.proofs.lemmas.Grind.{get_or_default_zero}
@@ -40,7 +39,7 @@ pub named_ascii : (c d : ℕ) → c < 128 → (get_or named_table c d ≡ 255 �
 named_ascii c d low some =
     let at = get_or_default_zero named_table c d low in
     let small = agree_below_at (λ i. ltb (get_or named_table i 0) 128 || eqb (get_or named_table i 0) 255) (λ i. true)
-        128 c refl low in
+    128 c refl low in
     elim (or_cases (ltb (get_or named_table c 0) 128) (eqb (get_or named_table c 0) 255) small) [
       | inl a ↦ subst (λ z. z < 128) (sym at) (ltb-true (get_or named_table c 0) 128 a)
       | inr a ↦ absurd (some (at ∙ eqb-true (get_or named_table c 0) 255 a))

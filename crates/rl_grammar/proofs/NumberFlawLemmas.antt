@@ -1,22 +1,13 @@
 -- Where a text that begins as a number stops being the front of a literal, and why.
-use Rattle.rl_grammar.proofs.Names.{◌≡◌, ℕ, ◌≤◌, Bool, true, false, not, cond, ◌&&◌, ◌||◌, ◌==◌, List, [], ◌∷◌, ◌++◌,
-    refl, sym, ap, subst, ◌∙◌, arith, append_assoc, append-nil, Option, Some, None, inl, inr, is_ascii_digit, list_all,
-    list_any, and_parts, and_right, both_ways, eqb-true, or_from, or_parts, or_right, and_from, le-ltb,
-    false_from_ne_true, cond_both, is_xid_start, is_xid_continue, is_exponent_letter, Base, Binary, Octal, Decimal,
-    Hexadecimal, radix, prefix, Sign, NoSign, Minus, sign_text, float_digits, first_passes, is_row_part, Int, Float,
-    place_value, without_underscores, Digits, HasReading, IsPast, append_cancel_right}
+use Rattle.rl_grammar.proofs.Names.{◌≡◌, ℕ, ◌≤◌, Bool, true, false, not, cond, ◌&&◌, ◌||◌, ◌==◌, List, [], ◌∷◌, ◌++◌, refl, sym, ap, subst, ◌∙◌, arith, append_assoc, append-nil, Option, Some, None, inl, inr, is_ascii_digit, list_all, list_any, and_parts, and_right, both_ways, eqb-true, or_from, or_parts, or_right, and_from, le-ltb, false_from_ne_true, cond_both, is_xid_start, is_xid_continue, is_exponent_letter, Base, Binary, Octal, Decimal, Hexadecimal, radix, prefix, Sign, NoSign, Minus, sign_text, float_digits, first_passes, is_row_part, Int, Float, place_value, without_underscores, Digits, HasReading, IsPast, append_cancel_right}
 use Rattle.std.proofs.Common.{is_none}
 use Rattle.unicode_ident.proofs.IdentLemmas.{is_xid_start-ascii, is_xid_start-is_xid_continue}
 use Rattle.rl_tokens.proofs.Basics.{all_weaker, digit_is_ten}
-use Rattle.rl_grammar.specs.Mirrors.NumberAt.{after_digits, after_exponent, after_fraction, digit_row_at, has_digit_at,
-    has_value, is_exponent_suffix, is_suffix, may_end, power_at, run, after_minus, capped, capped_int, float_at, int_at,
-    IsHead, magnitude_at, radix_at, radix_of, sign_at}
+use Rattle.rl_grammar.specs.Mirrors.NumberAt.{after_digits, after_exponent, after_fraction, digit_row_at, has_digit_at, has_value, is_exponent_suffix, is_suffix, may_end, power_at, run, after_minus, capped, capped_int, float_at, int_at, IsHead, magnitude_at, radix_at, radix_of, sign_at}
 use Rattle.rl_grammar.specs.declared.flaws.FlawKind.{FlawKind}
-use Rattle.rl_grammar.specs.declared.flaws.FlawKind.TheVariants.{Unfinished, NoExponentDigit, BadSuffix, TooLarge,
-    NoNumber}
+use Rattle.rl_grammar.specs.declared.flaws.FlawKind.TheVariants.{Unfinished, NoExponentDigit, BadSuffix, TooLarge, NoNumber}
 use Rattle.rl_grammar.specs.Mirrors.UnitFlawAt.{FoundFlaw, found_flaw}
-use Rattle.rl_grammar.specs.Mirrors.NumberFlawAt.{after_word, end_flaw_at, tail_flaw_at, based_flaw_at, ends_or_passes,
-    is_past_at, unsigned_number_flaw_at}
+use Rattle.rl_grammar.specs.Mirrors.NumberFlawAt.{after_word, end_flaw_at, tail_flaw_at, based_flaw_at, ends_or_passes, is_past_at, unsigned_number_flaw_at}
 use Rattle.rl_grammar.proofs.DigitRowLemmas.{run_yes, run_no}
 use Rattle.rl_grammar.proofs.RunLemmas.{run_all, run_ends, run_join, run_past}
 use Rattle.rl_grammar.proofs.FloatLemmas.{run_first, float_sound, no_float}
@@ -24,8 +15,7 @@ use Rattle.unicode_ident.proofs.Computing.{unicode_ident}
 use Rattle.rl_grammar.specs.Flaws.{StopsBefore}
 use Rattle.rl_grammar.specs.WholeShapes.{is_number_front}
 use Rattle.rl_grammar.proofs.HeadLemmas.{head_float, head_int, head_read, no_head_float, no_head_int}
-use Rattle.rl_grammar.proofs.IntegerLemmas.{Based, based, is_past, is_within, minus_past, no_int, sign_join,
-    within_reads}
+use Rattle.rl_grammar.proofs.IntegerLemmas.{Based, based, is_past, is_within, minus_past, no_int, sign_join, within_reads}
 use Rattle.rl_grammar.proofs.NumberLemmas.{no_number, past_number}
 use Rattle.rl_grammar.proofs.ReadingLemmas.{only_number}
 use Rattle.rl_grammar.specs.NumberFlaws.{EndsInSign, HasKind, IsAnyNumber, IsNumberFlaw}
@@ -53,8 +43,7 @@ number_reads t true f (Some m) n h =
 number_reads t false false m n h = absurd (cc)
 number_reads t false true m n h =
     let r = float_sound t n.other (sym n.float_is) in
-    (Float, (Digits (float_digits r.0), n.other, record { numeral = r.0; reads = r.1; no_integer = no_int t n.int_is;
-        contents_is = refl }))
+    (Float, (Digits (float_digits r.0), n.other, record { numeral = r.0; reads = r.1; no_integer = no_int t n.int_is; contents_is = refl }))
 
 -- none stands
 number_stuck : (t : List ℕ) (i f : Bool) (m : Option ℕ) → first_passes is_number_front t ≡ true → Numbers t i f m
@@ -139,8 +128,11 @@ whole first reads any signed pre t (kind, rest) ok f power none spoiled = record
     go TooLarge (c ∷ cs) e never_reads s = only_past ((pre ++ k.front) ++ (c ∷ [])) (never_reads c cs refl)
         (subst IsAnyNumber (sym (append_assoc pre k.front (c ∷ []))) (f.any_good (k.front ++ (c ∷ [])) (next c cs e) s))
     go BadSuffix [] e never_reads s = s
-    go BadSuffix (c ∷ cs) e never_reads s = (f.any_good k.front (front_passes first k.front (c ∷ cs) t e ok) s.0, λ p.
-        f.not_past (k.front ++ (c ∷ [])) (next c cs e) s.1 (subst IsPast (append_assoc pre k.front (c ∷ [])) p))
+    go BadSuffix (c ∷ cs) e never_reads s = (
+      f.any_good k.front (front_passes first k.front (c ∷ cs) t e ok) s.0,
+      λ p.
+          f.not_past (k.front ++ (c ∷ [])) (next c cs e) s.1 (subst IsPast (append_assoc pre k.front (c ∷ [])) p),
+    )
     go kd r e never_reads s = absurd s
 
 -- ---- base ten
@@ -219,10 +211,9 @@ ten_numbers s w z x first each ten ok =
     let y = run_past (is_row_part (has_value 10)) w x each k.0 in
     let some : true ≡ has_digit_at 10 u = sym (ap (list_any (has_value 10)) y.0 ∙ any_digit w first) in
     let head : IsHead u 10 true m x = head_read u u x 10 true m starts (sym (ten_stays w z x first ten k.1)) some
-        (sym (ap (λ d. capped (place_value 10 (without_underscores d))) y.0)) (sym y.1) in
+    (sym (ap (λ d. capped (place_value 10 (without_underscores d))) y.0)) (sym y.1) in
     let at : IsHead (after_minus t) 10 true m x = subst (λ v. IsHead v 10 true m x) (sym unsigned) head in
-    record { suffix = x; other = after_exponent (after_fraction x); int_is = head_int t 10 true m x at; float_is =
-        head_float t 10 true m x at refl }
+    record { suffix = x; other = after_exponent (after_fraction x); int_is = head_int t 10 true m x at; float_is = head_float t 10 true m x at refl }
   where
     any_digit : (w : List ℕ) → first_passes is_ascii_digit w ≡ true → list_any (has_value 10) w ≡ true
     any_digit [] h = absurd (cc)
@@ -237,12 +228,12 @@ ten_fronted s w z first each ten =
     let text : List ℕ → List ℕ = λ x. (sign_text s ++ w) ++ x in
     let float : List ℕ → Bool = λ x. is_suffix (after_exponent (after_fraction x)) in
     let numbers : (x : List ℕ) → first_passes (ten_first w) x ≡ false
-        → Numbers (text x) (may_end 10 x) (float x) m = λ x ok. ten_numbers s w z x first each ten ok in
+    → Numbers (text x) (may_end 10 x) (float x) m = λ x ok. ten_numbers s w z x first each ten ok in
     record {
       good = λ x ok h. number_reads (text x) (may_end 10 x) (float x) m (numbers x ok) h;
       bad = λ x ok h.
           let front = ap (first_passes is_number_front) (append_assoc (sign_text s) w x)
-              ∙ signed_front s (w ++ x) (passes_more is_ascii_digit w x first) in
+          ∙ signed_front s (w ++ x) (passes_more is_ascii_digit w x first) in
           number_stuck (text x) (may_end 10 x) (float x) m front (numbers x ok) h;
       any_good = λ x ok h. number_any (text x) (may_end 10 x) (float x) m (numbers x ok) h;
       not_past = λ x ok h. number_not_past (text x) (may_end 10 x) (float x) m (numbers x ok) h;
@@ -276,14 +267,14 @@ ten_flaw t first at none =
     let join : u ≡ w ++ z = run_join (is_row_part (has_value 10)) u in
     let ten : (radix_at (w ++ z)).0 ≡ 10 = sym (ap (λ v. (radix_at v).0) join) ∙ ap (λ p. p.0) at in
     let ok : first_passes (ten_first w) z ≡ false = both_fail (is_row_part (has_value 10)) (names w) z
-        (run_ends (is_row_part (has_value 10)) u) (names_none w z ten) in
+    (run_ends (is_row_part (has_value 10)) u) (names_none w z ten) in
     let starts = run_first u first in
     let each = run_all (is_row_part (has_value 10)) u in
     let is : (sign_text s ++ w) ++ z ≡ t = append_assoc (sign_text s) w z ∙ ap (λ v. sign_text s ++ v) (sym join)
-        ∙ sym (sign_join t) in
+    ∙ sym (sign_join t) in
     subst (λ v. IsFlaw IsNumberFlaw v flaw) is (whole (ten_first w) (tail_reads past) (tail_reads false) IsSignedTail
-        (sign_text s ++ w) z flaw ok (ten_fronted s w z starts each ten) (λ x k. tail_in_sign s w x starts each k)
-        (λ r. none (subst HasReading is r)) (λ h. tail_spoils past (ten_first w) z (names_no_dot w) ok h))
+    (sign_text s ++ w) z flaw ok (ten_fronted s w z starts each ten) (λ x k. tail_in_sign s w x starts each k)
+    (λ r. none (subst HasReading is r)) (λ h. tail_spoils past (ten_first w) z (names_no_dot w) ok h))
 
 -- ---- other bases
 
@@ -325,18 +316,15 @@ pub record IsPrefixed (r letter : ℕ) : Type 0 where
 
 pub binary : IsPrefixed 2 98
 unfolding radix_at
-binary = record { few = omega arith; some = omega arith; other = refl; starts = is_xid_start-ascii 98 (omega arith);
-    no_part = refl; no_dot = refl; no_exponent = refl; base_is = λ y. refl }
+binary = record { few = omega arith; some = omega arith; other = refl; starts = is_xid_start-ascii 98 (omega arith); no_part = refl; no_dot = refl; no_exponent = refl; base_is = λ y. refl }
 
 pub octal : IsPrefixed 8 111
 unfolding radix_at
-octal = record { few = omega arith; some = omega arith; other = refl; starts = is_xid_start-ascii 111 (omega arith);
-    no_part = refl; no_dot = refl; no_exponent = refl; base_is = λ y. refl }
+octal = record { few = omega arith; some = omega arith; other = refl; starts = is_xid_start-ascii 111 (omega arith); no_part = refl; no_dot = refl; no_exponent = refl; base_is = λ y. refl }
 
 pub hexadecimal : IsPrefixed 16 120
 unfolding radix_at
-hexadecimal = record { few = omega arith; some = omega arith; other = refl; starts = is_xid_start-ascii 120
-    (omega arith); no_part = refl; no_dot = refl; no_exponent = refl; base_is = λ y. refl }
+hexadecimal = record { few = omega arith; some = omega arith; other = refl; starts = is_xid_start-ascii 120 (omega arith); no_part = refl; no_dot = refl; no_exponent = refl; base_is = λ y. refl }
 
 -- the float without its sign
 abbrev float_of : List ℕ → Option (List ℕ)
@@ -352,7 +340,7 @@ zero_float r l y k =
     let rest : after_digits 10 (48 ∷ l ∷ y) ≡ l ∷ y = (run_no (is_row_part (has_value 10)) l y k.no_part).1 in
     let fraction : after_fraction (l ∷ y) ≡ l ∷ y = ap (λ b. cond b (after_digits 10 y) (l ∷ y)) k.no_dot in
     let power : after_exponent (l ∷ y) ≡ l ∷ y = ap (λ b. cond (b && has_digit_at 10 (power_at y))
-        (after_digits 10 (power_at y)) (l ∷ y)) k.no_exponent in
+    (after_digits 10 (power_at y)) (l ∷ y)) k.no_exponent in
     ap (λ z. F (after_exponent (after_fraction z))) rest
     ∙ ap (λ z. F (after_exponent z)) fraction
     ∙ ap F power
@@ -373,9 +361,9 @@ based_numbers s r l y k =
     let head : IsHead u r d m x = head_read u y x r d m refl (sym (k.base_is y)) refl refl refl in
     let at : IsHead (after_minus t) r d m x = subst (λ v. IsHead v r d m x) (sym unsigned) head in
     let ends : may_end r x ≡ is_suffix x = ap (λ b. is_suffix x && (not b || not (is_exponent_suffix x))) k.other
-        ∙ and-true (is_suffix x) in
+    ∙ and-true (is_suffix x) in
     let float : float_at t ≡ cond (list_all is_xid_continue y) (Some (l ∷ y)) None = ap float_of unsigned
-        ∙ zero_float r l y k in
+    ∙ zero_float r l y k in
     record {
       suffix = x;
       other = l ∷ y;
@@ -391,7 +379,7 @@ based_fronted s r l k =
     let float : List ℕ → Bool = list_all is_xid_continue in
     let m : List ℕ → Option ℕ = λ y. capped (magnitude_at r y) in
     let cut : (y : List ℕ) → (sign_text s ++ (48 ∷ l ∷ [])) ++ y
-        ≡ text y = λ y. append_assoc (sign_text s) (48 ∷ l ∷ []) y in
+    ≡ text y = λ y. append_assoc (sign_text s) (48 ∷ l ∷ []) y in
     record {
       good = λ y ok h. subst HasReading (sym (cut y)) (number_reads (text y) (integer y) (float y) (m y)
           (based_numbers s r l y k) h);
@@ -414,7 +402,7 @@ based_none takes r y few h =
     let row = digit_row_at r y in
     let x = after_digits r y in
     let all : list_all is_xid_continue y ≡ list_all is_xid_continue x = ap (list_all is_xid_continue)
-        (run_join (is_row_part (has_value r)) y) ∙ all_off is_xid_continue row x (row_continues_on r y few) in
+    (run_join (is_row_part (has_value r)) y) ∙ all_off is_xid_continue row x (row_continues_on r y few) in
     ap (λ b. cond (has_digit_at r y && b) (takes row) (list_all is_xid_continue y)) (no_suffix x (sym all ∙ h))
     ∙ ap (λ b. cond (has_digit_at r y && false) (takes row) b) h
     ∙ go (has_digit_at r y)
@@ -440,7 +428,7 @@ past_has_digit r y h = go (has_digit_at r y) refl
     go true e = refl
     go false e =
         let zero_is : is_past_at r y ≡ false = ap (λ z. is_none (capped (place_value r z)))
-            (no_digits r (digit_row_at r y) (run_all (is_row_part (has_value r)) y) e) in
+        (no_digits r (digit_row_at r y) (run_all (is_row_part (has_value r)) y) e) in
         absurd (both_ways (is_past_at r y) zero_is h)
 
 -- a row, and whether its number stands, by what follows it
@@ -451,7 +439,7 @@ row_read takes r y x stops =
     let row = digit_row_at r y in
     let k = run_past (is_row_part (has_value r)) row x (run_all (is_row_part (has_value r)) y) stops in
     let F : List ℕ → List ℕ → Bool = λ d z. cond (list_any (has_value r) d && is_suffix z) (takes d)
-        (list_all is_xid_continue (row ++ x)) in
+    (list_all is_xid_continue (row ++ x)) in
     ap (λ d. F d (after_digits r (row ++ x))) k.0 ∙ ap (F row) k.1
 
 dot_no_part : (r : ℕ) → r ≤ 16 → is_row_part (has_value r) 0xB7 ≡ false
@@ -531,18 +519,18 @@ module _ (r : ℕ) (y : List ℕ) (few : r ≤ 16) (none : based_reads r y ≡ f
         completes =
             row_read (is_within_limit r) r y (0xB7 ∷ []) (dot_no_part r few)
             ∙ ap (λ b. cond (has_digit_at r y && b) (is_within_limit r row)
-                (list_all is_xid_continue (row ++ (0xB7 ∷ [])))) dot_no_suffix
+            (list_all is_xid_continue (row ++ (0xB7 ∷ [])))) dot_no_suffix
             ∙ no_integer (has_digit_at r y) (is_within_limit r row) (list_all is_xid_continue (row ++ (0xB7 ∷ [])))
             ∙ all_dotted row each;
         stuck = λ c cs e k.
             let start : is_xid_start c ≡ true = sym (ap (ends_or_passes is_xid_start) k) ∙ starts in
             let stops : is_row_part (has_value r) c ≡ false = sym (ap (first_passes (is_row_part (has_value r))) k)
-                ∙ row_stops in
+            ∙ row_stops in
             let all : list_all is_xid_continue (row ++ (c ∷ e)) ≡ list_all is_xid_continue e = all_off is_xid_continue
-                row (c ∷ e) each ∙ ap (λ b. b && list_all is_xid_continue e) (is_xid_start-is_xid_continue c start) in
+            row (c ∷ e) each ∙ ap (λ b. b && list_all is_xid_continue e) (is_xid_start-is_xid_continue c start) in
             row_read (is_within_limit r) r y (c ∷ e) stops
             ∙ ap (λ b. cond (b && is_suffix (c ∷ e)) (is_within_limit r row)
-                (list_all is_xid_continue (row ++ (c ∷ e)))) some
+            (list_all is_xid_continue (row ++ (c ∷ e)))) some
             ∙ ap (λ b. cond b (is_within_limit r row) (list_all is_xid_continue (row ++ (c ∷ e)))) (suffix_is c e start)
             ∙ ap (λ b. cond (list_all is_xid_continue e) (not b) (list_all is_xid_continue (row ++ (c ∷ e)))) past
             ∙ ap (λ b. cond (list_all is_xid_continue e) false b) all
@@ -583,19 +571,19 @@ module _ (r : ℕ) (y : List ℕ) (few : r ≤ 16) (none : based_reads r y ≡ f
   based_word h =
       let z = run is_xid_continue x ++ (0xB7 ∷ []) in
       let is : run is_xid_continue y ++ (0xB7 ∷ []) ≡ row ++ z = ap (λ v. run is_xid_continue v ++ (0xB7 ∷ []))
-          (run_join (is_row_part (has_value r)) y) ∙ ap (λ v. v ++ (0xB7 ∷ []))
-          (run_on is_xid_continue row x (row_continues_on r y few))
-          ∙ append_assoc row (run is_xid_continue x) (0xB7 ∷ []) in
+      (run_join (is_row_part (has_value r)) y) ∙ ap (λ v. v ++ (0xB7 ∷ []))
+      (run_on is_xid_continue row x (row_continues_on r y few))
+      ∙ append_assoc row (run is_xid_continue x) (0xB7 ∷ []) in
       let all : list_all is_xid_continue (row ++ z) ≡ true = sym (ap (list_all is_xid_continue) is)
-          ∙ all_dotted (run is_xid_continue y) (run_all is_xid_continue y) in
+      ∙ all_dotted (run is_xid_continue y) (run_all is_xid_continue y) in
       word_stops y (0xB7 ∷ []) (refl, tt) (never (run is_xid_continue y ++ (0xB7 ∷ [])))
       (ap (based_reads r) is
       ∙ row_read (is_within_limit r) r y z (dotted_first (is_row_part (has_value r)) x (dot_no_part r few) row_stops)
       ∙ ap (λ b. cond (has_digit_at r y && is_suffix z) (is_within_limit r row) b) all
       ∙ saved (is_past_at r y) (ends_or_passes is_xid_start x) refl h)
       (λ e. both_ways (based_reads r y) none (word_reads h (ap (list_all is_xid_continue)
-          (run_join is_xid_continue y ∙ ap (λ v. run is_xid_continue y ++ v) e ∙ append-nil (run is_xid_continue y))
-          ∙ run_all is_xid_continue y)))
+      (run_join is_xid_continue y ∙ ap (λ v. run is_xid_continue y ++ v) e ∙ append-nil (run is_xid_continue y))
+      ∙ run_all is_xid_continue y)))
       (any_word (run is_xid_continue y) (run_all is_xid_continue y))
       (λ c cs e k. based_none (is_within_limit r) r (run is_xid_continue y ++ (c ∷ e)) few (word_breaks y c cs e k))
       (λ c cs k. based_none (λ d. true) r (run is_xid_continue y ++ (c ∷ [])) few (word_breaks y c cs [] k))
@@ -622,10 +610,10 @@ based_flaw t r l y k e none =
     let s = sign_at t in
     let flaw = based_flaw_at r y in
     let is : (sign_text s ++ (48 ∷ l ∷ [])) ++ y ≡ t = append_assoc (sign_text s) (48 ∷ l ∷ []) y
-        ∙ ap (λ v. sign_text s ++ v) (sym e) ∙ sym (sign_join t) in
+    ∙ ap (λ v. sign_text s ++ v) (sym e) ∙ sym (sign_join t) in
     subst (λ v. IsFlaw IsNumberFlaw v flaw) is (whole (λ c. false) (based_reads r) (based_any r) Never
-        (sign_text s ++ (48 ∷ l ∷ [])) y flaw (never y) (based_fronted s r l k) (λ x n. absurd n)
-        (λ q. none (subst HasReading is q)) (λ h. based_spoils r y k.few h))
+    (sign_text s ++ (48 ∷ l ∷ [])) y flaw (never y) (based_fronted s r l k) (λ x n. absurd n)
+    (λ q. none (subst HasReading is q)) (λ h. based_spoils r y k.few h))
 
 -- ---- any number
 
@@ -663,8 +651,7 @@ end_rest a b (c ∷ cs) = refl
 minus_flaw : (u : List ℕ) → first_passes is_ascii_digit u ≡ false
     → IsFlaw IsNumberFlaw (45 ∷ u) (end_flaw_at Unfinished NoNumber u)
 unfolding is_exponent_suffix
-minus_flaw u h = record { stops = subst (StopsBefore HasReading (45 ∷ u)) (sym (end_rest Unfinished NoNumber u)) stops;
-    kind = kind u }
+minus_flaw u h = record { stops = subst (StopsBefore HasReading (45 ∷ u)) (sym (end_rest Unfinished NoNumber u)) stops; kind = kind u }
   where
     stops : StopsBefore HasReading (45 ∷ u) u
     stops = record {
@@ -679,7 +666,7 @@ minus_flaw u h = record { stops = subst (StopsBefore HasReading (45 ∷ u)) (sym
           let no_digit : first_passes is_ascii_digit (c ∷ e) ≡ false = sym (ap (first_passes is_ascii_digit) k) ∙ h in
           let t = 45 ∷ c ∷ e in
           only_number t refl (no_number t (no_int t (no_head_int t no_digit)) (no_float t (no_head_float t no_digit)))
-              r.0 r.1.0 r.1.1 r.1.2;
+          r.0 r.1.0 r.1.1 r.1.2;
     }
 
     alone : (front rest : List ℕ) → 45 ∷ rest ≡ front ++ rest → front ≡ 45 ∷ []
@@ -706,7 +693,7 @@ minus_place (c ∷ cs) u flaw front is first at = go (c == 45) refl is
     go true q e =
         let same : end_flaw_at Unfinished NoNumber cs ≡ flaw = ap (end_flaw_at Unfinished NoNumber) (sym e) ∙ sym at in
         subst (λ z. IsFlaw IsNumberFlaw (z ∷ cs) flaw) (sym (eqb-true c 45 q))
-            (subst (IsFlaw IsNumberFlaw (45 ∷ cs)) same (minus_flaw cs
-            (ap (first_passes is_ascii_digit) (sym e) ∙ first)))
+        (subst (IsFlaw IsNumberFlaw (45 ∷ cs)) same (minus_flaw cs
+        (ap (first_passes is_ascii_digit) (sym e) ∙ first)))
     go false q e = absurd (both_ways (is_number_front c) (or_from (c == 45) (is_ascii_digit c) q
         (ap (first_passes is_ascii_digit) (sym e) ∙ first)) front)

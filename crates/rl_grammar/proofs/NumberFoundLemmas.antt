@@ -1,7 +1,5 @@
 -- The digits of a number that was found.
-use Rattle.rl_grammar.proofs.Names.{◌≡◌, ◌≢◌, ℕ, inl, inr, true, List, ◌++◌, refl, sym, ap, subst, ◌∙◌,
-    append_cancel_right, chars-append, IsUtf8, decimal, Kind, Byte, Char, Int, Float, BoolKind, FloatReads,
-    float_digits, sign_text, HasSuffix}
+use Rattle.rl_grammar.proofs.Names.{◌≡◌, ◌≢◌, ℕ, inl, inr, true, List, ◌++◌, refl, sym, ap, subst, ◌∙◌, append_cancel_right, chars-append, IsUtf8, decimal, Kind, Byte, Char, Int, Float, BoolKind, FloatReads, float_digits, sign_text, HasSuffix}
 use Rattle.std.specs.Str.{chars}
 use Rattle.rl_grammar.specs.declared.found.Found.{Found}
 use Rattle.rl_grammar.specs.Founds.{IsFound, IsFoundFloat, IsFoundNumber, StandsIn, body_in, suffix_in}
@@ -10,8 +8,7 @@ use Rattle.rl_grammar.specs.NumberShapes.{AreDigits, IsNumber}
 use Rattle.rl_grammar.specs.WholeShapes.{IsSplit, IsPlain}
 use Rattle.rl_grammar.proofs.DigitLemmas.{int_contents, same_numeral}
 use Rattle.rl_grammar.proofs.FoundLemmas.{body_text, Whether}
-use Rattle.rl_grammar.proofs.PlainNumberLemmas.{IsSplitInteger, plain_integer, plain_float, plain_contents,
-    plain_numeral}
+use Rattle.rl_grammar.proofs.PlainNumberLemmas.{IsSplitInteger, plain_integer, plain_float, plain_contents, plain_numeral}
 
 -- ---- which number was found
 
@@ -31,7 +28,7 @@ found_float t f u e h =
     let (v, r) : HasSuffix Float (chars t) (chars x) = subst (λ k. HasSuffix k (chars t) (chars x)) e h.reads in
     let cut : t ≡ b ++ x = subst (λ k. IsSplit k t b x) e h.cut in
     let same : r.numeral ≡ chars b = append_cancel_right r.numeral (chars b) (chars x)
-        (sym r.reads.text_is ∙ float_chars t f u h.stands cut) in
+    (sym r.reads.text_is ∙ float_chars t f u h.stands cut) in
     record {
       kind = e;
       reads = subst (λ z. FloatReads (chars t) z (chars x)) same r.reads;
@@ -80,13 +77,13 @@ integer_plain t f u e p h =
     let cut = integer_cut t f u e h in
     let plain : IsPlain Int t = (subst (λ k. Whether f.body.plain k t) e h.plain).0 p in
     plain_contents (chars t) (chars (body_in t f.body)) f.magnitude cut
-        (plain_integer t (body_in t f.body) f.magnitude u (body_text t f.body u h.stands) cut plain)
+    (plain_integer t (body_in t f.body) f.magnitude u (body_text t f.body u h.stands) cut plain)
 
 float_plain : (t : List ℕ) (f : Found) → f.body.plain ≡ true → IsFoundFloat t f
     → AreDigits Float (chars t) (chars (body_in t f.body))
 float_plain t f p h =
     plain_numeral (chars t) (chars (body_in t f.body)) (chars (suffix_in t f.body)) h.reads
-        (plain_float t (body_in t f.body) (chars (suffix_in t f.body)) h.reads (h.plain.0 p))
+    (plain_float t (body_in t f.body) (chars (suffix_in t f.body)) h.reads (h.plain.0 p))
 
 pub plain_digits : (t : List ℕ) (f : Found) → IsUtf8 t → f.body.plain ≡ true → IsFoundNumber t f
     → AreDigits f.kind (chars t) (chars (body_in t f.body))
@@ -107,8 +104,8 @@ pub numeral_digits : (t bs : List ℕ) (f : Found) → IsUtf8 t → f.kind ≢ I
 numeral_digits t bs f u n h is =
     let r = number_float t f u n h in
     subst (λ k. AreDigits k (chars t) (chars bs)) (sym r.kind)
-        (λ m x g. same_numeral (chars t) (chars (body_in t f.body)) (chars (suffix_in t f.body)) (chars bs) m x r.reads
-        is g)
+    (λ m x g. same_numeral (chars t) (chars (body_in t f.body)) (chars (suffix_in t f.body)) (chars bs) m x r.reads
+    is g)
 
 -- ---- what isn't found is no number
 

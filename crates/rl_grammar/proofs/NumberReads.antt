@@ -1,15 +1,11 @@
 -- Whether a number stands, by what follows its whole part.
-use Rattle.rl_grammar.proofs.Names.{◌≡◌, ℕ, ◌≤◌, ◌<◌, Bool, true, false, not, cond, ◌&&◌, ◌||◌, ◌==◌, List, [], ◌∷◌,
-    ◌++◌, refl, sym, ap, ◌∙◌, arith, append_assoc, digit_value, is_ascii_digit, is_ascii_hexdigit, list_all, list_any,
-    and_parts, both_ways, eqb-true, lt-ltb, ltb-true, or_from, or_parts, or_right, nat_tests, is_xid_start,
-    is_xid_continue, is_exponent_letter, first_passes, is_row_part, is_underscore, xid_ok}
+use Rattle.rl_grammar.proofs.Names.{◌≡◌, ℕ, ◌≤◌, ◌<◌, Bool, true, false, not, cond, ◌&&◌, ◌||◌, ◌==◌, List, [], ◌∷◌, ◌++◌, refl, sym, ap, ◌∙◌, arith, append_assoc, digit_value, is_ascii_digit, is_ascii_hexdigit, list_all, list_any, and_parts, both_ways, eqb-true, lt-ltb, ltb-true, or_from, or_parts, or_right, nat_tests, is_xid_start, is_xid_continue, is_exponent_letter, first_passes, is_row_part, is_underscore, xid_ok}
 use Rattle.std.specs.Char.{is_ascii_alphanumeric}
 use Rattle.std.proofs.lemmas.Bool.{and_left}
 use Rattle.std.proofs.lemmas.List.Folds.{list_any-append}
 use Rattle.unicode_ident.proofs.IdentLemmas.{is_xid_start-ascii, is_xid_continue-ascii}
 use Rattle.rl_tokens.proofs.Basics.{agree, all_weaker, apart, digit_is_ten, hex_is_sixteen, range_past, word_continues}
-use Rattle.rl_grammar.specs.Mirrors.NumberAt.{after_digits, after_exponent, after_fraction, after_power_sign,
-    has_digit_at, has_value, is_exponent_suffix, is_suffix, may_end, power_at, run}
+use Rattle.rl_grammar.specs.Mirrors.NumberAt.{after_digits, after_exponent, after_fraction, after_power_sign, has_digit_at, has_value, is_exponent_suffix, is_suffix, may_end, power_at, run}
 use Rattle.rl_grammar.specs.Mirrors.NumberFlawAt.{after_word}
 use Rattle.rl_grammar.proofs.DigitRowLemmas.{run_no}
 use Rattle.rl_grammar.proofs.RunLemmas.{run_ends, run_past}
@@ -77,7 +73,7 @@ part_continues r c small h = go (has_value r c) refl h
         let less : digit_value c < r = ltb-true (digit_value c) r e in
         let hex : is_ascii_hexdigit c ≡ true = hex_is_sixteen c ∙ lt-ltb (digit_value c) 16 (omega arith) in
         is_xid_continue-ascii c (hex_low c hex) ∙ (and_parts (is_ascii_hexdigit c)
-            (is_ascii_alphanumeric c || (c == 95)) (sym (hex_is_plain c) ∙ hex)).1
+        (is_ascii_alphanumeric c || (c == 95)) (sym (hex_is_plain c) ∙ hex)).1
     go false e k = mark_continues c k
 
 pub sign_no_continue : (c : ℕ) → (c == 43 || c == 45) ≡ true → is_xid_continue c ≡ false
@@ -132,7 +128,7 @@ marks_no_digit [] h = refl
 marks_no_digit (c ∷ cs) h =
     let b = and_parts (c == 95) (list_all is_underscore cs) h in
     or_from (has_value 10 c) (list_any (has_value 10) cs) (ap (has_value 10) (eqb-true c 95 b.0))
-        (marks_no_digit cs b.1)
+    (marks_no_digit cs b.1)
 
 pub marks_are_row : (us : List ℕ) → list_all is_underscore us ≡ true → list_all (is_row_part (has_value 10)) us ≡ true
 marks_are_row us h = all_weaker is_underscore (is_row_part (has_value 10))
@@ -181,7 +177,7 @@ unfolding power_at
 unsigned_past us [] x h k = absurd (cc)
 unsigned_past us (c ∷ cs) x h k =
     ap after_power_sign (run_off is_underscore us (c ∷ (cs ++ x)) h
-        ∙ (run_no is_underscore c (cs ++ x) (digit_no_mark c k)).1)
+    ∙ (run_no is_underscore c (cs ++ x) (digit_no_mark c k)).1)
     ∙ digit_no_sign (c ∷ (cs ++ x)) k
 
 pub digit_reads : (i p : Bool) (l : ℕ) (us row x : List ℕ) → is_exponent_letter l ≡ true → list_all is_underscore us
@@ -192,13 +188,13 @@ digit_reads i p l us row x l_is marks each first stops =
     let t = us ++ (row ++ x) in
     let some : list_any (has_value 10) row ≡ true = any_first row first in
     let a : list_all is_xid_continue t ≡ list_all is_xid_continue x = all_off is_xid_continue us (row ++ x)
-        (row_continues 10 us (omega arith) (marks_are_row us marks))
-        ∙ all_off is_xid_continue row x (row_continues 10 row (omega arith) each) in
+    (row_continues 10 us (omega arith) (marks_are_row us marks))
+    ∙ all_off is_xid_continue row x (row_continues 10 row (omega arith) each) in
     let all : list_all part (us ++ row) ≡ true = all_off part us row (marks_are_row us marks) ∙ each in
     let y = run_past part (us ++ row) x all stops in
     let u = run_past part row x each stops in
     let any : list_any (has_value 10) (us ++ row) ≡ true = list_any-append (has_value 10) us row
-        ∙ or_right (list_any (has_value 10) us) (list_any (has_value 10) row) some in
+    ∙ or_right (list_any (has_value 10) us) (list_any (has_value 10) row) some in
     let E : List ℕ → List ℕ → Bool = λ d z. list_any (has_value 10) d && is_suffix z in
     let b : (has_digit_at 10 t && is_suffix (after_digits 10 t)) ≡ is_suffix x =
     ap (λ z. has_digit_at 10 z && is_suffix (after_digits 10 z)) (sym (append_assoc us row x))
@@ -207,17 +203,17 @@ digit_reads i p l us row x l_is marks each first stops =
     ∙ ap (λ z. z && is_suffix x) any in
     let power : power_at t ≡ row ++ x = unsigned_past us row x marks first in
     let f : cond (has_digit_at 10 (power_at t)) (is_suffix (after_digits 10 (power_at t))) (list_all is_xid_continue t)
-        ≡ is_suffix x =
+    ≡ is_suffix x =
     ap (λ z. cond (has_digit_at 10 z) (is_suffix (after_digits 10 z)) (list_all is_xid_continue t)) power
     ∙ ap (λ d. cond (list_any (has_value 10) d) (is_suffix (after_digits 10 (row ++ x))) (list_all is_xid_continue t))
-        u.0
+    u.0
     ∙ ap (λ z. cond z (is_suffix (after_digits 10 (row ++ x))) (list_all is_xid_continue t)) some
     ∙ ap is_suffix u.1 in
     letter_reads i p l t l_is
     ∙ ap (λ w. power_reads i p w (has_digit_at 10 t && is_suffix (after_digits 10 t))
-        (cond (has_digit_at 10 (power_at t)) (is_suffix (after_digits 10 (power_at t))) (list_all is_xid_continue t))) a
+    (cond (has_digit_at 10 (power_at t)) (is_suffix (after_digits 10 (power_at t))) (list_all is_xid_continue t))) a
     ∙ ap (λ w. power_reads i p (list_all is_xid_continue x) w (cond (has_digit_at 10 (power_at t))
-        (is_suffix (after_digits 10 (power_at t))) (list_all is_xid_continue t))) b
+    (is_suffix (after_digits 10 (power_at t))) (list_all is_xid_continue t))) b
     ∙ ap (power_reads i p (list_all is_xid_continue x) (is_suffix x)) f
   where
     any_first : (row : List ℕ) → first_passes is_ascii_digit row ≡ true → list_any (has_value 10) row ≡ true
@@ -235,7 +231,7 @@ other_past us [] h k = ap after_power_sign (run_off is_underscore us [] h)
 other_past us (c ∷ cs) h k =
     let b = or_parts (c == 43 || c == 45) (is_row_part (has_value 10) c) k in
     ap after_power_sign (run_off is_underscore us (c ∷ cs) h ∙
-        (run_no is_underscore c cs (or_parts (has_value 10 c) (c == 95) b.1).1).1)
+    (run_no is_underscore c cs (or_parts (has_value 10 c) (c == 95) b.1).1).1)
     ∙ ap (λ z. cond z cs (c ∷ cs)) b.0
 
 -- what it gives where neither sign nor digit follows
@@ -246,19 +242,19 @@ other_reads i p l us x l_is marks no_front =
     let t = us ++ x in
     let no_part = front_part x no_front in
     let a : list_all is_xid_continue t ≡ list_all is_xid_continue x = all_off is_xid_continue us x
-        (row_continues 10 us (omega arith) (marks_are_row us marks)) in
+    (row_continues 10 us (omega arith) (marks_are_row us marks)) in
     let y = run_past (is_row_part (has_value 10)) us x (marks_are_row us marks) no_part in
     let u = run_past (is_row_part (has_value 10)) [] x refl no_part in
     let none : has_digit_at 10 t ≡ false = ap (list_any (has_value 10)) y.0 ∙ marks_no_digit us marks in
     let power : power_at t ≡ x = other_past us x marks no_front in
     let no_power : has_digit_at 10 (power_at t) ≡ false = ap (has_digit_at 10) power
-        ∙ ap (list_any (has_value 10)) u.0 in
+    ∙ ap (list_any (has_value 10)) u.0 in
     letter_reads i p l t l_is
     ∙ ap (λ z. power_reads i p (list_all is_xid_continue t) (z && is_suffix (after_digits 10 t))
-        (cond (has_digit_at 10 (power_at t)) (is_suffix (after_digits 10 (power_at t))) (list_all is_xid_continue t)))
-        none
+    (cond (has_digit_at 10 (power_at t)) (is_suffix (after_digits 10 (power_at t))) (list_all is_xid_continue t)))
+    none
     ∙ ap (λ z. power_reads i p (list_all is_xid_continue t) false
-        (cond z (is_suffix (after_digits 10 (power_at t))) (list_all is_xid_continue t))) no_power
+    (cond z (is_suffix (after_digits 10 (power_at t))) (list_all is_xid_continue t))) no_power
     ∙ ap (λ z. power_reads i p z false z) a
     ∙ settled i p (list_all is_xid_continue x)
   where
@@ -292,7 +288,7 @@ pub dot_reads : (past : Bool) (row x : List ℕ) → list_all (is_row_part (has_
 dot_reads past row x each stops =
     let z = row ++ x in
     ap (λ b. cond (b && not (is_exponent_suffix (46 ∷ z))) (not past) (is_suffix (after_exponent (after_digits 10 z))))
-        (suffix_not 46 z dot_no_start)
+    (suffix_not 46 z dot_no_start)
     ∙ ap (λ y. is_suffix (after_exponent y)) (run_past (is_row_part (has_value 10)) row x each stops).1
 
 -- with a dot alone a float stands
@@ -314,7 +310,7 @@ plain_reads past c x dot letter =
     let s = is_suffix (c ∷ x) in
     undotted past c x dot
     ∙ ap (λ b. cond (s && not (b && (has_digit_at 10 x && is_suffix (after_digits 10 x)))) (not past)
-        (is_suffix (cond (b && has_digit_at 10 (power_at x)) (after_digits 10 (power_at x)) (c ∷ x)))) letter
+    (is_suffix (cond (b && has_digit_at 10 (power_at x)) (after_digits 10 (power_at x)) (c ∷ x)))) letter
     ∙ settled s
   where
     settled : (s : Bool) → cond (s && true) (not past) s ≡ cond s (not past) false

@@ -1,28 +1,20 @@
 -- Where what follows the whole part of a number in base ten stops being the front of such a text,
 -- and why.
-use Rattle.rl_grammar.proofs.Names.{◌≡◌, ℕ, Bool, true, false, not, cond, ◌&&◌, ◌||◌, ◌==◌, List, [], ◌∷◌, ◌++◌, refl,
-    sym, ap, subst, ◌∙◌, append_assoc, append-nil, ◌≢◌, inl, inr, IsScalar, is_ascii_digit, AllByRecursion, list_all,
-    list_any, and_parts, and_right, both_ways, eqb-true, or_from, or_parts, or_right, and_from, not-true, cond_both,
-    cases_Bool, is_xid_start, is_xid_continue, after_run, is_exponent_letter, Dot, Fraction, IsFraction, NoFraction,
-    fraction_text, first_passes, is_row_part, is_underscore}
+use Rattle.rl_grammar.proofs.Names.{◌≡◌, ℕ, Bool, true, false, not, cond, ◌&&◌, ◌||◌, ◌==◌, List, [], ◌∷◌, ◌++◌, refl, sym, ap, subst, ◌∙◌, append_assoc, append-nil, ◌≢◌, inl, inr, IsScalar, is_ascii_digit, AllByRecursion, list_all, list_any, and_parts, and_right, both_ways, eqb-true, or_from, or_parts, or_right, and_from, not-true, cond_both, cases_Bool, is_xid_start, is_xid_continue, after_run, is_exponent_letter, Dot, Fraction, IsFraction, NoFraction, fraction_text, first_passes, is_row_part, is_underscore}
 use Rattle.std.proofs.lemmas.Bool.{not-false}
 use Rattle.std.proofs.lemmas.List.Folds.{list_any-append}
 use Rattle.unicode_ident.proofs.IdentLemmas.{is_xid_start-is_xid_continue}
 use Rattle.rl_tokens.proofs.Basics.{digit_is_ten}
-use Rattle.rl_grammar.specs.Mirrors.NumberAt.{after_digits, after_exponent, digit_row_at, has_digit_at, has_value,
-    is_exponent_suffix, is_suffix, power_at, run}
+use Rattle.rl_grammar.specs.Mirrors.NumberAt.{after_digits, after_exponent, digit_row_at, has_digit_at, has_value, is_exponent_suffix, is_suffix, power_at, run}
 use Rattle.rl_grammar.specs.declared.flaws.FlawKind.{FlawKind}
 use Rattle.rl_grammar.specs.declared.flaws.FlawKind.TheVariants.{Unfinished, NoExponentDigit, BadSuffix, TooLarge}
 use Rattle.rl_grammar.specs.Mirrors.UnitFlawAt.{FoundFlaw, found_flaw}
-use Rattle.rl_grammar.specs.Mirrors.NumberFlawAt.{after_word, end_flaw_at, suffix_flaw_at, suffix_word_flaw_at,
-    signed_flaw_at, unsigned_flaw_at, power_flaw_at, exponent_flaw_at, tail_flaw_at}
+use Rattle.rl_grammar.specs.Mirrors.NumberFlawAt.{after_word, end_flaw_at, suffix_flaw_at, suffix_word_flaw_at, signed_flaw_at, unsigned_flaw_at, power_flaw_at, exponent_flaw_at, tail_flaw_at}
 use Rattle.rl_grammar.proofs.DigitRowLemmas.{run_yes}
 use Rattle.rl_grammar.proofs.RunLemmas.{run_all, run_ends, run_join}
 use Rattle.rl_grammar.proofs.FloatLemmas.{run_first}
 use Rattle.rl_grammar.specs.NumberFlaws.{IsSignedPower}
-use Rattle.rl_grammar.proofs.NumberReads.{suffix_is, suffix_not, no_suffix, word_breaks, ten_reads, power_reads,
-    signed_reads, digits_read, digit_reads, is_power_front, other_reads, power_parts, tail_reads, dot_reads, dot_stands,
-    undotted, plain_reads}
+use Rattle.rl_grammar.proofs.NumberReads.{suffix_is, suffix_not, no_suffix, word_breaks, ten_reads, power_reads, signed_reads, digits_read, digit_reads, is_power_front, other_reads, power_parts, tail_reads, dot_reads, dot_stands, undotted, plain_reads}
 use Rattle.rl_grammar.proofs.TestLemmas.{goes_on, front_passes, all_off}
 use Rattle.std.proofs.Math.Bool.{and-true}
 
@@ -61,16 +53,16 @@ pub on : {first outer : ℕ → Bool} {inner inner_any reads any : List ℕ → 
     → HasTailFlaw first inner inner_any inside t flaw → HasTailFlaw outer reads any signed (pre ++ t) flaw
 on {first} {outer} {inner} {inner_any} {reads} {any} {inside} {signed} pre t (kind, rest) ok same same_any starts power
     k = record {
-  front = pre ++ k.front;
-  text_is = ap (λ z. pre ++ z) k.text_is ∙ sym (append_assoc pre k.front rest);
-  ending = k.ending;
-  are_characters = k.are_characters;
-  opens = ap (first_passes outer) (append_assoc pre k.front k.ending) ∙ starts (k.front ++ k.ending);
-  completes = ap reads (append_assoc pre k.front k.ending) ∙ same (k.front ++ k.ending) k.opens ∙ k.completes;
-  stuck = λ c cs e h. ap reads (append_assoc pre k.front (c ∷ e))
-      ∙ same (k.front ++ (c ∷ e)) (goes_on first k.front rest t c cs e k.text_is h ok) ∙ k.stuck c cs e h;
-  says = go kind rest k.text_is k.says;
-}
+      front = pre ++ k.front;
+      text_is = ap (λ z. pre ++ z) k.text_is ∙ sym (append_assoc pre k.front rest);
+      ending = k.ending;
+      are_characters = k.are_characters;
+      opens = ap (first_passes outer) (append_assoc pre k.front k.ending) ∙ starts (k.front ++ k.ending);
+      completes = ap reads (append_assoc pre k.front k.ending) ∙ same (k.front ++ k.ending) k.opens ∙ k.completes;
+      stuck = λ c cs e h. ap reads (append_assoc pre k.front (c ∷ e))
+          ∙ same (k.front ++ (c ∷ e)) (goes_on first k.front rest t c cs e k.text_is h ok) ∙ k.stuck c cs e h;
+      says = go kind rest k.text_is k.says;
+    }
   where
     here : (r : List ℕ) → t ≡ k.front ++ r → inner_any k.front ≡ any (pre ++ k.front)
     here r e = sym (same_any k.front (front_passes first k.front r t e ok))
@@ -136,7 +128,7 @@ word_spoils {first} {reads} t ok none whole any_whole stuck any_stuck =
     let w = run is_xid_continue t in
     let alone : reads (w ++ []) ≡ true = ap reads (append-nil w) ∙ whole in
     word_stops t [] tt (word_opens first t ok) alone (λ e. both_ways (reads t) none
-        (ap reads (run_join is_xid_continue t ∙ ap (λ z. w ++ z) e) ∙ alone)) any_whole stuck any_stuck
+    (ap reads (run_join is_xid_continue t ∙ ap (λ z. w ++ z) e) ∙ alone)) any_whole stuck any_stuck
 
 -- where nothing but words passes
 whole_word : {first : ℕ → Bool} {reads any : List ℕ → Bool} {signed : List ℕ → Type 0} (t : List ℕ)
@@ -164,14 +156,14 @@ suffix_after {first} {reads} {any} {signed} c cs ending ok same any_same none em
         let word = run is_xid_continue cs in
         let w = run_yes is_xid_continue c cs (is_xid_start-is_xid_continue c s) in
         let whole : (f : List ℕ → Bool) → ((x : List ℕ) → f (c ∷ x) ≡ is_suffix (c ∷ x))
-            → f (run is_xid_continue (c ∷ cs)) ≡ true = λ f h. ap f w.0 ∙ h word ∙ suffix_is c word s
-            ∙ run_all is_xid_continue cs in
+        → f (run is_xid_continue (c ∷ cs)) ≡ true = λ f h. ap f w.0 ∙ h word ∙ suffix_is c word s
+        ∙ run_all is_xid_continue cs in
         let breaks : (f : List ℕ → Bool) → ((x : List ℕ) → f (c ∷ x) ≡ is_suffix (c ∷ x)) → (d : ℕ) (ds e : List ℕ)
-            → after_word (c ∷ cs) ≡ d ∷ ds → f (run is_xid_continue (c ∷ cs) ++ (d ∷ e))
-            ≡ false = λ f h d ds e k. ap (λ z. f (z ++ (d ∷ e))) w.0 ∙ h (word ++ (d ∷ e))
-            ∙ suffix_is c (word ++ (d ∷ e)) s ∙ word_breaks cs d ds e (sym w.1 ∙ k) in
+        → after_word (c ∷ cs) ≡ d ∷ ds → f (run is_xid_continue (c ∷ cs) ++ (d ∷ e))
+        ≡ false = λ f h d ds e k. ap (λ z. f (z ++ (d ∷ e))) w.0 ∙ h (word ++ (d ∷ e))
+        ∙ suffix_is c (word ++ (d ∷ e)) s ∙ word_breaks cs d ds e (sym w.1 ∙ k) in
         word_spoils (c ∷ cs) ok none (whole reads same) (whole any any_same) (breaks reads same)
-            (λ d ds k. breaks any any_same d ds [] k)
+        (λ d ds k. breaks any any_same d ds [] k)
 
     stops : is_xid_start c ≡ false → HasTailFlaw first reads any signed (c ∷ cs) (found_flaw BadSuffix (c ∷ cs))
     stops s = record {
@@ -224,16 +216,14 @@ past_spoils : {first : ℕ → Bool} {reads any : List ℕ → Bool} {signed : L
     ≡ true → ((c : ℕ) (cs : List ℕ) → t ≡ c ∷ cs → any (pre ++ (c ∷ [])) ≡ test c)
     → HasTailFlaw first reads any signed (pre ++ t) (past_flaw test t)
 past_spoils test pre [] ending are opens completes stuck whole with_next = record
-    { front = pre; text_is = refl; ending = ending; are_characters = are; opens = opens; completes = completes; stuck =
-    stuck; says = whole }
+    { front = pre; text_is = refl; ending = ending; are_characters = are; opens = opens; completes = completes; stuck = stuck; says = whole }
 past_spoils {first} {reads} {any} {signed} test pre (c ∷ cs) ending are opens completes stuck whole with_next =
     cond_both (test c) _ _ (HasTailFlaw first reads any signed (pre ++ (c ∷ cs)))
     (λ e. stops TooLarge (with_next c cs refl ∙ e)) (λ e. stops BadSuffix (whole, with_next c cs refl ∙ e))
   where
     stops : (kind : FlawKind) → Says any signed kind pre (c ∷ cs)
         → HasTailFlaw first reads any signed (pre ++ (c ∷ cs)) (found_flaw kind (c ∷ cs))
-    stops kind says = record { front = pre; text_is = refl; ending = ending; are_characters = are; opens = opens;
-        completes = completes; stuck = stuck; says = says }
+    stops kind says = record { front = pre; text_is = refl; ending = ending; are_characters = are; opens = opens; completes = completes; stuck = stuck; says = says }
 
 -- ---- after the digits of an exponent without a sign
 
@@ -272,7 +262,7 @@ digits_start : (i p : Bool) (c : ℕ) (x : List ℕ) → is_xid_start c ≡ true
 digits_start i p c x h =
     let s = is_suffix (c ∷ x) in
     let all : list_all is_xid_continue (c ∷ x) ≡ s = ap (λ b. b && list_all is_xid_continue x)
-        (is_xid_start-is_xid_continue c h) ∙ sym (suffix_is c x h) in
+    (is_xid_start-is_xid_continue c h) ∙ sym (suffix_is c x h) in
     ap (λ w. power_reads i p w s s) all ∙ settled i s
   where
     settled : (b s : Bool) → cond (b && (s && not s)) (not p) s ≡ s
@@ -306,8 +296,8 @@ unsigned_spoils i p (c ∷ cs) ok none = cond_both (i && not (is_xid_start c)) _
         let parts = and_parts i (not (is_xid_start c)) h in
         let off = not-true (is_xid_start c) parts.1 in
         subst (λ j. HasTailFlaw is_ten_part (digits_read j p) (digits_read j false) Never (c ∷ cs)
-            (suffix_word_flaw_at p (c ∷ cs))) (sym parts.0) (go p off
-            (ap (λ j. digits_read j p (c ∷ cs)) (sym parts.0) ∙ none))
+        (suffix_word_flaw_at p (c ∷ cs))) (sym parts.0) (go p off
+        (ap (λ j. digits_read j p (c ∷ cs)) (sym parts.0) ∙ none))
       where
         go : (q : Bool) → is_xid_start c ≡ false → digits_read true q (c ∷ cs) ≡ false
             → HasTailFlaw is_ten_part (digits_read true q) (digits_read true false) Never (c ∷ cs)
@@ -316,10 +306,10 @@ unsigned_spoils i p (c ∷ cs) ok none = cond_both (i && not (is_xid_start c)) _
             (sym (word_past (c ∷ cs))) (past_spoils is_xid_continue [] (c ∷ cs) [] tt refl
             (digits_suffix true true [] refl)
             (λ d ds e k. let head : c ≡ d = cc in subst (λ z. digits_read true true (z ∷ e) ≡ false) head
-                (digits_other true c e off ∙ and_right (list_all is_xid_continue (c ∷ e)) false refl))
+            (digits_other true c e off ∙ and_right (list_all is_xid_continue (c ∷ e)) false refl))
             (digits_suffix true false [] refl)
             (λ d ds k. let head : c ≡ d = cc in subst (λ z. digits_read true false (z ∷ []) ≡ is_xid_continue z) head
-                (digits_other false c [] off ∙ and-true (is_xid_continue c && true) ∙ and-true (is_xid_continue c))))
+            (digits_other false c [] off ∙ and-true (is_xid_continue c && true) ∙ and-true (is_xid_continue c))))
         go false off n = subst (HasTailFlaw is_ten_part (digits_read true false) (digits_read true false) Never
             (c ∷ cs)) (sym (word_goes (c ∷ cs))) (whole_word (c ∷ cs) ok n
             (digits_word (run is_xid_continue (c ∷ cs)) (run_all is_xid_continue (c ∷ cs)))
@@ -340,13 +330,13 @@ unsigned_spoils i p (c ∷ cs) ok none = cond_both (i && not (is_xid_start c)) _
 
 -- what is known of the letter, and of the numbers that it begins
 record IsPower (i p : Bool) (reads any : List ℕ → Bool) (outer : ℕ → Bool) (signed : List ℕ → Type 0) (l : ℕ) : Type 0
-    where
-  is_letter : is_exponent_letter l ≡ true
-  same : (x : List ℕ) → reads (l ∷ x) ≡ ten_reads i p (l ∷ x)
-  any_same : (x : List ℕ) → any (l ∷ x) ≡ ten_reads i false (l ∷ x)
-  starts : outer l ≡ false
-  may_be_past : i ≡ false → p ≡ false
-  power : (x : List ℕ) → IsSignedPower x → signed x
+  where
+    is_letter : is_exponent_letter l ≡ true
+    same : (x : List ℕ) → reads (l ∷ x) ≡ ten_reads i p (l ∷ x)
+    any_same : (x : List ℕ) → any (l ∷ x) ≡ ten_reads i false (l ∷ x)
+    starts : outer l ≡ false
+    may_be_past : i ≡ false → p ≡ false
+    power : (x : List ℕ) → IsSignedPower x → signed x
 
 -- a row without a digit is of underscores
 only_marks : (row : List ℕ) → list_all (is_row_part (has_value 10)) row ≡ true → list_any (has_value 10) row ≡ false
@@ -395,11 +385,11 @@ module _ (i p : Bool) (reads any : List ℕ → Bool) (outer : ℕ → Bool) (si
       some : has_digit_at 10 t ≡ true → HasTailFlaw outer reads any signed (pre ++ w) (suffix_flaw_at false w)
       some h =
           let under : (f : List ℕ → Bool) (q : Bool) → ((x : List ℕ) → f (l ∷ x) ≡ ten_reads i q (l ∷ x)) → (x : List ℕ)
-              → first_passes is_ten_part x ≡ false → f (pre ++ x) ≡ is_suffix x = λ f q same x stops. by f q same x
-              stops ∙ ap (λ z. z && is_suffix x) h in
+          → first_passes is_ten_part x ≡ false → f (pre ++ x) ≡ is_suffix x = λ f q same x stops. by f q same x
+          stops ∙ ap (λ z. z && is_suffix x) h in
           let no_more : is_suffix w ≡ false = sym (under reads p k.same w ends) ∙ ap reads joined ∙ none in
           on pre w (suffix_flaw_at false w) ends (under reads p k.same) (under any false k.any_same) (λ x. k.starts)
-              (λ x e. absurd e) (suffix_spoils {signed = Never} w ends no_more)
+          (λ x e. absurd e) (suffix_spoils {signed = Never} w ends no_more)
 
       stops_at : has_digit_at 10 t ≡ false → (kind : FlawKind) (rest : List ℕ) → first_passes is_ten_part rest ≡ false
           → Says any signed kind pre rest → HasTailFlaw outer reads any signed (pre ++ rest) (found_flaw kind rest)
@@ -414,17 +404,16 @@ module _ (i p : Bool) (reads any : List ℕ → Bool) (outer : ℕ → Bool) (si
             ∙ k.same (us ++ (c ∷ (row ++ (49 ∷ []))))
             ∙ ap (λ z. ten_reads i p (l ∷ (us ++ (c ∷ z)))) (sym (append-nil (row ++ (49 ∷ []))))
             ∙ signed_reads i p l c us (row ++ (49 ∷ [])) [] k.is_letter c_is marks
-                (all_off is_ten_part row (49 ∷ []) each) refl
+            (all_off is_ten_part row (49 ∷ []) each) refl
             ∙ ap (λ z. z && true) (list_any-append (has_value 10) row (49 ∷ [])
-                ∙ or_right (list_any (has_value 10) row) true refl);
+            ∙ or_right (list_any (has_value 10) row) true refl);
         stuck = λ d ds e q. by reads p k.same (d ∷ e) (sym (ap (first_passes is_ten_part) q) ∙ stops)
             ∙ ap (λ z. z && is_suffix (d ∷ e)) h;
         says = says;
       }
 
       in_sign : has_digit_at 10 t ≡ false → signed pre
-      in_sign h = k.power pre (record { letter = l; underscores = us; sign = c; more = row; is_letter = k.is_letter;
-          all_underscores = marks; is_sign = c_is; more_underscores = only_marks row each h; text_is = refl })
+      in_sign h = k.power pre (record { letter = l; underscores = us; sign = c; more = row; is_letter = k.is_letter; all_underscores = marks; is_sign = c_is; more_underscores = only_marks row each h; text_is = refl })
 
       stopped : has_digit_at 10 t ≡ false → (rest : List ℕ) → first_passes is_ten_part rest ≡ false
           → HasTailFlaw outer reads any signed (pre ++ rest) (end_flaw_at Unfinished NoExponentDigit rest)
@@ -441,16 +430,16 @@ module _ (i p : Bool) (reads any : List ℕ → Bool) (outer : ℕ → Bool) (si
       let ends = run_ends is_ten_part t in
       let each = run_all is_ten_part t in
       let joined : (us ++ row) ++ w ≡ us ++ t = append_assoc us row w
-          ∙ ap (λ z. us ++ z) (sym (run_join is_ten_part t)) in
+      ∙ ap (λ z. us ++ z) (sym (run_join is_ten_part t)) in
       let by : (f : List ℕ → Bool) (q : Bool) → ((x : List ℕ) → f (l ∷ x) ≡ ten_reads i q (l ∷ x)) → (x : List ℕ)
-          → first_passes is_ten_part x ≡ false → f (l ∷ ((us ++ row) ++ x))
-          ≡ digits_read i q x = λ f q same x stops. ap (λ z. f (l ∷ z)) (append_assoc us row x)
-          ∙ same (us ++ (row ++ x)) ∙ digit_reads i q l us row x k.is_letter marks each (run_first t first) stops in
+      → first_passes is_ten_part x ≡ false → f (l ∷ ((us ++ row) ++ x))
+      ≡ digits_read i q x = λ f q same x stops. ap (λ z. f (l ∷ z)) (append_assoc us row x)
+      ∙ same (us ++ (row ++ x)) ∙ digit_reads i q l us row x k.is_letter marks each (run_first t first) stops in
       let no_more : digits_read i p w ≡ false = sym (by reads p k.same w ends) ∙ ap (λ z. reads (l ∷ z)) joined
-          ∙ none in
+      ∙ none in
       subst (λ z. HasTailFlaw outer reads any signed (l ∷ z) flaw) joined
-          (on (l ∷ (us ++ row)) w flaw ends (by reads p k.same) (by any false k.any_same) (λ x. k.starts)
-          (λ x e. absurd e) (unsigned_spoils i p w ends no_more))
+      (on (l ∷ (us ++ row)) w flaw ends (by reads p k.same) (by any false k.any_same) (λ x. k.starts)
+      (λ x e. absurd e) (unsigned_spoils i p w ends no_more))
 
   -- where neither follows
   other_spoils : (t : List ℕ) → first_passes is_power_front t ≡ false → reads (l ∷ (us ++ t)) ≡ false
@@ -478,18 +467,18 @@ module _ (i p : Bool) (reads any : List ℕ → Bool) (outer : ℕ → Bool) (si
           let Word = list_all is_xid_continue in
           let no_more : Word t ≡ false = sym (unlimited reads p k.same e t ok) ∙ none in
           let word : HasTailFlaw is_power_front Word Word Never t (found_flaw BadSuffix (after_word t)) = whole_word t
-              ok no_more (run_all is_xid_continue t) (run_all is_xid_continue t) (λ x h. h) (λ x h. h) in
+          ok no_more (run_all is_xid_continue t) (run_all is_xid_continue t) (λ x h. h) (λ x h. h) in
           subst (P t) (sym (word_goes t)) (on (l ∷ us) t (found_flaw BadSuffix (after_word t)) ok
-              (unlimited reads p k.same e) any_by (λ x. k.starts) (λ x e. absurd e) word)
+          (unlimited reads p k.same e) any_by (λ x. k.starts) (λ x e. absurd e) word)
       go true e =
           let after : (c : ℕ) (cs r : List ℕ) → t ≡ c ∷ cs → first_passes is_power_front (c ∷ r)
-              ≡ false = λ c cs r q. sym (ap (first_passes is_power_front) q) ∙ ok in
+          ≡ false = λ c cs r q. sym (ap (first_passes is_power_front) q) ∙ ok in
           subst (P t) (sym (word_past t)) (past_spoils is_xid_continue (l ∷ us) t (49 ∷ []) (refl, tt) k.starts
           (k.same (us ++ (49 ∷ [])) ∙ digit_reads i p l us (49 ∷ []) [] k.is_letter marks refl refl refl
-              ∙ digits_suffix i p [] refl)
+          ∙ digits_suffix i p [] refl)
           (λ c cs r q. by reads p k.same (c ∷ r) (after c cs r q)
-              ∙ ap (λ z. list_all is_xid_continue (c ∷ r) && not z) (is_past i p e k.may_be_past)
-              ∙ and_right (list_all is_xid_continue (c ∷ r)) false refl)
+          ∙ ap (λ z. list_all is_xid_continue (c ∷ r) && not z) (is_past i p e k.may_be_past)
+          ∙ and_right (list_all is_xid_continue (c ∷ r)) false refl)
           (sym (ap (λ z. any (l ∷ z)) (append-nil us)) ∙ any_by [] refl)
           (λ c cs q. any_by (c ∷ []) (after c cs [] q) ∙ and-true (is_xid_continue c)))
 
@@ -502,7 +491,7 @@ module _ (i p : Bool) (reads any : List ℕ → Bool) (outer : ℕ → Bool) (si
       (λ s. cond_both (is_ascii_digit c) _ _ (P (c ∷ cs))
       (λ d. digit_spoils (c ∷ cs) d none)
       (λ d. other_spoils (c ∷ cs) (or_from (c == 43 || c == 45) (is_ten_part c) s
-          (or_from (has_value 10 c) (c == 95) (sym (digit_is_ten c) ∙ d) ok)) none))
+      (or_from (has_value 10 c) (c == 95) (sym (digit_is_ten c) ∙ d) ok)) none))
 
 power_spoils : (i p : Bool) (reads any : List ℕ → Bool) (outer : ℕ → Bool) (signed : List ℕ → Type 0) (l : ℕ)
     (t : List ℕ) → IsPower i p reads any outer signed l → reads (l ∷ t) ≡ false
@@ -510,8 +499,8 @@ power_spoils : (i p : Bool) (reads any : List ℕ → Bool) (outer : ℕ → Boo
 power_spoils i p reads any outer signed l t k none =
     let joined : t ≡ run is_underscore t ++ after_run is_underscore t = run_join is_underscore t in
     subst (λ z. HasTailFlaw outer reads any signed (l ∷ z) (power_flaw_at i p (after_run is_underscore t))) (sym joined)
-        (row_spoils i p reads any outer signed l k (run is_underscore t) (run_all is_underscore t)
-        (after_run is_underscore t) (run_ends is_underscore t) (ap (λ z. reads (l ∷ z)) (sym joined) ∙ none))
+    (row_spoils i p reads any outer signed l k (run is_underscore t) (run_all is_underscore t)
+    (after_run is_underscore t) (run_ends is_underscore t) (ap (λ z. reads (l ∷ z)) (sym joined) ∙ none))
 
 -- ---- after the whole part
 
@@ -523,8 +512,7 @@ fraction_spoils [] ok none = absurd (both_ways (ten_reads false false []) none r
 fraction_spoils (c ∷ cs) ok none = cond_both (is_exponent_letter c) _ _
     (HasTailFlaw is_ten_part (ten_reads false false) (ten_reads false false) IsSignedPower (c ∷ cs))
     (λ h. power_spoils false false (ten_reads false false) (ten_reads false false) is_ten_part IsSignedPower c cs
-        (record { is_letter = h; same = λ x. refl; any_same = λ x. refl; starts = ok; may_be_past = λ e. refl; power = λ
-        x k. k }) none)
+    (record { is_letter = h; same = λ x. refl; any_same = λ x. refl; starts = ok; may_be_past = λ e. refl; power = λ x k. k }) none)
     (λ h. suffix_after c cs [] ok (plain h) (plain h) none refl tt refl refl)
   where
     plain : is_exponent_letter c ≡ false → (x : List ℕ) → ten_reads false false (c ∷ x) ≡ is_suffix (c ∷ x)
@@ -571,15 +559,15 @@ tail_spoils past outer (c ∷ cs) dot ok none =
         let ends = run_ends is_ten_part cs in
         let each = run_all is_ten_part cs in
         let is : c ∷ cs ≡ (46 ∷ row) ++ w = ap (λ z. z ∷ cs) (eqb-true c 46 h)
-            ∙ ap (λ z. 46 ∷ z) (run_join is_ten_part cs) in
+        ∙ ap (λ z. 46 ∷ z) (run_join is_ten_part cs) in
         let no_more : ten_reads false false w ≡ false = sym (dot_reads past row w each ends)
-            ∙ sym (ap (tail_reads past) is) ∙ none in
+        ∙ sym (ap (tail_reads past) is) ∙ none in
         subst (λ z. HasTailFlaw outer (tail_reads past) (tail_reads false) IsSignedTail z
-            (exponent_flaw_at false false w)) (sym is)
+        (exponent_flaw_at false false w)) (sym is)
         (on (46 ∷ row) w (exponent_flaw_at false false w) ends (λ x stops. dot_reads past row x each stops)
-            (λ x stops. dot_reads false row x each stops) (λ x. dot)
-            (λ x k. record { fraction = Dot row; power = x; is_fraction = each; is_power = k; text_is = refl })
-            (fraction_spoils w ends no_more))
+        (λ x stops. dot_reads false row x each stops) (λ x. dot)
+        (λ x k. record { fraction = Dot row; power = x; is_fraction = each; is_power = k; text_is = refl })
+        (fraction_spoils w ends no_more))
 
     kept : (b : Bool) → cond b true false ≡ b
     kept true = refl
@@ -599,12 +587,12 @@ tail_spoils past outer (c ∷ cs) dot ok none =
         → HasTailFlaw outer (tail_reads q) (tail_reads false) IsSignedTail (c ∷ cs) (suffix_flaw_at q (c ∷ cs))
     plain false n h k =
         let same : (x : List ℕ) → tail_reads false (c ∷ x) ≡ is_suffix (c ∷ x) = λ x. plain_reads false c x h k
-            ∙ kept (is_suffix (c ∷ x)) in
+        ∙ kept (is_suffix (c ∷ x)) in
         suffix_after c cs (46 ∷ []) ok same same n nothing_stands (refl, tt) dot (dot_stands false)
     plain true n h k = subst (HasTailFlaw outer (tail_reads true) (tail_reads false) IsSignedTail (c ∷ cs))
         (sym (suffix_past (c ∷ cs))) (past_spoils is_xid_start [] (c ∷ cs) (46 ∷ []) (refl, tt) dot (dot_stands true)
         (λ d ds e q. let head : c ≡ d = cc in subst (λ z. tail_reads true (z ∷ e) ≡ false) head
-            (plain_reads true c e h k ∙ lost (is_suffix (c ∷ e))))
+        (plain_reads true c e h k ∙ lost (is_suffix (c ∷ e))))
         nothing_stands
         (λ d ds q. let head : c ≡ d = cc in subst (λ z. tail_reads false (z ∷ []) ≡ is_xid_start z) head
-            (plain_reads false c [] h k ∙ kept (is_suffix (c ∷ [])) ∙ suffix_first c)))
+        (plain_reads false c [] h k ∙ kept (is_suffix (c ∷ [])) ∙ suffix_first c)))

@@ -1,13 +1,10 @@
 -- A text has one flaw at most.
-use Rattle.rl_grammar.proofs.Names.{◌≡◌, ℕ, Bool, true, false, ◌+◌, List, [], ◌∷◌, ◌++◌, Some, None, refl, sym, ap,
-    subst, ◌∙◌, inl, inr, append_assoc, both_ways, append_cancel_right, Kind, HasReading, truth_text, byte_len,
-    first_passes}
+use Rattle.rl_grammar.proofs.Names.{◌≡◌, ℕ, Bool, true, false, ◌+◌, List, [], ◌∷◌, ◌++◌, Some, None, refl, sym, ap, subst, ◌∙◌, inl, inr, append_assoc, both_ways, append_cancel_right, Kind, HasReading, truth_text, byte_len, first_passes}
 use Rattle.rl_grammar.specs.declared.flaws.Flaw.{Flaw}
 use Rattle.rl_grammar.specs.declared.flaws.FlawKind.{FlawKind}
 use Rattle.rl_grammar.specs.declared.flaws.FlawKind.TheVariants.{Empty, NoLiteral, Unfinished}
 use Rattle.rl_grammar.specs.declared.quoted_forms.QuotedForm.{QuotedForm}
-use Rattle.rl_grammar.specs.declared.quoted_forms.QuotedForm.TheVariants.{Cooked as CookedForm, Raw as RawForm, Single
-    as SingleForm}
+use Rattle.rl_grammar.specs.declared.quoted_forms.QuotedForm.TheVariants.{Cooked as CookedForm, Raw as RawForm, Single as SingleForm}
 use Rattle.rl_grammar.specs.FlawKinds.{HasQuotedFlaw, HasQuotedPiece, IsPiece, QuotedFlaw}
 use Rattle.rl_grammar.specs.Flaws.{BeginsPiece, IsFlawOf, IsPieceOf, StopsBefore, first_len}
 use Rattle.rl_grammar.specs.Forms.{form_opener}
@@ -98,7 +95,7 @@ form_once SingleForm kind k l inside rest p q = single_once kind k l inside rest
 quoted_once : (k l : FlawKind) (t rest : List ℕ) → HasQuotedFlaw k t rest → HasQuotedFlaw l t rest → k ≡ l
 quoted_once k l t rest p q =
     let same = opener_same t q.form p.form q.kind p.kind q.inside p.inside (quoted_opener l t rest q)
-        (quoted_opener k t rest p) in
+    (quoted_opener k t rest p) in
     form_once p.form p.kind k l p.inside rest p.spoils (subst (λ z. QuotedFlaw z.0 z.1 l z.2 rest) same q.spoils)
 
 -- in each form the place is after the opener
@@ -115,7 +112,7 @@ front_opened k t front rest e q none =
     let (m, cut) = form_cut q.form q.kind k q.inside rest q.spoils in
     let before = form_opener q.form q.kind in
     let is : front ≡ before ++ m = append_cancel_right front (before ++ m) rest
-        (sym e ∙ q.text_is ∙ ap (λ z. before ++ z) cut ∙ sym (append_assoc before m rest)) in
+    (sym e ∙ q.text_is ∙ ap (λ z. before ++ z) cut ∙ sym (append_assoc before m rest)) in
     let h = sym none ∙ ap opener_at is ∙ front_complete q.form q.kind m q.is_form in
     absurd (cc)
 
@@ -236,7 +233,7 @@ form_piece k kind inside p q rest a b = a ∙ sym b
 piece_once : (t p q rest : List ℕ) → IsPieceOf t p rest → IsPieceOf t q rest → p ≡ q
 piece_once t p q rest (inl a) (inl b) =
     let same = opener_same t b.form a.form b.kind a.kind b.inside a.inside (piece_opener t q rest b)
-        (piece_opener t p rest a) in
+    (piece_opener t p rest a) in
     form_piece a.form a.kind a.inside p q rest a.piece_is (subst (λ z. IsPiece z.0 z.1 z.2 q rest) same b.piece_is)
 piece_once t p q rest (inl a) (inr b) = absurd (b.0 a.form a.kind a.inside a.is_form a.text_is)
 piece_once t p q rest (inr a) (inl b) = absurd (a.0 b.form b.kind b.inside b.is_form b.text_is)
@@ -247,7 +244,7 @@ begins_once : (t rest : List ℕ) (x y : ℕ) → BeginsPiece t rest x → Begin
 begins_once t rest x y a b =
     let same = piece_once t a.piece b.piece rest a.piece_is b.piece_is in
     let before = append_cancel_right a.before b.before b.piece
-        (ap (λ z. a.before ++ z) (sym same) ∙ sym a.text_is ∙ b.text_is) in
+    (ap (λ z. a.before ++ z) (sym same) ∙ sym a.text_is ∙ b.text_is) in
     a.from_is ∙ ap byte_len before ∙ sym b.from_is
 
 -- ---- the flaw
@@ -271,9 +268,9 @@ one_flaw text a b p q =
     let same = stops_once HasReading text p.place.rest q.place.rest p.place.stops q.place.stops in
     let lo = p.place.lo_is ∙ ap byte_len same.0 ∙ sym q.place.lo_is in
     let hi = p.place.hi_is ∙ ap (λ z. z + first_len p.place.rest) lo ∙ ap (λ z. b.lo + first_len z) same.1
-        ∙ sym q.place.hi_is in
+    ∙ sym q.place.hi_is in
     let kind = kinds_once a.kind b.kind text p.place.rest p.place.stops p.kind
-        (subst (IsFlawOf b.kind text) (sym same.1) q.kind) in
+    (subst (IsFlawOf b.kind text) (sym same.1) q.kind) in
     let from = begins_once text p.place.rest a.from b.from p.piece
-        (subst (λ z. BeginsPiece text z b.from) (sym same.1) q.piece) in
+    (subst (λ z. BeginsPiece text z b.from) (sym same.1) q.piece) in
     flaw_same a b kind from lo hi

@@ -1,23 +1,17 @@
 -- At one place a text that begins as a number has one flaw.
-use Rattle.rl_grammar.proofs.Names.{◌≡◌, ℕ, ◌≤◌, Bool, true, false, not, cond, ◌&&◌, ◌||◌, ◌==◌, List, [], ◌∷◌, ◌++◌,
-    refl, sym, ap, subst, ◌∙◌, inl, inr, ◌⊎◌, arith, append_assoc, append-nil, is_ascii_digit, list_all, and_from,
-    and_parts, and_right, both_ways, eqb-true, or_from, is_xid_continue, Base, Binary, Octal, Decimal, Hexadecimal,
-    radix, prefix, Sign, NoSign, Minus, sign_text, Fraction, NoFraction, Dot, IsFraction, fraction_text, IntReads,
-    is_exponent_letter, place_value, without_underscores, HasNoInteger, HasReading, IsPast, first_passes, is_row_part}
+use Rattle.rl_grammar.proofs.Names.{◌≡◌, ℕ, ◌≤◌, Bool, true, false, not, cond, ◌&&◌, ◌||◌, ◌==◌, List, [], ◌∷◌, ◌++◌, refl, sym, ap, subst, ◌∙◌, inl, inr, ◌⊎◌, arith, append_assoc, append-nil, is_ascii_digit, list_all, and_from, and_parts, and_right, both_ways, eqb-true, or_from, is_xid_continue, Base, Binary, Octal, Decimal, Hexadecimal, radix, prefix, Sign, NoSign, Minus, sign_text, Fraction, NoFraction, Dot, IsFraction, fraction_text, IntReads, is_exponent_letter, place_value, without_underscores, HasNoInteger, HasReading, IsPast, first_passes, is_row_part}
 use Rattle.std.proofs.Common.{is_none}
 use Rattle.unicode_ident.proofs.IdentLemmas.{is_xid_continue-ascii}
 use Rattle.rl_tokens.proofs.Basics.{all_weaker, apart, digit_is_ten}
 use Rattle.rl_grammar.specs.NumberFlaws.{EndsInSign, IsAnyNumber, IsNumberFlaw, IsSignedPower}
 use Rattle.rl_grammar.specs.WholeShapes.{is_number_front}
 use Rattle.rl_grammar.specs.declared.flaws.FlawKind.{FlawKind}
-use Rattle.rl_grammar.specs.declared.flaws.FlawKind.TheVariants.{BadSuffix, NoExponentDigit, NoNumber, TooLarge,
-    Unfinished}
+use Rattle.rl_grammar.specs.declared.flaws.FlawKind.TheVariants.{BadSuffix, NoExponentDigit, NoNumber, TooLarge, Unfinished}
 use Rattle.rl_grammar.specs.Mirrors.NumberAt.{after_minus, capped, has_value, radix_at, radix_of}
 use Rattle.rl_grammar.proofs.FloatLemmas.{no_float}
 use Rattle.rl_grammar.proofs.HeadLemmas.{no_head_float, no_head_int}
 use Rattle.rl_grammar.proofs.IntegerLemmas.{minus_past, no_int, radix_past}
-use Rattle.rl_grammar.proofs.NumberReads.{dot_reads, dot_stands, marks_are_row, marks_no_digit, part_continues,
-    sign_no_continue, signed_reads, suffix_continues, tail_reads, ten_reads, undotted}
+use Rattle.rl_grammar.proofs.NumberReads.{dot_reads, dot_stands, marks_are_row, marks_no_digit, part_continues, sign_no_continue, signed_reads, suffix_continues, tail_reads, ten_reads, undotted}
 use Rattle.rl_grammar.proofs.NumberLemmas.{no_number}
 use Rattle.rl_grammar.proofs.NumberFlawLemmas.{names, names_no_dot, ten_first, ten_fronted}
 use Rattle.rl_grammar.proofs.ReadingLemmas.{only_number}
@@ -35,17 +29,20 @@ ten_alone c = refl
 digit_begins : (s : Sign) (c : ℕ) → is_ascii_digit c ≡ true → HasReading ((sign_text s ++ (c ∷ [])) ++ (46 ∷ []))
 digit_begins s c h =
     let each : list_all (is_row_part (has_value 10)) (c ∷ []) ≡ true = and_from (is_row_part (has_value 10) c) true
-        (ap (λ b. b || (c == 95)) (sym (digit_is_ten c) ∙ h)) refl in
+    (ap (λ b. b || (c == 95)) (sym (digit_is_ten c) ∙ h)) refl in
     (ten_fronted s (c ∷ []) [] h each (ten_alone c)).good (46 ∷ []) (names_no_dot (c ∷ []))
-        (dot_stands (is_none (capped (place_value 10 (without_underscores (c ∷ []))))))
+    (dot_stands (is_none (capped (place_value 10 (without_underscores (c ∷ []))))))
 
 -- so some literal begins with each first character of a number
 pub front_begins : (c : ℕ) → is_number_front c ≡ true → (e : List ℕ) × HasReading (c ∷ e)
 front_begins c h = go (c == 45) refl
   where
     go : (b : Bool) → (c == 45) ≡ b → (e : List ℕ) × HasReading (c ∷ e)
-    go true e = (49 ∷ 46 ∷ [], subst (λ z. HasReading (z ∷ 49 ∷ 46 ∷ [])) (sym (eqb-true c 45 e))
-        (digit_begins Minus 49 refl))
+    go true e = (
+      49 ∷ 46 ∷ [],
+      subst (λ z. HasReading (z ∷ 49 ∷ 46 ∷ [])) (sym (eqb-true c 45 e))
+          (digit_begins Minus 49 refl),
+    )
     go false e = (46 ∷ [], digit_begins NoSign c (sym (ap (λ b. b || is_ascii_digit c) e) ∙ h))
 
 -- ---- a minus alone
@@ -85,9 +82,9 @@ unsigned t e = e.whole ++ (fraction_text e.fraction ++ e.power)
 minus_power : (front : List ℕ) → front ≡ 45 ∷ [] → EndsInSign front → ⊥
 minus_power front e k =
     let starts : first_passes is_ascii_digit (unsigned front k)
-        ≡ true = passes_more is_ascii_digit k.whole (fraction_text k.fraction ++ k.power) k.first in
+    ≡ true = passes_more is_ascii_digit k.whole (fraction_text k.fraction ++ k.power) k.first in
     let none : unsigned front k ≡ [] = sym (minus_past k.sign (unsigned front k) starts).0
-        ∙ ap after_minus (sym k.text_is ∙ e) in
+    ∙ ap after_minus (sym k.text_is ∙ e) in
     both_ways (first_passes is_ascii_digit (unsigned front k)) (ap (first_passes is_ascii_digit) none) starts
 
 -- a prefix goes on with an identifier
@@ -116,9 +113,9 @@ integer_continues : (t : List ℕ) (s : Sign) (m : ℕ) (x : List ℕ) → IntRe
 integer_continues t s m x r =
     let u = prefix r.base ++ (r.digits ++ x) in
     let is : after_minus t ≡ u = ap after_minus r.text_is ∙ (minus_past s u
-        (radix_past r.base (r.digits ++ x) r.front).1).0 in
+    (radix_past r.base (r.digits ++ x) r.front).1).0 in
     let row = all_weaker (is_row_part (has_value (radix r.base))) is_xid_continue
-        (λ c k. part_continues (radix r.base) c (few r.base) k) r.digits r.each in
+    (λ c k. part_continues (radix r.base) c (few r.base) k) r.digits r.each in
     ap (list_all is_xid_continue) is
     ∙ all_off is_xid_continue (prefix r.base) (r.digits ++ x) (prefix_continues r.base)
     ∙ all_off is_xid_continue r.digits x row
@@ -131,19 +128,19 @@ power_no_integer t x k s m y r =
     let u = unsigned t k ++ x in
     let before = k.whole ++ (fraction_text k.fraction ++ (p.letter ∷ p.underscores)) in
     let starts : first_passes is_ascii_digit u ≡ true = passes_more is_ascii_digit (unsigned t k) x
-        (passes_more is_ascii_digit k.whole (fraction_text k.fraction ++ k.power) k.first) in
+    (passes_more is_ascii_digit k.whole (fraction_text k.fraction ++ k.power) k.first) in
     let is : after_minus (t ++ x) ≡ u = ap (λ z. after_minus (z ++ x)) k.text_is
-        ∙ ap after_minus (append_assoc (sign_text k.sign) (unsigned t k) x) ∙ (minus_past k.sign u starts).0 in
+    ∙ ap after_minus (append_assoc (sign_text k.sign) (unsigned t k) x) ∙ (minus_past k.sign u starts).0 in
     let cut : u ≡ before ++ (p.sign ∷ (p.more ++ x)) =
     ap (λ z. (k.whole ++ (fraction_text k.fraction ++ z)) ++ x) p.text_is
     ∙ ap (λ z. (k.whole ++ z) ++ x) (sym (append_assoc (fraction_text k.fraction) (p.letter ∷ p.underscores)
-        (p.sign ∷ p.more)))
+    (p.sign ∷ p.more)))
     ∙ ap (λ z. z ++ x) (sym (append_assoc k.whole (fraction_text k.fraction ++ (p.letter ∷ p.underscores))
-        (p.sign ∷ p.more)))
+    (p.sign ∷ p.more)))
     ∙ append_assoc before (p.sign ∷ p.more) x in
     both_ways (list_all is_xid_continue (after_minus (t ++ x)))
-        (ap (list_all is_xid_continue) (is ∙ cut) ∙ all_breaks is_xid_continue before p.sign (p.more ++ x)
-        (sign_no_continue p.sign p.is_sign)) (integer_continues (t ++ x) s m y r)
+    (ap (list_all is_xid_continue) (is ∙ cut) ∙ all_breaks is_xid_continue before p.sign (p.more ++ x)
+    (sign_no_continue p.sign p.is_sign)) (integer_continues (t ++ x) s m y r)
 
 -- and none is past the limit
 power_past : (t x : List ℕ) → EndsInSign t → IsPast (t ++ x) → ⊥
@@ -160,9 +157,9 @@ row_is_ten (a ∷ b ∷ ws) each =
     let part = is_row_part (has_value 10) in
     let p = and_parts (part b) (list_all part ws) (and_parts (part a) (part b && list_all part ws) each).1 in
     let plain : radix_of b ≡ 10 = rw (apart part b 98 p.0 refl, apart part b 111 p.0 refl, apart part b 120 p.0 refl)
-        refl in
+    refl in
     let ten : (a == 48 && not (radix_of b == 10)) ≡ false = and_right (a == 48) (not (radix_of b == 10))
-        (ap (λ r. not (r == 10)) plain) in
+    (ap (λ r. not (r == 10)) plain) in
     ap (λ z. (cond {A = ℕ × List ℕ} z (radix_of b, ws ++ []) (10, a ∷ b ∷ (ws ++ []))).0) ten
 
 -- the letter of an exponent is no part of a row, no dot, and names no base
@@ -191,9 +188,9 @@ is_letter l h = go (l == 101) refl
 signed_fails : (i p : Bool) (x : List ℕ) → IsSignedPower x → ten_reads i p x ≡ false
 signed_fails i p x k =
     ap (λ z. ten_reads i p z) (k.text_is ∙ ap (λ z. k.letter ∷ (k.underscores ++ (k.sign ∷ z)))
-        (sym (append-nil k.more)))
+    (sym (append-nil k.more)))
     ∙ signed_reads i p k.letter k.sign k.underscores k.more [] k.is_letter k.is_sign k.all_underscores
-        (marks_are_row k.more k.more_underscores) refl
+    (marks_are_row k.more k.more_underscores) refl
     ∙ ap (λ z. z && true) (marks_no_digit k.more k.more_underscores)
 
 -- nor after a fraction, or without one
@@ -213,7 +210,7 @@ tail_first : (w : List ℕ) (f : Fraction) (x : List ℕ) → IsSignedPower x
 tail_first w NoFraction x k =
     let l = is_letter k.letter k.is_letter in
     ap (first_passes (ten_first w)) k.text_is ∙ or_from (is_row_part (has_value 10) k.letter) (names w k.letter)
-        l.no_part (l.no_base w)
+    l.no_part (l.no_base w)
 tail_first w (Dot row) x k = names_no_dot w
 
 -- so there is no reading
@@ -222,10 +219,10 @@ power_reads_none t k r =
     let past = is_none (capped (place_value 10 (without_underscores k.whole))) in
     let tail = fraction_text k.fraction ++ k.power in
     let is : t ≡ (sign_text k.sign ++ k.whole) ++ tail = k.text_is
-        ∙ sym (append_assoc (sign_text k.sign) k.whole tail) in
+    ∙ sym (append_assoc (sign_text k.sign) k.whole tail) in
     (ten_fronted k.sign k.whole [] k.first k.each (row_is_ten k.whole k.each)).bad tail
-        (tail_first k.whole k.fraction k.power k.is_power) (tail_fails past k.fraction k.power k.is_fraction k.is_power)
-        (subst HasReading is r)
+    (tail_first k.whole k.fraction k.power k.is_power) (tail_fails past k.fraction k.power k.is_fraction k.is_power)
+    (subst HasReading is r)
 
 -- and no number of any magnitude
 power_any : (t : List ℕ) → EndsInSign t → IsAnyNumber t → ⊥

@@ -1,10 +1,7 @@
 -- At one place a raw string has one flaw.
-use Rattle.rl_grammar.proofs.Names.{◌≡◌, ℕ, zero, suc, true, false, not, cond, List, [], ◌∷◌, ◌++◌, replicate, refl,
-    sym, ap, ◌∙◌, inl, inr, ◌⊎◌, append_assoc, both_ways, eqb-true, not-true, Kind, Str, ByteStr, CStr, Byte, Char, Int,
-    Float, BoolKind, is_hash, first_passes, is_raw}
+use Rattle.rl_grammar.proofs.Names.{◌≡◌, ℕ, zero, suc, true, false, not, cond, List, [], ◌∷◌, ◌++◌, replicate, refl, sym, ap, ◌∙◌, inl, inr, ◌⊎◌, append_assoc, both_ways, eqb-true, not-true, Kind, Str, ByteStr, CStr, Byte, Char, Int, Float, BoolKind, is_hash, first_passes, is_raw}
 use Rattle.rl_grammar.specs.declared.flaws.FlawKind.{FlawKind}
-use Rattle.rl_grammar.specs.declared.flaws.FlawKind.TheVariants.{LateQuote, NoQuote, NotAscii, Nul, Unclosed,
-    Unfinished}
+use Rattle.rl_grammar.specs.declared.flaws.FlawKind.TheVariants.{LateQuote, NoQuote, NotAscii, Nul, Unclosed, Unfinished}
 use Rattle.rl_grammar.specs.FlawKinds.{IsOpened, IsUnopened, RawFlaw, is_quote}
 use Rattle.rl_grammar.specs.Mirrors.UnitFlawAt.{spoiled_flaw_of}
 
@@ -78,12 +75,21 @@ told : (kind : Kind) (k : FlawKind) (t rest : List ℕ) → RawFlaw kind k t res
 told kind Unfinished t rest (u, e) = inl (u, ap unopened_flaw (sym e))
 told kind NoQuote t rest (u, some) = inl (u, missing t rest some)
 told kind Unclosed t rest (o, e) = inr (opened_quote kind t rest o, ap (opened_flaw kind) (sym e))
-told kind Nul t rest (is, s) = inr (opened_quote kind t rest s.opened, sym (ap spoiled_flaw_of is)
-    ∙ spoiled kind rest s.spoils)
-told kind NotAscii t rest (is, s) = inr (opened_quote kind t rest s.opened, sym (ap spoiled_flaw_of is)
-    ∙ spoiled kind rest s.spoils)
-told kind LateQuote t rest r = inr (opened_quote kind t (r.other ∷ (r.more ++ rest)) r.opened, reopened kind rest
-    r.quote)
+told kind Nul t rest (is, s) = inr (
+  opened_quote kind t rest s.opened,
+  sym (ap spoiled_flaw_of is)
+      ∙ spoiled kind rest s.spoils,
+)
+told kind NotAscii t rest (is, s) = inr (
+  opened_quote kind t rest s.opened,
+  sym (ap spoiled_flaw_of is)
+      ∙ spoiled kind rest s.spoils,
+)
+told kind LateQuote t rest r = inr (
+  opened_quote kind t (r.other ∷ (r.more ++ rest)) r.opened,
+  reopened kind rest
+      r.quote,
+)
 told kind k t rest h = absurd h
 
 -- and one kind does
@@ -105,8 +111,11 @@ unopened_cut t rest u = (replicate u.hashes 35, u.text_is)
 
 -- with one
 opened_cut : (kind : Kind) (t rest : List ℕ) → IsOpened kind t rest → (m : List ℕ) × (t ≡ m ++ rest)
-opened_cut kind t rest o = (replicate o.hashes 35 ++ (34 ∷ o.body), o.text_is
-    ∙ sym (append_assoc (replicate o.hashes 35) (34 ∷ o.body) rest))
+opened_cut kind t rest o = (
+  replicate o.hashes 35 ++ (34 ∷ o.body),
+  o.text_is
+      ∙ sym (append_assoc (replicate o.hashes 35) (34 ∷ o.body) rest),
+)
 
 -- with each kind
 pub raw_cut : (kind : Kind) (k : FlawKind) (t rest : List ℕ) → RawFlaw kind k t rest → (m : List ℕ) × (t ≡ m ++ rest)

@@ -1,18 +1,10 @@
 -- At one place a unit of a quoted literal has one flaw.
-use Rattle.rl_grammar.proofs.Names.{◌≡◌, ℕ, ◌+◌, ◌*◌, ◌||◌, ◌&&◌, Bool, true, false, not, cond, eqb, ltb, List, [], ◌∷◌,
-    ◌++◌, None, refl, sym, ap, subst, ◌∙◌, inl, inr, ◌⊎◌, arith, append_assoc, append-nil, digit_value, AllByRecursion,
-    list_all, and_parts, eqb-true, le-ltb, lt-ltb, ne_eqb, not-true, or_parts, append_cancel_right, Kind, first_passes,
-    is_underscore, QuotedUnit, Plain, CrLf, Named, Hex, Unicode, Continuation, Zero, IsUnit, EndsBefore, is_hex_digit,
-    is_string, texts, unit_text, unit_value}
+use Rattle.rl_grammar.proofs.Names.{◌≡◌, ℕ, ◌+◌, ◌*◌, ◌||◌, ◌&&◌, Bool, true, false, not, cond, eqb, ltb, List, [], ◌∷◌, ◌++◌, None, refl, sym, ap, subst, ◌∙◌, inl, inr, ◌⊎◌, arith, append_assoc, append-nil, digit_value, AllByRecursion, list_all, and_parts, eqb-true, le-ltb, lt-ltb, ne_eqb, not-true, or_parts, append_cancel_right, Kind, first_passes, is_underscore, QuotedUnit, Plain, CrLf, Named, Hex, Unicode, Continuation, Zero, IsUnit, EndsBefore, is_hex_digit, is_string, texts, unit_text, unit_value}
 use Rattle.rl_tokens.proofs.Basics.{apart}
 use Rattle.rl_tokens.specs.Texts.{is_among}
 use Rattle.rl_grammar.specs.declared.flaws.FlawKind.{FlawKind}
-use Rattle.rl_grammar.specs.declared.flaws.FlawKind.TheVariants.{Unclosed, UnknownEscape, NoUnicode, NoHexDigit,
-    NoBrace, EmptyBraces, TooManyDigits, PastAscii, PastUnicode, Surrogate, Nul, NotAscii, LoneCr, MustEscape,
-    NoCharacter, TwoCharacters}
-use Rattle.rl_grammar.specs.FlawKinds.{IsBraced, digit_count, number_of, FirstDigit, SecondDigit, AfterBrace,
-    AfterDigits, IsNoCode, HasNoCode, AtBrace, AtSixth, AsItIs, ByLetter, ByDigits, ByNumber, AfterUnits, BeginsUnits,
-    CloserFlaw, IsNotClosed, UnitFlaw}
+use Rattle.rl_grammar.specs.declared.flaws.FlawKind.TheVariants.{Unclosed, UnknownEscape, NoUnicode, NoHexDigit, NoBrace, EmptyBraces, TooManyDigits, PastAscii, PastUnicode, Surrogate, Nul, NotAscii, LoneCr, MustEscape, NoCharacter, TwoCharacters}
+use Rattle.rl_grammar.specs.FlawKinds.{IsBraced, digit_count, number_of, FirstDigit, SecondDigit, AfterBrace, AfterDigits, IsNoCode, HasNoCode, AtBrace, AtSixth, AsItIs, ByLetter, ByDigits, ByNumber, AfterUnits, BeginsUnits, CloserFlaw, IsNotClosed, UnitFlaw}
 use Rattle.rl_tokens.specs.Sources.{is_apostrophe}
 use Rattle.rl_grammar.specs.Mirrors.UnitAt.{escape_at, found, hex_at, unit_at, unicode_at}
 use Rattle.rl_grammar.specs.Mirrors.UnitFlawAt.{character_flaw_of, code_flaw_of}
@@ -87,7 +79,7 @@ not_closed v n [] h = refl
 not_closed v n (c ∷ cs) h =
     let p = and_parts (is_part c) (list_all is_part cs) h in
     rw (apart is_part c 125 p.0 refl) (go (eqb c 95) (ltb (digit_value c) 16 && ltb n 6) (not_closed v n cs p.1)
-        (not_closed (v * 16 + digit_value c) (n + 1) cs p.1))
+    (not_closed (v * 16 + digit_value c) (n + 1) cs p.1))
   where
     go : (a b : Bool) → unicode_digits_at v n cs ≡ None → unicode_digits_at (v * 16 + digit_value c) (n + 1) cs ≡ None
         → cond a (unicode_digits_at v n cs) (cond b (unicode_digits_at (v * 16 + digit_value c) (n + 1) cs) None) ≡ None
@@ -109,8 +101,11 @@ no_end kind (c ∷ cs) first each =
 -- the kind of a number of no character
 code_of : (kind : Kind) (k : FlawKind) (n : ℕ) → IsNoCode kind k n → k ≡ code_flaw_of n
 code_of kind PastUnicode n h = rw (lt-ltb 1114111 n h) refl
-code_of kind Surrogate n h = rw (le-ltb 1114111 n (let high = h.1 in omega arith), ne_eqb n 0
-    (λ e. let low = h.0 in omega (arith, e))) refl
+code_of kind Surrogate n h = rw (
+  le-ltb 1114111 n (let high = h.1 in omega arith),
+  ne_eqb n 0
+      (λ e. let low = h.0 in omega (arith, e)),
+) refl
 code_of kind Nul n h = ap code_flaw_of (sym h.1)
 code_of kind k n h = absurd h
 
@@ -118,8 +113,7 @@ code_of kind k n h = absurd h
 after_digits_spoils : (kind : Kind) (k : FlawKind) (t ds : List ℕ) (c : ℕ) (cs : List ℕ) → IsBraced ds t (c ∷ cs) → k
     ≡ digits_flaw ds c → Spoils kind k t c cs
 after_digits_spoils kind k t [] c cs b is = let h = b.begins in absurd (cc)
-after_digits_spoils kind k t (d ∷ ds) c cs b is = record { front = 92 ∷ 117 ∷ 123 ∷ d ∷ ds; text_is = b.text_is; no_unit
-    = no_end kind (d ∷ ds) b.begins b.each; kind_is = is }
+after_digits_spoils kind k t (d ∷ ds) c cs b is = record { front = 92 ∷ 117 ∷ 123 ∷ d ∷ ds; text_is = b.text_is; no_unit = no_end kind (d ∷ ds) b.begins b.each; kind_is = is }
 
 -- the number is that of no character
 code_spoils : (kind : Kind) (k : FlawKind) (t : List ℕ) (c : ℕ) (cs : List ℕ) → HasNoCode kind k t (c ∷ cs)
@@ -127,19 +121,17 @@ code_spoils : (kind : Kind) (k : FlawKind) (t : List ℕ) (c : ℕ) (cs : List �
 code_spoils kind k t c cs (AtBrace ds b few brace is) =
     let same = eqb-true c 125 brace in
     after_digits_spoils kind k t ds c cs b (subst (λ z. k ≡ digits_flaw ds z) (sym same)
-        (code_of kind k (number_of ds) is))
+    (code_of kind k (number_of ds) is))
 code_spoils kind k t c cs (AtSixth ds sixth after b five rest digit is) =
     let same : c ≡ sixth = cc in
     let count : eqb (digit_count ds) 6 ≡ false = ap (λ n. eqb n 6) five in
     after_digits_spoils kind k t ds c cs b (subst (λ z. k ≡ digits_flaw ds z) (sym same)
-        (rw (digit, count) (code_of kind k (number_of (ds ++ (sixth ∷ []))) is)))
+    (rw (digit, count) (code_of kind k (number_of (ds ++ (sixth ∷ []))) is)))
 
 -- a NUL
 nul_spoils : (kind : Kind) (t : List ℕ) (c : ℕ) (cs : List ℕ) → UnitFlaw kind Nul t (c ∷ cs) → Spoils kind Nul t c cs
-nul_spoils kind t c cs (k, AsItIs e zero) = record { front = []; text_is = e; no_unit = unit_nil kind; kind_is = rw zero
-    refl }
-nul_spoils kind t c cs (k, ByLetter e zero) = record { front = 92 ∷ []; text_is = e; no_unit = no_escape kind; kind_is =
-    ap (flaw_of (92 ∷ [])) (sym (eqb-true c 48 zero)) }
+nul_spoils kind t c cs (k, AsItIs e zero) = record { front = []; text_is = e; no_unit = unit_nil kind; kind_is = rw zero refl }
+nul_spoils kind t c cs (k, ByLetter e zero) = record { front = 92 ∷ []; text_is = e; no_unit = no_escape kind; kind_is = ap (flaw_of (92 ∷ [])) (sym (eqb-true c 48 zero)) }
 nul_spoils kind t c cs (k, ByDigits high low after e rest h l zero) =
     let same : c ≡ low = cc in
     let digit : is_hex_digit c ≡ true = ap is_hex_digit same ∙ l in
@@ -149,10 +141,8 @@ nul_spoils kind t c cs (k, ByNumber n) = code_spoils kind Nul t c cs n
 -- a digit that is missing
 digit_spoils : (kind : Kind) (t : List ℕ) (c : ℕ) (cs : List ℕ) → UnitFlaw kind NoHexDigit t (c ∷ cs)
     → Spoils kind NoHexDigit t c cs
-digit_spoils kind t c cs (FirstDigit e h) = record { front = 92 ∷ 120 ∷ []; text_is = e; no_unit = no_hex kind; kind_is
-    = rw (not-true (is_hex_digit c) h) refl }
-digit_spoils kind t c cs (SecondDigit high d e h) = record { front = 92 ∷ 120 ∷ high ∷ []; text_is = e; no_unit = no_low
-    kind high d; kind_is = rw (not-true (is_hex_digit c) h) refl }
+digit_spoils kind t c cs (FirstDigit e h) = record { front = 92 ∷ 120 ∷ []; text_is = e; no_unit = no_hex kind; kind_is = rw (not-true (is_hex_digit c) h) refl }
+digit_spoils kind t c cs (SecondDigit high d e h) = record { front = 92 ∷ 120 ∷ high ∷ []; text_is = e; no_unit = no_low kind high d; kind_is = rw (not-true (is_hex_digit c) h) refl }
 digit_spoils kind t c cs (AfterBrace e h) =
     let p = or_parts (is_hex_digit c) (eqb c 125) (not-true (is_hex_digit c || eqb c 125) h) in
     record { front = 92 ∷ 117 ∷ 123 ∷ []; text_is = e; no_unit = no_digit kind; kind_is = rw p.1 refl }
@@ -177,8 +167,12 @@ must_escape c h = go (eqb c 10) (eqb c 13) (eqb c 9) refl refl refl h
 
 -- a character that isn't ASCII
 not_ascii : (c : ℕ) → not (ltb c 128) ≡ true → NotAscii ≡ character_flaw_of c
-not_ascii c h = rw (apart (λ x. not (ltb x 128)) c 0 h refl, apart (λ x. not (ltb x 128)) c 39 h refl, not-true
-    (ltb c 128) h) refl
+not_ascii c h = rw (
+  apart (λ x. not (ltb x 128)) c 0 h refl,
+  apart (λ x. not (ltb x 128)) c 39 h refl,
+  not-true
+      (ltb c 128) h,
+) refl
 
 -- each kind, at a character
 spoils : (kind : Kind) (k : FlawKind) (t : List ℕ) (c : ℕ) (cs : List ℕ) → UnitFlaw kind k t (c ∷ cs)
@@ -186,31 +180,27 @@ spoils : (kind : Kind) (k : FlawKind) (t : List ℕ) (c : ℕ) (cs : List ℕ) �
 spoils kind Unclosed t c cs h = absurd (cc)
 spoils kind UnknownEscape t c cs (e, b) =
     let same : c ≡ b.first = let r = b.rest_is in cc in
-    let at : UnknownEscape ≡ flaw_of (92 ∷ []) b.first = rw (ne_eqb b.first 117 b.no_u, ne_eqb b.first 48
-        (b.no_letter Zero)) refl in
+    let at : UnknownEscape ≡ flaw_of (92 ∷ []) b.first = rw (
+      ne_eqb b.first 117 b.no_u,
+      ne_eqb b.first 48
+          (b.no_letter Zero),
+    ) refl in
     record { front = 92 ∷ []; text_is = e; no_unit = no_escape kind; kind_is = at ∙ ap (flaw_of (92 ∷ [])) (sym same) }
-spoils kind NoUnicode t c cs (u, e, b) = record { front = 92 ∷ []; text_is = e; no_unit = no_escape kind; kind_is = rw b
-    refl }
+spoils kind NoUnicode t c cs (u, e, b) = record { front = 92 ∷ []; text_is = e; no_unit = no_escape kind; kind_is = rw b refl }
 spoils kind NoHexDigit t c cs h = digit_spoils kind t c cs h
-spoils kind NoBrace t c cs (e, b) = record { front = 92 ∷ 117 ∷ []; text_is = e; no_unit = no_brace kind; kind_is = refl
-    }
-spoils kind EmptyBraces t c cs (e, b) = record { front = 92 ∷ 117 ∷ 123 ∷ []; text_is = e; no_unit = no_digit kind;
-    kind_is = rw b refl }
+spoils kind NoBrace t c cs (e, b) = record { front = 92 ∷ 117 ∷ []; text_is = e; no_unit = no_brace kind; kind_is = refl }
+spoils kind EmptyBraces t c cs (e, b) = record { front = 92 ∷ 117 ∷ 123 ∷ []; text_is = e; no_unit = no_digit kind; kind_is = rw b refl }
 spoils kind TooManyDigits t c cs (ds, b, six, h) =
     let count : eqb (digit_count ds) 6 ≡ true = ap (λ n. eqb n 6) six in
     after_digits_spoils kind TooManyDigits t ds c cs b (rw (h, count) refl)
-spoils kind PastAscii t c cs (u, e, b) = record { front = 92 ∷ 120 ∷ []; text_is = e; no_unit = no_hex kind; kind_is =
-    rw (and_parts (is_hex_digit c) (ltb 7 (digit_value c)) b).0 refl }
+spoils kind PastAscii t c cs (u, e, b) = record { front = 92 ∷ 120 ∷ []; text_is = e; no_unit = no_hex kind; kind_is = rw (and_parts (is_hex_digit c) (ltb 7 (digit_value c)) b).0 refl }
 spoils kind PastUnicode t c cs h = code_spoils kind PastUnicode t c cs h
 spoils kind Surrogate t c cs h = code_spoils kind Surrogate t c cs h
 spoils kind Nul t c cs h = nul_spoils kind t c cs h
-spoils kind NotAscii t c cs (u, e, b) = record { front = []; text_is = e; no_unit = unit_nil kind; kind_is = not_ascii c
-    b }
+spoils kind NotAscii t c cs (u, e, b) = record { front = []; text_is = e; no_unit = unit_nil kind; kind_is = not_ascii c b }
 spoils kind LoneCr t c cs (s, e, b) = record { front = 13 ∷ []; text_is = e; no_unit = no_cr kind s; kind_is = refl }
-spoils kind MustEscape t c cs (k, e, b) = record { front = []; text_is = e; no_unit = unit_nil kind; kind_is =
-    must_escape c b }
-spoils kind NoCharacter t c cs (k, e, b) = record { front = []; text_is = e; no_unit = unit_nil kind; kind_is = ap
-    character_flaw_of (sym (eqb-true c 39 b)) }
+spoils kind MustEscape t c cs (k, e, b) = record { front = []; text_is = e; no_unit = unit_nil kind; kind_is = must_escape c b }
+spoils kind NoCharacter t c cs (k, e, b) = record { front = []; text_is = e; no_unit = unit_nil kind; kind_is = ap character_flaw_of (sym (eqb-true c 39 b)) }
 spoils kind k t c cs h = absurd h
 
 -- where the text ends, the quote is missing
@@ -255,9 +245,9 @@ no_unit_before : (kind : Kind) (k : FlawKind) (u : QuotedUnit) (m t : List ℕ) 
     → Spoils kind k t c cs → IsUnit kind u → EndsBefore u m → t ≡ unit_text u ++ (m ++ (c ∷ cs)) → ⊥
 no_unit_before kind k u m t c cs p is ends e =
     let front : p.front ≡ unit_text u ++ m = append_cancel_right p.front (unit_text u ++ m) (c ∷ cs)
-        (sym p.text_is ∙ e ∙ sym (append_assoc (unit_text u) m (c ∷ cs))) in
+    (sym p.text_is ∙ e ∙ sym (append_assoc (unit_text u) m (c ∷ cs))) in
     let h : None ≡ found (unit_value kind u) m = sym p.no_unit ∙ ap (unit_at kind) front
-        ∙ unit_complete kind u m is ends in
+    ∙ unit_complete kind u m is ends in
     absurd (cc)
 
 -- ---- a row of units
@@ -279,9 +269,9 @@ unit_first : (kind : Kind) (k l : FlawKind) (w : QuotedUnit) (ws : List QuotedUn
 unit_first kind k l w ws s t c cs is ends p q e =
     let m = texts ws ++ q.front in
     let behind : texts ws ++ t ≡ m ++ (c ∷ cs) = ap (λ z. texts ws ++ z) q.text_is
-        ∙ sym (append_assoc (texts ws) q.front (c ∷ cs)) in
+    ∙ sym (append_assoc (texts ws) q.front (c ∷ cs)) in
     no_unit_before kind k w m s c cs p is (ends_before_front w m (c ∷ cs) (subst (EndsBefore w) behind ends))
-        (e ∙ append_assoc (unit_text w) (texts ws) t ∙ ap (λ z. unit_text w ++ z) behind)
+    (e ∙ append_assoc (unit_text w) (texts ws) t ∙ ap (λ z. unit_text w ++ z) behind)
 
 -- what follows the first unit
 after_first : (kind : Kind) (u w : QuotedUnit) (us ws : List QuotedUnit) (s t : List ℕ) → IsUnit kind u
@@ -289,10 +279,10 @@ after_first : (kind : Kind) (u w : QuotedUnit) (us ws : List QuotedUnit) (s t : 
     ++ t → texts us ++ s ≡ texts ws ++ t
 after_first kind u w us ws s t iu eu iw ew e =
     let first = λ (v : QuotedUnit) (vs : List QuotedUnit) (r : List ℕ) (i : IsUnit kind v)
-        (n : EndsBefore v (texts vs ++ r)). ap (unit_at kind) (append_assoc (unit_text v) (texts vs) r)
-        ∙ unit_complete kind v (texts vs ++ r) i n in
+    (n : EndsBefore v (texts vs ++ r)). ap (unit_at kind) (append_assoc (unit_text v) (texts vs) r)
+    ∙ unit_complete kind v (texts vs ++ r) i n in
     (some_pair (unit_value kind u, texts us ++ s) (unit_value kind w, texts ws ++ t)
-        (sym (first u us s iu eu) ∙ ap (unit_at kind) e ∙ first w ws t iw ew)).1
+    (sym (first u us s iu eu) ∙ ap (unit_at kind) e ∙ first w ws t iw ew)).1
 
 -- two rows of units, with the same rest
 rows_same : (kind : Kind) (k l : FlawKind) (us ws : List QuotedUnit) (s t : List ℕ) (c : ℕ) (cs : List ℕ)

@@ -1,6 +1,5 @@
 -- Where the parts of a quoted literal stand.
-use Rattle.rl_grammar.proofs.Names.{◌≡◌, ℕ, Bool, List, ◌∷◌, ◌++◌, length, take, drop, sym, ap, ap₂, subst, ◌∙◌, arith,
-    drop-append_seam, IsUtf8-take, IsUtf8, Kind, IsTail}
+use Rattle.rl_grammar.proofs.Names.{◌≡◌, ℕ, Bool, List, ◌∷◌, ◌++◌, length, take, drop, sym, ap, ap₂, subst, ◌∙◌, arith, drop-append_seam, IsUtf8-take, IsUtf8, Kind, IsTail}
 use Rattle.std.proofs.Common.{◌-◌}
 use Rattle.std.specs.Str.{chars}
 use Rattle.rl_tokens.proofs.TailLemmas.{tail_step, cut_boundary, cut_chars, cut_drop}
@@ -23,8 +22,7 @@ pub record Placed (t opened closer suffix : List ℕ) (body : Body) : Type 0 whe
 
 pub placed : (t opened closer suffix : List ℕ) (plain : Bool) → IsTail t opened → IsTail opened closer
     → IsTail closer suffix → Placed t opened closer suffix (record
-    { lo = length t - length opened; hi = length t - length closer; suffix_at = length t - length suffix; plain = plain
-    })
+    { lo = length t - length opened; hi = length t - length closer; suffix_at = length t - length suffix; plain = plain })
 placed t opened closer suffix plain begins closes ends =
     let lo = length t - length opened in
     let hi = length t - length closer in
@@ -32,7 +30,7 @@ placed t opened closer suffix plain begins closes ends =
     let long : hi - lo ≡ n = omega (arith, tail_length t opened begins, tail_length opened closer closes) in
     let body_is : take (hi - lo) (drop lo t) ≡ take n opened = ap₂ take long (cut_drop t opened begins) in
     let is_text : IsUtf8 (take (hi - lo) (drop lo t)) = subst IsUtf8 (sym body_is)
-        (IsUtf8-take opened n begins.is_text (cut_boundary opened closer closes)) in
+    (IsUtf8-take opened n begins.is_text (cut_boundary opened closer closes)) in
     let closed = tail_step t opened closer begins closes in
     record {
       stands = record {
@@ -57,4 +55,4 @@ pub closer_is : (t b x closer : List ℕ) → IsUtf8 t → IsUtf8 b → IsUtf8 x
 closer_is t b x closer ut ub ux e is =
     let (cut, text) = closed_cut t b x ut ub ux e in
     ap chars (is ∙ ap (drop (length b)) cut ∙ drop-append_seam b (34 ∷ x))
-        ∙ ascii_first (34 ∷ x) text (omega arith) (omega arith)
+    ∙ ascii_first (34 ∷ x) text (omega arith) (omega arith)

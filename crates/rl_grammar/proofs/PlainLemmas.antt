@@ -1,7 +1,5 @@
 -- Runs of plain characters.
-use Rattle.rl_grammar.proofs.Names.{◌≡◌, ℕ, ◌+◌, ◌&&◌, ◌||◌, ◌==◌, Bool, true, false, not, cond, List, [], ◌∷◌, ◌++◌,
-    refl, sym, ap, ap₂, ◌∙◌, arith, append_assoc, append_cancel_right, list_all, prefix_len, Kind, Str, ByteStr, CStr,
-    first_passes, is_string, is_plain, Marks, is_other}
+use Rattle.rl_grammar.proofs.Names.{◌≡◌, ℕ, ◌+◌, ◌&&◌, ◌||◌, ◌==◌, Bool, true, false, not, cond, List, [], ◌∷◌, ◌++◌, refl, sym, ap, ap₂, ◌∙◌, arith, append_assoc, append_cancel_right, list_all, prefix_len, Kind, Str, ByteStr, CStr, first_passes, is_string, is_plain, Marks, is_other}
 use Rattle.rl_tokens.specs.Scanning.{IsNextMark, is_one_of}
 use Rattle.rl_grammar.specs.Mirrors.Classes.{is_in_run}
 use Rattle.rl_grammar.specs.Mirrors.PlainAt.{is_kept, is_plain_float}
@@ -11,11 +9,20 @@ use Rattle.rl_grammar.proofs.TestLemmas.{all_breaks}
 
 -- strings but byte strings take what is past ASCII as it is
 pub plain_high : (kind : Kind) → is_string kind ≡ true → (kind ≡ ByteStr → ⊥) → PassesHigh (is_plain kind)
-plain_high Str h n b high = rw (not_equal b 34 (omega arith) high, not_equal b 92 (omega arith) high, not_equal b 13
-    (omega arith) high) refl
+plain_high Str h n b high = rw (
+  not_equal b 34 (omega arith) high,
+  not_equal b 92 (omega arith) high,
+  not_equal b 13
+      (omega arith) high,
+) refl
 plain_high ByteStr h n b high = absurd (n refl)
-plain_high CStr h n b high = rw (not_equal b 34 (omega arith) high, not_equal b 92 (omega arith) high, not_equal b 13
-    (omega arith) high, not_equal b 0 (omega arith) high) refl
+plain_high CStr h n b high = rw (
+  not_equal b 34 (omega arith) high,
+  not_equal b 92 (omega arith) high,
+  not_equal b 13
+      (omega arith) high,
+  not_equal b 0 (omega arith) high,
+) refl
 plain_high kind h n b high = absurd (cc)
 
 -- ---- two tests that agree
@@ -62,7 +69,7 @@ marked_stops b h = ap not h
 pub changed_some : (t : List ℕ) (mark : ℕ) (rest : List ℕ) → IsNextMark changed t mark rest → false ≡ is_plain_float t
 changed_some t mark rest n =
     sym (sym (all_same t) ∙ ap (list_all (is_other changed)) n.text_is
-        ∙ all_breaks (is_other changed) n.front mark rest (marked_stops (is_one_of changed mark) n.is_mark))
+    ∙ all_breaks (is_other changed) n.front mark rest (marked_stops (is_one_of changed mark) n.is_mark))
 
 -- it is where what ends the body ends the run
 pub one_run : (q : ℕ → Bool) (body run rest : List ℕ) → body ++ rest ≡ run ++ rest → list_all q run ≡ true → true
@@ -75,5 +82,5 @@ pub no_run : (q : ℕ → Bool) (body run following rest more : List ℕ) → bo
 no_run q body run following rest [] cut after_is stops goes_on = absurd (goes_on after_is)
 no_run q body run following rest (c ∷ more) cut after_is stops goes_on =
     let whole : body ≡ run ++ (c ∷ more) = append_cancel_right body (run ++ (c ∷ more)) rest
-        (cut ∙ ap (λ z. run ++ z) after_is ∙ sym (append_assoc run (c ∷ more) rest)) in
+    (cut ∙ ap (λ z. run ++ z) after_is ∙ sym (append_assoc run (c ∷ more) rest)) in
     sym (ap (list_all q) whole ∙ all_breaks q run c more (ap (first_passes q) (sym after_is) ∙ stops))

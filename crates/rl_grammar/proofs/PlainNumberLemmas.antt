@@ -1,10 +1,5 @@
 -- Numbers whose body is their digits.
-use Rattle.rl_grammar.proofs.Names.{◌≡◌, ℕ, suc, zero, ◌+◌, ◌*◌, ◌^◌, ◌<◌, ◌≤◌, Bool, true, false, not, ◌||◌, ◌==◌,
-    cond, nat_lt, List, [], ◌∷◌, ◌++◌, length, append_assoc, refl, sym, ap, subst, ◌∙◌, arith, and_parts, and_from,
-    not_from_false, not-true, or_parts, nat_tests, pow-suc, append_cancel_right, encodes-append, encodes-chars,
-    digit_value, is_ascii_digit, decimal, list_all, list_any, IsUtf8, encode_utf8_all, IsTrue, Kind, Float, Int, Base,
-    Binary, Octal, Decimal, Hexadecimal, radix, prefix, IsAfterPrefix, Sign, sign_text, IntReads, limit, FloatReads,
-    float_digits, place_value, without_underscores, Digits, HasNoFloat, first_passes}
+use Rattle.rl_grammar.proofs.Names.{◌≡◌, ℕ, suc, zero, ◌+◌, ◌*◌, ◌^◌, ◌<◌, ◌≤◌, Bool, true, false, not, ◌||◌, ◌==◌, cond, nat_lt, List, [], ◌∷◌, ◌++◌, length, append_assoc, refl, sym, ap, subst, ◌∙◌, arith, and_parts, and_from, not_from_false, not-true, or_parts, nat_tests, pow-suc, append_cancel_right, encodes-append, encodes-chars, digit_value, is_ascii_digit, decimal, list_all, list_any, IsUtf8, encode_utf8_all, IsTrue, Kind, Float, Int, Base, Binary, Octal, Decimal, Hexadecimal, radix, prefix, IsAfterPrefix, Sign, sign_text, IntReads, limit, FloatReads, float_digits, place_value, without_underscores, Digits, HasNoFloat, first_passes}
 use Rattle.std.proofs.Common.{◌/◌, ◌%◌}
 use native.Mathlib.Numerals.{unary_clauses}
 use Rattle.std.proofs.lemmas.Str.{digit_value_digit}
@@ -177,7 +172,7 @@ written_more : (ds : List ℕ) (v j k : ℕ) → 0 < v → v < 10 ^ suc j → li
 written_more [] v j k l small all h =
     let e : v * 10 ^ 0 + 0 ≡ v = simp unary_clauses (omega arith) in
     ap (λ n. digits_onto (suc k) 10 false n []) e ∙ room k j v [] (subst (λ n. n < 10 ^ suc k) e h) small
-        ∙ sym (nil_end (digits_onto (suc j) 10 false v []))
+    ∙ sym (nil_end (digits_onto (suc j) 10 false v []))
   where
     nil_end : (xs : List ℕ) → xs ++ [] ≡ xs
     nil_end [] = refl
@@ -187,14 +182,14 @@ written_more (d ∷ ds) v j k l small all h =
     let c = digit_code d b.0 in
     let q = 10 ^ length ds in
     let e : v * 10 ^ suc (length ds) + (digit_value d * q + place_value 10 ds)
-        ≡ (v * 10 + digit_value d) * q + place_value 10 ds =
+    ≡ (v * 10 + digit_value d) * q + place_value 10 ds =
     ap (λ n. v * n + (digit_value d * q + place_value 10 ds)) (pow-suc 10 (length ds))
-        ∙ spread v (digit_value d) q (place_value 10 ds) in
+    ∙ spread v (digit_value d) q (place_value 10 ds) in
     let wide : v * 10 + digit_value d < 10 ^ suc (suc j) = (let p = pow-suc 10 (suc j) in let s = c.1 in omega arith) in
     ap (λ n. digits_onto (suc k) 10 false n []) e
     ∙ written_more ds (v * 10 + digit_value d) (suc j) k (omega arith) wide b.1 (subst (λ n. n < 10 ^ suc k) e h)
     ∙ ap (λ z. z ++ ds) (push (suc j) v (digit_value d) l c.1 ∙ ap (λ g. digits_onto (suc j) 10 false v [] ++ (g ∷ []))
-        c.0)
+    c.0)
     ∙ append_assoc (digits_onto (suc j) 10 false v []) (d ∷ []) ds
 
 -- a digit alone
@@ -203,7 +198,7 @@ written_one k v h =
     let e : (v / 10 == 0) ≡ true = grind (arith, nat_tests) in
     let r : v % 10 ≡ v = omega arith in
     ap (λ b. cond b (glyph v ∷ []) (digits_onto k 10 false (v / 10) (glyph v ∷ []))) e
-        ∙ ap (λ g. g ∷ []) (glyph_is v ∙ ap (λ n. 48 + n) r)
+    ∙ ap (λ g. g ∷ []) (glyph_is v ∙ ap (λ n. 48 + n) r)
 
 -- plain digits are what their value is written as
 plain_written : (ds : List ℕ) → is_plain_digits ds ≡ true → place_value 10 ds < 10 ^ 64 → decimal (place_value 10 ds)
@@ -234,7 +229,7 @@ bare [] h = refl
 bare (d ∷ ds) h =
     let b = and_parts (is_ascii_digit d) (list_all is_ascii_digit ds) h in
     ap (λ m. cond (not m) (d ∷ without_underscores ds) (without_underscores ds)) (apart is_ascii_digit d 95 b.0 refl)
-        ∙ ap (λ z. d ∷ z) (bare ds b.1)
+    ∙ ap (λ z. d ∷ z) (bare ds b.1)
 
 -- it begins with a digit after its sign
 begins_at : (b : Base) (ds x : List ℕ) → IsAfterPrefix b (ds ++ x) → list_any (is_digit b) ds ≡ true
@@ -265,17 +260,17 @@ plain_body : (t body x : List ℕ) (s : Sign) (m : ℕ) → IntReads t s m x →
 plain_body t body x s m r h cut p =
     let u = prefix r.base ++ r.digits in
     let text : t ≡ (sign_text s ++ u) ++ x = r.text_is ∙ sym (append_assoc (sign_text s) u x
-        ∙ ap (λ z. sign_text s ++ z) (append_assoc (prefix r.base) r.digits x)) in
+    ∙ ap (λ z. sign_text s ++ z) (append_assoc (prefix r.base) r.digits x)) in
     let is : body ≡ sign_text s ++ u = append_cancel_right body (sign_text s ++ u) x (sym cut ∙ text) in
     let plain : is_plain_digits u ≡ true = sym (ap is_plain_digits
-        (ap after_minus is ∙ (minus_past s u (begins_at r.base r.digits x r.front r.some)).0)) ∙ p in
+    (ap after_minus is ∙ (minus_past s u (begins_at r.base r.digits x r.front r.some)).0)) ∙ p in
     is ∙ ap (λ z. sign_text s ++ z) (sym (plain_based r.base r.digits m plain r.magnitude_is h))
 
 -- the bytes are cut as the characters are
 bytes_cut : (t b x : List ℕ) → IsUtf8 t → IsUtf8 b → chars t ≡ chars b ++ x → t ≡ b ++ encode_utf8_all x
 bytes_cut t b x ut ub e =
     sym (encodes-chars t ut) ∙ ap encode_utf8_all e ∙ encodes-append (chars b) x
-        ∙ ap (λ z. z ++ encode_utf8_all x) (encodes-chars b ub)
+    ∙ ap (λ z. z ++ encode_utf8_all x) (encodes-chars b ub)
 
 -- the test says whether the integer is plain
 integer_plain : (t b : List ℕ) (m : ℕ) → IsUtf8 t → IsUtf8 b → IsSplitInteger (chars t) m (chars b)
@@ -286,8 +281,7 @@ integer_plain t b m ut ub w p =
       body = b;
       suffix = w.suffix;
       cut = bytes_cut t b w.suffix ut ub w.cut;
-      reads = record { sign = r.sign; magnitude = m; reads = r.reads; within = r.within; contents_is = ap Digits
-          (plain_body (chars t) (chars b) w.suffix r.sign m r.reads r.within w.cut p) };
+      reads = record { sign = r.sign; magnitude = m; reads = r.reads; within = r.within; contents_is = ap Digits (plain_body (chars t) (chars b) w.suffix r.sign m r.reads r.within w.cut p) };
     }
 
 pub plain_integer : (t b : List ℕ) (m : ℕ) → IsUtf8 t → IsUtf8 b → IsSplitInteger (chars t) m (chars b) → IsPlain Int t
@@ -296,7 +290,7 @@ plain_integer t b m ut ub w p =
     let r = p.reads in
     let o = int_once (chars t) w.suffix p.suffix w.within.sign r.sign m r.magnitude w.within.reads r.reads in
     let same : b ≡ p.body = append_cancel_right b p.body (encode_utf8_all p.suffix)
-        (ap (λ z. b ++ encode_utf8_all z) (sym o.2) ∙ sym (bytes_cut t b w.suffix ut ub w.cut) ∙ p.cut) in
+    (ap (λ z. b ++ encode_utf8_all z) (sym o.2) ∙ sym (bytes_cut t b w.suffix ut ub w.cut) ∙ p.cut) in
     let e = r.contents_is in
     let is : chars p.body ≡ sign_text r.sign ++ decimal r.magnitude = cc in
     ap is_plain_integer (ap chars same ∙ is) ∙ written_plain r.sign r.magnitude r.within
@@ -365,7 +359,7 @@ plain_contents t body m w p c x r =
     let o = int_once t w.suffix x w.within.sign r.sign m r.magnitude w.within.reads r.reads in
     let is = plain_body t body w.suffix w.within.sign m w.within.reads w.within.within w.cut p in
     r.contents_is ∙ ap Digits (sym (is ∙ ap (λ s. sign_text s ++ decimal m) o.0
-        ∙ ap (λ n. sign_text r.sign ++ decimal n) o.1))
+    ∙ ap (λ n. sign_text r.sign ++ decimal n) o.1))
 
 pub plain_numeral : (t body x : List ℕ) → FloatReads t body x → is_plain_float body ≡ true → AreDigits Float t body
 plain_numeral t body x r p numeral y s =
@@ -382,8 +376,10 @@ Whether b k t = (IsTrue b → IsPlain k t) × (IsPlain k t → IsTrue b)
 
 pub whether_integer : (t b : List ℕ) (m : ℕ) (r : Bool) → IsUtf8 t → IsUtf8 b → IsSplitInteger (chars t) m (chars b) → r
     ≡ is_plain_integer (chars b) → Whether r Int t
-whether_integer t b m r ut ub w h = ((λ p. integer_plain t b m ut ub w (sym h ∙ p)),
-    (λ q. h ∙ plain_integer t b m ut ub w q))
+whether_integer t b m r ut ub w h = (
+  (λ p. integer_plain t b m ut ub w (sym h ∙ p)),
+  (λ q. h ∙ plain_integer t b m ut ub w q),
+)
 
 pub whether_float : (t b x : List ℕ) (r : Bool) → IsUtf8 t → IsUtf8 b → FloatReads (chars t) (chars b) x → r
     ≡ is_plain_float (chars b) → Whether r Float t

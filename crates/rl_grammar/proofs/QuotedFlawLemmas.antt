@@ -1,8 +1,5 @@
 -- Where the text after an opener stops being the front of a quoted literal, and why.
-use Rattle.rl_grammar.proofs.Names.{◌≡◌, ℕ, Bool, true, false, cond, eqb, List, [], ◌∷◌, ◌++◌, Some, None, refl, sym,
-    ap, subst, ◌∙◌, inl, inr, append_assoc, IsScalar, AllByRecursion, both_ways, eqb-true, Kind, first_passes,
-    QuotedUnit, Plain, CrLf, Named, Hex, Unicode, Continuation, Cooked, Single, IsUnit, EndsBefore, is_blank, is_string,
-    is_single, opener, texts, unit_text}
+use Rattle.rl_grammar.proofs.Names.{◌≡◌, ℕ, Bool, true, false, cond, eqb, List, [], ◌∷◌, ◌++◌, Some, None, refl, sym, ap, subst, ◌∙◌, inl, inr, append_assoc, IsScalar, AllByRecursion, both_ways, eqb-true, Kind, first_passes, QuotedUnit, Plain, CrLf, Named, Hex, Unicode, Continuation, Cooked, Single, IsUnit, EndsBefore, is_blank, is_string, is_single, opener, texts, unit_text}
 use Rattle.rl_grammar.specs.declared.flaws.FlawKind.{FlawKind}
 use Rattle.rl_grammar.specs.declared.flaws.FlawKind.TheVariants.{NoCharacter, TwoCharacters}
 use Rattle.rl_grammar.specs.declared.quoted_forms.QuotedForm.{QuotedForm}
@@ -38,8 +35,7 @@ carried (u ∷ us) t z h ends = (carried_unit u (texts us) t z h ends.0, carried
 
 other_rest : (kind : Kind) (a v t z : List ℕ) (row : BeginsRow kind a v t)
     → (first_passes is_blank t ≡ false → first_passes is_blank z ≡ false) → BeginsRow kind (texts row.units ++ z) v z
-other_rest kind a v t z row h = record { units = row.units; each = row.each; ends = carried row.units t z h row.ends;
-    text_is = refl; value_is = row.value_is }
+other_rest kind a v t z row h = record { units = row.units; each = row.each; ends = carried row.units t z h row.ends; text_is = refl; value_is = row.value_is }
 
 -- the first character of a text stands at the front of what goes on as it does
 first_ending : (test : ℕ → Bool) (front rest z t : List ℕ) → t ≡ front ++ rest
@@ -83,7 +79,7 @@ cooked_stops kind a v t rest s row no_quote stops =
     let done = stops.completes in
     let z = front ++ (done.ending ++ (34 ∷ [])) in
     let on = other_rest kind a v t z row (first_ending is_blank front rest (done.ending ++ (34 ∷ [])) t stops.text_is
-        (λ e. done.no_blank (34 ∷ []) e)) in
+    (λ e. done.no_blank (34 ∷ []) e)) in
     let closed = row_step kind (texts us ++ z) v z (done.value, 34 ∷ []) on (done.reads (34 ∷ [])) in
     record {
       front = texts us ++ front;
@@ -96,8 +92,8 @@ cooked_stops kind a v t rest s row no_quote stops =
           let y = front ++ (c ∷ e) in
           let off = other_rest kind a v t y row (goes_on is_blank front rest t c cs e stops.text_is h) in
           let none : HasNoParts CookedForm kind (opener kind ++ (texts us ++ y)) = cooked_none kind (texts us ++ y) v y
-              off (stops.stuck c cs e h) (λ x g. no_first 34 y x (goes_on (λ k. eqb k 34) front rest t c cs e
-              stops.text_is h no_quote) refl g) in
+          off (stops.stuck c cs e h) (λ x g. no_first 34 y x (goes_on (λ k. eqb k 34) front rest t c cs e
+          stops.text_is h no_quote) refl g) in
           subst (λ w. HasNoParts CookedForm kind (opener kind ++ w)) (sym (append_assoc (texts us) front (c ∷ e))) none;
     }
 
@@ -134,11 +130,10 @@ pub cooked_flaw : (kind : Kind) (a v t : List ℕ) (k : FlawKind) (rest : List �
 cooked_flaw kind a v t k rest s row stuck none same =
     let still = no_closer kind a v t s row none in
     let found : HasUnitFlaw kind (unit_at kind) [] t (k, rest) = subst (HasUnitFlaw kind (unit_at kind) [] t) (sym same)
-        (unit_spoils kind t (inl s) (λ h. still) stuck) in
+    (unit_spoils kind t (inl s) (λ h. still) stuck) in
     record {
       place = cooked_stops kind a v t rest s row still found.stops;
-      has = record { units = row.units; each = row.each; spoiled = t; ends = row.ends; text_is = row.text_is; spoils =
-          found.has };
+      has = record { units = row.units; each = row.each; spoiled = t; ends = row.ends; text_is = row.text_is; spoils = found.has };
     }
 
 -- ---- characters and bytes
@@ -192,8 +187,8 @@ single_quote_stops kind a v rest s h no_quote =
     let begun = unit_sound kind a (v, rest) h in
     let u = begun.unit in
     let reads : (r : List ℕ) → unit_at kind (unit_text u ++ r)
-        ≡ Some (v, r) = λ r. unit_complete kind u r begun.allowed (ends_anyway kind u r s begun.allowed)
-        ∙ ap (λ w. Some (w, r)) (sym begun.value_is) in
+    ≡ Some (v, r) = λ r. unit_complete kind u r begun.allowed (ends_anyway kind u r s begun.allowed)
+    ∙ ap (λ w. Some (w, r)) (sym begun.value_is) in
     record {
       front = unit_text u;
       text_is = begun.text_is;
@@ -229,7 +224,7 @@ pub single_unit_flaw : (kind : Kind) (a : List ℕ) (k : FlawKind) (rest : List 
     → unit_at kind a ≡ None → found_flaw k rest ≡ unit_flaw_at kind a → HasFlaw SingleForm kind a k rest
 single_unit_flaw kind a k rest s stuck same =
     let found : HasUnitFlaw kind (unit_at kind) [] a (k, rest) = subst (HasUnitFlaw kind (unit_at kind) [] a) (sym same)
-        (unit_spoils kind a (inr s) (λ h. absurd (not_both kind h s)) stuck) in
+    (unit_spoils kind a (inr s) (λ h. absurd (not_both kind h s)) stuck) in
     record { place = single_unit_stops kind a rest s found.stops; has = inl found.has }
 
 closer_kind : (kind : Kind) (a rest : List ℕ) → IsNotClosed kind a rest
@@ -248,10 +243,9 @@ pub single_quote_flaw : (kind : Kind) (a v : List ℕ) (k : FlawKind) (rest x : 
 single_quote_flaw kind a v k rest x s h none same there =
     let begun = unit_sound kind a (v, rest) h in
     let no_quote = no_single_closer kind a v rest s h none in
-    let open_still : IsNotClosed kind a rest = record { unit = begun.unit; is_unit = begun.allowed; text_is =
-        begun.text_is; no_closer = no_quote } in
+    let open_still : IsNotClosed kind a rest = record { unit = begun.unit; is_unit = begun.allowed; text_is = begun.text_is; no_closer = no_quote } in
     subst (λ z. HasFlaw SingleForm kind a z x) (sym same) (subst (HasFlaw SingleForm kind a (after_unit_flaw_of a rest))
-        (sym there) (record {
+    (sym there) (record {
       place = single_quote_stops kind a v rest s h no_quote;
       has = inr (closer_kind kind a rest open_still);
     }))

@@ -1,8 +1,6 @@
 -- Where the text after an opener stops being the front of a quoted literal, the whole text stops
 -- being that of any literal.
-use Rattle.rl_grammar.proofs.Names.{◌≡◌, ℕ, Bool, true, false, List, ◌∷◌, ◌++◌, None, refl, sym, ap, subst, ◌∙◌, inl,
-    inr, append_assoc, both_ways, Kind, Str, ByteStr, CStr, Byte, Char, first_passes, is_string, is_single, Contents,
-    HasNoReading, HasNoTruth, HasReading, Reads, ReadsQuoted, quoted_contents, truth_text}
+use Rattle.rl_grammar.proofs.Names.{◌≡◌, ℕ, Bool, true, false, List, ◌∷◌, ◌++◌, None, refl, sym, ap, subst, ◌∙◌, inl, inr, append_assoc, both_ways, Kind, Str, ByteStr, CStr, Byte, Char, first_passes, is_string, is_single, Contents, HasNoReading, HasNoTruth, HasReading, Reads, ReadsQuoted, quoted_contents, truth_text}
 use Rattle.rl_grammar.specs.declared.flaws.FlawKind.{FlawKind}
 use Rattle.rl_grammar.specs.declared.quoted_forms.QuotedForm.{QuotedForm}
 use Rattle.rl_grammar.specs.FlawKinds.{HasNoOpener, HasQuotedFlaw, HasQuotedPiece, IsPiece, QuotedFlaw}
@@ -68,8 +66,15 @@ only_quoted t form kind inside h none = no_reading t (no_parts t form kind insid
 
 parts_begin : (form : QuotedForm) (kind : Kind) (t : List ℕ) → HasParts form kind t
     → HasReading (form_opener form kind ++ t)
-parts_begin form kind t (v, b, x, p) = (kind, (quoted_contents kind v, x, quoted_reading (form_opener form kind ++ t)
-    kind (quoted_contents kind v) x (parts_read form kind (form_opener form kind ++ t) v b x p)))
+parts_begin form kind t (v, b, x, p) = (
+  kind,
+  (
+    quoted_contents kind v,
+    x,
+    quoted_reading (form_opener form kind ++ t)
+        kind (quoted_contents kind v) x (parts_read form kind (form_opener form kind ++ t) v b x p),
+  ),
+)
 
 pub stops_quoted : (t : List ℕ) (form : QuotedForm) (kind : Kind) (inside rest : List ℕ) → opener_at t
     ≡ found_opener form kind inside → StopsInside form kind inside rest → StopsBefore HasReading t rest
@@ -77,7 +82,7 @@ stops_quoted t form kind inside rest h s =
     let told = front_sound t (form, kind, inside) h in
     let before = form_opener form kind in
     let joined : (z : List ℕ) → (before ++ s.front) ++ z ≡ before
-        ++ (s.front ++ z) = λ z. append_assoc before s.front z in
+    ++ (s.front ++ z) = λ z. append_assoc before s.front z in
     record {
       front = before ++ s.front;
       text_is = told.text_is ∙ ap (λ z. before ++ z) s.text_is ∙ sym (joined rest);
@@ -89,7 +94,7 @@ stops_quoted t form kind inside rest h s =
       stuck = λ c cs e same r.
           let (k, (v, x, read)) = subst HasReading (joined (c ∷ e)) r in
           only_quoted (before ++ (s.front ++ (c ∷ e))) form kind (s.front ++ (c ∷ e))
-              (front_complete form kind (s.front ++ (c ∷ e)) told.has) (s.stuck c cs e same) k v x read;
+          (front_complete form kind (s.front ++ (c ∷ e)) told.has) (s.stuck c cs e same) k v x read;
     }
 
 pub quoted_has : (t : List ℕ) (form : QuotedForm) (kind : Kind) (inside : List ℕ) (k : FlawKind) (rest : List ℕ)

@@ -1,24 +1,18 @@
 -- Where the text after the opener of a raw string stops being the front of one, and why.
-use Rattle.rl_grammar.proofs.Names.{◌≡◌, ◌≢◌, ℕ, zero, suc, Bool, true, false, cond, not, eqb, ltb, List, [], ◌∷◌, ◌++◌,
-    replicate, Option, Some, None, refl, sym, ap, subst, ◌∙◌, append_assoc, append-nil, MatchBool, IsScalar, list_all,
-    AllByRecursion, both_ways, and_parts, and_from, eqb-true, ne_eqb, not_from_false, append_cancel_right,
-    list_all-append, Kind, Str, ByteStr, CStr, first_passes, content_of, is_string, is_raw, raw_opener, Raw, after_run,
-    is_hash, hash_count}
+use Rattle.rl_grammar.proofs.Names.{◌≡◌, ◌≢◌, ℕ, zero, suc, Bool, true, false, cond, not, eqb, ltb, List, [], ◌∷◌, ◌++◌, replicate, Option, Some, None, refl, sym, ap, subst, ◌∙◌, append_assoc, append-nil, MatchBool, IsScalar, list_all, AllByRecursion, both_ways, and_parts, and_from, eqb-true, ne_eqb, not_from_false, append_cancel_right, list_all-append, Kind, Str, ByteStr, CStr, first_passes, content_of, is_string, is_raw, raw_opener, Raw, after_run, is_hash, hash_count}
 use denote.Ref.{Bor}
 use Rattle.std.specs.Prelude.{IfSome, IfNone}
 use Rattle.std.specs.Option.{is_some}
 use Rattle.std.specs.Str.{chars}
 use Rattle.rl_tokens.proofs.HashLemmas.{hashes_first, hashes_past}
 use Rattle.rl_grammar.specs.declared.flaws.FlawKind.{FlawKind}
-use Rattle.rl_grammar.specs.declared.flaws.FlawKind.TheVariants.{Unfinished, NoQuote, Unclosed, Nul, NotAscii,
-    LateQuote}
+use Rattle.rl_grammar.specs.declared.flaws.FlawKind.TheVariants.{Unfinished, NoQuote, Unclosed, Nul, NotAscii, LateQuote}
 use Rattle.rl_grammar.specs.declared.quoted_forms.QuotedForm.TheVariants.{Raw as RawForm}
 use Rattle.rl_grammar.specs.Forms.{HasNoParts}
 use Rattle.rl_grammar.specs.FlawKinds.{is_quote, IsUnopened, HasLastCloser, IsOpened, IsSpoiled, IsReopened, RawFlaw}
 use Rattle.rl_grammar.specs.Mirrors.StopsInside.{HasParts, StopsInside}
 use Rattle.rl_grammar.specs.Mirrors.UnitFlawAt.{spoiled_flaw_of}
-use Rattle.rl_grammar.proofs.RawLemmas.{no_quote, quote_inside, last_same, hashes_no_quote, inner, raw_front,
-    raw_unopened}
+use Rattle.rl_grammar.proofs.RawLemmas.{no_quote, quote_inside, last_same, hashes_no_quote, inner, raw_front, raw_unopened}
 
 -- ---- characters
 
@@ -126,7 +120,7 @@ unopened_stops kind t rest s u = record {
       let no_hash = first_is is_hash rest c cs false h u.no_hash in
       let other_first = first_is is_quote rest c cs false h u.no_quote in
       raw_unopened kind (replicate u.hashes 35 ++ (c ∷ e)) (c ∷ e) (sym (hashes_stop u.hashes c e no_hash))
-          (λ y g. both_ways (is_quote c) other_first (ap (first_passes is_quote) g));
+      (λ y g. both_ways (is_quote c) other_first (ap (first_passes is_quote) g));
 }
 
 -- up to the rest the string can be closed
@@ -136,7 +130,7 @@ opened_stops : (kind : Kind) (t rest : List ℕ) → is_string kind ≡ true →
 opened_stops kind t rest s o stuck =
     let hs = replicate o.hashes 35 in
     let joined : (z : List ℕ) → (hs ++ (34 ∷ o.body)) ++ z ≡ hs
-        ++ (34 ∷ (o.body ++ z)) = λ z. append_assoc hs (34 ∷ o.body) z in
+    ++ (34 ∷ (o.body ++ z)) = λ z. append_assoc hs (34 ∷ o.body) z in
     record {
       front = hs ++ (34 ∷ o.body);
       text_is = o.text_is ∙ sym (joined rest);
@@ -169,13 +163,12 @@ spoiled_stops kind t rest s p =
     let r = q.0 in
     let bad = not_raw kind rest c cs p.spoils h in
     let (w, front, after) = closes_before kind o.body r.inside (replicate o.hashes 35 ++ x) e c bad r.each
-        (sym (opens kind o.hashes (o.body ++ (c ∷ e)) v x r)) in
+    (sym (opens kind o.hashes (o.body ++ (c ∷ e)) v x r)) in
     let (suffix, hashes, following) = hashes_before o.hashes x w e c
-        (other kind c 35 bad (ascii_is_raw kind 35 refl refl)) after in
+    (other kind c 35 bad (ascii_is_raw kind 35 refl refl)) after in
     let none = and_parts (list_all no_quote suffix) (list_all no_quote (c ∷ e))
-        (sym (list_all-append no_quote suffix (c ∷ e)) ∙ ap (list_all no_quote) (sym following) ∙ r.no_quote) in
-    p.not_closed (record { inside = r.inside; suffix = suffix; no_quote = none.0; text_is = front
-        ∙ ap (λ z. r.inside ++ (34 ∷ z)) hashes }))
+    (sym (list_all-append no_quote suffix (c ∷ e)) ∙ ap (list_all no_quote) (sym following) ∙ r.no_quote) in
+    p.not_closed (record { inside = r.inside; suffix = suffix; no_quote = none.0; text_is = front ∙ ap (λ z. r.inside ++ (34 ∷ z)) hashes }))
 
 -- a string that was closed before the character, up to the next quote
 closed_parts : (kind : Kind) (n x : ℕ) (body more : List ℕ) → is_string kind ≡ true → list_all (is_raw kind) body ≡ true
@@ -184,17 +177,17 @@ closed_parts : (kind : Kind) (n x : ℕ) (body more : List ℕ) → is_string ki
 closed_parts kind n x body more s each c bad none =
     let hs = replicate n 35 in
     let inside : list_all (is_raw kind) c.inside ≡ true = (and_parts (list_all (is_raw kind) c.inside)
-        (list_all (is_raw kind) (34 ∷ (hs ++ c.suffix))) (sym (list_all-append (is_raw kind) c.inside
-        (34 ∷ (hs ++ c.suffix))) ∙ ap (list_all (is_raw kind)) (sym c.text_is) ∙ each)).0 in
+    (list_all (is_raw kind) (34 ∷ (hs ++ c.suffix))) (sym (list_all-append (is_raw kind) c.inside
+    (34 ∷ (hs ++ c.suffix))) ∙ ap (list_all (is_raw kind)) (sym c.text_is) ∙ each)).0 in
     let after : list_all no_quote (c.suffix ++ (x ∷ more)) ≡ true = list_all-append no_quote c.suffix (x ∷ more)
-        ∙ and_from (list_all no_quote c.suffix) (list_all no_quote (x ∷ more)) c.no_quote
-        (and_from (no_quote x) (list_all no_quote more) (no_quote_of kind x bad) none) in
+    ∙ and_from (list_all no_quote c.suffix) (list_all no_quote (x ∷ more)) c.no_quote
+    (and_from (no_quote x) (list_all no_quote more) (no_quote_of kind x bad) none) in
     let same : body ++ (x ∷ more) ≡ c.inside ++ (34 ∷ (hs ++ (c.suffix ++ (x ∷ more)))) =
     ap (λ z. z ++ (x ∷ more)) c.text_is
     ∙ append_assoc c.inside (34 ∷ (hs ++ c.suffix)) (x ∷ more)
     ∙ ap (λ z. c.inside ++ (34 ∷ z)) (append_assoc hs c.suffix (x ∷ more)) in
     subst (λ z. HasParts RawForm kind (hs ++ (34 ∷ z))) (sym same)
-        (parts kind n c.inside (c.suffix ++ (x ∷ more)) s inside after)
+    (parts kind n c.inside (c.suffix ++ (x ∷ more)) s inside after)
 
 -- the next quote makes it a part of the body
 reopened_none : (kind : Kind) (n x : ℕ) (body more e : List ℕ) → is_raw kind x ≡ false
@@ -202,9 +195,9 @@ reopened_none : (kind : Kind) (n x : ℕ) (body more e : List ℕ) → is_raw ki
 reopened_none kind n x body more e bad v b y q =
     let r = q.0 in
     let (w, front, after) = closes_before kind body r.inside (replicate n 35 ++ y) (more ++ (34 ∷ e)) x bad r.each
-        (sym (opens kind n (body ++ (x ∷ (more ++ (34 ∷ e)))) v y r)) in
+    (sym (opens kind n (body ++ (x ∷ (more ++ (34 ∷ e)))) v y r)) in
     quote_inside (replicate n 35 ++ y) (w ++ (x ∷ more)) e (hashes_no_quote n y ∙ r.no_quote)
-        (after ∙ sym (append_assoc w (x ∷ more) (34 ∷ e)))
+    (after ∙ sym (append_assoc w (x ∷ more) (34 ∷ e)))
 
 reopened_stops : (kind : Kind) (t rest : List ℕ) → is_string kind ≡ true → IsReopened kind t rest
     → StopsInside RawForm kind t rest
@@ -214,7 +207,7 @@ reopened_stops kind t rest s p =
     let tail = p.other ∷ p.more in
     let front = hs ++ (34 ∷ (o.body ++ tail)) in
     let joined : (z : List ℕ) → front ++ z ≡ hs ++ (34 ∷ (o.body ++ (p.other ∷ (p.more ++ z)))) = λ z. append_assoc hs
-        (34 ∷ (o.body ++ tail)) z ∙ ap (λ y. hs ++ (34 ∷ y)) (append_assoc o.body tail z) in
+    (34 ∷ (o.body ++ tail)) z ∙ ap (λ y. hs ++ (34 ∷ y)) (append_assoc o.body tail z) in
     record {
       front = front;
       text_is = o.text_is ∙ sym (joined rest);
@@ -225,8 +218,8 @@ reopened_stops kind t rest s p =
       stuck = λ c cs e h.
           let is : c ≡ 34 = eqb-true c 34 (first_is is_quote rest c cs true h p.quote) in
           subst (λ z. HasNoParts RawForm kind (raw_opener kind ++ z))
-              (sym (ap (λ d. front ++ (d ∷ e)) is ∙ joined (34 ∷ e)))
-              (reopened_none kind o.hashes p.other o.body p.more e p.spoils);
+          (sym (ap (λ d. front ++ (d ∷ e)) is ∙ joined (34 ∷ e)))
+          (reopened_none kind o.hashes p.other o.body p.more e p.spoils);
     }
 
 pub raw_stops : (kind : Kind) (k : FlawKind) (t rest : List ℕ) → is_string kind ≡ true → RawFlaw kind k t rest
@@ -255,8 +248,7 @@ run_cut test (c ∷ cs) = go (test c) refl (run_cut test cs)
     go : (b : Bool) → test c ≡ b → CutAtRun test cs (after_run test cs)
         → CutAtRun test (c ∷ cs) (cond b (after_run test cs) (c ∷ cs))
     go true e more =
-        record { front = c ∷ more.front; text_is = ap (λ z. c ∷ z) more.text_is; each = and_from (test c)
-            (list_all test more.front) e more.each; stops = more.stops }
+        record { front = c ∷ more.front; text_is = ap (λ z. c ∷ z) more.text_is; each = and_from (test c) (list_all test more.front) e more.each; stops = more.stops }
     go false e more = record { front = []; text_is = refl; each = refl; stops = e }
 
 pub run_split : (test : ℕ → Bool) (t front rest : List ℕ) → t ≡ front ++ rest → rest ≡ after_run test t
@@ -264,7 +256,7 @@ pub run_split : (test : ℕ → Bool) (t front rest : List ℕ) → t ≡ front 
 run_split test t front rest cut e =
     let r = run_cut test t in
     let same : front ≡ r.front = append_cancel_right front r.front rest
-        (sym cut ∙ r.text_is ∙ ap (λ z. r.front ++ z) (sym e)) in
+    (sym cut ∙ r.text_is ∙ ap (λ z. r.front ++ z) (sym e)) in
     (ap (list_all test) same ∙ r.each, ap (first_passes test) e ∙ r.stops)
 
 -- nothing follows a run that is all of the text
@@ -292,7 +284,7 @@ closes_other : (n : ℕ) (hashes t b a : List ℕ) → hashes ≡ replicate n 35
     ≡ true → ((x : List ℕ) → a ≡ hashes ++ x → ⊥) → HasLastCloser hashes t → ⊥
 closes_other n hashes t b a h cut none without c =
     let after : list_all no_quote (hashes ++ c.suffix) ≡ true = ap (λ z. list_all no_quote (z ++ c.suffix)) h
-        ∙ hashes_no_quote n c.suffix ∙ c.no_quote in
+    ∙ hashes_no_quote n c.suffix ∙ c.no_quote in
     without c.suffix (last_same b c.inside a (hashes ++ c.suffix) none after (sym cut ∙ c.text_is)).1
 
 pub closes_either : (n : ℕ) (hashes t b a : List ℕ) (r : Option (Bor (List ℕ))) → hashes ≡ replicate n 35 → t ≡ b
@@ -346,7 +338,7 @@ module _ (kind : Kind) (n : ℕ) (hashes inside body rest : List ℕ) (hashes_ar
     has_quote more [] s closed none e each_other ends =
         let p = closed_parts kind n x body more s each closed bad each_other in
         let same : hashes ++ (34 ∷ inside) ≡ replicate n 35 ++ (34 ∷ (body ++ (x ∷ more))) = opened_as (x ∷ more)
-            (rest_is ∙ ap (λ z. x ∷ z) (e ∙ append-nil more)) in
+        (rest_is ∙ ap (λ z. x ∷ z) (e ∙ append-nil more)) in
         absurd (subst (λ z. HasNoParts RawForm kind (raw_opener kind ++ z)) same none p.0 p.1 p.2 p.3)
     has_quote more (d ∷ ds) s closed none e each_other ends = is_true (eqb d 34) ends
       where
@@ -389,8 +381,11 @@ unfinished_flaw kind t rest e ended = (unopened t rest e (ap (first_passes is_qu
 
 pub no_quote_flaw : (kind : Kind) (t rest : List ℕ) (c : ℕ) (cs : List ℕ) → rest ≡ after_run is_hash t → rest ≡ c ∷ cs
     → (c ≡ 34 → ⊥) → RawFlaw kind NoQuote t rest
-no_quote_flaw kind t rest c cs e first h = (unopened t rest e (ap (first_passes is_quote) first ∙ ne_eqb c 34 h), λ
-    ended. let same : [] ≡ c ∷ cs = sym ended ∙ first in absurd (cc))
+no_quote_flaw kind t rest c cs e first h = (
+  unopened t rest e (ap (first_passes is_quote) first ∙ ne_eqb c 34 h),
+  λ
+      ended. let same : [] ≡ c ∷ cs = sym ended ∙ first in absurd (cc),
+)
 
 pub opened_text : (t hashes rest inside : List ℕ) (c : ℕ) → t ≡ hashes ++ rest → rest ≡ c ∷ inside → c ≡ 34 → t ≡ hashes
     ++ (34 ∷ inside)

@@ -1,7 +1,5 @@
 -- What is decoded is never longer than what it was decoded from.
-use Rattle.rl_grammar.proofs.Names.{◌≡◌, ℕ, Bool, true, false, not, cond, ◌||◌, ◌==◌, [], ◌∷◌, ◌+◌, ◌≤◌, List, ◌++◌,
-    length, take, Some, refl, sym, ap, ◌∙◌, arith, encode_utf8_all, list_all, IsUtf8, encodes-append, encodes-chars,
-    scalar, and_from, and_parts, float_digits, Kind, is_plain, texts, values}
+use Rattle.rl_grammar.proofs.Names.{◌≡◌, ℕ, Bool, true, false, not, cond, ◌||◌, ◌==◌, [], ◌∷◌, ◌+◌, ◌≤◌, List, ◌++◌, length, take, Some, refl, sym, ap, ◌∙◌, arith, encode_utf8_all, list_all, IsUtf8, encodes-append, encodes-chars, scalar, and_from, and_parts, float_digits, Kind, is_plain, texts, values}
 use Rattle.std.proofs.Common.{map, filter, length-append}
 use Rattle.std.specs.Str.{chars}
 use Rattle.std.proofs.lemmas.List.{length-take-le}
@@ -21,11 +19,11 @@ row_room kind text rest v bytes row are ut ur =
     let passed = texts row.units in
     let shrinks = row_shrinks kind row.units row.each in
     let whole : text ≡ encode_utf8_all passed ++ rest = sym (encodes-chars text ut) ∙ ap encode_utf8_all row.text_is
-        ∙ encodes-append passed (chars rest) ∙ ap (λ z. encode_utf8_all passed ++ z) (encodes-chars rest ur) in
+    ∙ encodes-append passed (chars rest) ∙ ap (λ z. encode_utf8_all passed ++ z) (encodes-chars rest ur) in
     let longer : length text ≡ length (encode_utf8_all passed) + length rest = ap length whole
-        ∙ length-append (encode_utf8_all passed) rest in
+    ∙ length-append (encode_utf8_all passed) rest in
     let value : length bytes ≡ length (in_bytes kind (values kind row.units)) = ap length
-        (are ∙ ap (in_bytes kind) row.value_is) in
+    (are ∙ ap (in_bytes kind) row.value_is) in
     omega (arith, longer, value, shrinks.no_longer)
 
 -- so many bytes stand in the buffer, those of the units that were passed, and the rest has room after them
@@ -39,18 +37,21 @@ filled : (kind : Kind) (text rest new bytes v : List ℕ) (end : ℕ) → Begins
     ≡ in_bytes kind v → IsUtf8 text → IsUtf8 rest → end ≡ length bytes → take end new ≡ bytes
     → IsFilled kind text rest new end
 filled kind text rest new bytes v end row are ut ur long is =
-    record { value = v; row = row; bytes = is ∙ are; room = omega
-        (arith, long, row_room kind text rest v bytes row are ut ur) }
+    record { value = v; row = row; bytes = is ∙ are; room = omega (arith, long, row_room kind text rest v bytes row are ut ur) }
 
 pub run_room : (kind : Kind) (text rest out run following : List ℕ) (at : ℕ) → IsFilled kind text rest out at
     → chars rest ≡ chars run ++ chars following → list_all (is_plain kind) (chars run) ≡ true → IsUtf8 text → IsUtf8 run
     → IsUtf8 following → length text ≤ length out → at + length run + length following ≤ length text
 run_room kind text rest out run following at f cut plain ut ur ub room =
     let (w, row, are) = decode_run kind (chars text) f.value (chars rest) (chars following) (take at out)
-        (take at out ++ run) run f.row f.bytes cut plain ur refl in
+    (take at out ++ run) run f.row f.bytes cut plain ur refl in
     let long = length-take-le at out (omega (arith, f.room)) in
-    omega (arith, row_room kind text following w (take at out ++ run) row are ut ub, length-append (take at out) run,
-        long)
+    omega (
+      arith,
+      row_room kind text following w (take at out ++ run) row are ut ub,
+      length-append (take at out) run,
+      long,
+    )
 
 pub run_filled : (kind : Kind) (text rest out new run following : List ℕ) (at end : ℕ) → IsFilled kind text rest out at
     → chars rest ≡ chars run ++ chars following → list_all (is_plain kind) (chars run) ≡ true → IsUtf8 text → IsUtf8 run
@@ -58,20 +59,25 @@ pub run_filled : (kind : Kind) (text rest out new run following : List ℕ) (at 
     → IsFilled kind text following new end
 run_filled kind text rest out new run following at end f cut plain ut ur ub room moved is =
     let (w, row, are) = decode_run kind (chars text) f.value (chars rest) (chars following) (take at out)
-        (take at out ++ run) run f.row f.bytes cut plain ur refl in
+    (take at out ++ run) run f.row f.bytes cut plain ur refl in
     let long = length-take-le at out (omega (arith, f.room)) in
     filled kind text following new (take at out ++ run) w end row are ut ub
-        (omega (arith, moved, length-append (take at out) run, long)) is
+    (omega (arith, moved, length-append (take at out) run, long)) is
 
 pub piece_room : (kind : Kind) (text rest out after : List ℕ) (at : ℕ) (piece : Piece) → IsFilled kind text rest out at
     → Some (piece_value kind piece, chars after) ≡ unit_at kind (chars rest) → IsHeldBy kind piece → IsUtf8 text
     → IsUtf8 after → length text ≤ length out → at + length (piece_bytes piece) + length after ≤ length text
 piece_room kind text rest out after at piece f unit fits ut ua room =
     let (w, row, are) = decode_step kind (chars text) f.value (chars rest) (chars after) (take at out)
-        (take at out ++ piece_bytes piece) piece f.row f.bytes unit fits refl in
+    (take at out ++ piece_bytes piece) piece f.row f.bytes unit fits refl in
     let long = length-take-le at out (omega (arith, f.room)) in
-    omega (arith, row_room kind text after w (take at out ++ piece_bytes piece) row are ut ua, length-append
-        (take at out) (piece_bytes piece), long)
+    omega (
+      arith,
+      row_room kind text after w (take at out ++ piece_bytes piece) row are ut ua,
+      length-append
+          (take at out) (piece_bytes piece),
+      long,
+    )
 
 pub piece_filled : (kind : Kind) (text rest out new after : List ℕ) (at end : ℕ) (piece : Piece)
     → IsFilled kind text rest out at → Some (piece_value kind piece, chars after) ≡ unit_at kind (chars rest)
@@ -80,10 +86,10 @@ pub piece_filled : (kind : Kind) (text rest out new after : List ℕ) (at end : 
     → IsFilled kind text after new end
 piece_filled kind text rest out new after at end piece f unit fits ut ua room moved is =
     let (w, row, are) = decode_step kind (chars text) f.value (chars rest) (chars after) (take at out)
-        (take at out ++ piece_bytes piece) piece f.row f.bytes unit fits refl in
+    (take at out ++ piece_bytes piece) piece f.row f.bytes unit fits refl in
     let long = length-take-le at out (omega (arith, f.room)) in
     filled kind text after new (take at out ++ piece_bytes piece) w end row are ut ua
-        (omega (arith, moved, length-append (take at out) (piece_bytes piece), long)) is
+    (omega (arith, moved, length-append (take at out) (piece_bytes piece), long)) is
 
 -- the digits of a numeral are characters
 digits_scalars : (cs : List ℕ) → scalars cs ≡ true → scalars (float_digits cs) ≡ true

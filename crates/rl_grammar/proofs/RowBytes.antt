@@ -1,7 +1,5 @@
 -- Rows of digits, told by the bytes of a text.
-use Rattle.rl_grammar.proofs.Names.{◌≡◌, ◌≢◌, ℕ, ◌<◌, ◌≤◌, ◌+◌, ◌⊎◌, inl, inr, Bool, true, false, ◌&&◌, ◌==◌, cond,
-    List, [], ◌∷◌, ◌++◌, length, get_or, drop, Option, refl, sym, ap, ◌∙◌, arith, nat_lt, nat_tests, encodes-chars,
-    digit_value, is_ascii_digit, IsUtf8, IsCharBoundary, list_all}
+use Rattle.rl_grammar.proofs.Names.{◌≡◌, ◌≢◌, ℕ, ◌<◌, ◌≤◌, ◌+◌, ◌⊎◌, inl, inr, Bool, true, false, ◌&&◌, ◌==◌, cond, List, [], ◌∷◌, ◌++◌, length, get_or, drop, Option, refl, sym, ap, ◌∙◌, arith, nat_lt, nat_tests, encodes-chars, digit_value, is_ascii_digit, IsUtf8, IsCharBoundary, list_all}
 use Rattle.std.proofs.lemmas.List.{drop_more}
 use Rattle.std.proofs.lemmas.Str.{chars_from_encodes, IsCharBoundary-after_ascii}
 use Rattle.std.proofs.Math.ListN.{drop_of_length-le}
@@ -77,7 +75,7 @@ pub row_goes : (r : ℕ) (some : Bool) (m n : Option ℕ) (s : List ℕ) (i d : 
 row_goes r some m n s i d h l value below next =
     let small : digit_value (get_or s i 0) < r = omega arith in
     row_digit r some m n (drop i s) (get_or s i 0) (drop (i + 1) s) d (drop_more s i 0 l)
-        (no_mark r (get_or s i 0) h small) small value next
+    (no_mark r (get_or s i 0) h small) small value next
 
 -- at a byte that is none
 pub row_stops : (r : ℕ) (some : Bool) (m : Option ℕ) (s : List ℕ) (i d : ℕ) → i < length s → d
@@ -85,7 +83,7 @@ pub row_stops : (r : ℕ) (some : Bool) (m : Option ℕ) (s : List ℕ) (i d : �
 row_stops r some m s i d l value large mark =
     let more = drop_more s i 0 l in
     ap (row_from r some m) more ∙ stops r some m (get_or s i 0) (drop (i + 1) s) mark (omega arith)
-        ∙ ap (λ t. (some, m, t)) (sym more)
+    ∙ ap (λ t. (some, m, t)) (sym more)
 
 -- at the end
 pub row_ends : (r : ℕ) (some : Bool) (m : Option ℕ) (s : List ℕ) (i : ℕ) → length s ≤ i → row_from r some m (drop i s)
@@ -139,7 +137,7 @@ row_of_bytes : (r : ℕ) (some : Bool) (m n : Option ℕ) (t rest : List ℕ) �
 row_of_bytes r some m n t rest h is is_rest e =
     let p : Read = row_from r false n (chars t) in
     let same : (some, m, rest) ≡ encoded p = sym e ∙ ap (row_from r false n) (sym (encodes-chars t is))
-        ∙ row_encodes r false n (chars t) h in
+    ∙ row_encodes r false n (chars t) h in
     let left : chars rest ≡ p.2 = sym (chars_from_encodes p.2 rest is_rest (sym (ap (λ q. q.2) same))) in
     ap (λ q. (q.0, q.1, chars rest)) same ∙ ap (λ x. (p.0, p.1, x)) left
 
@@ -150,7 +148,7 @@ pub row_read : (r : ℕ) (some : Bool) (m n : Option ℕ) (t s rest : List ℕ) 
 row_read r some m n t s rest i h is is_rest same cut goes ends =
     let left : drop i s ≡ rest = ap (drop i) same ∙ sym cut in
     row_of_bytes r some m n t rest h is is_rest (ap (row_from r false n) (sym same) ∙ sym goes ∙ ends
-        ∙ ap (λ x. (some, m, x)) left)
+    ∙ ap (λ x. (some, m, x)) left)
 
 -- ---- tests of all characters
 

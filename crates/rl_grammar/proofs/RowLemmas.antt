@@ -1,8 +1,5 @@
 -- A row of units, one unit at a time.
-use Rattle.rl_grammar.proofs.Names.{◌≡◌, ℕ, Bool, true, false, cond, List, [], ◌∷◌, ◌++◌, None, refl, sym, ap, subst,
-    ◌∙◌, append_assoc, append-nil, Some, encode_utf8, encode_utf8_all, AllByRecursion, list_all, and_parts,
-    flat_map-append, Kind, first_passes, QuotedUnit, Plain, CrLf, Named, Hex, Unicode, Continuation, unit_text,
-    unit_value, is_blank, content_of, holds_characters, is_plain, IsUnit, EndsBefore, texts, values}
+use Rattle.rl_grammar.proofs.Names.{◌≡◌, ℕ, Bool, true, false, cond, List, [], ◌∷◌, ◌++◌, None, refl, sym, ap, subst, ◌∙◌, append_assoc, append-nil, Some, encode_utf8, encode_utf8_all, AllByRecursion, list_all, and_parts, flat_map-append, Kind, first_passes, QuotedUnit, Plain, CrLf, Named, Hex, Unicode, Continuation, unit_text, unit_value, is_blank, content_of, holds_characters, is_plain, IsUnit, EndsBefore, texts, values}
 use Rattle.rl_tokens.specs.Quoted.{ContinuationsEnd}
 use Rattle.rl_grammar.specs.Mirrors.UnitAt.{found, unit_at}
 use Rattle.rl_grammar.specs.Rows.{RowEnds, BeginsRow}
@@ -118,9 +115,9 @@ row_run kind a v [] b plain row = subst (λ w. BeginsRow kind a w b)
 row_run kind a v (c ∷ run) b plain row =
     let parts = and_parts (is_plain kind c) (list_all (is_plain kind) run) plain in
     let one = row_step kind a v (c ∷ (run ++ b)) (content_of kind (c ∷ []), run ++ b) row
-        (unit_complete kind (Plain c) (run ++ b) parts.0 tt) in
+    (unit_complete kind (Plain c) (run ++ b) parts.0 tt) in
     let value = append_assoc v (content_of kind (c ∷ [])) (content_of kind run)
-        ∙ ap (λ z. v ++ z) (held_more kind c run) in
+    ∙ ap (λ z. v ++ z) (held_more kind c run) in
     subst (λ w. BeginsRow kind a w b) value (row_run kind a (v ++ content_of kind (c ∷ [])) run b parts.1 one)
 
 -- a run before a row
@@ -154,13 +151,13 @@ rows_same : (kind : Kind) (us ws : List QuotedUnit) (r s : List ℕ) → AllByRe
 rows_same kind [] [] r s eu cu ew cw hr hs e = (refl, e)
 rows_same kind [] (w ∷ ws) r s eu cu ew cw hr hs e =
     let h : None ≡ found (unit_value kind w) (texts ws ++ s) = sym hr ∙ ap (unit_at kind) e
-        ∙ first_unit kind w ws s ew cw in absurd (cc)
+    ∙ first_unit kind w ws s ew cw in absurd (cc)
 rows_same kind (u ∷ us) [] r s eu cu ew cw hr hs e =
     let h : None ≡ found (unit_value kind u) (texts us ++ r) = sym hs ∙ ap (unit_at kind) (sym e)
-        ∙ first_unit kind u us r eu cu in absurd (cc)
+    ∙ first_unit kind u us r eu cu in absurd (cc)
 rows_same kind (u ∷ us) (w ∷ ws) r s eu cu ew cw hr hs e =
     let f = some_pair (unit_value kind u, texts us ++ r) (unit_value kind w, texts ws ++ s)
-        (sym (first_unit kind u us r eu cu) ∙ ap (unit_at kind) e ∙ first_unit kind w ws s ew cw) in
+    (sym (first_unit kind u us r eu cu) ∙ ap (unit_at kind) e ∙ first_unit kind w ws s ew cw) in
     let more = rows_same kind us ws r s eu.1 cu.1 ew.1 cw.1 hr hs f.1 in
     (ap (λ z. z ++ values kind us) f.0 ∙ ap (λ z. unit_value kind w ++ z) more.0, more.1)
 

@@ -1,9 +1,5 @@
 -- The segments of a literal together, and the order of places.
-use Rattle.rl_grammar.proofs.Names.{◌≡◌, ◌⊎◌, inl, inr, ℕ, ◌+◌, ◌≤◌, ◌<◌, Bool, true, false, cond, ltb, List, [], ◌∷◌,
-    ◌++◌, length, replicate, refl, sym, ap, subst, ◌∙◌, arith, append-nil, IsUtf8, encodes-chars, append_cancel_left,
-    append_cancel_right, flat_map-append, Kind, byte_len, first_passes, QuotedUnit, Plain, CrLf, Named, Hex, Unicode,
-    Continuation, Cooked, Raw, Single, IsUnit, is_plain, opener, raw_opener, texts, unit_text, unit_value, values,
-    HasContents, ReadsQuoted, quoted_contents}
+use Rattle.rl_grammar.proofs.Names.{◌≡◌, ◌⊎◌, inl, inr, ℕ, ◌+◌, ◌≤◌, ◌<◌, Bool, true, false, cond, ltb, List, [], ◌∷◌, ◌++◌, length, replicate, refl, sym, ap, subst, ◌∙◌, arith, append-nil, IsUtf8, encodes-chars, append_cancel_left, append_cancel_right, flat_map-append, Kind, byte_len, first_passes, QuotedUnit, Plain, CrLf, Named, Hex, Unicode, Continuation, Cooked, Raw, Single, IsUnit, is_plain, opener, raw_opener, texts, unit_text, unit_value, values, HasContents, ReadsQuoted, quoted_contents}
 use Rattle.std.proofs.Common.{◌-◌, map}
 use Rattle.std.specs.Str.{chars}
 use Rattle.std.proofs.lemmas.Str.{length-le-encodes}
@@ -13,8 +9,7 @@ use Rattle.rl_grammar.specs.declared.segments.Segment.{Segment}
 use Rattle.rl_grammar.specs.Founds.{IsQuotedAt, body_in}
 use Rattle.rl_grammar.specs.Mirrors.UnitAt.{unit_at}
 use Rattle.rl_grammar.specs.Rows.{BeginsRow}
-use Rattle.rl_grammar.specs.Segments.{AreLeft, AreUnitsIn, AreUnitsOf, IsByteEnd, IsGivenAt, IsBytePlace, IsUnitRow,
-    IsSegmentsOf, SegmentsState, begins_in, ends_in, is_itself, unit_place, unit_bytes, units_bytes}
+use Rattle.rl_grammar.specs.Segments.{AreLeft, AreUnitsIn, AreUnitsOf, IsByteEnd, IsGivenAt, IsBytePlace, IsUnitRow, IsSegmentsOf, SegmentsState, begins_in, ends_in, is_itself, unit_place, unit_bytes, units_bytes}
 use Rattle.rl_grammar.specs.SegmentLaws.{MakeLiteral, Passes, PlacesKeepTheOrder, PlacesStandIn, Tile, segments_bytes}
 use Rattle.rl_grammar.proofs.BodyLemmas.{openers_differ, row_shrinks}
 use Rattle.rl_grammar.proofs.ContentLemmas.{held_in_bytes, in_bytes_append, nothing_in_bytes}
@@ -23,8 +18,7 @@ use Rattle.rl_grammar.proofs.FoundLemmas.{body_text}
 use Rattle.rl_grammar.proofs.FrontLenLemmas.{byte_len_append, byte_len_ascii, hashes_long}
 use Rattle.rl_grammar.proofs.RawLemmas.{raw_same}
 use Rattle.rl_grammar.proofs.RowLemmas.{ends_before, row_once}
-use Rattle.rl_grammar.proofs.SegmentLemmas.{begins_plain, ends_plain, nothing_left, place_at_end, place_in_run,
-    run_bytes, run_texts, tested}
+use Rattle.rl_grammar.proofs.SegmentLemmas.{begins_plain, ends_plain, nothing_left, place_at_end, place_in_run, run_bytes, run_texts, tested}
 use Rattle.rl_grammar.proofs.SegmentStarts.{body_long, quoted_kind, quoted_reads_as, segments_of}
 use Rattle.rl_grammar.proofs.UnitLemmas.{backslash_not_plain, quote_and_return, some_pair, unit_complete, unit_quote}
 
@@ -44,9 +38,11 @@ reads : (kind : Kind) (text value suffix : List ℕ) → Cooked kind text value 
     ⊎ Single kind text value suffix → HasContents kind text (quoted_contents kind value)
 reads kind text value suffix form =
     let r : ReadsQuoted text kind (quoted_contents kind value) suffix = record
-        { value = value; form = form; contents_is = refl } in
-    (suffix, quoted_reads_as kind text (quoted_contents kind value) suffix r
-        (quoted_kind kind text (quoted_contents kind value) suffix r))
+    { value = value; form = form; contents_is = refl } in (
+      suffix,
+      quoted_reads_as kind text (quoted_contents kind value) suffix r
+          (quoted_kind kind text (quoted_contents kind value) suffix r),
+    )
 
 units_read : (kind : Kind) (text : List ℕ) (units : List QuotedUnit) (lo : ℕ) → AreUnitsOf kind text units lo
     → UnitsRead kind text units
@@ -89,7 +85,7 @@ passed old new [] p none =
 passed old new (s ∷ ss) (next, t, p) none =
     let more = passed next new ss p none in
     let text : byte_len (texts (t.units ++ more.units)) ≡ byte_len (texts t.units) + byte_len (texts more.units) = ap
-        byte_len (flat_map-append unit_text t.units more.units) ∙ byte_len_append (texts t.units) (texts more.units) in
+    byte_len (flat_map-append unit_text t.units more.units) ∙ byte_len_append (texts t.units) (texts more.units) in
     record {
       units = t.units ++ more.units;
       are_left = t.goes_on more.units more.are_left;
@@ -151,7 +147,7 @@ begins_placing : IsPlacing begins_in
 begins_placing = record {
   within = λ kind u at small.
       chosen (λ z. z ≤ byte_len (unit_text u)) (is_itself u) at 0
-          (λ is. omega (arith, itself_within kind u at 0 small (omega arith) is)) (omega arith);
+      (λ is. omega (arith, itself_within kind u at 0 small (omega arith) is)) (omega arith);
   later = λ u at next h. cond_order (is_itself u) at next 0 0 h (omega arith);
   alike = λ u w at same text. ap (λ z. cond z at 0) same;
 }
@@ -160,7 +156,7 @@ ends_placing : IsPlacing ends_in
 ends_placing = record {
   within = λ kind u at small.
       chosen (λ z. z ≤ byte_len (unit_text u)) (is_itself u) (at + 1) (byte_len (unit_text u))
-          (λ is. itself_within kind u at 1 small (omega arith) is) (omega arith);
+      (λ is. itself_within kind u at 1 small (omega arith) is) (omega arith);
   later = λ u at next h. cond_order (is_itself u) (at + 1) (next + 1) (byte_len (unit_text u)) (byte_len (unit_text u))
       (omega (arith, h)) (omega arith);
   alike = λ u w at same text. ap (λ z. cond z (at + 1) (byte_len (unit_text u))) same
@@ -214,7 +210,7 @@ step_same : (n m : ℕ) (i j : ℕ) (k l : ℕ) (f g : ℕ → ℕ) (at : ℕ) �
     → step n i k f at ≡ step m j l g at
 step_same n m i j k l f g at a b c d =
     ap (λ z. step z i k f at) a ∙ ap (λ z. step m z k f at) b ∙ ap (λ z. step m j z f at) c
-        ∙ ap (λ z. cond (ltb at m) j (l + z)) (d (at - m))
+    ∙ ap (λ z. cond (ltb at m) j (l + z)) (d (at - m))
 
 some_text : (u : QuotedUnit) (t : List ℕ) → [] ≡ unit_text u ++ t → ⊥
 some_text (Plain c) t e = absurd (cc)
@@ -233,14 +229,14 @@ rows_place inside p kind (u ∷ us) (w ∷ ws) t a b at =
     let first = unit_complete kind u (texts us) a.each.0 a.ends.0 in
     let other = unit_complete kind w (texts ws) b.each.0 b.ends.0 in
     let same = some_pair (unit_value kind u, texts us) (unit_value kind w, texts ws)
-        (sym first ∙ ap (unit_at kind) (sym a.text_is ∙ b.text_is) ∙ other) in
+    (sym first ∙ ap (unit_at kind) (sym a.text_is ∙ b.text_is) ∙ other) in
     let text : unit_text u ≡ unit_text w = append_cancel_right (unit_text u) (unit_text w) (texts ws)
-        (ap (λ z. unit_text u ++ z) (sym same.1) ∙ sym a.text_is ∙ b.text_is) in
+    (ap (λ z. unit_text u ++ z) (sym same.1) ∙ sym a.text_is ∙ b.text_is) in
     let itself = told kind u a.each.0 ∙ ap (first_passes (is_plain kind)) text ∙ sym (told kind w b.each.0) in
     step_same _ _ _ _ _ _ (unit_place inside kind us) (unit_place inside kind ws) at
-        (ap (λ z. length (in_bytes kind z)) same.0) (p.alike u w at itself text) (ap byte_len text)
-        (rows_place inside p kind us ws (texts us) (record { each = a.each.1; ends = a.ends.1; text_is = refl })
-        (record { each = b.each.1; ends = b.ends.1; text_is = same.1 }))
+    (ap (λ z. length (in_bytes kind z)) same.0) (p.alike u w at itself text) (ap byte_len text)
+    (rows_place inside p kind us ws (texts us) (record { each = a.each.1; ends = a.ends.1; text_is = refl })
+    (record { each = b.each.1; ends = b.ends.1; text_is = same.1 }))
 
 -- ---- of one literal
 
@@ -253,45 +249,50 @@ cooked_same : (inside : QuotedUnit → ℕ → ℕ) → IsPlacing inside
     → unit_place inside kind c.units at ≡ unit_place inside kind d.units at
 cooked_same inside p kind t v x w y c d =
     let text : texts d.units ++ (34 ∷ y) ≡ texts c.units ++ (34 ∷ x) = append_cancel_left (opener kind) _ _
-        (sym d.text_is ∙ c.text_is) in
+    (sym d.text_is ∙ c.text_is) in
     let other = subst (λ z. BeginsRow kind z w (34 ∷ y)) text (cooked_row kind t w y d) in
     let same = (row_once kind (texts c.units ++ (34 ∷ x)) v (34 ∷ x) w (34 ∷ y) (cooked_row kind t v x c) other
-        (unit_quote kind x c.string) (unit_quote kind y d.string)).1 in
+    (unit_quote kind x c.string) (unit_quote kind y d.string)).1 in
     let units_same : texts c.units ≡ texts d.units = append_cancel_right (texts c.units) (texts d.units) (34 ∷ y)
-        (ap (λ z. texts c.units ++ z) (sym same) ∙ sym text) in
+    (ap (λ z. texts c.units ++ z) (sym same) ∙ sym text) in
     rows_place inside p kind c.units d.units (texts c.units) (record { each = c.each; ends = c.ends; text_is = refl })
-        (record { each = d.each; ends = d.ends; text_is = units_same })
+    (record { each = d.each; ends = d.ends; text_is = units_same })
 
 single_same : (inside : QuotedUnit → ℕ → ℕ) → IsPlacing inside
     → (kind : Kind) (t v x w y : List ℕ) (c : Single kind t v x) (d : Single kind t w y) → (at : ℕ)
     → unit_place inside kind (c.unit ∷ []) at ≡ unit_place inside kind (d.unit ∷ []) at
 single_same inside p kind t v x w y c d =
     let text : unit_text c.unit ++ (39 ∷ x) ≡ unit_text d.unit
-        ++ (39 ∷ y) = append_cancel_left (opener kind) _ _ (sym c.text_is ∙ d.text_is) in
+    ++ (39 ∷ y) = append_cancel_left (opener kind) _ _ (sym c.text_is ∙ d.text_is) in
     let first = unit_complete kind c.unit (39 ∷ x) c.is_unit (ends_before c.unit (39 ∷ x) refl) in
     let other = unit_complete kind d.unit (39 ∷ y) d.is_unit (ends_before d.unit (39 ∷ y) refl) in
     let same = some_pair (unit_value kind c.unit, 39 ∷ x) (unit_value kind d.unit, 39 ∷ y)
-        (sym first ∙ ap (unit_at kind) text ∙ other) in
+    (sym first ∙ ap (unit_at kind) text ∙ other) in
     let unit_same : unit_text c.unit ≡ unit_text d.unit = append_cancel_right (unit_text c.unit) (unit_text d.unit)
-        (39 ∷ y) (ap (λ z. unit_text c.unit ++ z) (sym same.1) ∙ text) in
+    (39 ∷ y) (ap (λ z. unit_text c.unit ++ z) (sym same.1) ∙ text) in
     rows_place inside p kind (c.unit ∷ []) (d.unit ∷ []) (unit_text c.unit ++ [])
-        (record { each = (c.is_unit, tt); ends = (ends_before c.unit [] refl, tt); text_is = refl })
-        (record { each = (d.is_unit, tt); ends = (ends_before d.unit [] refl, tt); text_is = ap (λ z. z ++ []) unit_same
-        })
+    (record { each = (c.is_unit, tt); ends = (ends_before c.unit [] refl, tt); text_is = refl })
+    (record { each = (d.is_unit, tt); ends = (ends_before d.unit [] refl, tt); text_is = ap (λ z. z ++ []) unit_same })
 
 one_place : (inside : QuotedUnit → ℕ → ℕ) → IsPlacing inside
     → (kind : Kind) (t : List ℕ) (us ws : List QuotedUnit) (lo start : ℕ) → AreUnitsOf kind t us lo
     → AreUnitsOf kind t ws start → Same inside kind us ws lo start
-one_place inside p kind t us ws lo start (inl (v, x, c, are, at)) (inl (w, y, d, other, from)) =
-    (at ∙ sym from, λ i. ap (λ z. unit_place inside kind z i) are ∙ cooked_same inside p kind t v x w y c d i
-        ∙ ap (λ z. unit_place inside kind z i) (sym other))
+one_place inside p kind t us ws lo start (inl (v, x, c, are, at)) (inl (w, y, d, other, from)) = (
+  at ∙ sym from,
+  λ i. ap (λ z. unit_place inside kind z i) are ∙ cooked_same inside p kind t v x w y c d i
+      ∙ ap (λ z. unit_place inside kind z i) (sym other),
+)
 one_place inside p kind t us ws lo start (inr (inl (v, x, c, are, at))) (inr (inl (w, y, d, other, from))) =
-    let same = raw_same kind t v x w y c d in
-    (at ∙ ap (λ n. length (raw_opener kind) + n + 1) same.0 ∙ sym from, λ i. ap (λ z. unit_place inside kind z i)
-        (are ∙ ap (map Plain) same.1 ∙ sym other))
-one_place inside p kind t us ws lo start (inr (inr (v, x, c, are, at))) (inr (inr (w, y, d, other, from))) =
-    (at ∙ sym from, λ i. ap (λ z. unit_place inside kind z i) are ∙ single_same inside p kind t v x w y c d i
-        ∙ ap (λ z. unit_place inside kind z i) (sym other))
+    let same = raw_same kind t v x w y c d in (
+      at ∙ ap (λ n. length (raw_opener kind) + n + 1) same.0 ∙ sym from,
+      λ i. ap (λ z. unit_place inside kind z i)
+          (are ∙ ap (map Plain) same.1 ∙ sym other),
+    )
+one_place inside p kind t us ws lo start (inr (inr (v, x, c, are, at))) (inr (inr (w, y, d, other, from))) = (
+  at ∙ sym from,
+  λ i. ap (λ z. unit_place inside kind z i) are ∙ single_same inside p kind t v x w y c d i
+      ∙ ap (λ z. unit_place inside kind z i) (sym other),
+)
 one_place inside p kind t us ws lo start (inl (v, x, c, are, at)) (inr (inl (w, y, d, other, from))) = absurd
     (openers_differ kind _ _ c.string (sym c.text_is ∙ d.text_is))
 one_place inside p kind t us ws lo start (inr (inl (v, x, c, are, at))) (inl (w, y, d, other, from)) = absurd
@@ -335,9 +336,11 @@ place_within inside p kind (u ∷ us) at =
 -- a unit stands for no more than its text
 units_long : (kind : Kind) (plain : Bool) (body : List ℕ) (us : List QuotedUnit) → AreUnitsIn kind plain body us
     → (byte_len (texts us) ≡ byte_len body) × (length (units_bytes kind us) ≤ byte_len body)
-units_long kind true body us are =
-    (ap (λ z. byte_len (texts z)) are ∙ ap byte_len (run_texts body), omega
-        (arith, ap (λ z. length (units_bytes kind z)) are, ap length (run_bytes kind body)))
+units_long kind true body us are = (
+  ap (λ z. byte_len (texts z)) are ∙ ap byte_len (run_texts body),
+  omega
+      (arith, ap (λ z. length (units_bytes kind z)) are, ap length (run_bytes kind body)),
+)
 units_long kind false body us are =
     let text = ap byte_len are.text_is in
     (sym text, omega (arith, text, ap length (values_bytes kind us), (row_shrinks kind us are.each).no_longer))
@@ -349,7 +352,7 @@ itself_places : (inside : QuotedUnit → ℕ → ℕ) (d : ℕ) → ((c i : ℕ)
 itself_places inside d itself kind false body us at is are h = absurd (cc)
 itself_places inside d itself kind true body us at is are h =
     ap (λ z. unit_place inside kind z at) (are ∙ sym (append-nil (map Plain body)))
-        ∙ place_in_run inside d kind body [] at itself h
+    ∙ place_in_run inside d kind body [] at itself h
 
 all_long : (kind : Kind) (plain : Bool) (body : List ℕ) (us : List QuotedUnit) → plain ≡ true
     → AreUnitsIn kind plain body us → length (units_bytes kind us) ≡ byte_len body
@@ -376,7 +379,7 @@ stand_in : (inside : QuotedUnit → ℕ → ℕ) → IsPlacing inside → (kind 
     → IsQuotedAt kind t body → PartsStandIn inside kind t body
 stand_in inside w kind t body u q =
     let whole : byte_len (chars (body_in t body)) ≡ length (body_in t body) = ap length
-        (encodes-chars (body_in t body) (body_text t body u q.stands)) in
+    (encodes-chars (body_in t body) (body_text t body u q.stands)) in
     let hi = body_long t body q.stands in
     record {
       end = λ at place p far.
@@ -396,10 +399,14 @@ itself_in : (inside : QuotedUnit → ℕ → ℕ) → IsPlacing inside → (d : 
     ≡ body.lo + (at + d)
 itself_in inside w d itself kind t body u q at place p plain near =
     let whole : byte_len (chars (body_in t body)) ≡ length (body_in t body) = ap length
-        (encodes-chars (body_in t body) (body_text t body u q.stands)) in
+    (encodes-chars (body_in t body) (body_text t body u q.stands)) in
     let o = of_body inside w kind t body at place u q p in
-    omega (arith, o.2, itself_places inside d itself kind body.plain (chars (body_in t body)) o.0 at plain o.1
-        (omega (arith, near, whole)))
+    omega (
+      arith,
+      o.2,
+      itself_places inside d itself kind body.plain (chars (body_in t body)) o.0 at plain o.1
+          (omega (arith, near, whole)),
+    )
 
 pub stands_in : (kind : Kind) (t : List ℕ) (body : Body) → IsUtf8 t → IsQuotedAt kind t body → PlacesStandIn kind t body
 stands_in kind t body u q =
@@ -422,9 +429,19 @@ in_text inside w kind t at place p = go p.units_are
   where
     go : AreUnitsOf kind t p.units p.lo → place ≤ byte_len t
     go (inl (v, x, c, are, from)) =
-        omega (arith, p.place_is, from, place_within inside w kind p.units at, ap (λ z. byte_len (texts z)) are, ap
-            byte_len c.text_is, byte_len_append (opener kind) (texts c.units ++ (34 ∷ x)), byte_len_append
-            (texts c.units) (34 ∷ x), length-le-encodes (opener kind))
+        omega (
+          arith,
+          p.place_is,
+          from,
+          place_within inside w kind p.units at,
+          ap (λ z. byte_len (texts z)) are,
+          ap
+              byte_len c.text_is,
+          byte_len_append (opener kind) (texts c.units ++ (34 ∷ x)),
+          byte_len_append
+              (texts c.units) (34 ∷ x),
+          length-le-encodes (opener kind),
+        )
     go (inr (inl (v, x, r, are, from))) =
         let hashes = replicate r.hashes 35 in
         let closed = 34 ∷ (hashes ++ x) in
@@ -444,10 +461,21 @@ in_text inside w kind t at place p = go p.units_are
           length-le-encodes (raw_opener kind),
         )
     go (inr (inr (v, x, s, are, from))) =
-        omega (arith, p.place_is, from, place_within inside w kind p.units at, ap (λ z. byte_len (texts z)) are, ap
-            byte_len (append-nil (unit_text s.unit)), ap byte_len s.text_is, byte_len_append (opener kind)
-            (unit_text s.unit ++ (39 ∷ x)), byte_len_append (unit_text s.unit) (39 ∷ x), length-le-encodes
-            (opener kind))
+        omega (
+          arith,
+          p.place_is,
+          from,
+          place_within inside w kind p.units at,
+          ap (λ z. byte_len (texts z)) are,
+          ap
+              byte_len (append-nil (unit_text s.unit)),
+          ap byte_len s.text_is,
+          byte_len_append (opener kind)
+              (unit_text s.unit ++ (39 ∷ x)),
+          byte_len_append (unit_text s.unit) (39 ∷ x),
+          length-le-encodes
+              (opener kind),
+        )
 
 pub place_in_text : (kind : Kind) (t : List ℕ) (at place : ℕ) → IsBytePlace kind t at place → place ≤ byte_len t
 place_in_text = in_text begins_in begins_placing

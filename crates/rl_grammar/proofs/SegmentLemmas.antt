@@ -1,9 +1,5 @@
 -- The segments of a quoted literal, one after another.
-use Rattle.rl_grammar.proofs.Names.{◌≡◌, ◌==◌, ℕ, ◌+◌, ◌<◌, ◌≤◌, Bool, true, false, cond, ltb, List, [], ◌∷◌, ◌++◌,
-    length, get_or, Some, None, refl, sym, ap, subst, ◌∙◌, arith, append_assoc, append-nil, encode_utf8,
-    encode_utf8_all, list_all, IsUtf8, and_parts, both_ways, eqb-true, lt-ltb, ltb-false, ltb-true, flat_map-append,
-    encodes-append, encodes-chars, chars-nil, Kind, byte_len, first_passes, QuotedUnit, Plain, CrLf, Named, Hex,
-    Unicode, Continuation, unit_text, unit_value, content_of, is_plain, is_string, IsUnit, EndsBefore, texts}
+use Rattle.rl_grammar.proofs.Names.{◌≡◌, ◌==◌, ℕ, ◌+◌, ◌<◌, ◌≤◌, Bool, true, false, cond, ltb, List, [], ◌∷◌, ◌++◌, length, get_or, Some, None, refl, sym, ap, subst, ◌∙◌, arith, append_assoc, append-nil, encode_utf8, encode_utf8_all, list_all, IsUtf8, and_parts, both_ways, eqb-true, lt-ltb, ltb-false, ltb-true, flat_map-append, encodes-append, encodes-chars, chars-nil, Kind, byte_len, first_passes, QuotedUnit, Plain, CrLf, Named, Hex, Unicode, Continuation, unit_text, unit_value, content_of, is_plain, is_string, IsUnit, EndsBefore, texts}
 use Rattle.std.proofs.Common.{◌-◌, map, length-append}
 use denote.Ref.{Bor}
 use Rattle.std.specs.Str.{chars}
@@ -17,10 +13,7 @@ use Rattle.rl_grammar.specs.declared.segments.SegmentValue.TheVariants.{Text, Ch
 use Rattle.rl_grammar.specs.declared.units.Piece.{Piece}
 use Rattle.rl_grammar.specs.Decoded.{in_bytes, piece_bytes}
 use Rattle.rl_grammar.specs.Mirrors.UnitAt.{found, piece_value, IsHeldBy, unit_at}
-use Rattle.rl_grammar.specs.Segments.{unit_bytes, units_bytes, is_itself, begins_in, ends_in, unit_place, span_from,
-    segment_end, segment_place, value_end, GivesByte, IsUnitRow, AreUnitsIn, AreUnitsFor, AreLeft, IsLeftAt, IsLongest,
-    IsNoText, IsPastLeft, IsSegmentOf, IsFirstSegment, IsSpanTable, IsSegmentsState, SegmentsState, TakesSegment,
-    value_bytes, value_place}
+use Rattle.rl_grammar.specs.Segments.{unit_bytes, units_bytes, is_itself, begins_in, ends_in, unit_place, span_from, segment_end, segment_place, value_end, GivesByte, IsUnitRow, AreUnitsIn, AreUnitsFor, AreLeft, IsLeftAt, IsLongest, IsNoText, IsPastLeft, IsSegmentOf, IsFirstSegment, IsSpanTable, IsSegmentsState, SegmentsState, TakesSegment, value_bytes, value_place}
 use Rattle.rl_grammar.proofs.ContentLemmas.{held_in_bytes, piece_in_bytes}
 use Rattle.rl_grammar.proofs.UnitLemmas.{some_pair, plain_complete, unit_complete, unit_nil}
 use Rattle.rl_grammar.proofs.FrontLenLemmas.{byte_len_append}
@@ -60,7 +53,7 @@ pub row_stands : (kind : Kind) (t : List ℕ) (us : List QuotedUnit) → IsUnitR
 row_stands kind t [] row some h = some row.text_is
 row_stands kind t (u ∷ us) row some h =
     let e : None ≡ found (unit_value kind u) (texts us) = sym h ∙ ap (unit_at kind) row.text_is
-        ∙ unit_complete kind u (texts us) row.each.0 row.ends.0 in absurd (cc)
+    ∙ unit_complete kind u (texts us) row.each.0 row.ends.0 in absurd (cc)
 
 -- what follows a run of plain characters
 pub row_after_run : (kind : Kind) (run b : List ℕ) (us : List QuotedUnit) → list_all (is_plain kind) run ≡ true
@@ -69,7 +62,7 @@ row_after_run kind [] b us plain row = (us, row)
 row_after_run kind (c ∷ run) b us plain row =
     let parts = and_parts (is_plain kind c) (list_all (is_plain kind) run) plain in
     let front = row_front kind (c ∷ (run ++ b)) us (content_of kind (c ∷ []), run ++ b) row
-        (plain_complete kind c (run ++ b) parts.0) in
+    (plain_complete kind c (run ++ b) parts.0) in
     row_after_run kind run b front.others parts.1 front.row
 
 pub run_joined : (kind : Kind) (run b : List ℕ) (ws : List QuotedUnit) → list_all (is_plain kind) run ≡ true
@@ -83,8 +76,7 @@ run_joined kind (c ∷ run) b ws plain row =
 pub unit_joined : (kind : Kind) (t b : List ℕ) (u : QuotedUnit) (ws : List QuotedUnit) → IsUnit kind u → EndsBefore u b
     → t ≡ unit_text u ++ b → IsUnitRow kind b ws → IsUnitRow kind t (u ∷ ws)
 unit_joined kind t b u ws allowed ends text_is row =
-    record { each = (allowed, row.each); ends = (subst (EndsBefore u) row.text_is ends, row.ends); text_is = text_is
-        ∙ ap (λ z. unit_text u ++ z) row.text_is }
+    record { each = (allowed, row.each); ends = (subst (EndsBefore u) row.text_is ends, row.ends); text_is = text_is ∙ ap (λ z. unit_text u ++ z) row.text_is }
 
 -- ---- runs of characters that stand for themselves
 
@@ -96,7 +88,7 @@ pub run_bytes : (kind : Kind) (cs : List ℕ) → units_bytes kind (map Plain cs
 run_bytes kind [] = refl
 run_bytes kind (c ∷ cs) =
     ap (λ z. z ++ units_bytes kind (map Plain cs)) (held_in_bytes kind (c ∷ []) ∙ append-nil (encode_utf8 c))
-        ∙ ap (λ z. encode_utf8 c ++ z) (run_bytes kind cs)
+    ∙ ap (λ z. encode_utf8 c ++ z) (run_bytes kind cs)
 
 pub map_append : (a b : List ℕ) → map Plain (a ++ b) ≡ map Plain a ++ map Plain b
 map_append [] b = refl
@@ -104,8 +96,7 @@ map_append (c ∷ a) b = ap (λ z. Plain c ∷ z) (map_append a b)
 
 run_segment : (kind : Kind) (run : Bor (List ℕ)) → IsUtf8 run.now
     → IsSegmentOf kind (Text run) (map Plain (chars run.now))
-run_segment kind run u = record { are = refl; bytes_are = sym (run_bytes kind (chars run.now) ∙ encodes-chars run.now u)
-    }
+run_segment kind run u = record { are = refl; bytes_are = sym (run_bytes kind (chars run.now) ∙ encodes-chars run.now u) }
 
 -- ---- what stands in front
 
@@ -211,10 +202,10 @@ pub takes_segment : (kind : Kind) (plain : Bool) (end : ℕ) (rest after : List 
     (record { lo = end - length rest; hi = end - length after; value = v }) (StateOf kind plain end after)
 takes_segment kind plain end rest after v s u f longest =
     let whole : rest ≡ encode_utf8_all (texts f.units) ++ after = sym (encodes-chars rest s.is_text)
-        ∙ ap encode_utf8_all f.text_is ∙ encodes-append (texts f.units) (chars after)
-        ∙ ap (λ z. encode_utf8_all (texts f.units) ++ z) (encodes-chars after u) in
+    ∙ ap encode_utf8_all f.text_is ∙ encodes-append (texts f.units) (chars after)
+    ∙ ap (λ z. encode_utf8_all (texts f.units) ++ z) (encodes-chars after u) in
     let long : length rest ≡ byte_len (texts f.units) + length after = ap length whole
-        ∙ length-append (encode_utf8_all (texts f.units)) after in
+    ∙ length-append (encode_utf8_all (texts f.units)) after in
     record {
       units = f.units;
       is_segment = f.is_segment;
@@ -260,7 +251,7 @@ place_past inside kind [] us at left e =
 place_past inside kind (u ∷ done) us at left e =
     let n = length (unit_bytes kind u) in
     let total : at ≡ n + (length (units_bytes kind done) + left) = omega
-        (arith, e, length-append (unit_bytes kind u) (units_bytes kind done)) in
+    (arith, e, length-append (unit_bytes kind u) (units_bytes kind done)) in
     let more = place_past inside kind done us (at - n) left (omega (arith, total)) in
     let Goal : ℕ → Type 0 = λ z. z ≡ byte_len (texts (u ∷ done)) + unit_place inside kind us left in
     tested Goal at n _ _
@@ -280,7 +271,7 @@ place_in_run inside d kind (c ∷ cs) us at plain small =
     (λ before. plain c at)
     (λ large.
     let more = place_in_run inside d kind cs us (at - n) plain (omega (arith, small, same, total, large)) in omega
-        (arith, more, same, large))
+    (arith, more, same, large))
 
 pub begins_plain : (c i : ℕ) → begins_in (Plain c) i ≡ i + 0
 begins_plain c i = omega arith
@@ -306,7 +297,7 @@ one_place_in : (inside : QuotedUnit → ℕ → ℕ) (kind : Kind) (units us : L
 one_place_in inside kind units us at bytes one e small =
     let u = one.0 in
     let long : length bytes ≡ length (unit_bytes kind u) = ap length
-        (e ∙ ap (units_bytes kind) one.1 ∙ append-nil (unit_bytes kind u)) in
+    (e ∙ ap (units_bytes kind) one.1 ∙ append-nil (unit_bytes kind u)) in
     record {
       unit = u;
       are = one.1;
@@ -323,16 +314,16 @@ one_ends : (kind : Kind) (units us : List QuotedUnit) (at : ℕ) → IsOneUnit e
     → unit_place ends_in kind (units ++ us) at ≡ byte_len (texts units)
 one_ends kind units us at o =
     o.place ∙ ap (λ z. cond z (at + 1) (byte_len (unit_text o.unit))) o.other
-        ∙ ap byte_len (sym (append-nil (unit_text o.unit)) ∙ ap texts (sym o.are))
+    ∙ ap byte_len (sym (append-nil (unit_text o.unit)) ∙ ap texts (sym o.are))
 
 pub begins_in_segment : (kind : Kind) (v : SegmentValue) (units us : List QuotedUnit) (at : ℕ)
     → IsSegmentOf kind v units → at < length (value_bytes v) → unit_place begins_in kind (units ++ us) at
     ≡ value_place v at
 begins_in_segment kind (Text run) units us at s small =
     let bytes = ap length s.bytes_are ∙ ap (λ z. length (units_bytes kind z)) s.are
-        ∙ ap length (run_bytes kind (chars run.now)) in
+    ∙ ap length (run_bytes kind (chars run.now)) in
     ap (λ z. unit_place begins_in kind (z ++ us) at) s.are ∙ place_in_run begins_in 0 kind (chars run.now) us at
-        begins_plain (omega (arith, bytes, small)) ∙ omega arith
+    begins_plain (omega (arith, bytes, small)) ∙ omega arith
 begins_in_segment kind (Char c) units us at s small = one_begins kind units us at
     (one_place_in begins_in kind units us at (encode_utf8 c) s.are s.bytes_are small)
 begins_in_segment kind (Byte b) units us at s small = one_begins kind units us at
@@ -344,13 +335,16 @@ pub ends_in_segment : (kind : Kind) (v : SegmentValue) (units us : List QuotedUn
     → lo + unit_place ends_in kind (units ++ us) at ≡ value_end v lo hi at
 ends_in_segment kind (Text run) units us lo hi at s long small =
     let bytes = ap length s.bytes_are ∙ ap (λ z. length (units_bytes kind z)) s.are
-        ∙ ap length (run_bytes kind (chars run.now)) in
+    ∙ ap length (run_bytes kind (chars run.now)) in
     let place = ap (λ z. unit_place ends_in kind (z ++ us) at) s.are
-        ∙ place_in_run ends_in 1 kind (chars run.now) us at ends_plain (omega (arith, bytes, small)) in
+    ∙ place_in_run ends_in 1 kind (chars run.now) us at ends_plain (omega (arith, bytes, small)) in
     omega (arith, place)
-ends_in_segment kind (Char c) units us lo hi at s long small = omega
-    (arith, long, one_ends kind units us at (one_place_in ends_in kind units us at (encode_utf8 c) s.are s.bytes_are
-    small))
+ends_in_segment kind (Char c) units us lo hi at s long small = omega (
+  arith,
+  long,
+  one_ends kind units us at (one_place_in ends_in kind units us at (encode_utf8 c) s.are s.bytes_are
+      small),
+)
 ends_in_segment kind (Byte b) units us lo hi at s long small = omega
     (arith, long, one_ends kind units us at (one_place_in ends_in kind units us at (b ∷ []) s.are s.bytes_are small))
 ends_in_segment kind Nothing units us lo hi at s long small = absurd (omega (arith, small))
@@ -363,7 +357,7 @@ text_long kind v run units s e = go v e s
     go : (v : SegmentValue) → v ≡ Text run → IsSegmentOf kind v units → length (value_bytes v) ≡ byte_len (texts units)
     go (Text r) e s =
         ap length s.bytes_are ∙ ap (λ z. length (units_bytes kind z)) s.are ∙ ap length (run_bytes kind (chars r.now))
-            ∙ ap byte_len (sym (run_texts (chars r.now)) ∙ ap texts (sym s.are))
+        ∙ ap byte_len (sym (run_texts (chars r.now)) ∙ ap texts (sym s.are))
     go (Char c) e s = absurd (cc)
     go (Byte b) e s = absurd (cc)
     go Nothing e s = absurd (cc)
@@ -374,8 +368,14 @@ pub place_below : (kind : Kind) (s : Segment) (units : List QuotedUnit) (i : ℕ
 place_below kind s units i is_segment long some small = go s.value refl
   where
     go : (v : SegmentValue) → s.value ≡ v → segment_place s i < s.hi
-    go (Text run) e = omega (arith, long, text_long kind s.value run units is_segment e, small, ap
-        (λ z. value_place z i) e)
+    go (Text run) e = omega (
+      arith,
+      long,
+      text_long kind s.value run units is_segment e,
+      small,
+      ap
+          (λ z. value_place z i) e,
+    )
     go (Char c) e = omega (arith, some, ap (λ z. value_place z i) e)
     go (Byte b) e = omega (arith, some, ap (λ z. value_place z i) e)
     go Nothing e = omega (arith, some, ap (λ z. value_place z i) e)
@@ -398,21 +398,20 @@ pub record IsOnTheWay (start : SegmentsState) (at : ℕ) (now : SegmentsState) (
   pub same_end : now.at + length now.rest ≡ start.at + length start.rest
 
 pub sets_out : (s : SegmentsState) (at : ℕ) → IsOnTheWay s at s at
-sets_out s at = record { done = []; goes_on = λ others h. h; at_is = omega arith; place_is = omega arith; same_kind =
-    refl; same_end = refl }
+sets_out s at = record { done = []; goes_on = λ others h. h; at_is = omega arith; place_is = omega arith; same_kind = refl; same_end = refl }
 
 pub goes_past : (start old new : SegmentsState) (at left less : ℕ) (s : Segment) → IsOnTheWay start at old left
     → TakesSegment old s new → length (value_bytes s.value) ≤ left → less ≡ left - length (value_bytes s.value)
     → IsOnTheWay start at new less
 goes_past start old new at left less s way t enough is =
     let bytes : length (value_bytes s.value) ≡ length (units_bytes start.kind t.units) = ap length
-        t.is_segment.bytes_are ∙ ap (λ (k : Kind). length (units_bytes k t.units)) way.same_kind in
+    t.is_segment.bytes_are ∙ ap (λ (k : Kind). length (units_bytes k t.units)) way.same_kind in
     let both : length (units_bytes start.kind (way.done ++ t.units))
-        ≡ length (units_bytes start.kind way.done) + length (units_bytes start.kind t.units) = ap length
-        (flat_map-append (unit_bytes start.kind) way.done t.units)
-        ∙ length-append (units_bytes start.kind way.done) (units_bytes start.kind t.units) in
+    ≡ length (units_bytes start.kind way.done) + length (units_bytes start.kind t.units) = ap length
+    (flat_map-append (unit_bytes start.kind) way.done t.units)
+    ∙ length-append (units_bytes start.kind way.done) (units_bytes start.kind t.units) in
     let long : byte_len (texts (way.done ++ t.units)) ≡ byte_len (texts way.done) + byte_len (texts t.units) = ap
-        byte_len (flat_map-append unit_text way.done t.units) ∙ byte_len_append (texts way.done) (texts t.units) in
+    byte_len (flat_map-append unit_text way.done t.units) ∙ byte_len_append (texts way.done) (texts t.units) in
     record {
       done = way.done ++ t.units;
       goes_on = λ others h. subst (AreLeft start) (sym (append_assoc way.done t.units others))
@@ -467,22 +466,19 @@ pub given_place : (s : SegmentsState) (at within : ℕ) (segment : Segment) → 
 given_place s at within segment g =
     let past = place_past begins_in s.kind g.before (g.units ++ g.others) at within g.at_is in
     let inside = begins_in_segment s.kind segment.value g.units g.others within g.is_segment g.inside in
-    record { units = g.before ++ (g.units ++ g.others); are_left = g.are_left; place_is = omega
-        (arith, g.lo_is, past, inside) }
+    record { units = g.before ++ (g.units ++ g.others); are_left = g.are_left; place_is = omega (arith, g.lo_is, past, inside) }
 
 pub given_end : (s : SegmentsState) (at within : ℕ) (segment : Segment) → GivesByte s at segment within
     → IsLeftAt ends_in s at (segment_end segment within)
 given_end s at within segment g =
     let past = place_past ends_in s.kind g.before (g.units ++ g.others) at within g.at_is in
     let inside = ends_in_segment s.kind segment.value g.units g.others segment.lo segment.hi within g.is_segment g.hi_is
-        g.inside in
-    record { units = g.before ++ (g.units ++ g.others); are_left = g.are_left; place_is = omega
-        (arith, g.lo_is, past, inside) }
+    g.inside in
+    record { units = g.before ++ (g.units ++ g.others); are_left = g.are_left; place_is = omega (arith, g.lo_is, past, inside) }
 
 pub past_left : (inside : QuotedUnit → ℕ → ℕ) (s : SegmentsState) (at place : ℕ) → IsPastLeft s at → place
     ≡ s.at + length s.rest → IsLeftAt inside s at place
-past_left inside s at place p e = record { units = p.units; are_left = p.are_left; place_is = omega
-    (arith, e, p.long, place_at_end inside s.kind p.units at p.past) }
+past_left inside s at place p e = record { units = p.units; are_left = p.are_left; place_is = omega (arith, e, p.long, place_at_end inside s.kind p.units at p.past) }
 
 -- ---- tables
 
@@ -519,8 +515,7 @@ pub record IsTabled (start now : SegmentsState) (base : Span) (table : List Span
   pub spans : (at : ℕ) → at < length table → get_or table at nowhere ≡ unit_span start base done at
 
 pub no_table : (s : SegmentsState) (base : Span) → IsTabled s s base []
-no_table s base = record { done = []; goes_on = λ others h. h; long = refl; place_is = omega arith; same_kind = refl;
-    same_end = refl; spans = λ at h. absurd (omega (arith, h)) }
+no_table s base = record { done = []; goes_on = λ others h. h; long = refl; place_is = omega arith; same_kind = refl; same_end = refl; spans = λ at h. absurd (omega (arith, h)) }
 
 same_span : (base : Span) (lo hi first last : ℕ) → lo ≡ first → hi ≡ last → span_from base lo hi
     ≡ span_from base first last
@@ -536,11 +531,11 @@ tabled_more start old new base table grown s t takes long kept added =
     let segment = subst (λ (k : Kind). IsSegmentOf k s.value takes.units) t.same_kind takes.is_segment in
     let bytes : length (value_bytes s.value) ≡ length (units_bytes kind takes.units) = ap length segment.bytes_are in
     let both : length (units_bytes kind (t.done ++ takes.units))
-        ≡ length (units_bytes kind t.done) + length (units_bytes kind takes.units) = ap length
-        (flat_map-append (unit_bytes kind) t.done takes.units) ∙ length-append (units_bytes kind t.done)
-        (units_bytes kind takes.units) in
+    ≡ length (units_bytes kind t.done) + length (units_bytes kind takes.units) = ap length
+    (flat_map-append (unit_bytes kind) t.done takes.units) ∙ length-append (units_bytes kind t.done)
+    (units_bytes kind takes.units) in
     let text : byte_len (texts (t.done ++ takes.units)) ≡ byte_len (texts t.done) + byte_len (texts takes.units) = ap
-        byte_len (flat_map-append unit_text t.done takes.units) ∙ byte_len_append (texts t.done) (texts takes.units) in
+    byte_len (flat_map-append unit_text t.done takes.units) ∙ byte_len_append (texts t.done) (texts takes.units) in
     let all = t.done ++ takes.units in
     record {
       done = all;
@@ -555,8 +550,8 @@ tabled_more start old new base table grown s t takes long kept added =
           (λ small.
           let near : at < length (units_bytes kind t.done) = omega (arith, small, t.long) in
           kept at small ∙ t.spans at small ∙ same_span base _ _ _ _
-              (ap (λ z. start.at + z) (sym (place_before begins_in kind t.done takes.units at near)))
-              (ap (λ z. start.at + z) (sym (place_before ends_in kind t.done takes.units at near))))
+          (ap (λ z. start.at + z) (sym (place_before begins_in kind t.done takes.units at near)))
+          (ap (λ z. start.at + z) (sym (place_before ends_in kind t.done takes.units at near))))
           (λ large.
           let i = at - length table in
           let is : at ≡ length table + i = omega (arith, large) in
@@ -566,12 +561,12 @@ tabled_more start old new base table grown s t takes long kept added =
           let begins = place_past begins_in kind t.done takes.units at i from in
           let ends = place_past ends_in kind t.done takes.units at i from in
           let first = ap (λ z. unit_place begins_in kind z i) (sym none)
-              ∙ begins_in_segment kind s.value takes.units [] i segment small in
+          ∙ begins_in_segment kind s.value takes.units [] i segment small in
           let last = ap (λ z. s.lo + unit_place ends_in kind z i) (sym none)
-              ∙ ends_in_segment kind s.value takes.units [] s.lo s.hi i segment takes.long small in
+          ∙ ends_in_segment kind s.value takes.units [] s.lo s.hi i segment takes.long small in
           ap (λ z. get_or grown z nowhere) is ∙ added i small ∙ same_span base _ _ _ _
-              (omega (arith, begins, first, t.place_is, takes.lo_is))
-              (omega (arith, ends, last, t.place_is, takes.lo_is)));
+          (omega (arith, begins, first, t.place_is, takes.lo_is))
+          (omega (arith, ends, last, t.place_is, takes.lo_is)));
     }
 
 pub tabled_all : (start now : SegmentsState) (base : Span) (table grown : List Span) → IsTabled start now base table
@@ -587,14 +582,14 @@ tabled_all start now base table grown t none is =
       spans = λ at h.
           tested (λ (z : ℕ). get_or grown at nowhere ≡ unit_span start base t.done at) at (length table) 0 0
           (λ small. ap (λ z. get_or z at nowhere) is ∙ get_or_append_left table (last ∷ []) nowhere at small
-              ∙ t.spans at small)
+          ∙ t.spans at small)
           (λ large.
           let end : at ≡ length table = omega (arith, h, long, large) in
           let begins = place_at_end begins_in kind t.done at (omega (arith, large, t.long)) in
           let ends = place_at_end ends_in kind t.done at (omega (arith, large, t.long)) in
           ap (λ z. get_or grown z nowhere) end ∙ ap (λ z. get_or z (length table) nowhere) is
-              ∙ get_or-append_seam table last [] nowhere ∙ same_span base _ _ _ _ (omega (arith, t.place_is, begins))
-              (omega (arith, t.place_is, ends)));
+          ∙ get_or-append_seam table last [] nowhere ∙ same_span base _ _ _ _ (omega (arith, t.place_is, begins))
+          (omega (arith, t.place_is, ends)));
     }
 
 -- the segment stands within the base

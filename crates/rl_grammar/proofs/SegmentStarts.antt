@@ -1,21 +1,16 @@
 -- The segments of a whole literal.
-use Rattle.rl_grammar.proofs.Names.{◌≡◌, ◌⊎◌, inl, inr, ℕ, ◌+◌, ◌≤◌, Bool, true, false, List, [], ◌∷◌, ◌++◌, length,
-    drop, refl, sym, ap, subst, ◌∙◌, arith, append-nil, both_ways, list_all, IsUtf8, Kind, Str, ByteStr, CStr, Byte,
-    Char, QuotedUnit, Plain, CrLf, Named, Hex, Unicode, Continuation, is_plain, is_single, is_string, opener, texts,
-    unit_text, unit_value, values, Reads, Contents, ReadsQuoted}
+use Rattle.rl_grammar.proofs.Names.{◌≡◌, ◌⊎◌, inl, inr, ℕ, ◌+◌, ◌≤◌, Bool, true, false, List, [], ◌∷◌, ◌++◌, length, drop, refl, sym, ap, subst, ◌∙◌, arith, append-nil, both_ways, list_all, IsUtf8, Kind, Str, ByteStr, CStr, Byte, Char, QuotedUnit, Plain, CrLf, Named, Hex, Unicode, Continuation, is_plain, is_single, is_string, opener, texts, unit_text, unit_value, values, Reads, Contents, ReadsQuoted}
 use Rattle.std.proofs.Common.{◌-◌, map, length-drop}
 use Rattle.std.proofs.lemmas.List.{length-take-le}
 use Rattle.std.specs.Str.{chars}
 use Rattle.rl_tokens.proofs.OneReading.{one_reading}
 use Rattle.rl_grammar.specs.declared.found.Body.{Body}
 use Rattle.rl_grammar.specs.declared.quoted_forms.QuotedForm.{QuotedForm}
-use Rattle.rl_grammar.specs.declared.quoted_forms.QuotedForm.TheVariants.{Cooked as CookedForm, Raw as RawForm, Single
-    as SingleForm}
+use Rattle.rl_grammar.specs.declared.quoted_forms.QuotedForm.TheVariants.{Cooked as CookedForm, Raw as RawForm, Single as SingleForm}
 use Rattle.rl_grammar.specs.Forms.{PartsAre, front_len, is_plain_body}
 use Rattle.rl_grammar.specs.Founds.{IsQuotedAt, StandsIn, body_in, suffix_in, is_quoted}
 use Rattle.rl_grammar.specs.Mirrors.UnitAt.{found, unit_at}
-use Rattle.rl_grammar.specs.Segments.{AreUnitsIn, AreUnitsOf, IsGivenAt, IsLeftAt, IsUnitRow, IsSegmentsOf,
-    IsSegmentsState, SegmentsState, unit_place}
+use Rattle.rl_grammar.specs.Segments.{AreUnitsIn, AreUnitsOf, IsGivenAt, IsLeftAt, IsUnitRow, IsSegmentsOf, IsSegmentsState, SegmentsState, unit_place}
 use Rattle.rl_grammar.specs.Shapes.{HasNoQuoted}
 use Rattle.rl_grammar.proofs.FoundLemmas.{body_text}
 use Rattle.rl_grammar.proofs.RowLemmas.{ends_before}
@@ -72,8 +67,8 @@ single_units : (kind : Kind) (t v body x : List ℕ) (units : List QuotedUnit) (
 single_units kind t v body x units lo p row at =
     let s = p.0 in
     let one : unit_at kind body ≡ found (unit_value kind s.unit) [] = ap (unit_at kind)
-        (p.1 ∙ sym (append-nil (unit_text s.unit))) ∙ unit_complete kind s.unit [] s.is_unit
-        (ends_before s.unit [] refl) in
+    (p.1 ∙ sym (append-nil (unit_text s.unit))) ∙ unit_complete kind s.unit [] s.is_unit
+    (ends_before s.unit [] refl) in
     go units row one
   where
     go : (units : List QuotedUnit) → IsUnitRow kind body units → unit_at kind body ≡ found (unit_value kind p.0.unit) []
@@ -95,7 +90,7 @@ single_units kind t v body x units lo p row at =
     ))
     go (u ∷ w ∷ us) row one =
         let first : unit_at kind body ≡ found (unit_value kind u) (texts (w ∷ us)) = ap (unit_at kind) row.text_is
-            ∙ unit_complete kind u (texts (w ∷ us)) row.each.0 row.ends.0 in
+        ∙ unit_complete kind u (texts (w ∷ us)) row.each.0 row.ends.0 in
         let same = some_pair (unit_value kind u, texts (w ∷ us)) (unit_value kind p.0.unit, []) (sym first ∙ one) in
         absurd (no_text w (append_nothing (unit_text w) (texts us) same.1))
 
@@ -105,11 +100,16 @@ has_units : (form : QuotedForm) (kind : Kind) (t v body x : List ℕ) (plain : B
     → plain ≡ is_plain_body form kind body → (units : List QuotedUnit) × AreUnitsIn kind plain body units
 has_units form kind t v body x true p is = (map Plain body, refl)
 has_units RawForm kind t v body x false p is = absurd (cc)
-has_units CookedForm kind t v body x false p is = (p.0.units, record
-    { each = p.0.each; ends = p.0.ends; text_is = p.1 })
-has_units SingleForm kind t v body x false p is = (p.0.unit ∷ [], record
-    { each = (p.0.is_unit, tt); ends = (ends_before p.0.unit [] refl, tt); text_is = p.1
-    ∙ sym (append-nil (unit_text p.0.unit)) })
+has_units CookedForm kind t v body x false p is = (
+  p.0.units,
+  record
+      { each = p.0.each; ends = p.0.ends; text_is = p.1 },
+)
+has_units SingleForm kind t v body x false p is = (
+  p.0.unit ∷ [],
+  record
+      { each = (p.0.is_unit, tt); ends = (ends_before p.0.unit [] refl, tt); text_is = p.1 ∙ sym (append-nil (unit_text p.0.unit)) },
+)
 
 are_units : (form : QuotedForm) (kind : Kind) (t v body x : List ℕ) (plain : Bool) (lo : ℕ)
     (p : PartsAre form kind t v body x) → plain ≡ is_plain_body form kind body → lo ≡ front_len form kind t v body x p
@@ -125,8 +125,13 @@ are_units SingleForm kind t v body x false lo p is at units are = single_units k
 pub body_long : (t : List ℕ) (body : Body) → StandsIn t body → length (body_in t body) + body.lo ≡ body.hi
 body_long t body s =
     let within : body.hi ≤ length t = s.ends.0 in
-    omega (arith, s.ordered, within, length-take-le (body.hi - body.lo) (drop body.lo t)
-        (omega (arith, within, s.ordered, length-drop body.lo t)))
+    omega (
+      arith,
+      s.ordered,
+      within,
+      length-take-le (body.hi - body.lo) (drop body.lo t)
+          (omega (arith, within, s.ordered, length-drop body.lo t)),
+    )
 
 -- the closing quote is in the text
 pub ends_in_text : (t rest : List ℕ) (body : Body) → rest ≡ body_in t body → StandsIn t body
@@ -146,14 +151,15 @@ pub segments_of : (kind : Kind) (t rest : List ℕ) (body : Body) → IsUtf8 t �
     → IsQuotedAt kind t body → IsSegmentsOf kind (chars t) (StateOf kind body.plain body.hi rest)
 segments_of kind t rest body u is q = subst (λ z. IsSegmentsOf kind (chars t) (StateOf kind body.plain body.hi z))
     (sym is) (record {
-  kind_is = refl;
-  has = has_units q.form kind (chars t) q.value (chars (body_in t body)) (chars (suffix_in t body)) body.plain q.parts
-      q.plain_is;
-  units_are = λ units are.
-      let lo : body.hi - length (body_in t body) ≡ body.lo = omega (arith, body_long t body q.stands) in
-      are_units q.form kind (chars t) q.value (chars (body_in t body)) (chars (suffix_in t body)) body.plain
+      kind_is = refl;
+      has = has_units q.form kind (chars t) q.value (chars (body_in t body)) (chars (suffix_in t body)) body.plain
+          q.parts
+          q.plain_is;
+      units_are = λ units are.
+          let lo : body.hi - length (body_in t body) ≡ body.lo = omega (arith, body_long t body q.stands) in
+          are_units q.form kind (chars t) q.value (chars (body_in t body)) (chars (suffix_in t body)) body.plain
           (body.hi - length (body_in t body)) q.parts q.plain_is (lo ∙ q.lo_is) units are;
-})
+    })
 
 -- ---- places in the whole literal
 

@@ -1,12 +1,9 @@
 -- The bytes of a quoted literal are cut as its characters are.
-use Rattle.rl_grammar.proofs.Names.{◌≡◌, ℕ, zero, suc, List, [], ◌∷◌, ◌++◌, replicate, refl, sym, ap, ◌∙◌, inl, inr,
-    arith, encode_utf8_all, IsAscii, IsUtf8, encodes-chars, encodes-append, Kind, Str, ByteStr, CStr, Byte, Char, Int,
-    Float, BoolKind, opener, raw_opener}
+use Rattle.rl_grammar.proofs.Names.{◌≡◌, ℕ, zero, suc, List, [], ◌∷◌, ◌++◌, replicate, refl, sym, ap, ◌∙◌, inl, inr, arith, encode_utf8_all, IsAscii, IsUtf8, encodes-chars, encodes-append, Kind, Str, ByteStr, CStr, Byte, Char, Int, Float, BoolKind, opener, raw_opener}
 use Rattle.std.specs.Str.{chars}
 use Rattle.std.proofs.lemmas.Str.{IsUtf8-append, IsUtf8-from_ascii}
 use Rattle.rl_grammar.specs.declared.quoted_forms.QuotedForm.{QuotedForm}
-use Rattle.rl_grammar.specs.declared.quoted_forms.QuotedForm.TheVariants.{Cooked as CookedForm, Raw as RawForm, Single
-    as SingleForm}
+use Rattle.rl_grammar.specs.declared.quoted_forms.QuotedForm.TheVariants.{Cooked as CookedForm, Raw as RawForm, Single as SingleForm}
 use Rattle.rl_grammar.specs.Forms.{PartsAre}
 use Rattle.rl_grammar.specs.Shapes.{IsCookedSplit, IsQuotedSplit}
 
@@ -67,10 +64,9 @@ pub cooked_cut : (kind : Kind) (t v b x : List ℕ) → IsUtf8 t → IsUtf8 b �
 cooked_cut kind t v b x ut ub ux p =
     let c = p.0 in
     let text : chars t ≡ opener kind ++ (chars b ++ (34 ∷ chars x)) = c.text_is
-        ∙ ap (λ z. opener kind ++ (z ++ (34 ∷ chars x))) (sym p.1) in
+    ∙ ap (λ z. opener kind ++ (z ++ (34 ∷ chars x))) (sym p.1) in
     let closer = double_bytes (chars x) ∙ ap (λ z. 34 ∷ z) (encodes-chars x ux) in
-    record { string = c.string; text_is = whole t _ _ ut text (front_bytes (opener kind) _ _ (opener_bytes kind)
-        (text_bytes b _ _ ub closer)) }
+    record { string = c.string; text_is = whole t _ _ ut text (front_bytes (opener kind) _ _ (opener_bytes kind) (text_bytes b _ _ ub closer)) }
 
 pub parts_cut : (form : QuotedForm) (kind : Kind) (t v b x : List ℕ) → IsUtf8 t → IsUtf8 b → IsUtf8 x
     → PartsAre form kind (chars t) v (chars b) (chars x) → IsQuotedSplit kind t b x
@@ -80,20 +76,18 @@ parts_cut RawForm kind t v b x ut ub ux p =
     let n = r.hashes in
     let hashes = replicate n 35 in
     let text : chars t ≡ raw_opener kind ++ (hashes ++ (34 ∷ (chars b ++ (34 ∷ (hashes ++ chars x))))) = r.text_is
-        ∙ ap (λ z. raw_opener kind ++ (hashes ++ (34 ∷ (z ++ (34 ∷ (hashes ++ chars x)))))) (sym p.1) in
+    ∙ ap (λ z. raw_opener kind ++ (hashes ++ (34 ∷ (z ++ (34 ∷ (hashes ++ chars x)))))) (sym p.1) in
     let suffix = front_bytes hashes (chars x) x (hashes_bytes n) (encodes-chars x ux) in
     let closer = double_bytes (hashes ++ chars x) ∙ ap (λ z. 34 ∷ z) suffix in
     let inside = text_bytes b _ _ ub closer in
     let opened = double_bytes (chars b ++ (34 ∷ (hashes ++ chars x))) ∙ ap (λ z. 34 ∷ z) inside in
-    inr (inl (record { string = r.string; hashes = n; text_is = whole t _ _ ut text
-        (front_bytes (raw_opener kind) _ _ (raw_opener_bytes kind) (front_bytes hashes _ _ (hashes_bytes n) opened)) }))
+    inr (inl (record { string = r.string; hashes = n; text_is = whole t _ _ ut text (front_bytes (raw_opener kind) _ _ (raw_opener_bytes kind) (front_bytes hashes _ _ (hashes_bytes n) opened)) }))
 parts_cut SingleForm kind t v b x ut ub ux p =
     let s = p.0 in
     let text : chars t ≡ opener kind ++ (chars b ++ (39 ∷ chars x)) = s.text_is
-        ∙ ap (λ z. opener kind ++ (z ++ (39 ∷ chars x))) (sym p.1) in
+    ∙ ap (λ z. opener kind ++ (z ++ (39 ∷ chars x))) (sym p.1) in
     let closer = quote_bytes (chars x) ∙ ap (λ z. 39 ∷ z) (encodes-chars x ux) in
-    inr (inr (record { single = s.single; text_is = whole t _ _ ut text
-        (front_bytes (opener kind) _ _ (opener_bytes kind) (text_bytes b _ _ ub closer)) }))
+    inr (inr (record { single = s.single; text_is = whole t _ _ ut text (front_bytes (opener kind) _ _ (opener_bytes kind) (text_bytes b _ _ ub closer)) }))
 
 -- a text that is cut at a quote
 quote_ascii : IsAscii (34 ∷ [])
@@ -102,6 +96,7 @@ quote_ascii (suc i) = omega arith
 
 pub closed_cut : (t b x : List ℕ) → IsUtf8 t → IsUtf8 b → IsUtf8 x → chars t ≡ chars b ++ (34 ∷ chars x)
     → (t ≡ b ++ (34 ∷ x)) × IsUtf8 (34 ∷ x)
-closed_cut t b x ut ub ux e =
-    (whole t _ _ ut e (text_bytes b _ _ ub (double_bytes (chars x) ∙ ap (λ z. 34 ∷ z) (encodes-chars x ux))),
-        IsUtf8-append (34 ∷ []) x (IsUtf8-from_ascii (34 ∷ []) quote_ascii) ux)
+closed_cut t b x ut ub ux e = (
+  whole t _ _ ut e (text_bytes b _ _ ub (double_bytes (chars x) ∙ ap (λ z. 34 ∷ z) (encodes-chars x ux))),
+  IsUtf8-append (34 ∷ []) x (IsUtf8-from_ascii (34 ∷ []) quote_ascii) ux,
+)

@@ -1,7 +1,5 @@
 -- What the body of a character or a byte stands for.
-use Rattle.rl_grammar.proofs.Names.{◌≡◌, ◌<◌, ℕ, List, [], ◌∷◌, true, Some, None, refl, sym, ap, subst, ◌∙◌, arith,
-    append-nil, nat_tests, encode_utf8_all, IsScalar, Kind, Byte, Char, is_single, is_string, unit_text, Bytes,
-    Characters, ReadsQuoted}
+use Rattle.rl_grammar.proofs.Names.{◌≡◌, ◌<◌, ℕ, List, [], ◌∷◌, true, Some, None, refl, sym, ap, subst, ◌∙◌, arith, append-nil, nat_tests, encode_utf8_all, IsScalar, Kind, Byte, Char, is_single, is_string, unit_text, Bytes, Characters, ReadsQuoted}
 use Rattle.std.specs.Str.{chars}
 use Rattle.rl_grammar.specs.declared.found.Body.{Body}
 use Rattle.rl_grammar.specs.declared.units.Piece.TheVariants.{Character}
@@ -40,12 +38,10 @@ character_unit kind c n s scalar one = by_single (λ k. piece_value k (Character
     of_byte : encode_utf8_all (c ∷ []) ≡ n ∷ [] → IsUnitValue Byte (encode_utf8_all (c ∷ [])) c
     of_byte e =
         let small : c < 128 = one_byte c n e in
-        record { one = λ h. ascii_byte c small; byte = λ h. omega (arith, small); character = λ h. absurd (cc); none = λ
-            h k. absurd (h refl) }
+        record { one = λ h. ascii_byte c small; byte = λ h. omega (arith, small); character = λ h. absurd (cc); none = λ h k. absurd (h refl) }
 
     of_character : c ∷ [] ≡ n ∷ [] → IsUnitValue Char (c ∷ []) c
-    of_character e = record { one = λ h. refl; byte = λ h. absurd (cc); character = λ h. scalar; none = λ h k. absurd
-        (k refl) }
+    of_character e = record { one = λ h. refl; byte = λ h. absurd (cc); character = λ h. scalar; none = λ h k. absurd (k refl) }
 
 -- of a byte
 pub byte_unit : (kind : Kind) (b : ℕ) → is_single kind ≡ true → b < 256 → IsUnitValue kind (b ∷ []) b
@@ -55,13 +51,11 @@ byte_unit kind b s small = by_single (λ k. IsUnitValue k (b ∷ []) b) kind s o
     of_byte = record { one = λ h. refl; byte = λ h. small; character = λ h. absurd (cc); none = λ h k. absurd (h refl) }
 
     of_character : IsUnitValue Char (b ∷ []) b
-    of_character = record { one = λ h. refl; byte = λ h. absurd (cc); character = λ h. grind (arith, nat_tests); none =
-        λ h k. absurd (k refl) }
+    of_character = record { one = λ h. refl; byte = λ h. absurd (cc); character = λ h. grind (arith, nat_tests); none = λ h k. absurd (k refl) }
 
 -- none of a string
 pub no_unit : (kind : Kind) (v : List ℕ) → is_string kind ≡ true → IsUnitValue kind v 0
-no_unit kind v s = record { one = λ h. absurd (not_both kind s h); byte = λ h. omega arith; character = λ h. refl; none
-    = λ h k. refl }
+no_unit kind v s = record { one = λ h. absurd (not_both kind s h); byte = λ h. omega arith; character = λ h. refl; none = λ h k. refl }
 
 -- it is the contents
 pub unit_reads : (form : QuotedForm) (kind : Kind) (t v body x : List ℕ) (n : ℕ) → is_single kind ≡ true
@@ -70,12 +64,10 @@ unit_reads form kind t v body x n s parts is = by_single (λ k. PartsAre form k 
     → IsUnitOf k t n) kind s of_byte of_character parts is
   where
     of_byte : PartsAre form Byte t v body x → IsUnitValue Byte v n → IsUnitOf Byte t n
-    of_byte p u = record { reads = (x, subst (λ w. ReadsQuoted t Byte (Bytes w) x) (u.one refl)
-        (parts_read form Byte t v body x p)); byte = u.byte; character = u.character }
+    of_byte p u = record { reads = (x, subst (λ w. ReadsQuoted t Byte (Bytes w) x) (u.one refl) (parts_read form Byte t v body x p)); byte = u.byte; character = u.character }
 
     of_character : PartsAre form Char t v body x → IsUnitValue Char v n → IsUnitOf Char t n
-    of_character p u = record { reads = (x, subst (λ w. ReadsQuoted t Char (Characters w) x) (u.one refl)
-        (parts_read form Char t v body x p)); byte = u.byte; character = u.character }
+    of_character p u = record { reads = (x, subst (λ w. ReadsQuoted t Char (Characters w) x) (u.one refl) (parts_read form Char t v body x p)); byte = u.byte; character = u.character }
 
 -- ---- the body
 
@@ -85,7 +77,7 @@ body_unit : (kind : Kind) (t body : List ℕ) (has : HasSingleBody kind t body) 
 body_unit kind t body has =
     let s = has.parts.0 in
     ap (unit_at kind) (has.parts.1 ∙ sym (append-nil (unit_text s.unit)))
-        ∙ (unit_complete kind s.unit [] s.is_unit (ends_before s.unit [] refl) ∙ ap (λ v. found v []) (sym s.value_is))
+    ∙ (unit_complete kind s.unit [] s.is_unit (ends_before s.unit [] refl) ∙ ap (λ v. found v []) (sym s.value_is))
 
 -- so a unit stands there
 pub body_stands : (kind : Kind) (t body : List ℕ) → HasSingleBody kind t body → unit_at kind (chars body) ≡ None → ⊥
@@ -104,7 +96,7 @@ pub body_reads : (kind : Kind) (t body : List ℕ) (p : List ℕ × List ℕ) (n
 body_reads kind t body p n has unit is =
     let same = some_pair (has.value, []) p (sym (body_unit kind t body has) ∙ unit) in
     unit_reads SingleForm kind t has.value (chars body) has.suffix n has.parts.0.single has.parts
-        (subst (λ v. IsUnitValue kind v n) (sym same.0) is)
+    (subst (λ v. IsUnitValue kind v n) (sym same.0) is)
 
 -- ---- where it stands
 
@@ -118,5 +110,4 @@ single_parts k kind t value body suffix s p = absurd (not_both kind p.0.string s
 pub single_at : (kind : Kind) (t : List ℕ) (body : Body) → is_single kind ≡ true → IsQuotedAt kind t body
     → HasSingleBody kind (chars t) (body_in t body)
 single_at kind t body s at =
-    record { value = at.value; suffix = _; parts = single_parts at.form kind (chars t) at.value (chars (body_in t body))
-        _ s at.parts }
+    record { value = at.value; suffix = _; parts = single_parts at.form kind (chars t) at.value (chars (body_in t body)) _ s at.parts }

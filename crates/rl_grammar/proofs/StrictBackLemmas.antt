@@ -1,12 +1,5 @@
 -- The units of the lenient reading are strict, line breaks apart.
-use Rattle.rl_grammar.proofs.Names.{◌≡◌, ℕ, zero, suc, ◌<◌, ◌≤◌, ◌==◌, ◌||◌, ◌&&◌, Bool, true, false, not, cond, eqb,
-    List, [], ◌∷◌, ◌++◌, length, replicate, refl, sym, ap, subst, ◌∙◌, inl, inr, arith, and_from, and_parts, cases_Bool,
-    eqb-true, lt-ltb, ltb-true, not_from_false, scalar, digit_value, is_ascii_hexdigit, IsScalar, list_all, flat_map,
-    Kind, Str, ByteStr, CStr, Byte, Char, is_underscore, QuotedUnit, Letter, Named, Hex, Unicode, LowerN, LowerR,
-    LowerT, Backslash, Zero, letter_text, letter_value, unit_text, unit_value, content_of, place_value,
-    without_underscores, unicode_value, hex_value, is_hex_digit, is_plain, allows_code, IsUnit, StrictUnit, Itself,
-    QuoteEscape, PlainEscape, AsciiEscape, ByteEscape, UnicodeEscape, LineBreak, strict_text, strict_contents,
-    strict_content_of, is_strict_unit}
+use Rattle.rl_grammar.proofs.Names.{◌≡◌, ℕ, zero, suc, ◌<◌, ◌≤◌, ◌==◌, ◌||◌, ◌&&◌, Bool, true, false, not, cond, eqb, List, [], ◌∷◌, ◌++◌, length, replicate, refl, sym, ap, subst, ◌∙◌, inl, inr, arith, and_from, and_parts, cases_Bool, eqb-true, lt-ltb, ltb-true, not_from_false, scalar, digit_value, is_ascii_hexdigit, IsScalar, list_all, flat_map, Kind, Str, ByteStr, CStr, Byte, Char, is_underscore, QuotedUnit, Letter, Named, Hex, Unicode, LowerN, LowerR, LowerT, Backslash, Zero, letter_text, letter_value, unit_text, unit_value, content_of, place_value, without_underscores, unicode_value, hex_value, is_hex_digit, is_plain, allows_code, IsUnit, StrictUnit, Itself, QuoteEscape, PlainEscape, AsciiEscape, ByteEscape, UnicodeEscape, LineBreak, strict_text, strict_contents, strict_content_of, is_strict_unit}
 use Rattle.std.proofs.Common.{map}
 use Rattle.std.proofs.lemmas.Bool.{le-leb}
 use Rattle.std.specs.Prelude.{nat_lt, nat_le}
@@ -57,14 +50,12 @@ zero_letter _ h = refl
 -- an escape of one letter
 plain_escape : (k : Kind) (l : Letter) → is_strict_unit k (PlainEscape (letter_text l)) ≡ true → letter_value l ∷ []
     ≡ strict_contents (strict_content_of k) (PlainEscape (letter_text l)) → Back k (Named l)
-plain_escape k l h v = record { unit = PlainEscape (letter_text l); is_unit = h; no_break = λ b e. absurd (cc); text_is
-    = refl; value_is = v }
+plain_escape k l h v = record { unit = PlainEscape (letter_text l); is_unit = h; no_break = λ b e. absurd (cc); text_is = refl; value_is = v }
 
 -- an escaped quote
 quote_escape : (k : Kind) (l : Letter) → is_strict_unit k (QuoteEscape (letter_text l)) ≡ true → letter_value l
     ≡ letter_text l → Back k (Named l)
-quote_escape k l h v = record { unit = QuoteEscape (letter_text l); is_unit = h; no_break = λ b e. absurd (cc); text_is
-    = refl; value_is = ap (λ n. n ∷ []) v }
+quote_escape k l h v = record { unit = QuoteEscape (letter_text l); is_unit = h; no_break = λ b e. absurd (cc); text_is = refl; value_is = ap (λ n. n ∷ []) v }
 
 -- the escapes of a backslash and one letter
 pub named_escape : (k : Kind) (l : Letter) → allows_code k (letter_value l) ≡ true → Back k (Named l)
@@ -90,14 +81,11 @@ small_high high low h = let e : hex_value high low < 128 = ltb-true (hex_value h
 ascii_escape : (k : Kind) (high low : ℕ) → is_hex_digit low ≡ true → nat_lt (hex_value high low) 128 ≡ true
     → ((is_octal high && is_ascii_hexdigit low) ≡ true → is_strict_unit k (AsciiEscape high low) ≡ true)
     → Back k (Hex high low)
-ascii_escape k high low l s allowed = record { unit = AsciiEscape high low; is_unit = allowed
-    (and_from _ _ (small_high high low s) (hex_digit_back low l)); no_break = λ b e. absurd (cc); text_is = refl;
-    value_is = refl }
+ascii_escape k high low l s allowed = record { unit = AsciiEscape high low; is_unit = allowed (and_from _ _ (small_high high low s) (hex_digit_back low l)); no_break = λ b e. absurd (cc); text_is = refl; value_is = refl }
 
 -- an escape of a byte
 byte_escape : (k : Kind) (high low : ℕ) → is_strict_unit k (ByteEscape high low) ≡ true → Back k (Hex high low)
-byte_escape k high low h = record { unit = ByteEscape high low; is_unit = h; no_break = λ b e. absurd (cc); text_is =
-    refl; value_is = refl }
+byte_escape k high low h = record { unit = ByteEscape high low; is_unit = h; no_break = λ b e. absurd (cc); text_is = refl; value_is = refl }
 
 -- the escapes by two digits
 pub hex_escape : (k : Kind) (high low : ℕ) → HasStrictUnits k → IsUnit k (Hex high low) → Back k (Hex high low)
@@ -174,12 +162,12 @@ unicode_allowed first more h each few s =
     let hexes = group_hex first 0 more h each in
     let same = unicode_number first more hexes in
     let long : length (group first 0 more) ≡ length (without_underscores (first ∷ more)) = sym
-        (digits_count (group first 0 more)) ∙ ap length (sym (bare_digits (group first 0 more) hexes)
-        ∙ ap without_underscores (group_text first 0 more)) in
+    (digits_count (group first 0 more)) ∙ ap length (sym (bare_digits (group first 0 more) hexes)
+    ∙ ap without_underscores (group_text first 0 more)) in
     let Few : ℕ → Type 0 = λ n. n ≤ 6 in
     and_from _ _ (and_from _ _ (and_from _ _ (group_some first 0 more) (le-leb _ 6 (subst Few (sym long) few))) hexes)
     (and_from (scalar (spelled_number 16 (map (λ d. d.0) (group first 0 more)))) true (subst IsScalar (sym same) s)
-        refl)
+    refl)
 
 -- an escape by grouped digits
 spaced_escape : (k : Kind) (first : ℕ) (more : List ℕ) → is_strict_unit k (UnicodeEscape (group first 0 more)) ≡ true
@@ -203,7 +191,7 @@ unicode_escape Char first more q u = spaced_escape Char first more (unicode_allo
 unicode_escape CStr first more q u =
     let number = unicode_number first more (group_hex first 0 more u.1 u.2) in
     spaced_escape CStr first more (and_from _ _ (unicode_allowed first more u.1 u.2 u.3 u.4)
-        (ap (λ n. not (eqb n 0)) number ∙ u.5)) refl number
+    (ap (λ n. not (eqb n 0)) number ∙ u.5)) refl number
 unicode_escape ByteStr first more q u = absurd (let h = u.0 in (cc))
 unicode_escape Byte first more q u = absurd (let h = u.0 in (cc))
 unicode_escape kind first more q u = absurd q

@@ -1,10 +1,5 @@
 -- Of texts without CR, literals of bytes that read with escapes and a strict suffix are the strict ones.
-use Rattle.rl_grammar.proofs.Names.{◌≡◌, ℕ, ◌&&◌, Bool, true, false, not, ◌==◌, List, [], ◌∷◌, ◌++◌, nat_lt, refl, sym,
-    ap, subst, ◌∙◌, inl, inr, append_assoc, append-nil, and_from, and_parts, both_ways, eqb-true, ltb-true, not-true,
-    or_cases, or_parts, list_all-append, AllByRecursion, flat_map, list_all, Kind, ByteStr, Byte, first_passes,
-    QuotedUnit, Plain, CrLf, Named, Hex, Unicode, Continuation, unit_text, unit_value, is_blank, is_plain, IsUnit,
-    texts, values, EndsBefore, Cooked, Single, Contents, Bytes, Reads, StrictUnit, Itself, LineBreak, strict_text,
-    strict_contents, is_dropped_blank, is_strict_unit, strict_content_of, IsStrictSuffix}
+use Rattle.rl_grammar.proofs.Names.{◌≡◌, ℕ, ◌&&◌, Bool, true, false, not, ◌==◌, List, [], ◌∷◌, ◌++◌, nat_lt, refl, sym, ap, subst, ◌∙◌, inl, inr, append_assoc, append-nil, and_from, and_parts, both_ways, eqb-true, ltb-true, not-true, or_cases, or_parts, list_all-append, AllByRecursion, flat_map, list_all, Kind, ByteStr, Byte, first_passes, QuotedUnit, Plain, CrLf, Named, Hex, Unicode, Continuation, unit_text, unit_value, is_blank, is_plain, IsUnit, texts, values, EndsBefore, Cooked, Single, Contents, Bytes, Reads, StrictUnit, Itself, LineBreak, strict_text, strict_contents, is_dropped_blank, is_strict_unit, strict_content_of, IsStrictSuffix}
 use Rattle.std.proofs.lemmas.Str.{encode_ascii}
 use Rattle.std.specs.Prelude.{⊤}
 use Rattle.rl_tokens.specs.Quoted.{ContinuationsEnd}
@@ -37,8 +32,7 @@ record Same (k : Kind) (u : QuotedUnit) : Type 0 where
 
 -- an escape
 escape_same : (k : Kind) (u : QuotedUnit) → Back k u → Same k u
-escape_same k u b = record { unit = b.unit; is_unit = b.is_unit; text_is = b.text_is; value_is = b.value_is; may_end = λ
-    t e. no_break_ends b.unit t b.no_break }
+escape_same k u b = record { unit = b.unit; is_unit = b.is_unit; text_is = b.text_is; value_is = b.value_is; may_end = λ t e. no_break_ends b.unit t b.no_break }
 
 quoted_kind : (k : Kind) → IsByteKind k → HasStrictUnits k
 quoted_kind ByteStr b = tt
@@ -50,10 +44,8 @@ low_value : (c : ℕ) (more : Bool) → (nat_lt c 128 && more) ≡ true → unit
 low_value c more h = ap (λ z. z ++ []) (encode_ascii c (ltb-true c 128 (and_parts (nat_lt c 128) more h).0))
 
 plain_same : (k : Kind) (c : ℕ) → IsByteKind k → is_plain k c ≡ true → Same k (Plain c)
-plain_same ByteStr c b h = record { unit = Itself c; is_unit = h; text_is = refl; value_is = low_value c _ h; may_end =
-    λ t e. tt }
-plain_same Byte c b h = record { unit = Itself c; is_unit = h; text_is = refl; value_is = low_value c _ h; may_end = λ t
-    e. tt }
+plain_same ByteStr c b h = record { unit = Itself c; is_unit = h; text_is = refl; value_is = low_value c _ h; may_end = λ t e. tt }
+plain_same Byte c b h = record { unit = Itself c; is_unit = h; text_is = refl; value_is = low_value c _ h; may_end = λ t e. tt }
 plain_same kind c b h = absurd b
 
 -- blanks but CR
@@ -80,8 +72,7 @@ line_same k c run u n =
     let q = and_parts (no_return c) (list_all no_return run) n in
     let At : ℕ → Type 0 = λ x. Same k (Continuation x run) in
     elim (or_cases (c == 10) (c == 13) u.1) [
-      | inl a ↦ subst At (sym (eqb-true c 10 a)) (record { unit = LineBreak run; is_unit = line_allowed k run u.0
-          (all_dropped run u.2 q.1); text_is = refl; value_is = refl; may_end = λ t e. not_dropped t e })
+      | inl a ↦ subst At (sym (eqb-true c 10 a)) (record { unit = LineBreak run; is_unit = line_allowed k run u.0 (all_dropped run u.2 q.1); text_is = refl; value_is = refl; may_end = λ t e. not_dropped t e })
       | inr a ↦ absurd (both_ways (c == 13) (not-true (c == 13) q.0) a)
     ]
 
@@ -108,7 +99,7 @@ row_same : (k : Kind) (us : List QuotedUnit) → IsByteKind k → AllByRecursion
 row_same k [] b e c n = record { units = []; each = refl; blanks_end = tt; text_is = refl; value_is = refl }
 row_same k (u ∷ us) b e c n =
     let m = and_parts (list_all no_return (unit_text u)) (list_all no_return (texts us))
-        (sym (list_all-append no_return (unit_text u) (texts us)) ∙ n) in
+    (sym (list_all-append no_return (unit_text u) (texts us)) ∙ n) in
     let s = unit_same k u b e.0 m.0 in
     let r = row_same k us b e.1 c.1 m.1 in
     record {
@@ -127,10 +118,10 @@ inner_clean : (a b : ℕ) (text inner after : List ℕ) → text ≡ a ∷ b ∷
     → list_all no_return inner ≡ true
 inner_clean a b text inner after e n =
     let first = and_parts (no_return a) (list_all no_return (b ∷ (inner ++ after)))
-        (ap (list_all no_return) (sym e) ∙ n) in
+    (ap (list_all no_return) (sym e) ∙ n) in
     let second = and_parts (no_return b) (list_all no_return (inner ++ after)) first.1 in
     (and_parts (list_all no_return inner) (list_all no_return after)
-        (sym (list_all-append no_return inner after) ∙ second.1)).0
+    (sym (list_all-append no_return inner after) ∙ second.1)).0
 
 string_strict : (t w x : List ℕ) → Cooked ByteStr t w x → list_all no_return t ≡ true → IsStrictSuffix x
     → StrictCooked t ByteStr (Bytes w) x

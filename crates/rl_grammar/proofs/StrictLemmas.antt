@@ -1,19 +1,14 @@
 -- A strict token is a quoted form after its opener, a number, or a truth value.
-use Rattle.rl_grammar.proofs.Names.{◌≡◌, ◌≢◌, ℕ, ◌⊎◌, ◌||◌, Bool, true, false, ◌==◌, List, [], ◌∷◌, ◌++◌, Option, Some,
-    None, refl, sym, ap, subst, ◌∙◌, inl, inr, append_assoc, both_ways, is_ascii_digit, flat_map, ◌↔◌, IsTrue, Kind,
-    Str, ByteStr, CStr, Byte, Char, Int, Float, BoolKind, NoSign, opener, raw_opener, Contents, Truth, truth_text,
-    strict_text, strict_contents, strict_content_of}
+use Rattle.rl_grammar.proofs.Names.{◌≡◌, ◌≢◌, ℕ, ◌⊎◌, ◌||◌, Bool, true, false, ◌==◌, List, [], ◌∷◌, ◌++◌, Option, Some, None, refl, sym, ap, subst, ◌∙◌, inl, inr, append_assoc, both_ways, is_ascii_digit, flat_map, ◌↔◌, IsTrue, Kind, Str, ByteStr, CStr, Byte, Char, Int, Float, BoolKind, NoSign, opener, raw_opener, Contents, Truth, truth_text, strict_text, strict_contents, strict_content_of}
 use Rattle.std.specs.Option.{IfSome, IfNone}
 use Rattle.std.specs.Prelude.{is_some, replicate, codes, if◌then◌else◌}
-use Rattle.rl_tokens.specs.Strict.{StrictCooked, StrictRaw, Strict, strict_opener, strict_raw_opener, strict_closer,
-    strict_quoted_contents}
+use Rattle.rl_tokens.specs.Strict.{StrictCooked, StrictRaw, Strict, strict_opener, strict_raw_opener, strict_closer, strict_quoted_contents}
 use Rattle.rl_tokens.proofs.Basics.{apart}
 use Rattle.rl_tokens.proofs.OneNumber.{begins_number, float_front, int_front}
 use Rattle.rl_tokens.proofs.StrictNumbers.{strict_int, float_strict_reads}
 use Rattle.rl_tokens.proofs.StrictQuoted.{between}
 use Rattle.rl_grammar.specs.declared.quoted_forms.QuotedForm.{QuotedForm}
-use Rattle.rl_grammar.specs.declared.quoted_forms.QuotedForm.TheVariants.{Cooked as CookedForm, Raw as RawForm, Single
-    as SingleForm}
+use Rattle.rl_grammar.specs.declared.quoted_forms.QuotedForm.TheVariants.{Cooked as CookedForm, Raw as RawForm, Single as SingleForm}
 use Rattle.rl_grammar.specs.Forms.{has_form, form_opener}
 use Rattle.rl_grammar.specs.Mirrors.OpenerAt.{opener_at}
 use Rattle.rl_grammar.specs.Mirrors.StrictAt.{is_strict_number}
@@ -135,8 +130,7 @@ Seen t = Opened t ⊎ (IsStrictNumber t ⊎ ((b : Bool) × (t ≡ truth_text b))
 -- what stands after the opener of a form with escapes
 units_closed : (k : Kind) (t : List ℕ) (v : Contents) (x : List ℕ) (s : StrictCooked t k v x)
     → ClosesUnits k (flat_map strict_text s.units ++ (strict_closer k ++ x))
-units_closed k t v x s = record { units = s.units; suffix = x; count = s.count; each = s.each; blanks_end =
-    s.blanks_end; is_suffix = s.suffix; text_is = refl }
+units_closed k t v x s = record { units = s.units; suffix = x; count = s.count; each = s.each; blanks_end = s.blanks_end; is_suffix = s.suffix; text_is = refl }
 
 -- and the opener before it
 units_text : (k : Kind) (t : List ℕ) (v : Contents) (x : List ℕ) (s : StrictCooked t k v x) → t ≡ opener k
@@ -147,14 +141,12 @@ units_text k t v x s = s.text ∙ between (strict_opener k) (flat_map strict_tex
 -- a string with escapes
 string_seen : (k : Kind) (t : List ℕ) (v : Contents) (x : List ℕ) → has_form CookedForm k ≡ true → StrictCooked t k v x
     → Seen t
-string_seen k t v x h s = inl (record { form = CookedForm; kind = k; inside = flat_map strict_text s.units
-    ++ (strict_closer k ++ x); has = h; text_is = units_text k t v x s; closes = units_closed k t v x s })
+string_seen k t v x h s = inl (record { form = CookedForm; kind = k; inside = flat_map strict_text s.units ++ (strict_closer k ++ x); has = h; text_is = units_text k t v x s; closes = units_closed k t v x s })
 
 -- a character or a byte
 single_seen : (k : Kind) (t : List ℕ) (v : Contents) (x : List ℕ) → has_form SingleForm k ≡ true → StrictCooked t k v x
     → Seen t
-single_seen k t v x h s = inl (record { form = SingleForm; kind = k; inside = flat_map strict_text s.units
-    ++ (strict_closer k ++ x); has = h; text_is = units_text k t v x s; closes = units_closed k t v x s })
+single_seen k t v x h s = inl (record { form = SingleForm; kind = k; inside = flat_map strict_text s.units ++ (strict_closer k ++ x); has = h; text_is = units_text k t v x s; closes = units_closed k t v x s })
 
 -- a raw string
 raw_seen : (k : Kind) (t : List ℕ) (v : Contents) (x : List ℕ) → has_form RawForm k ≡ true → StrictRaw t k v x → Seen t
@@ -231,7 +223,7 @@ opened_told : (t : List ℕ) (p : QuotedForm × Kind × List ℕ) (o : Opened t)
     → ClosesForm p.0 p.1 p.2
 opened_told t p o h =
     let front : Some p ≡ Some (o.form, o.kind, o.inside) = sym h ∙ ap opener_at o.text_is
-        ∙ front_complete o.form o.kind o.inside o.has in
+    ∙ front_complete o.form o.kind o.inside o.has in
     let same : (o.form, o.kind, o.inside) ≡ p = cc in
     subst (λ (q : QuotedForm × Kind × List ℕ). ClosesForm q.0 q.1 q.2) same o.closes
 
@@ -263,8 +255,7 @@ number_complete t (v, x, inr s) = float_complete t x v s
 
 -- a truth value is a token
 truth_token : (t : List ℕ) (b : Bool) → t ≡ truth_text b → IsToken t
-truth_token t b e = record { kind = BoolKind; contents = Truth b; suffix = []; strict = record
-    { truth = b; text = e ∙ sym (truth_words b); contents = refl; suffix = refl } }
+truth_token t b e = record { kind = BoolKind; contents = Truth b; suffix = []; strict = record { truth = b; text = e ∙ sym (truth_words b); contents = refl; suffix = refl } }
 
 -- what passes as a number is a token
 pub passed_token : (t : List ℕ) (b : Bool) → b ≡ is_strict_number t → b ≡ true → IsTrue b ↔ IsToken t
@@ -279,7 +270,7 @@ other_token t None b h n some none is = (
   λ c. elim (seen t c.kind c.contents c.suffix c.strict) [
     | inl o ↦
         let front : None ≡ Some (o.form, o.kind, o.inside) = h ∙ ap opener_at o.text_is
-            ∙ front_complete o.form o.kind o.inside o.has in
+        ∙ front_complete o.form o.kind o.inside o.has in
         absurd (cc)
     | inr w ↦ elim w [
       | inl number ↦ absurd (both_ways (is_strict_number t) n (number_complete t number))

@@ -1,17 +1,12 @@
 -- A strict number is what `is_strict_number` passes.
-use Rattle.rl_grammar.proofs.Names.{◌≡◌, ℕ, ◌⊎◌, ◌||◌, ◌&&◌, Bool, true, false, not, ◌==◌, cond, List, [], ◌∷◌, ◌++◌,
-    refl, ap, subst, sym, ◌∙◌, inl, inr, arith, append_assoc, append-nil, and_from, and_parts, cases_Bool, eqb-true,
-    not-true, not_from_false, or_cases, or_right, is_ascii_digit, is_ascii_hexdigit, list_all, list_any, first_passes,
-    is_row_part, Base, Binary, Octal, Decimal, Hexadecimal, radix, prefix, IsAfterPrefix, is_exponent_letter, Contents}
+use Rattle.rl_grammar.proofs.Names.{◌≡◌, ℕ, ◌⊎◌, ◌||◌, ◌&&◌, Bool, true, false, not, ◌==◌, cond, List, [], ◌∷◌, ◌++◌, refl, ap, subst, sym, ◌∙◌, inl, inr, arith, append_assoc, append-nil, and_from, and_parts, cases_Bool, eqb-true, not-true, not_from_false, or_cases, or_right, is_ascii_digit, is_ascii_hexdigit, list_all, list_any, first_passes, is_row_part, Base, Binary, Octal, Decimal, Hexadecimal, radix, prefix, IsAfterPrefix, is_exponent_letter, Contents}
 use Rattle.std.proofs.lemmas.Bool.{or_left}
 use Rattle.rl_tokens.specs.Numbers.{AllowsSuffix}
-use Rattle.rl_tokens.specs.Strict.{is_row, IsDigits, IsDecimalText, IsNumberSuffix, BasedPrefix, StrictInt,
-    IsStrictExponent, IsDotAlone, IsPointed, IsScientific, StrictFloat}
+use Rattle.rl_tokens.specs.Strict.{is_row, IsDigits, IsDecimalText, IsNumberSuffix, BasedPrefix, StrictInt, IsStrictExponent, IsDotAlone, IsPointed, IsScientific, StrictFloat}
 use Rattle.rl_tokens.proofs.Basics.{all_same, any_same, apart, digit_is_ten, hex_is_sixteen, passes_same}
 use Rattle.rl_tokens.proofs.StrictNumbers.{foreign_dot, letter_no_part, no_part, suffix_no_part, suffix_without}
 use Rattle.rl_grammar.specs.Mirrors.NumberAt.{has_value, digit_row_at, has_digit_at, after_digits, after_power_sign}
-use Rattle.rl_grammar.specs.Mirrors.StrictAt.{is_number_suffix, is_some_text, ends_power, ends_digits, ends_dot,
-    ends_whole, is_decimal, is_based, is_strict_number}
+use Rattle.rl_grammar.specs.Mirrors.StrictAt.{is_number_suffix, is_some_text, ends_power, ends_digits, ends_dot, ends_whole, is_decimal, is_based, is_strict_number}
 use Rattle.rl_grammar.proofs.RunLemmas.{run_all, run_ends, run_join, run_past}
 use Rattle.rl_grammar.proofs.IntegerLemmas.{based, hex_stops, not_based, radix_past}
 use Rattle.rl_grammar.proofs.FloatLemmas.{run_first, letter_no_dot}
@@ -70,7 +65,7 @@ power_row : (row x : List ℕ) → list_all (is_row_part (has_value 10)) row ≡
 power_row row x each some s =
     let p = run_past (is_row_part (has_value 10)) row x each (suffix_no_part x (lenient_suffix x s)) in
     and_from (has_digit_at 10 (row ++ x)) (is_number_suffix (after_digits 10 (row ++ x)))
-        (ap (list_any (has_value 10)) p.0 ∙ some) (ap is_number_suffix p.1 ∙ number_suffix_complete x s)
+    (ap (list_any (has_value 10)) p.0 ∙ some) (ap is_number_suffix p.1 ∙ number_suffix_complete x s)
 
 -- what stands after the letter of an exponent
 power_complete : (sign row x : List ℕ) → ((sign ≡ []) ⊎ ((sign ≡ 43 ∷ []) ⊎ (sign ≡ 45 ∷ [])))
@@ -79,7 +74,7 @@ power_complete : (sign row x : List ℕ) → ((sign ≡ []) ⊎ ((sign ≡ 43 �
 unfolding ends_power
 power_complete sign row x sg each some s =
     ap (λ z. has_digit_at 10 z && is_number_suffix (after_digits 10 z)) (sign_off sign row x sg each some)
-        ∙ power_row row x each some s
+    ∙ power_row row x each some s
 
 -- an exponent and a suffix
 exponent_complete : (e x : List ℕ) → IsStrictExponent e → IsNumberSuffix x → ends_digits (e ++ x) ≡ true
@@ -87,9 +82,9 @@ unfolding ends_digits
 exponent_complete e x p s =
     let l : is_exponent_letter p.letter ≡ true = p.is_letter in
     let text : e ++ x ≡ p.letter ∷ (p.sign ++ (p.row ++ x)) = ap (λ z. z ++ x) p.text
-        ∙ ap (λ z. p.letter ∷ z) (append_assoc p.sign p.row x) in
+    ∙ ap (λ z. p.letter ∷ z) (append_assoc p.sign p.row x) in
     ap ends_digits text ∙ ap (λ b. cond b (ends_power (p.sign ++ (p.row ++ x)))
-        (is_number_suffix (p.letter ∷ (p.sign ++ (p.row ++ x))))) l
+    (is_number_suffix (p.letter ∷ (p.sign ++ (p.row ++ x))))) l
     ∙ power_complete p.sign p.row x p.is_sign (row_part p.row p.each) (sym (some_value p.row) ∙ p.some) s
 
 -- a suffix alone
@@ -116,8 +111,8 @@ whole_past : (d y : List ℕ) → IsDigits d → first_passes (is_row_part (has_
 unfolding is_decimal
 whole_past d y h n e =
     and_from (first_passes is_ascii_digit (d ++ y)) (ends_whole (after_digits 10 (d ++ y)))
-        (passes_more is_ascii_digit d y h.0) (ap ends_whole (run_past (is_row_part (has_value 10)) d y (row_part d h.1)
-        n).1 ∙ e)
+    (passes_more is_ascii_digit d y h.0) (ap ends_whole (run_past (is_row_part (has_value 10)) d y (row_part d h.1)
+    n).1 ∙ e)
 
 -- a fraction is taken
 fraction_past : (f y : List ℕ) → IsDigits f → first_passes (is_row_part (has_value 10)) y ≡ false → ends_digits y ≡ true
@@ -125,8 +120,8 @@ fraction_past : (f y : List ℕ) → IsDigits f → first_passes (is_row_part (h
 unfolding ends_dot
 fraction_past f y h n e =
     or_right (not (is_some_text (f ++ y))) _ (and_from (first_passes is_ascii_digit (f ++ y))
-        (ends_digits (after_digits 10 (f ++ y))) (passes_more is_ascii_digit f y h.0)
-        (ap ends_digits (run_past (is_row_part (has_value 10)) f y (row_part f h.1) n).1 ∙ e))
+    (ends_digits (after_digits 10 (f ++ y))) (passes_more is_ascii_digit f y h.0)
+    (ap ends_digits (run_past (is_row_part (has_value 10)) f y (row_part f h.1) n).1 ∙ e))
 
 -- an exponent goes on with no row, and begins with no dot
 exponent_front : (test : ℕ → Bool) (e x : List ℕ) (p : IsStrictExponent e) → test p.letter ≡ false
@@ -146,7 +141,7 @@ pointed : (t d f numeral x : List ℕ) → IsDigits d → IsDigits f → numeral
 pointed t d f numeral x h k n p s text =
     ap is_decimal (text ∙ ap (λ z. z ++ x) n ∙ append_assoc d (46 ∷ f) x)
     ∙ whole_past d (46 ∷ (f ++ x)) h refl (fraction_past f x k (suffix_no_part x (lenient_suffix x s))
-        (plain_complete x s p))
+    (plain_complete x s p))
 
 -- a whole part and an exponent
 scientific : (t d e numeral x : List ℕ) → IsDigits d → IsStrictExponent e → numeral ≡ d ++ e → IsNumberSuffix x → t
@@ -155,8 +150,8 @@ scientific t d e numeral x h p n s text =
     let y : List ℕ = e ++ x in
     ap is_decimal (text ∙ ap (λ z. z ++ x) n ∙ append_assoc d e x)
     ∙ whole_past d y h (exponent_front (is_row_part (has_value 10)) e x p (letter_no_part p.letter p.is_letter))
-        (whole_plain y (exponent_front (λ c. c == 46) e x p (letter_no_dot p.letter p.is_letter))
-        (exponent_complete e x p s))
+    (whole_plain y (exponent_front (λ c. c == 46) e x p (letter_no_dot p.letter p.is_letter))
+    (exponent_complete e x p s))
 
 -- a whole part, a dot, digits, and an exponent
 pointed_power : (t d f e numeral x : List ℕ) → IsDigits d → IsDigits f → IsStrictExponent e → numeral ≡ (d ++ (46 ∷ f))
@@ -165,8 +160,8 @@ pointed_power t d f e numeral x h k p n s text =
     let y : List ℕ = e ++ x in
     ap is_decimal (text ∙ ap (λ z. z ++ x) n ∙ append_assoc (d ++ (46 ∷ f)) e x ∙ append_assoc d (46 ∷ f) y)
     ∙ whole_past d (46 ∷ (f ++ y)) h refl (fraction_past f y k
-        (exponent_front (is_row_part (has_value 10)) e x p (letter_no_part p.letter p.is_letter))
-        (exponent_complete e x p s))
+    (exponent_front (is_row_part (has_value 10)) e x p (letter_no_part p.letter p.is_letter))
+    (exponent_complete e x p s))
 
 -- a text that begins like no other base is judged as one of base ten
 decimal_number : (t : List ℕ) → IsDecimalText t → is_decimal t ≡ true → is_strict_number t ≡ true
@@ -196,8 +191,8 @@ based_row b row x each some n s stops =
     let p = run_past (is_row_part (has_value (radix b))) row x each stops in
     and_from (has_digit_at (radix b) (row ++ x)) _ (ap (list_any (has_value (radix b))) p.0 ∙ some)
     (and_from (not (first_passes is_exponent_letter (after_digits (radix b) (row ++ x)))) _
-        (ap (λ z. not (first_passes is_exponent_letter z)) p.1 ∙ not_from_false (first_passes is_exponent_letter x) n)
-        (ap is_number_suffix p.1 ∙ number_suffix_complete x s))
+    (ap (λ z. not (first_passes is_exponent_letter z)) p.1 ∙ not_from_false (first_passes is_exponent_letter x) n)
+    (ap is_number_suffix p.1 ∙ number_suffix_complete x s))
 
 -- an integer of another base passes
 based_number : (b : Base) (t x : List ℕ) (v : Contents) (s : StrictInt t v x) → IsAfterPrefix b (s.row ++ x)
@@ -211,15 +206,15 @@ based_number b t x v s front other p base of =
     ∙ ap (λ q. cond (q.0 == 10) (is_decimal q.1) (is_based q.0 q.1)) (radix_past b w front).0
     ∙ ap (λ z. cond z (is_decimal w) (is_based (radix b) w)) other
     ∙ based_row b s.row x (subst All base s.each) (subst Any base s.some) s.no_exponent s.suffix
-        (no_part b x (lenient_suffix x s.suffix) of)
+    (no_part b x (lenient_suffix x s.suffix) of)
 
 -- an integer of base ten passes
 decimal_int : (t x : List ℕ) (v : Contents) (s : StrictInt t v x) → s.prefix ≡ [] → IsDigits s.row → IsDecimalText t
     → is_strict_number t ≡ true
 decimal_int t x v s p d n =
     decimal_number t n (ap is_decimal (s.text ∙ ap (λ z. (z ++ s.row) ++ x) p)
-        ∙ whole_past s.row x d (suffix_no_part x (lenient_suffix x s.suffix))
-        (whole_plain x (suffix_no_dot x s.suffix) (plain_complete x s.suffix s.no_exponent)))
+    ∙ whole_past s.row x d (suffix_no_part x (lenient_suffix x s.suffix))
+    (whole_plain x (suffix_no_dot x s.suffix) (plain_complete x s.suffix s.no_exponent)))
 
 -- an integer passes
 pub int_complete : (t x : List ℕ) (v : Contents) → StrictInt t v x → is_strict_number t ≡ true
@@ -249,11 +244,19 @@ sign_split : (t : List ℕ) → (sign : List ℕ) × ((sign ≡ []) ⊎ ((sign �
 sign_split [] = ([], inl refl, refl)
 sign_split (c ∷ cs) =
     elim (cases_Bool (c == 43)) [
-      | inl a ↦ (43 ∷ [], inr (inl refl), ap (λ z. z ∷ cs) (eqb-true c 43 a)
-          ∙ ap (λ b. 43 ∷ cond (b || (c == 45)) cs (c ∷ cs)) (sym a))
+      | inl a ↦ (
+        43 ∷ [],
+        inr (inl refl),
+        ap (λ z. z ∷ cs) (eqb-true c 43 a)
+            ∙ ap (λ b. 43 ∷ cond (b || (c == 45)) cs (c ∷ cs)) (sym a),
+      )
       | inr a ↦ elim (cases_Bool (c == 45)) [
-        | inl b ↦ (45 ∷ [], inr (inr refl), ap (λ z. z ∷ cs) (eqb-true c 45 b)
-            ∙ ap (λ z. 45 ∷ cond z cs (c ∷ cs)) (sym (or_right (c == 43) (c == 45) b)))
+        | inl b ↦ (
+          45 ∷ [],
+          inr (inr refl),
+          ap (λ z. z ∷ cs) (eqb-true c 45 b)
+              ∙ ap (λ z. 45 ∷ cond z cs (c ∷ cs)) (sym (or_right (c == 43) (c == 45) b)),
+        )
         | inr b ↦ ([], inl refl, ap (λ z. cond z cs (c ∷ cs)) (sym (ap (λ z. z || (c == 45)) a ∙ b)))
       ]
     ]
@@ -270,8 +273,7 @@ power_sound letter t l h =
     let p = and_parts (has_digit_at 10 w) (is_number_suffix x) h in (
       letter ∷ (sg.0 ++ row),
       x,
-      record { letter = letter; sign = sg.0; row = row; is_letter = l; is_sign = sg.1; each = part_row row
-          (run_all (is_row_part (has_value 10)) w); some = some_value row ∙ p.0; text = refl },
+      record { letter = letter; sign = sg.0; row = row; is_letter = l; is_sign = sg.1; each = part_row row (run_all (is_row_part (has_value 10)) w); some = some_value row ∙ p.0; text = refl },
       number_suffix_sound x p.1,
       ap (λ z. letter ∷ z) (sg.2 ∙ ap (λ z. sg.0 ++ z) (run_join (is_row_part (has_value 10)) w)
           ∙ sym (append_assoc sg.0 row x)),
@@ -284,15 +286,17 @@ ending_sound [] h = inl (number_suffix_sound [] h, refl)
 ending_sound (c ∷ cs) h =
     elim (cases_Bool (is_exponent_letter c)) [
       | inl a ↦ inr (power_sound c cs a (ap (λ b. cond b (ends_power cs) (is_number_suffix (c ∷ cs))) (sym a) ∙ h))
-      | inr a ↦ inl (number_suffix_sound (c ∷ cs) (ap (λ b. cond b (ends_power cs) (is_number_suffix (c ∷ cs))) (sym a)
-          ∙ h), a)
+      | inr a ↦ inl (
+        number_suffix_sound (c ∷ cs) (ap (λ b. cond b (ends_power cs) (is_number_suffix (c ∷ cs))) (sym a)
+            ∙ h),
+        a,
+      )
     ]
 
 -- a float, from its parts
 float_of : (t numeral x : List ℕ) → (IsDotAlone numeral x ⊎ (IsPointed numeral x ⊎ IsScientific numeral x))
     → IsDecimalText t → IsNumberSuffix x → t ≡ numeral ++ x → IsStrictNumber t
-float_of t numeral x form n s text = (_, x, inr (record { numeral = numeral; form = form; no_prefix = n; suffix = s;
-    text = text; contents = refl }))
+float_of t numeral x form n s text = (_, x, inr (record { numeral = numeral; form = form; no_prefix = n; suffix = s; text = text; contents = refl }))
 
 -- an integer of base ten, from its parts
 int_of : (t d x : List ℕ) → IsDigits d → IsDecimalText t → IsNumberSuffix x → first_passes is_exponent_letter x ≡ false
@@ -333,7 +337,7 @@ dot_sound t d z h n text k =
           let y : List ℕ = after_digits 10 z in
           let k = front_digits z p.0 in
           let whole : t ≡ (d ++ (46 ∷ f)) ++ y = text ∙ ap (λ q. d ++ (46 ∷ q))
-              (run_join (is_row_part (has_value 10)) z) ∙ sym (append_assoc d (46 ∷ f) y) in
+          (run_join (is_row_part (has_value 10)) z) ∙ sym (append_assoc d (46 ∷ f) y) in
           elim (ending_sound y p.1) [
             | inl b ↦ float_of t (d ++ (46 ∷ f)) y (inr (inl (d, f, h, k, refl, b.1))) n b.0 whole
             | inr b ↦ float_of t ((d ++ (46 ∷ f)) ++ b.0) b.1 (inr (inr (d, b.0, h, b.2, inr (f, k, refl)))) n b.3
@@ -372,7 +376,7 @@ unfolding is_decimal
 decimal_sound t n h =
     let p = and_parts (first_passes is_ascii_digit t) (ends_whole (after_digits 10 t)) h in
     whole_sound t (digit_row_at 10 t) (after_digits 10 t) (front_digits t p.0) (n p.0)
-        (run_join (is_row_part (has_value 10)) t) p.1
+    (run_join (is_row_part (has_value 10)) t) p.1
 
 -- what a prefix of a base tells
 prefix_of : (b : Base) → (radix b == 10) ≡ false → BasedPrefix (prefix b) (radix b)
@@ -426,4 +430,4 @@ unfolding is_strict_number
 number_sound t h =
     let b = based t in
     by_base b.base t b.rest b.text_is b.front (sym (ap (λ p. cond (p.0 == 10) (is_decimal p.1) (is_based p.0 p.1)) b.at)
-        ∙ h)
+    ∙ h)

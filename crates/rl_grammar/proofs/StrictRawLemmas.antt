@@ -1,9 +1,5 @@
 -- Strict raw forms: hashes, contents up to the first closer, and the suffix after it.
-use Rattle.rl_grammar.proofs.Names.{◌≡◌, ◌≢◌, ℕ, zero, suc, ◌<◌, ◌≤◌, ◌⊎◌, ◌&&◌, ◌||◌, Bool, true, false, not, ◌==◌,
-    cond, List, [], ◌∷◌, ◌++◌, length, drop, replicate, refl, sym, ap, subst, ◌∙◌, inl, inr, arith, nat_lt, and_from,
-    and_parts, both_ways, cases_Bool, eqb-true, false_from_ne_true, not-true, append_cancel_right, encodes-chars,
-    drop-append_seam, list_all, ◌↔◌, IsTrue, encode_utf8_all, IsUtf8, Kind, Str, ByteStr, CStr, is_string,
-    IsStrictSuffix, Marks, is_other, after_run, is_hash, hash_count}
+use Rattle.rl_grammar.proofs.Names.{◌≡◌, ◌≢◌, ℕ, zero, suc, ◌<◌, ◌≤◌, ◌⊎◌, ◌&&◌, ◌||◌, Bool, true, false, not, ◌==◌, cond, List, [], ◌∷◌, ◌++◌, length, drop, replicate, refl, sym, ap, subst, ◌∙◌, inl, inr, arith, nat_lt, and_from, and_parts, both_ways, cases_Bool, eqb-true, false_from_ne_true, not-true, append_cancel_right, encodes-chars, drop-append_seam, list_all, ◌↔◌, IsTrue, encode_utf8_all, IsUtf8, Kind, Str, ByteStr, CStr, is_string, IsStrictSuffix, Marks, is_other, after_run, is_hash, hash_count}
 use Rattle.std.proofs.lemmas.List.{length-replicate}
 use Rattle.std.specs.Str.{chars}
 use Rattle.rl_tokens.specs.Texts.{begins}
@@ -107,7 +103,7 @@ str_run m run e each = go run (ap (λ n. list_all (is_other n) run) (sym e) ∙ 
     go [] h = refl
     go (c ∷ cs) h =
         let b = and_parts (not (c == 34 || c == 13 || c == 13 || c == 13))
-            (list_all (is_other (record { first = 34; second = 13; third = 13; fourth = 13 })) cs) h in
+        (list_all (is_other (record { first = 34; second = 13; third = 13; fourth = 13 })) cs) h in
         and_from (is_inside Str c) (list_all (is_inside Str) cs) (str_inside (c == 34) (c == 13) b.0) (go cs b.1)
 
 pub c_run : (cs : List ℕ) → list_all (is_other (record { first = 34; second = 13; third = 0; fourth = 0 })) cs ≡ true
@@ -115,16 +111,16 @@ pub c_run : (cs : List ℕ) → list_all (is_other (record { first = 34; second 
 c_run [] h = refl
 c_run (c ∷ cs) h =
     let b = and_parts (not (c == 34 || c == 13 || c == 0 || c == 0))
-        (list_all (is_other (record { first = 34; second = 13; third = 0; fourth = 0 })) cs) h in
+    (list_all (is_other (record { first = 34; second = 13; third = 0; fourth = 0 })) cs) h in
     and_from (is_inside CStr c) (list_all (is_inside CStr) cs) (c_inside (c == 34) (c == 13) (c == 0) b.0)
-        (c_run cs b.1)
+    (c_run cs b.1)
 
 -- and at the closer
 raw_close : (k : Kind) (hashes x : List ℕ) → ends_raw k hashes (34 ∷ (hashes ++ x)) ≡ is_strict_suffix x
 unfolding ends_raw
 raw_close k hashes x =
     ap (λ b. cond b (is_strict_suffix (drop (length hashes) (hashes ++ x)))
-        (is_raw_character k 34 && ends_raw k hashes (hashes ++ x))) (begins_front hashes x)
+    (is_raw_character k 34 && ends_raw k hashes (hashes ++ x))) (begins_front hashes x)
     ∙ ap is_strict_suffix (drop-append_seam hashes x)
 
 -- no closer stands in the contents
@@ -148,7 +144,7 @@ raw_complete_from k n (c ∷ cs) x each none s =
     let p = and_parts (is_raw_character k c) (list_all (is_raw_character k) cs) each in
     raw_on k (replicate n 35) c (cs ++ (34 ∷ (replicate n 35 ++ x))) (no_closer_here n c cs (replicate n 35 ++ x) none)
     ∙ and_from (is_raw_character k c) _ p.0 (raw_complete_from k n cs x p.1
-        (λ f r e. none (c ∷ f) r (ap (λ q. c ∷ q) e)) s)
+    (λ f r e. none (c ∷ f) r (ap (λ q. c ∷ q) e)) s)
 
 -- what closes a raw form passes
 pub raw_complete : (k : Kind) (n : ℕ) (t : List ℕ) → ClosesInside k (replicate n 35) t → ends_raw k (replicate n 35) t
@@ -178,7 +174,7 @@ none_before hashes c cs z h none [] rest e =
     let is : (c == 34) ≡ true = let q : c ≡ 34 = cc in ap (λ d. d == 34) q in
     let tail : cs ≡ hashes ++ rest = cc in
     both_ways (c == 34 && begins hashes (cs ++ z)) h (and_from (c == 34) (begins hashes (cs ++ z)) is
-        (begins_more hashes cs z (ap (begins hashes) tail ∙ begins_front hashes rest)))
+    (begins_more hashes cs z (ap (begins hashes) tail ∙ begins_front hashes rest)))
 none_before hashes c cs z h none (f ∷ front) rest e =
     let tail : cs ≡ front ++ (34 ∷ (hashes ++ rest)) = cc in
     none front rest tail
@@ -195,8 +191,8 @@ raw_parts k hashes (c ∷ cs) h = go (λ e. raw_parts k hashes cs e) (cases_Bool
         let p = and_parts (c == 34) (begins hashes cs) a in
         let b = begins_is hashes cs p.1 in
         let suffix : is_strict_suffix (drop (length hashes) cs) ≡ true = ap
-            (λ b. cond b (is_strict_suffix (drop (length hashes) cs)) (is_raw_character k c && ends_raw k hashes cs))
-            (sym a) ∙ h in
+        (λ b. cond b (is_strict_suffix (drop (length hashes) cs)) (is_raw_character k c && ends_raw k hashes cs))
+        (sym a) ∙ h in
         record {
           inside = [];
           suffix = b.0;
@@ -208,8 +204,8 @@ raw_parts k hashes (c ∷ cs) h = go (λ e. raw_parts k hashes cs e) (cases_Bool
         }
     go rec (inr a) =
         let on : (is_raw_character k c && ends_raw k hashes cs) ≡ true = ap
-            (λ b. cond b (is_strict_suffix (drop (length hashes) cs)) (is_raw_character k c && ends_raw k hashes cs))
-            (sym a) ∙ h in
+        (λ b. cond b (is_strict_suffix (drop (length hashes) cs)) (is_raw_character k c && ends_raw k hashes cs))
+        (sym a) ∙ h in
         let p = and_parts (is_raw_character k c) (ends_raw k hashes cs) on in
         let r = rec p.1 in
         let At : List ℕ → Type 0 = λ z. (c == 34 && begins hashes z) ≡ false in
@@ -228,8 +224,7 @@ pub raw_sound : (k : Kind) (hashes t : List ℕ) → is_string k ≡ true → en
 raw_sound k hashes t s h =
     let r = raw_parts k hashes t h in
     let a = inside_sound k r.inside s r.each in
-    record { inside = r.inside; suffix = r.suffix; allowed = a.0; no_carriage_return = a.1; first_close = r.none;
-        is_suffix = r.is_suffix; text_is = r.text_is }
+    record { inside = r.inside; suffix = r.suffix; allowed = a.0; no_carriage_return = a.1; first_close = r.none; is_suffix = r.is_suffix; text_is = r.text_is }
 
 -- ---- turns of the loop
 
@@ -244,7 +239,7 @@ pub turn_close : (k : Kind) (hashes t s cs x : List ℕ) (b : Bool) (c : ℕ) �
     ≡ is_strict_suffix x → ends_raw k hashes t ≡ ends_raw k hashes s → b ≡ ends_raw k hashes s
 turn_close k hashes t s cs x b c e is tail r same =
     r ∙ sym (raw_close k hashes x) ∙ sym (ap (ends_raw k hashes) (e ∙ ap (λ z. z ∷ cs) is ∙ ap (λ z. 34 ∷ z) tail))
-        ∙ same
+    ∙ same
 
 -- ---- the hashes
 
@@ -272,8 +267,7 @@ same_hashes : (k : Kind) (t r hs : List ℕ) (c : ClosesRaw k t) → r ≡ (afte
     → SameHashes k t r hs c
 same_hashes k t r hs c rest text =
     let following : r ≡ 34 ∷ c.rest = rest ∙ ap (after_run is_hash) c.text_is ∙ hashes_past c.hashes c.rest in
-    record { hashes_are = append_cancel_right (chars hs) (replicate c.hashes 35) (34 ∷ c.rest)
-        (ap (λ z. chars hs ++ z) (sym following) ∙ sym text ∙ c.text_is); rest_is = following }
+    record { hashes_are = append_cancel_right (chars hs) (replicate c.hashes 35) (34 ∷ c.rest) (ap (λ z. chars hs ++ z) (sym following) ∙ sym text ∙ c.text_is); rest_is = following }
 
 -- few hashes, and a quote
 pub raw_opened : (k : Kind) (b : Bool) (t r hs inside : List ℕ) → is_string k ≡ true → IsUtf8 hs → r
@@ -295,7 +289,7 @@ raw_opened k b t r hs inside s u rest text quote few is =
           let both : 34 ∷ inside ≡ 34 ∷ c.rest = sym quote ∙ same.rest_is in
           let inside_is : inside ≡ c.rest = cc in
           is ∙ ap (λ z. ends_raw k z inside) same.hashes_are ∙ ap (ends_raw k (replicate c.hashes 35)) inside_is
-              ∙ raw_complete k c.hashes c.rest c.closes,
+          ∙ raw_complete k c.hashes c.rest c.closes,
     )
 
 -- too many hashes
@@ -307,7 +301,7 @@ raw_many k b t r hs u rest text many none =
       λ c.
           let same = same_hashes k t r hs c rest text in
           let count : h.count ≡ c.hashes = sym (length-replicate h.count 35)
-              ∙ ap length (sym h.chars_are ∙ same.hashes_are) ∙ length-replicate c.hashes 35 in
+          ∙ ap length (sym h.chars_are ∙ same.hashes_are) ∙ length-replicate c.hashes 35 in
           let few = c.few in
           let long = h.length_is in
           absurd (omega arith),
@@ -316,5 +310,8 @@ raw_many k b t r hs u rest text many none =
 -- no quote after the hashes
 pub raw_unquoted : (k : Kind) (t r : List ℕ) → r ≡ (after_run is_hash) t → ((y : List ℕ) → r ≢ 34 ∷ y)
     → IsTrue false ↔ ClosesRaw k t
-raw_unquoted k t r rest n = (λ y. absurd (both_ways true (sym y) refl), λ c. absurd
-    (n c.rest (rest ∙ ap (after_run is_hash) c.text_is ∙ hashes_past c.hashes c.rest)))
+raw_unquoted k t r rest n = (
+  λ y. absurd (both_ways true (sym y) refl),
+  λ c. absurd
+      (n c.rest (rest ∙ ap (after_run is_hash) c.text_is ∙ hashes_past c.hashes c.rest)),
+)

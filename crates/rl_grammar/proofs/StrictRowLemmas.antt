@@ -1,9 +1,5 @@
 -- Strict units up to a quote, and the suffix after it.
-use Rattle.rl_grammar.proofs.Names.{◌≡◌, ℕ, Bool, true, false, cond, ◌==◌, List, [], ◌∷◌, ◌++◌, length, Some, None,
-    refl, sym, ap, subst, ◌∙◌, arith, append_assoc, append-nil, and_from, and_parts, both_ways, eqb-true, list_all,
-    flat_map, ◌↔◌, IsTrue, Kind, Str, ByteStr, CStr, Byte, Char, first_passes, is_plain, is_single, is_string,
-    StrictUnit, Itself, QuoteEscape, PlainEscape, AsciiEscape, ByteEscape, UnicodeEscape, LineBreak, strict_text,
-    is_dropped_blank, is_strict_unit, IsStrictSuffix}
+use Rattle.rl_grammar.proofs.Names.{◌≡◌, ℕ, Bool, true, false, cond, ◌==◌, List, [], ◌∷◌, ◌++◌, length, Some, None, refl, sym, ap, subst, ◌∙◌, arith, append_assoc, append-nil, and_from, and_parts, both_ways, eqb-true, list_all, flat_map, ◌↔◌, IsTrue, Kind, Str, ByteStr, CStr, Byte, Char, first_passes, is_plain, is_single, is_string, StrictUnit, Itself, QuoteEscape, PlainEscape, AsciiEscape, ByteEscape, UnicodeEscape, LineBreak, strict_text, is_dropped_blank, is_strict_unit, IsStrictSuffix}
 use Rattle.rl_tokens.proofs.Basics.{apart}
 use Rattle.rl_tokens.specs.Strict.{BlanksEnd, HasUnits, strict_closer}
 use Rattle.rl_grammar.specs.Mirrors.StrictAt.{ends_quoted, escape_rest, is_strict_suffix, unit_rest}
@@ -204,7 +200,7 @@ bare_unit : (k : Kind) (c : ℕ) (cs : List ℕ) → is_string k ≡ true → is
 unfolding unit_rest
 bare_unit k c cs s h =
     ap (λ z. cond z (escape_rest k cs) (cond (is_bare k c) (Some cs) None))
-        (apart (is_bare k) c 92 h (bare_backslash k s))
+    (apart (is_bare k) c 92 h (bare_backslash k s))
     ∙ ap (λ z. cond z (Some cs) None) h
 
 -- the loop goes past a run at once
@@ -214,7 +210,7 @@ units_run k [] rest s h each same = same
 units_run k (c ∷ cs) rest s h each same =
     let b = and_parts (is_bare k c) (list_all (is_bare k) cs) each in
     units_run k cs rest s h b.1 (units_step k (c ∷ (cs ++ rest)) (cs ++ rest) s h (bare_unit k c (cs ++ rest) h b.0)
-        same)
+    same)
 
 pub units_past : (k : Kind) (t x s : List ℕ) (run : List ℕ) → is_string k ≡ true → t ≡ run ++ x
     → list_all (is_bare k) run ≡ true → (ClosesUnits k t ↔ ClosesUnits k s) → ClosesUnits k x ↔ ClosesUnits k s
@@ -272,8 +268,8 @@ one_after k t c s =
     let All : List StrictUnit → Type 0 = λ us. list_all (is_strict_unit k) us ≡ true in
     let End : List StrictUnit → Type 0 = λ us. BlanksEnd us in
     row_after k o.0 [] 39 c.suffix t (subst All o.1 c.each) (subst End o.1 c.blanks_end) refl
-        (c.text_is ∙ ap (λ z. flat_map strict_text c.units ++ (z ++ c.suffix)) (single_ends k s)
-        ∙ ap (λ us. flat_map strict_text us ++ (39 ∷ c.suffix)) o.1)
+    (c.text_is ∙ ap (λ z. flat_map strict_text c.units ++ (z ++ c.suffix)) (single_ends k s)
+    ∙ ap (λ us. flat_map strict_text us ++ (39 ∷ c.suffix)) o.1)
 
 -- characters and bytes are quoted
 pub quoted_single : (k : Kind) → is_single k ≡ true → HasStrictUnits k
@@ -307,5 +303,8 @@ one_end k b t r s e is = (
 
 -- where no unit stands, no character and no byte is closed
 pub one_none : (k : Kind) (t : List ℕ) → is_single k ≡ true → unit_rest k t ≡ None → IsTrue false ↔ ClosesUnits k t
-one_none k t s e = (λ y. absurd (both_ways true (sym y) refl), λ c. let n : None ≡ Some (39 ∷ c.suffix) = sym e
-    ∙ one_after k t c s in absurd (cc))
+one_none k t s e = (
+  λ y. absurd (both_ways true (sym y) refl),
+  λ c. let n : None ≡ Some (39 ∷ c.suffix) = sym e
+      ∙ one_after k t c s in absurd (cc),
+)

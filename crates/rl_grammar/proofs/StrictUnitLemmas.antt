@@ -1,9 +1,5 @@
 -- A strict unit stands at the front of a text exactly where `unit_rest` gives what is left.
-use Rattle.rl_grammar.proofs.Names.{◌≡◌, ℕ, ◌||◌, Bool, true, false, not, ◌==◌, cond, List, [], ◌∷◌, ◌++◌, Option, Some,
-    None, refl, sym, ap, subst, ◌∙◌, inl, inr, and_parts, both_ways, cases_Bool, eqb-true, or_from, list_all, Kind, Str,
-    ByteStr, CStr, Byte, Char, Int, Float, BoolKind, first_passes, QuotedUnit, Plain, CrLf, Named, Hex, Unicode,
-    Continuation, unit_text, is_line_end, is_plain, is_string, IsUnit, StrictUnit, Itself, QuoteEscape, PlainEscape,
-    AsciiEscape, ByteEscape, UnicodeEscape, LineBreak, strict_text, is_dropped_blank, is_strict_unit, after_run}
+use Rattle.rl_grammar.proofs.Names.{◌≡◌, ℕ, ◌||◌, Bool, true, false, not, ◌==◌, cond, List, [], ◌∷◌, ◌++◌, Option, Some, None, refl, sym, ap, subst, ◌∙◌, inl, inr, and_parts, both_ways, cases_Bool, eqb-true, or_from, list_all, Kind, Str, ByteStr, CStr, Byte, Char, Int, Float, BoolKind, first_passes, QuotedUnit, Plain, CrLf, Named, Hex, Unicode, Continuation, unit_text, is_line_end, is_plain, is_string, IsUnit, StrictUnit, Itself, QuoteEscape, PlainEscape, AsciiEscape, ByteEscape, UnicodeEscape, LineBreak, strict_text, is_dropped_blank, is_strict_unit, after_run}
 use Rattle.std.proofs.Common.{option_map}
 use Rattle.std.specs.Prelude.{IsFalse, ⊤}
 use Rattle.rl_tokens.specs.Strict.{is_plain_letter}
@@ -44,8 +40,7 @@ no_break_ends (UnicodeEscape digits) r n = tt
 -- an escape at the front
 escape_front : (k : Kind) (t : List ℕ) (u : QuotedUnit) (r : List ℕ) → Back k u → t ≡ unit_text u ++ r
     → StrictFront k t r
-escape_front k t u r e h = record { unit = e.unit; is_unit = e.is_unit; may_end = no_break_ends e.unit r e.no_break;
-    text_is = h ∙ ap (λ z. z ++ r) e.text_is }
+escape_front k t u r e h = record { unit = e.unit; is_unit = e.is_unit; may_end = no_break_ends e.unit r e.no_break; text_is = h ∙ ap (λ z. z ++ r) e.text_is }
 
 -- a backslash
 abbrev is_backslash : ℕ → Bool
@@ -71,7 +66,7 @@ lenient_front k (Unicode first more) c cs r q n m u e = escape_front k (92 ∷ c
     (unicode_escape k first more q u) e
 lenient_front k (Continuation d run) c cs r q n m u e =
     absurd (both_ways (is_line_end c) (or_from (c == 10) (c == 13) n m)
-        (ap (λ z. first_passes is_line_end (following z)) e ∙ u.1))
+    (ap (λ z. first_passes is_line_end (following z)) e ∙ u.1))
 
 -- the kinds of strings have line breaks
 pub line_allowed : (k : Kind) (blanks : List ℕ) → is_string k ≡ true → list_all is_dropped_blank blanks ≡ true
@@ -131,7 +126,7 @@ unit_rest_sound k (c ∷ cs) r q h =
           (after_backslash k cs r q (ap (λ b. cond b (escape_rest k cs) bare) (sym a) ∙ h))
       | inr a ↦
           let p = chosen_some (is_strict_unit k (Itself c)) cs r (ap (λ b. cond b (escape_rest k cs) bare) (sym a) ∙ h)
-              in
+          in
           record { unit = Itself c; is_unit = p.0; may_end = tt; text_is = ap (λ z. c ∷ z) p.1 }
     ]
 
@@ -154,7 +149,7 @@ unfolding unit_rest
 itself_past k c r h =
     let n = apart (λ z. is_strict_unit k (Itself z)) c 92 h (bare_backslash k) in
     ap (λ b. cond b (escape_rest k r) (cond (is_strict_unit k (Itself c)) (Some r) None)) n
-        ∙ ap (λ b. cond b (Some r) None) h
+    ∙ ap (λ b. cond b (Some r) None) h
 
 -- an escape that is no line break is read as the lenient one
 escape_past : (k : Kind) (s : StrictUnit) (c : ℕ) (cs r : List ℕ) → is_strict_unit k s ≡ true → MayFollow s r
@@ -163,7 +158,7 @@ unfolding unit_rest
 escape_past k s c cs r h f e n m =
     let st = stands k s h in
     let at : unit_at k (92 ∷ c ∷ (cs ++ r)) ≡ _ = ap (λ z. unit_at k (z ++ r)) (sym e ∙ sym st.text_is)
-        ∙ unit_complete k st.unit r st.is_unit (st.ends_before r f) in
+    ∙ unit_complete k st.unit r st.is_unit (st.ends_before r f) in
     let line : Option (List ℕ) = cond (is_string k) (Some (after_run is_dropped_blank (cs ++ r))) None in
     let other : Option (List ℕ) = option_map (λ p. p.1) (unit_at k (92 ∷ c ∷ (cs ++ r))) in
     ap (λ z. unit_rest k (z ++ r)) e
@@ -199,7 +194,7 @@ unfolding unit_rest
 line_past k blanks r h n =
     let p = line_of k blanks h in
     ap (λ b. cond b (Some (after_run is_dropped_blank (blanks ++ r))) None) p.0
-        ∙ ap Some (run_past is_dropped_blank blanks r p.1 n).1
+    ∙ ap Some (run_past is_dropped_blank blanks r p.1 n).1
 
 -- each strict unit is taken off
 pub unit_rest_complete : (k : Kind) (u : StrictUnit) (r : List ℕ) → is_strict_unit k u ≡ true → MayEnd u r

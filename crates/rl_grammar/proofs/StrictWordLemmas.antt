@@ -1,7 +1,5 @@
 -- The suffixes of strict texts are what their tests pass.
-use Rattle.rl_grammar.proofs.Names.{◌≡◌, ◌≢◌, ℕ, ◌||◌, ◌&&◌, Bool, true, not, ◌==◌, cond, List, [], ◌∷◌, refl, ap,
-    subst, sym, ◌∙◌, inl, inr, and_from, and_parts, both_ways, cases_Bool, eqb-true, not-true, not_from_false, list_all,
-    is_xid_start, is_xid_continue, is_underscore, first_passes, IsSuffix, IsStrictSuffix}
+use Rattle.rl_grammar.proofs.Names.{◌≡◌, ◌≢◌, ℕ, ◌||◌, ◌&&◌, Bool, true, not, ◌==◌, cond, List, [], ◌∷◌, refl, ap, subst, sym, ◌∙◌, inl, inr, and_from, and_parts, both_ways, cases_Bool, eqb-true, not-true, not_from_false, list_all, is_xid_start, is_xid_continue, is_underscore, first_passes, IsSuffix, IsStrictSuffix}
 use Rattle.rl_tokens.specs.Texts.{IsWord, is_white}
 use Rattle.rl_tokens.specs.Strict.{IsNumberSuffix}
 use Rattle.rl_grammar.specs.Mirrors.StrictAt.{is_number_suffix, is_some_text, is_strict_suffix}
@@ -29,9 +27,12 @@ all_apart f g (c ∷ cs) h =
 -- how a word begins
 word_front : (c : ℕ) (cs : List ℕ) → is_start c ≡ true → c ∷ cs ≢ 95 ∷ []
     → cond (c == 95) (is_some_text cs) (is_start c) ≡ true
-word_front c cs s n = elim (cases_Bool (c == 95)) [ inl a ↦ ap (λ b. cond b (is_some_text cs) (is_start c)) a
-    ∙ more cs (λ e. n (ap (λ z. z ∷ cs) (eqb-true c 95 a) ∙ ap (λ z. 95 ∷ z) e)) | inr a ↦ ap
-    (λ b. cond b (is_some_text cs) (is_start c)) a ∙ s ]
+word_front c cs s n = elim (cases_Bool (c == 95)) [
+  | inl a ↦ ap (λ b. cond b (is_some_text cs) (is_start c)) a
+      ∙ more cs (λ e. n (ap (λ z. z ∷ cs) (eqb-true c 95 a) ∙ ap (λ z. 95 ∷ z) e))
+  | inr a ↦ ap
+      (λ b. cond b (is_some_text cs) (is_start c)) a ∙ s
+]
   where
     more : (cs : List ℕ) → cs ≢ [] → is_some_text cs ≡ true
     more [] n = absurd (n refl)
@@ -46,8 +47,8 @@ strict_suffix_complete (c ∷ cs) (inr w) =
     let p = and_parts (c == 95 || is_xid_start c) (list_all is_xid_continue cs) w.identifier in
     let q = and_parts (not (is_white c)) (list_all (λ c. not (is_white c)) cs) w.no_white in
     and_from (cond (c == 95) (is_some_text cs) (is_start c)) (list_all is_continue cs)
-        (word_front c cs (and_from (c == 95 || is_xid_start c) (not (is_white c)) p.0 q.0) w.not_underscore)
-        (all_both is_xid_continue (λ c. not (is_white c)) cs p.1 q.1)
+    (word_front c cs (and_from (c == 95 || is_xid_start c) (not (is_white c)) p.0 q.0) w.not_underscore)
+    (all_both is_xid_continue (λ c. not (is_white c)) cs p.1 q.1)
 
 -- what stands after the first character
 abbrev following : List ℕ → List ℕ
@@ -77,7 +78,7 @@ strict_suffix_sound (c ∷ cs) h =
           let some : is_some_text cs ≡ true = ap (λ b. cond b (is_some_text cs) (is_start c)) (sym a) ∙ p.0 in
           let At : ℕ → Type 0 = λ z. is_start z ≡ true in
           inr (word_of c cs (subst At (sym (eqb-true c 95 a)) refl) p.1
-              (λ e. both_ways (is_some_text cs) (ap (λ z. is_some_text (following z)) e) some))
+          (λ e. both_ways (is_some_text cs) (ap (λ z. is_some_text (following z)) e) some))
       | inr a ↦
           let start : is_start c ≡ true = ap (λ b. cond b (is_some_text cs) (is_start c)) (sym a) ∙ p.0 in
           inr (word_of c cs start p.1 (λ e. both_ways (c == 95) a (ap (λ z. first_passes is_underscore z) e)))

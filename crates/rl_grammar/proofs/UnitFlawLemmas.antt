@@ -1,30 +1,15 @@
 -- Where no unit of a quoted literal stands, the text stops being the front of one at the code's
 -- place, and has the flaw of the code's kind.
-use Rattle.rl_grammar.proofs.Names.{◌≡◌, ◌≢◌, ℕ, suc, ◌+◌, ◌*◌, ◌<◌, ◌≤◌, ◌||◌, ◌&&◌, Bool, true, false, not, cond, eqb,
-    ltb, List, [], ◌∷◌, ◌++◌, length, Option, Some, None, refl, sym, ap, subst, ◌∙◌, inl, inr, arith, append_assoc,
-    option_and_then, list_all, digit_value, pow-suc, scalar, and_from, and_parts, both_ways, cases_Bool, cond_both,
-    eqb-true, ltb-true, ltb-false, lt-ltb, not-true, not_from_false, list_all-append, Kind, Str, ByteStr, CStr, Byte,
-    Char, first_passes, is_underscore, Letter, Named, LowerN, LowerR, LowerT, Backslash, Apostrophe, Quote, Zero,
-    letter_text, letter_value, hex_value, content_of, place_value, without_underscores, is_hex_digit, holds_characters,
-    is_string, is_single, is_plain, is_line_end, allows_code, may_be_hex, has_unicode}
+use Rattle.rl_grammar.proofs.Names.{◌≡◌, ◌≢◌, ℕ, suc, ◌+◌, ◌*◌, ◌<◌, ◌≤◌, ◌||◌, ◌&&◌, Bool, true, false, not, cond, eqb, ltb, List, [], ◌∷◌, ◌++◌, length, Option, Some, None, refl, sym, ap, subst, ◌∙◌, inl, inr, arith, append_assoc, option_and_then, list_all, digit_value, pow-suc, scalar, and_from, and_parts, both_ways, cases_Bool, cond_both, eqb-true, ltb-true, ltb-false, lt-ltb, not-true, not_from_false, list_all-append, Kind, Str, ByteStr, CStr, Byte, Char, first_passes, is_underscore, Letter, Named, LowerN, LowerR, LowerT, Backslash, Apostrophe, Quote, Zero, letter_text, letter_value, hex_value, content_of, place_value, without_underscores, is_hex_digit, holds_characters, is_string, is_single, is_plain, is_line_end, allows_code, may_be_hex, has_unicode}
 use Rattle.std.proofs.Common.{length-append}
 use Rattle.rl_tokens.proofs.Basics.{apart}
 use Rattle.rl_grammar.specs.declared.flaws.FlawKind.{FlawKind}
-use Rattle.rl_grammar.specs.declared.flaws.FlawKind.TheVariants.{Unclosed, UnknownEscape, NoUnicode, NoHexDigit,
-    NoBrace, EmptyBraces, TooManyDigits, PastAscii, PastUnicode, Surrogate, Nul, NotAscii, MustEscape, NoCharacter}
-use Rattle.rl_grammar.specs.FlawKinds.{IsBraced, digit_count, number_of, FirstDigit, SecondDigit, AfterBrace,
-    AfterDigits, IsNoCode, HasNoCode, AtBrace, AtSixth, AsItIs, ByLetter, ByDigits, ByNumber, UnitFlaw}
-use Rattle.rl_grammar.specs.Mirrors.UnitAt.{found, number_if, hex_at, unicode_at, after_blanks, named_at, escape_at,
-    line_feed_at, unit_at}
-use Rattle.rl_grammar.specs.Mirrors.UnitFlawAt.{FoundFlaw, found_flaw, low_digit_flaw_at, hex_flaw_at, is_code,
-    code_flaw_of, first_digit_flaw_at, unicode_flaw_at, escape_flaw_at, line_end_flaw_at, character_flaw_of,
-    unit_flaw_at}
+use Rattle.rl_grammar.specs.declared.flaws.FlawKind.TheVariants.{Unclosed, UnknownEscape, NoUnicode, NoHexDigit, NoBrace, EmptyBraces, TooManyDigits, PastAscii, PastUnicode, Surrogate, Nul, NotAscii, MustEscape, NoCharacter}
+use Rattle.rl_grammar.specs.FlawKinds.{IsBraced, digit_count, number_of, FirstDigit, SecondDigit, AfterBrace, AfterDigits, IsNoCode, HasNoCode, AtBrace, AtSixth, AsItIs, ByLetter, ByDigits, ByNumber, UnitFlaw}
+use Rattle.rl_grammar.specs.Mirrors.UnitAt.{found, number_if, hex_at, unicode_at, after_blanks, named_at, escape_at, line_feed_at, unit_at}
+use Rattle.rl_grammar.specs.Mirrors.UnitFlawAt.{FoundFlaw, found_flaw, low_digit_flaw_at, hex_flaw_at, is_code, code_flaw_of, first_digit_flaw_at, unicode_flaw_at, escape_flaw_at, line_end_flaw_at, character_flaw_of, unit_flaw_at}
 use Rattle.rl_grammar.proofs.UnitLemmas.{holds_more, two_digits, unit_complete, crlf_complete}
-use Rattle.rl_grammar.proofs.EscapeLemmas.{Reader, given, Completes, inner_none, only_zero, hex_read, hex_one, second,
-    hex_second, never, no_low, no_high, past_hex, allowed, coded, closed_code, closed_bad, digit_on, digit_past,
-    underscore_on, other_none, full_none, not_low, not_high, Spelled, room, closing, spelled_on, braced, braced_first,
-    braced_none, first_spelled, braced_one, unicode_on, no_unicode_brace, unicode_one, unicode_never, escape_n, by_hex,
-    by_unicode, same_escape, by_escape, IsQuotedKind, unit_one, line_feed, no_line_feed, same_character}
+use Rattle.rl_grammar.proofs.EscapeLemmas.{Reader, given, Completes, inner_none, only_zero, hex_read, hex_one, second, hex_second, never, no_low, no_high, past_hex, allowed, coded, closed_code, closed_bad, digit_on, digit_past, underscore_on, other_none, full_none, not_low, not_high, Spelled, room, closing, spelled_on, braced, braced_first, braced_none, first_spelled, braced_one, unicode_on, no_unicode_brace, unicode_one, unicode_never, escape_n, by_hex, by_unicode, same_escape, by_escape, IsQuotedKind, unit_one, line_feed, no_line_feed, same_character}
 use Rattle.rl_grammar.proofs.CodeDigitLemmas.{digit_apart, digits_flaw_at, digits_flaw_is}
 use Rattle.rl_grammar.proofs.TestLemmas.{passes_more}
 
@@ -39,9 +24,9 @@ pub record Stops {V : Type 0} (reader : Reader V) (text rest : List ℕ) : Type 
 
 -- The text stops so at the flaw's place, and has the flaw's kind by what stands before it too.
 pub record HasUnitFlaw {V : Type 0} (kind : Kind) (reader : Reader V) (before text : List ℕ) (flaw : FoundFlaw) : Type 0
-    where
-  pub stops : Stops reader text flaw.1
-  pub has : UnitFlaw kind flaw.0 (before ++ text) flaw.1
+  where
+    pub stops : Stops reader text flaw.1
+    pub has : UnitFlaw kind flaw.0 (before ++ text) flaw.1
 
 at_end : {V : Type 0} {kind : Kind} {reader : Reader V} {before : List ℕ} → Completes reader []
     → HasUnitFlaw kind reader before [] (found_flaw Unclosed [])
@@ -140,12 +125,12 @@ low_spoils kind c (d ∷ ds) h low none = cond_both (is_hex_digit d) _ _
         let stuck : number_if (may_be_hex kind n) n ds ≡ None = sym (hex_read kind c d ds h e) ∙ none in
         let bad : may_be_hex kind n ≡ false = rejected (may_be_hex kind n) n ds stuck in
         let fits : (not (holds_characters kind) || ltb n 128) ≡ true = small_enough (holds_characters kind)
-            (digit_value c) (digit_value d) low (ltb-true (digit_value d) 16 e) in
+        (digit_value c) (digit_value d) low (ltb-true (digit_value d) 16 e) in
         let rejects : allows_code kind n ≡ false = left_false (allows_code kind n)
-            (not (holds_characters kind) || ltb n 128) fits bad in
+        (not (holds_characters kind) || ltb n 128) fits bad in
         let value : hex_value c d ≡ 0 = sym (two_digits (digit_value c) (digit_value d)) ∙ only_zero kind n rejects in
         here d ds Nul (hex_second kind c h low) (λ r. hex_read kind c d r h e ∙ never (may_be_hex kind n) n ds r stuck)
-            (c_string kind n rejects, ByDigits c d ds refl refl h e value)
+        (c_string kind n rejects, ByDigits c d ds refl refl h e value)
 
     one : is_hex_digit d ≡ false → HasUnitFlaw kind (second kind c) (92 ∷ 120 ∷ c ∷ []) (d ∷ ds)
         (found_flaw NoHexDigit (d ∷ ds))
@@ -164,10 +149,10 @@ hex_spoils kind (c ∷ cs) none =
     (λ h.
     let parts = and_parts (holds_characters kind) (ltb 7 (digit_value c)) h in
     here c cs PastAscii (hex_one kind) (λ r. past_hex kind c r e h)
-        (parts.0, refl, and_from (is_hex_digit c) (ltb 7 (digit_value c)) e parts.1))
+    (parts.0, refl, and_from (is_hex_digit c) (ltb 7 (digit_value c)) e parts.1))
     (λ h. next_same (second kind c) (hex_at kind) c c refl (λ u. refl) none (low_spoils kind c cs e h)))
     (λ e. here c cs NoHexDigit (hex_one kind) (λ r. no_high kind c r e)
-        (FirstDigit refl (not_from_false (is_hex_digit c) e)))
+    (FirstDigit refl (not_from_false (is_hex_digit c) e)))
 
 -- ---- their number
 
@@ -299,9 +284,9 @@ module _ (kind : Kind) (ds : List ℕ) (v n c : ℕ) (cs : List ℕ) (s : Stands
       let none_of : is_code kind w ≡ false = not-true (is_code kind w) parts.1 in
       let value : w ≡ number_of (ds ++ (c ∷ [])) = number_digit ds v c s.value_is e in
       let never_read : (r : List ℕ) → coded kind v n (c ∷ r) ≡ None = λ r. digit_on kind v n c r e (omega (arith, five))
-          ∙ ap (λ m. coded kind w (m + 1) r) five ∙ full_none kind w r none_of in
+      ∙ ap (λ m. coded kind w (m + 1) r) five ∙ full_none kind w r none_of in
       stuck (code_flaw_of w) never_read (code_has kind w text (c ∷ cs) none_of
-          (λ k h. AtSixth ds c cs braced_here (sym s.count_is ∙ five) refl e (subst (IsNoCode kind k) value h)))
+      (λ k h. AtSixth ds c cs braced_here (sym s.count_is ∙ five) refl e (subst (IsNoCode kind k) value h)))
 
   digit_more : is_hex_digit c ≡ true → eqb n 6 ≡ false → (eqb n 5 && not (is_code kind w)) ≡ false
       → P (digits_flaw_at kind w (n + 1) cs)
@@ -309,7 +294,7 @@ module _ (kind : Kind) (ds : List ℕ) (v n c : ℕ) (cs : List ℕ) (s : Stands
       let more = spelled_on kind v n c s.spelled e short good in
       let few = more.few in
       next_same (coded kind w (n + 1)) (coded kind v n) c c refl (λ u. digit_on kind v n c u e (omega (arith, few)))
-          none (later (ds ++ (c ∷ [])) w (n + 1) (stands_digit kind ds v n c s e more))
+      none (later (ds ++ (c ∷ [])) w (n + 1) (stands_digit kind ds v n c s e more))
 
   no_code : c ≡ 125 → is_code kind v ≡ false
   no_code is = elim (cases_Bool (is_code kind v)) [
@@ -324,8 +309,8 @@ module _ (kind : Kind) (ds : List ℕ) (v n c : ℕ) (cs : List ℕ) (s : Stands
       let bad = no_code is in
       let few : digit_count ds ≤ 5 = subst (λ m. m ≤ 5) s.count_is (room kind v n s.spelled bad) in
       stuck (code_flaw_of v) (λ r. ap (λ x. coded kind v n (x ∷ r)) is ∙ closed_bad kind v n r bad)
-          (code_has kind v text (c ∷ cs) bad (λ k h. AtBrace ds braced_here few b
-          (subst (IsNoCode kind k) s.value_is h)))
+      (code_has kind v text (c ∷ cs) bad (λ k h. AtBrace ds braced_here few b
+      (subst (IsNoCode kind k) s.value_is h)))
 
   mark_more : eqb c 95 ≡ true → P (digits_flaw_at kind v n cs)
   mark_more d = next_same (coded kind v n) (coded kind v n) c c refl
@@ -340,7 +325,7 @@ module _ (kind : Kind) (ds : List ℕ) (v n c : ℕ) (cs : List ℕ) (s : Stands
   unfolding digits_flaw_at
   spoils_here = cond_both (is_hex_digit c) _ _ P
       (λ e. cond_both (eqb n 6) _ _ P (seventh e) (λ short. cond_both (eqb n 5 && not (is_code kind w)) _ _ P (sixth e)
-          (digit_more e short)))
+      (digit_more e short)))
       (λ a. cond_both (eqb c 125) _ _ P closed_here (λ b. cond_both (eqb c 95) _ _ P mark_more (other_here a b)))
 
 digits_spoil : (kind : Kind) (t ds : List ℕ) (v n : ℕ) → Stands kind ds v n → coded kind v n t ≡ None
@@ -370,8 +355,8 @@ first_digit_spoils kind (c ∷ cs) u none =
     let P : FoundFlaw → Type 0 = HasUnitFlaw kind (braced kind) (braced_front []) (c ∷ cs) in
     cond_both (is_hex_digit c) _ _ P
     (λ e. subst P (sym (digits_flaw_is kind cs (digit_value c) 1 (c ∷ cs) (omega arith) refl))
-        (next_same (coded kind (digit_value c) 1) (braced kind) c c refl (λ r. braced_first kind c r e) none
-        (digits_spoil kind cs (c ∷ []) (digit_value c) 1 (first_stands kind c u e))))
+    (next_same (coded kind (digit_value c) 1) (braced kind) c c refl (λ r. braced_first kind c r e) none
+    (digits_spoil kind cs (c ∷ []) (digit_value c) 1 (first_stands kind c u e))))
     (λ e. cond_both (eqb c 125) _ _ P
     (λ b. here c cs EmptyBraces (braced_one kind u) (λ r. braced_none kind c r e) (refl, b))
     (λ b. here c cs NoHexDigit (braced_one kind u) (λ r. braced_none kind c r e) (AfterBrace refl (rw (e, b) refl))))
@@ -383,9 +368,9 @@ unicode_spoils kind [] u none = at_end (unicode_one kind u)
 unicode_spoils kind (c ∷ cs) u none = cond_both (eqb c 123) _ _
     (HasUnitFlaw kind (unicode_at kind) (92 ∷ 117 ∷ []) (c ∷ cs))
     (λ e. next_same (braced kind) (unicode_at kind) c 123 (eqb-true c 123 e) (unicode_on kind) none
-        (first_digit_spoils kind cs u))
+    (first_digit_spoils kind cs u))
     (λ e. here c cs NoBrace (unicode_one kind u) (λ r. no_unicode_brace kind c r e)
-        (refl, not_from_false (eqb c 123) e))
+    (refl, not_from_false (eqb c 123) e))
 
 -- ---- an escape
 
@@ -412,7 +397,7 @@ no_line_end : (kind : Kind) (c : ℕ) (cs : List ℕ) → eqb c 120 ≡ false �
 unfolding escape_at
 no_line_end kind c cs a b none =
     let rest : cond (is_line_end c) (cond (is_string kind) (found [] (after_blanks cs)) None) (named_at kind c cs)
-        ≡ None = (let e = rw b at (rw a at none) in e) in
+    ≡ None = (let e = rw b at (rw a at none) in e) in
     go (is_line_end c) (is_string kind) (named_at kind c cs) rest
   where
     go : (l t : Bool) (o : Option (List ℕ × List ℕ)) → cond l (cond t (found [] (after_blanks cs)) None) o ≡ None
@@ -561,8 +546,7 @@ line_end_spoils : (kind : Kind) (t : List ℕ) → is_string kind ≡ true → u
 line_end_spoils kind t s none = go t none
   where
     whole : Completes (unit_at kind) (13 ∷ [])
-    whole = record { ending = 10 ∷ []; value = 10 ∷ []; are_characters = (refl, tt); no_blank = λ r h. absurd (cc);
-        reads = λ r. crlf_complete kind r s }
+    whole = record { ending = 10 ∷ []; value = 10 ∷ []; are_characters = (refl, tt); no_blank = λ r h. absurd (cc); reads = λ r. crlf_complete kind r s }
 
     no_feed : (a b : Bool) (ds : List ℕ) → a ≡ true → cond (a && b) (found (10 ∷ []) ds) None ≡ None → b ≡ false
     no_feed true true ds e h = absurd (cc)
@@ -570,8 +554,7 @@ line_end_spoils kind t s none = go t none
     no_feed false b ds e h = absurd (cc)
 
     go : (t : List ℕ) → unit_at kind (13 ∷ t) ≡ None → HasUnitFlaw kind (unit_at kind) [] (13 ∷ t) (line_end_flaw_at t)
-    go [] h = record { stops = record { front = 13 ∷ []; text_is = refl; completes = whole; stuck = λ c cs e g. absurd
-        (cc) }; has = refl }
+    go [] h = record { stops = record { front = 13 ∷ []; text_is = refl; completes = whole; stuck = λ c cs e g. absurd (cc) }; has = refl }
     go (d ∷ ds) h =
         let stuck : line_feed_at kind (d ∷ ds) ≡ None = sym (line_feed kind (d ∷ ds) s) ∙ h in
         record {
@@ -582,7 +565,7 @@ line_end_spoils kind t s none = go t none
             stuck = λ c cs e g.
                 let head : d ≡ c = cc in
                 subst (λ x. unit_at kind (13 ∷ x ∷ e) ≡ None) head (line_feed kind (d ∷ e) s
-                    ∙ no_line_feed kind d ds e stuck);
+                ∙ no_line_feed kind d ds e stuck);
           };
           has = (s, refl, not_from_false (eqb d 10) (no_feed (is_string kind) (eqb d 10) ds s stuck));
         }
@@ -595,13 +578,13 @@ unit_spoils kind (c ∷ cs) q still none =
     let P : FoundFlaw → Type 0 = HasUnitFlaw kind (unit_at kind) [] (c ∷ cs) in
     cond_both (eqb c 92) _ _ P
     (λ e. next_same (escape_at kind) (unit_at kind) c 92 (eqb-true c 92 e) (by_escape kind) none
-        (escape_spoils kind cs))
+    (escape_spoils kind cs))
     (λ a. cond_both (eqb c 13 && is_string kind) _ _ P
     (λ e.
     let parts = and_parts (eqb c 13) (is_string kind) e in
     let is = eqb-true c 13 parts.0 in
     subst (λ x. HasUnitFlaw kind (unit_at kind) [] (x ∷ cs) (line_end_flaw_at cs)) (sym is)
-        (line_end_spoils kind cs parts.1 (ap (λ x. unit_at kind (x ∷ cs)) (sym is) ∙ none)))
+    (line_end_spoils kind cs parts.1 (ap (λ x. unit_at kind (x ∷ cs)) (sym is) ∙ none)))
     (λ e. here c cs (character_flaw_of c) (unit_one kind q) (λ r. same_character kind c cs r a e none) (alone q e a)))
   where
     alone : IsQuotedKind kind → (eqb c 13 && is_string kind) ≡ false → eqb c 92 ≡ false

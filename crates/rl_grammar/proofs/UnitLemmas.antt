@@ -1,15 +1,7 @@
 -- A unit stands at the front of a text exactly where `unit_at` gives it.
-use Rattle.rl_grammar.proofs.Names.{◌≡◌, ℕ, suc, ◌+◌, ◌*◌, ◌^◌, ◌<◌, ◌≤◌, ◌||◌, ◌&&◌, Bool, true, false, cond, eqb, ltb,
-    List, [], ◌∷◌, ◌++◌, length, Option, Some, None, refl, sym, ap, subst, ◌∙◌, ◌⊎◌, inl, inr, arith, append_assoc,
-    option_and_then, list_all, IsScalar, digit_value, pow-suc, scalar, and_from, and_parts, both_ways, cases_Bool,
-    eqb-true, ltb-true, lt-ltb, ne_eqb, or_cases, or_right, Kind, Str, ByteStr, CStr, Byte, Char, Int, Float, BoolKind,
-    first_passes, is_underscore, QuotedUnit, Letter, Plain, CrLf, Named, Hex, Unicode, Continuation, LowerN, LowerR,
-    LowerT, Backslash, Apostrophe, Quote, Zero, letter_value, letter_text, unit_text, unit_value, unicode_value,
-    without_underscores, place_value, content_of, hex_value, is_hex_digit, is_blank, is_line_end, is_string, is_plain,
-    allows_code, may_be_hex, has_unicode, IsUnit, EndsBefore}
+use Rattle.rl_grammar.proofs.Names.{◌≡◌, ℕ, suc, ◌+◌, ◌*◌, ◌^◌, ◌<◌, ◌≤◌, ◌||◌, ◌&&◌, Bool, true, false, cond, eqb, ltb, List, [], ◌∷◌, ◌++◌, length, Option, Some, None, refl, sym, ap, subst, ◌∙◌, ◌⊎◌, inl, inr, arith, append_assoc, option_and_then, list_all, IsScalar, digit_value, pow-suc, scalar, and_from, and_parts, both_ways, cases_Bool, eqb-true, ltb-true, lt-ltb, ne_eqb, or_cases, or_right, Kind, Str, ByteStr, CStr, Byte, Char, Int, Float, BoolKind, first_passes, is_underscore, QuotedUnit, Letter, Plain, CrLf, Named, Hex, Unicode, Continuation, LowerN, LowerR, LowerT, Backslash, Apostrophe, Quote, Zero, letter_value, letter_text, unit_text, unit_value, unicode_value, without_underscores, place_value, content_of, hex_value, is_hex_digit, is_blank, is_line_end, is_string, is_plain, allows_code, may_be_hex, has_unicode, IsUnit, EndsBefore}
 use Rattle.std.proofs.lemmas.Bool.Decides.{eqb_tells}
-use Rattle.rl_grammar.specs.Mirrors.UnitAt.{found, number_if, named_of, named_in, named_at, digit_at, hex_at, brace_at,
-    unicode_at, after_blanks, escape_at, line_feed_at, unit_at}
+use Rattle.rl_grammar.specs.Mirrors.UnitAt.{found, number_if, named_of, named_in, named_at, digit_at, hex_at, brace_at, unicode_at, after_blanks, escape_at, line_feed_at, unit_at}
 use Rattle.rl_grammar.proofs.CodeDigitLemmas.{unicode_digits_at, unicode_is, digit_apart}
 
 -- which way a test went
@@ -51,7 +43,7 @@ value_on_digit : (v c : ℕ) (cs : List ℕ) → eqb c 95 ≡ false → value_on
 value_on_digit v c cs h =
     let f : List ℕ → ℕ = λ ds. v * 16 ^ length ds + place_value 16 ds in
     ap f (kept_digit c cs h) ∙ places v (digit_value c) (length (without_underscores cs))
-        (place_value 16 (without_underscores cs))
+    (place_value 16 (without_underscores cs))
 
 length_on_digit : (c : ℕ) (cs : List ℕ) → eqb c 95 ≡ false → length (without_underscores (c ∷ cs))
     ≡ length (without_underscores cs) + 1
@@ -76,15 +68,13 @@ digits_end v n c w cs r few e h =
     let fields = some_pair (v, cs) (w, r) a.1 in
     let same : v ≡ w = fields.0 in
     let rest : cs ≡ r = fields.1 in
-    record { more = []; each = refl; text_is = cc; few = omega arith; value_is = omega arith; is_scalar = subst IsScalar
-        same a.0 }
+    record { more = []; each = refl; text_is = cc; few = omega arith; value_is = omega arith; is_scalar = subst IsScalar same a.0 }
 
 digits_underscore : (v n c w : ℕ) (cs r : List ℕ) → eqb c 95 ≡ true → Digits v n cs w r → Digits v n (c ∷ cs) w r
 digits_underscore v n c w cs r e d =
     let underscore = eqb-true c 95 e in
     let text = d.text_is in
-    record { more = 95 ∷ d.more; each = d.each; text_is = cc; few = d.few; value_is = d.value_is; is_scalar =
-        d.is_scalar }
+    record { more = 95 ∷ d.more; each = d.each; text_is = cc; few = d.few; value_is = d.value_is; is_scalar = d.is_scalar }
 
 digits_digit : (v n c w : ℕ) (cs r : List ℕ) → eqb c 95 ≡ false → is_hex_digit c ≡ true
     → Digits (v * 16 + digit_value c) (n + 1) cs w r → Digits v n (c ∷ cs) w r
@@ -118,7 +108,7 @@ digits_sound v n (c ∷ cs) w r few h =
               let tests = and_parts (is_hex_digit c) (ltb n 6) d.0 in
               let room : n < 6 = ltb-true n 6 tests.1 in
               digits_digit v n c w cs r b.0 tests.0 (digits_sound (v * 16 + digit_value c) (n + 1) cs w r (omega arith)
-                  d.1)
+              d.1)
           | inr d ↦ absurd (cc)
         ]
       ]
@@ -155,14 +145,14 @@ digits_complete v n (c ∷ cs) r each few s =
           let Scalar : ℕ → Type 0 = λ x. IsScalar (value_on v (x ∷ cs)) in
           let Goal : ℕ → Type 0 = λ x. unicode_digits_at v n (x ∷ (cs ++ (125 ∷ r))) ≡ Some (value_on v (x ∷ cs), r) in
           subst Goal (sym is) (underscore_at v n (cs ++ (125 ∷ r))
-              ∙ digits_complete v n cs r parts.1 (subst Fits is few) (subst Scalar is s))
+          ∙ digits_complete v n cs r parts.1 (subst Fits is few) (subst Scalar is s))
       | inr digit ↦
           let no_underscore = digit_apart c 95 digit refl in
           let long = length_on_digit c cs no_underscore in
           let value = value_on_digit v c cs no_underscore in
           digit_step v n c (cs ++ (125 ∷ r)) digit (omega (arith, few))
-              ∙ digits_complete (v * 16 + digit_value c) (n + 1) cs r parts.1 (omega (arith, few))
-              (subst IsScalar value s) ∙ ap (λ w. Some (w, r)) (sym value)
+          ∙ digits_complete (v * 16 + digit_value c) (n + 1) cs r parts.1 (omega (arith, few))
+          (subst IsScalar value s) ∙ ap (λ w. Some (w, r)) (sym value)
     ]
 
 -- ---- a digit, and two of them
@@ -198,7 +188,7 @@ hex_sound kind t p h =
     let a = allowed_some (may_be_hex kind value) (value, d.0.1) p d.2 in
     let fields = some_pair (value, d.0.1) p a.1 in
     let same : value ≡ hex_value high.0 low.0 = ap (λ x. x * 16 + d.0.0) high.3
-        ∙ ap (λ x. digit_value high.0 * 16 + x) low.3 ∙ two_digits (digit_value high.0) (digit_value low.0) in
+    ∙ ap (λ x. digit_value high.0 * 16 + x) low.3 ∙ two_digits (digit_value high.0) (digit_value low.0) in
     record {
       high = high.0;
       low = low.0;
@@ -215,7 +205,7 @@ hex_complete kind high low r u =
     let b : is_hex_digit low ≡ true = u.1 in
     let same = two_digits (digit_value high) (digit_value low) in
     let c : may_be_hex kind (digit_value high * 16 + digit_value low)
-        ≡ true = subst (λ x. may_be_hex kind x ≡ true) (sym same) u.2 in
+    ≡ true = subst (λ x. may_be_hex kind x ≡ true) (sym same) u.2 in
     rw (a, b, c) (ap (λ w. Some (w, r)) same)
 
 -- ---- an escape by its number
@@ -246,12 +236,19 @@ unicode_built kind t b d r c v w brace first digit v_is more allowed =
     let long = length_on_digit c more.more (digit_apart c 95 digit refl) in
     let fits = more.few in
     let value : w ≡ unicode_value c more.more = more.value_is ∙ ap (λ x. value_on x more.more) v_is
-        ∙ value_first c more.more digit in
+    ∙ value_first c more.more digit in
     record {
       first = c;
       more = more.more;
-      allowed = (tests.0, digit, more.each, rw long (omega arith), subst IsScalar value more.is_scalar, subst
-          (λ x. allows_code kind x ≡ true) value tests.1);
+      allowed = (
+        tests.0,
+        digit,
+        more.each,
+        rw long (omega arith),
+        subst IsScalar value more.is_scalar,
+        subst
+            (λ x. allows_code kind x ≡ true) value tests.1,
+      );
       text_is = brace ∙ ap (λ x. 123 ∷ x) (first ∙ ap (λ x. c ∷ x) more.text_is);
       value_is = value;
     }
@@ -266,7 +263,7 @@ unicode_sound kind t p h =
     let fields = some_pair e.0 p a.1 in
     let more = digits_sound d.0.0 1 d.0.1 e.0.0 e.0.1 (omega arith) e.1 in
     let built = unicode_built kind t b.0 d.0.1 e.0.1 first.0 d.0.0 e.0.0 (brace_sound t b.0 b.1) first.1 first.2 first.3
-        more a.0 in
+    more a.0 in
     subst (λ w. UnicodeAt kind t w p.1) fields.0 (subst (UnicodeAt kind t e.0.0) fields.1 built)
 
 unicode_complete : (kind : Kind) (first : ℕ) (more r : List ℕ) → IsUnit kind (Unicode first more)
@@ -277,8 +274,8 @@ unicode_complete kind first more r u =
     let value = value_first first more u.1 in
     let few : length (without_underscores (first ∷ more)) ≤ 6 = u.3 in
     let digits : unicode_digits_at (digit_value first) 1 (more ++ (125 ∷ r))
-        ≡ Some (unicode_value first more, r) = digits_complete (digit_value first) 1 more r u.2 (omega arith)
-        (subst IsScalar (sym value) u.4) ∙ ap (λ w. Some (w, r)) value in
+    ≡ Some (unicode_value first more, r) = digits_complete (digit_value first) 1 more r u.2 (omega arith)
+    (subst IsScalar (sym value) u.4) ∙ ap (λ w. Some (w, r)) value in
     let has : has_unicode kind ≡ true = u.0 in
     let holds : allows_code kind (unicode_value first more) ≡ true = u.5 in
     unicode_is kind (123 ∷ first ∷ (more ++ (125 ∷ r))) ∙ rw (a, digits, has, holds) refl
@@ -292,8 +289,12 @@ blanks_sound [] = ([], refl, refl, refl)
 blanks_sound (c ∷ cs) =
     let rest = blanks_sound cs in
     elim (cases_Bool (is_blank c)) [
-      | inl b ↦ rw b (c ∷ rest.0, and_from (is_blank c) (list_all is_blank rest.0) b rest.1, ap (λ x. c ∷ x) rest.2,
-          rest.3)
+      | inl b ↦ rw b (
+        c ∷ rest.0,
+        and_from (is_blank c) (list_all is_blank rest.0) b rest.1,
+        ap (λ x. c ∷ x) rest.2,
+        rest.3,
+      )
       | inr b ↦ rw b ([], refl, refl, b)
     ]
 
@@ -328,8 +329,11 @@ letter_sound c n h =
                                   elim (eqb_tells c 34) [
                                     | inl i ↦ (Quote, i.1, let g = rw i.0 at h5 in cc)
                                     | inr i ↦ let h6 = rw i.0 at h5 in
-                                        elim (eqb_tells c 48) [ inl j ↦ (Zero, j.1, let g = rw j.0 at h6 in cc) | inr j
-                                            ↦ let h7 = rw j.0 at h6 in absurd (cc) ]
+                                        elim (eqb_tells c 48) [
+                                          | inl j ↦ (Zero, j.1, let g = rw j.0 at h6 in cc)
+                                          | inr j
+                                              ↦ let h7 = rw j.0 at h6 in absurd (cc)
+                                        ]
                                   ]
                             ]
                       ]
@@ -463,8 +467,7 @@ unit_sound kind (c ∷ cs) p h =
       | inr a ↦ elim (chosen (is_plain kind c) plain last (Some p) a.1) [
         | inl b ↦
             let fields = some_pair (content_of kind (c ∷ []), cs) p b.1 in
-            record { unit = Plain c; allowed = b.0; ends = tt; text_is = ap (λ x. c ∷ x) fields.1; value_is = sym
-                fields.0 }
+            record { unit = Plain c; allowed = b.0; ends = tt; text_is = ap (λ x. c ∷ x) fields.1; value_is = sym fields.0 }
         | inr b ↦ elim (chosen (eqb c 13) (line_feed_at kind cs) None (Some p) b.1) [
           | inl d ↦ subst (λ x. Begins kind (x ∷ cs) p.0 p.1) (sym (eqb-true c 13 d.0)) (line_feed_sound kind cs p d.1)
           | inr d ↦ absurd (cc)
@@ -495,7 +498,7 @@ pub plain_complete : (kind : Kind) (c : ℕ) (r : List ℕ) → is_plain kind c 
 unfolding unit_at
 plain_complete kind c r h =
     let no_backslash : eqb c 92 ≡ false = ne_eqb c 92 (λ e. both_ways (is_plain kind 92) (backslash_not_plain kind)
-        (subst (λ x. is_plain kind x ≡ true) e h)) in
+    (subst (λ x. is_plain kind x ≡ true) e h)) in
     rw (no_backslash, h) refl
 
 pub crlf_complete : (kind : Kind) (r : List ℕ) → is_string kind ≡ true → unit_at kind (13 ∷ 10 ∷ r) ≡ found (10 ∷ []) r
@@ -520,7 +523,7 @@ continuation_complete kind c run r u ends =
     let At : ℕ → Type 0 = λ x. unit_at kind (92 ∷ x ∷ (run ++ r)) ≡ found [] r in
     let skip : Bool → Option (List ℕ × List ℕ) = λ b. cond b (found [] (after_blanks (run ++ r))) None in
     let skipped : skip (is_string kind) ≡ found [] r = ap skip u.0
-        ∙ ap (λ x. found [] x) (blanks_complete run r u.2 ends) in
+    ∙ ap (λ x. found [] x) (blanks_complete run r u.2 ends) in
     elim (or_cases (eqb c 10) (eqb c 13) u.1) [
       | inl a ↦ subst At (sym (eqb-true c 10 a)) skipped
       | inr a ↦ subst At (sym (eqb-true c 13 a)) skipped
@@ -533,8 +536,11 @@ unit_complete kind (Plain c) r allowed ends = plain_complete kind c r allowed
 unit_complete kind CrLf r allowed ends = crlf_complete kind r allowed
 unit_complete kind (Named l) r allowed ends = named_complete kind l r allowed
 unit_complete kind (Hex high low) r allowed ends = rw (hex_complete kind high low r allowed) refl
-unit_complete kind (Unicode first more) r allowed ends = rw (append_assoc more (125 ∷ []) r, unicode_complete kind first
-    more r allowed) refl
+unit_complete kind (Unicode first more) r allowed ends = rw (
+  append_assoc more (125 ∷ []) r,
+  unicode_complete kind first
+      more r allowed,
+) refl
 unit_complete kind (Continuation c run) r allowed ends = continuation_complete kind c run r allowed ends
 
 -- no unit of a string begins with its quote, and none of any kind at the end

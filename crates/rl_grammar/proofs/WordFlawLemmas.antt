@@ -1,14 +1,10 @@
 -- Where a text that begins neither as a number nor as a quoted literal stops being the front of a
 -- truth value.
-use Rattle.rl_grammar.proofs.Names.{◌≡◌, ◌≢◌, ℕ, Bool, true, false, cond, ◌||◌, ◌==◌, List, [], ◌∷◌, ◌++◌, None, Some,
-    inl, inr, refl, sym, ap, subst, ◌∙◌, append-nil, IsScalar, AllByRecursion, both_ways, cases_Bool, cond_both, eq-eqb,
-    eqb-true, or_parts, append_cancel_left, append_cancel_right, Kind, BoolKind, Byte, ByteStr, Char, CStr, Str,
-    is_string, opener, HasContents, HasNoTruth, HasReading, Truth, quoted_contents, truth_text, first_passes}
+use Rattle.rl_grammar.proofs.Names.{◌≡◌, ◌≢◌, ℕ, Bool, true, false, cond, ◌||◌, ◌==◌, List, [], ◌∷◌, ◌++◌, None, Some, inl, inr, refl, sym, ap, subst, ◌∙◌, append-nil, IsScalar, AllByRecursion, both_ways, cases_Bool, cond_both, eq-eqb, eqb-true, or_parts, append_cancel_left, append_cancel_right, Kind, BoolKind, Byte, ByteStr, Char, CStr, Str, is_string, opener, HasContents, HasNoTruth, HasReading, Truth, quoted_contents, truth_text, first_passes}
 use Rattle.rl_grammar.specs.Flaws.{StopsBefore}
 use Rattle.rl_grammar.specs.NumberFlaws.{BeginsWord, IsWordFlaw}
 use Rattle.rl_grammar.specs.declared.quoted_forms.QuotedForm.{QuotedForm}
-use Rattle.rl_grammar.specs.declared.quoted_forms.QuotedForm.TheVariants.{Cooked as CookedForm, Raw as RawForm, Single
-    as SingleForm}
+use Rattle.rl_grammar.specs.declared.quoted_forms.QuotedForm.TheVariants.{Cooked as CookedForm, Raw as RawForm, Single as SingleForm}
 use Rattle.rl_grammar.specs.WholeShapes.{is_number_front}
 use Rattle.rl_grammar.specs.declared.flaws.FlawKind.TheVariants.{Unfinished, NoLiteral}
 use Rattle.rl_grammar.specs.Mirrors.NumberFlawAt.{end_flaw_at}
@@ -67,16 +63,14 @@ record Common (word t : List ℕ) : Type 0 where
   are_characters : AllByRecursion IsScalar word → AllByRecursion IsScalar left
 
 common : (word t : List ℕ) → Common word t
-common [] t = record { front = []; left = []; word_is = refl; text_is = refl; differ = λ c cs e h k. absurd (cc);
-    are_characters = λ a. a }
-common (w ∷ ws) [] = record { front = []; left = w ∷ ws; word_is = refl; text_is = refl; differ = λ c cs e h k. absurd
-    (cc); are_characters = λ a. a }
+common [] t = record { front = []; left = []; word_is = refl; text_is = refl; differ = λ c cs e h k. absurd (cc); are_characters = λ a. a }
+common (w ∷ ws) [] = record { front = []; left = w ∷ ws; word_is = refl; text_is = refl; differ = λ c cs e h k. absurd (cc); are_characters = λ a. a }
 common (w ∷ ws) (c ∷ cs) = go (c == w) refl (common ws cs)
   where
     go : (b : Bool) → (c == w) ≡ b → Common ws cs → Common (w ∷ ws) (c ∷ cs)
     go true e k =
         let rest : after_letters (w ∷ ws) (c ∷ cs) ≡ after_letters ws cs = ap
-            (λ b. cond b (after_letters ws cs) (c ∷ cs)) e in
+        (λ b. cond b (after_letters ws cs) (c ∷ cs)) e in
         record {
           front = w ∷ k.front;
           left = k.left;
@@ -115,8 +109,11 @@ ends : (t front rest : List ℕ) → StopsBefore HasReading t rest → t ≡ fro
     → IsFlaw IsWordFlaw t (end_flaw_at Unfinished NoLiteral rest)
 ends t front [] stops cut some begins = record {
   stops = stops;
-  kind = λ x is. (subst BeginsWord (append_cancel_right front x [] (sym cut ∙ is)) begins,
-      (λ n. some (is ∙ append-nil x ∙ n)), refl);
+  kind = λ x is. (
+    subst BeginsWord (append_cancel_right front x [] (sym cut ∙ is)) begins,
+    (λ n. some (is ∙ append-nil x ∙ n)),
+    refl,
+  );
 }
 ends t front (c ∷ cs) stops cut some begins = record {
   stops = stops;
@@ -128,8 +125,7 @@ letters_flaw : (b : Bool) (t : List ℕ) (k : Common (truth_text b) t) → WordF
 letters_flaw b t k f some = ends t k.front (after_letters (truth_text b) t) (record {
   front = k.front;
   text_is = k.text_is;
-  begins = record { ending = k.left; are_characters = k.are_characters (truth_characters b); is_taken = subst HasReading
-      k.word_is (truth_reads b) };
+  begins = record { ending = k.left; are_characters = k.are_characters (truth_characters b); is_taken = subst HasReading k.word_is (truth_reads b) };
   stuck = λ c cs e h r.
       nothing_reads (k.front ++ (c ∷ e)) (f.no_opener (c ∷ e)) (f.no_number (c ∷ e)) (λ v x q.
       let same : truth_text q.truth ≡ truth_text b = ap truth_text (f.only (c ∷ e) q.truth q.text_is) in
@@ -184,9 +180,7 @@ empty_reads kind s r = (kind, (quoted_contents kind [], r.0, r.1))
 byte_prefix : IsPrefix 98
 unfolding opener_at
 byte_prefix = record {
-  reads = empty_reads ByteStr refl ([], record { value = []; form = inl
-      (record { units = []; string = refl; each = tt; ends = tt; text_is = refl; value_is = refl }); contents_is = refl
-      });
+  reads = empty_reads ByteStr refl ([], record { value = []; form = inl (record { units = []; string = refl; each = tt; ends = tt; text_is = refl; value_is = refl }); contents_is = refl });
   no_number = refl;
   no_true = refl;
   no_false = refl;
@@ -197,9 +191,7 @@ byte_prefix = record {
 c_prefix : IsPrefix 99
 unfolding opener_at
 c_prefix = record {
-  reads = empty_reads CStr refl ([], record { value = []; form = inl
-      (record { units = []; string = refl; each = tt; ends = tt; text_is = refl; value_is = refl }); contents_is = refl
-      });
+  reads = empty_reads CStr refl ([], record { value = []; form = inl (record { units = []; string = refl; each = tt; ends = tt; text_is = refl; value_is = refl }); contents_is = refl });
   no_number = refl;
   no_true = refl;
   no_false = refl;
@@ -220,18 +212,18 @@ prefix_flaw k c cs is begins e none =
           (other_first k (d ∷ r) is.no_true is.no_false) q;
     } in
     subst (λ z. IsFlaw IsWordFlaw (z ∷ cs) (end_flaw_at Unfinished NoLiteral cs)) (sym same)
-        (ends (k ∷ cs) (k ∷ []) cs stops refl (λ n. absurd (cc)) begins)
+    (ends (k ∷ cs) (k ∷ []) cs stops refl (λ n. absurd (cc)) begins)
 
 other_opener : (c : ℕ) (cs e : List ℕ) → (c == 98) ≡ false → (c == 99) ≡ false → opener_at (c ∷ cs) ≡ None
     → opener_at (c ∷ e) ≡ None
 unfolding opener_at
 other_opener c cs e b k h =
     let F : Bool → Bool → List ℕ → FoundOpener = λ x y z. cond (c == 39) (found_opener SingleForm Char z)
-        (cond x (byte_opener_at z) (cond y (string_opener_at CStr z) (string_opener_at Str (c ∷ z)))) in
+    (cond x (byte_opener_at z) (cond y (string_opener_at CStr z) (string_opener_at Str (c ∷ z)))) in
     let plain : (z : List ℕ) → F (c == 98) (c == 99) z ≡ F false false z = λ z. ap (λ x. F x (c == 99) z) b
-        ∙ ap (λ y. F false y z) k in
+    ∙ ap (λ y. F false y z) k in
     plain e ∙ picks (c == 39) (c == 34) (c == 114) (SingleForm, Char, cs) (CookedForm, Str, cs) (RawForm, Str, cs)
-        (SingleForm, Char, e) (CookedForm, Str, e) (RawForm, Str, e) (sym (plain cs) ∙ h)
+    (SingleForm, Char, e) (CookedForm, Str, e) (RawForm, Str, e) (sym (plain cs) ∙ h)
 
 no_front_flaw : (c : ℕ) (cs : List ℕ) → (c == 98) ≡ false → (c == 99) ≡ false → (c == 116) ≡ false → (c == 102) ≡ false
     → opener_at (c ∷ cs) ≡ None → is_number_front c ≡ false → IsFlaw IsWordFlaw (c ∷ cs) (found_flaw NoLiteral (c ∷ cs))
@@ -243,10 +235,9 @@ no_front_flaw c cs b k t f none number = record {
     stuck = λ d ds e h r.
         let same : c ≡ d = cc in
         nothing_reads (c ∷ e) (other_opener c cs e b k none) number (other_first c e t f)
-            (subst (λ z. HasReading (z ∷ e)) (sym same) r);
+        (subst (λ z. HasReading (z ∷ e)) (sym same) r);
   };
-  kind = λ front is. (inr (inr (record { truth = true; more = truth_text true; word_is = ap (λ z. z ++ truth_text true)
-      (append_cancel_right [] front (c ∷ cs) is) })), λ n. absurd (cc));
+  kind = λ front is. (inr (inr (record { truth = true; more = truth_text true; word_is = ap (λ z. z ++ truth_text true) (append_cancel_right [] front (c ∷ cs) is) })), λ n. absurd (cc));
 }
 
 word_flaw : (t : List ℕ) → first_passes is_number_front t ≡ false → opener_at t ≡ None

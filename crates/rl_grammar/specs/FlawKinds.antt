@@ -1,24 +1,19 @@
 -- What each kind of flaw says of a quoted literal. `rest` is what stands from the flaw's place on,
 -- and `text` what follows the opener, of a raw string from the hashes on.
-use Rattle.std.specs.Prelude.{◌≡◌, ◌≢◌, ◌⊎◌, ℕ, ◌<◌, ◌≤◌, ◌==◌, ◌&&◌, ◌||◌, Bool, not, nat_lt, List, [], codes, ◌∷◌,
-    ◌++◌, length, replicate, IsTrue, IsFalse}
+use Rattle.std.specs.Prelude.{◌≡◌, ◌≢◌, ◌⊎◌, ℕ, ◌<◌, ◌≤◌, ◌==◌, ◌&&◌, ◌||◌, Bool, not, nat_lt, List, [], codes, ◌∷◌, ◌++◌, length, replicate, IsTrue, IsFalse}
 use Rattle.std.specs.Char.{digit_value}
 use Rattle.std.specs.List.{list_all, AllByRecursion}
 use Prim.Native.Char.{code}
 use Rattle.rl_tokens.specs.declared.kind.Kind.{Kind}
 use Rattle.rl_tokens.specs.declared.kind.Kind.TheVariants.{Byte, ByteStr, CStr}
 use Rattle.rl_tokens.specs.Texts.{first_passes, is_among, is_underscore}
-use Rattle.rl_tokens.specs.Quoted.{QuotedUnit, EndsBefore, Letter, letter_text, unit_text, texts, IsUnit, hex_value,
-    place_value, without_underscores, is_hex_digit, is_line_end, is_raw, is_string, has_unicode, holds_characters}
+use Rattle.rl_tokens.specs.Quoted.{QuotedUnit, EndsBefore, Letter, letter_text, unit_text, texts, IsUnit, hex_value, place_value, without_underscores, is_hex_digit, is_line_end, is_raw, is_string, has_unicode, holds_characters}
 use Rattle.rl_tokens.specs.Classes.{is_hash}
 use Rattle.rl_tokens.specs.Sources.{is_apostrophe}
 use Rattle.rl_grammar.specs.declared.flaws.FlawKind.{FlawKind}
-use Rattle.rl_grammar.specs.declared.flaws.FlawKind.TheVariants.{Unfinished, NoQuote, Unclosed, UnknownEscape,
-    NoUnicode, NoHexDigit, NoBrace, EmptyBraces, TooManyDigits, PastAscii, PastUnicode, Surrogate, Nul, NotAscii,
-    LateQuote, LoneCr, MustEscape, NoCharacter, TwoCharacters}
+use Rattle.rl_grammar.specs.declared.flaws.FlawKind.TheVariants.{Unfinished, NoQuote, Unclosed, UnknownEscape, NoUnicode, NoHexDigit, NoBrace, EmptyBraces, TooManyDigits, PastAscii, PastUnicode, Surrogate, Nul, NotAscii, LateQuote, LoneCr, MustEscape, NoCharacter, TwoCharacters}
 use Rattle.rl_grammar.specs.declared.quoted_forms.QuotedForm.{QuotedForm}
-use Rattle.rl_grammar.specs.declared.quoted_forms.QuotedForm.TheVariants.{Cooked as CookedForm, Raw as RawForm, Single
-    as SingleForm}
+use Rattle.rl_grammar.specs.declared.quoted_forms.QuotedForm.TheVariants.{Cooked as CookedForm, Raw as RawForm, Single as SingleForm}
 use Rattle.rl_grammar.specs.Forms.{form_opener, has_form}
 use Rattle.rl_grammar.specs.Rows.{RowEnds}
 

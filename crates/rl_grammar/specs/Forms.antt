@@ -2,11 +2,9 @@
 use Rattle.std.specs.Prelude.{◌≡◌, ℕ, ◌+◌, Bool, true, false, List, length}
 use Rattle.std.specs.List.{list_all}
 use Rattle.rl_tokens.specs.declared.kind.Kind.{Kind}
-use Rattle.rl_tokens.specs.Quoted.{Cooked, Raw, Single, is_string, is_single, is_plain, opener, raw_opener, texts,
-    unit_text}
+use Rattle.rl_tokens.specs.Quoted.{Cooked, Raw, Single, is_string, is_single, is_plain, opener, raw_opener, texts, unit_text}
 use Rattle.rl_grammar.specs.declared.quoted_forms.QuotedForm.{QuotedForm}
-use Rattle.rl_grammar.specs.declared.quoted_forms.QuotedForm.TheVariants.{Cooked as CookedForm, Raw as RawForm, Single
-    as SingleForm}
+use Rattle.rl_grammar.specs.declared.quoted_forms.QuotedForm.TheVariants.{Cooked as CookedForm, Raw as RawForm, Single as SingleForm}
 
 -- which kinds have the form
 abbrev pub has_form : QuotedForm → Kind → Bool

@@ -1,7 +1,6 @@
 -- What reading a text finds: the kind, where the parts stand, what the digits spell, the truth value,
 -- and the character or byte.
-use Rattle.std.specs.Prelude.{◌≡◌, ◌≢◌, ◌↔◌, ◌⊎◌, ◌++◌, ◌-◌, ◌≤◌, ◌<◌, ◌∷◌, [], ◌||◌, ℕ, Bool, false, List, take, drop,
-    IsTrue}
+use Rattle.std.specs.Prelude.{◌≡◌, ◌≢◌, ◌↔◌, ◌⊎◌, ◌++◌, ◌-◌, ◌≤◌, ◌<◌, ◌∷◌, [], ◌||◌, ℕ, Bool, false, List, take, drop, IsTrue}
 use Rattle.std.specs.Char.{IsScalar}
 use Rattle.std.specs.Str.{chars, IsCharBoundary}
 use Rattle.rl_tokens.specs.declared.kind.Kind.{Kind}

@@ -1,6 +1,5 @@
 -- Which literal stands next in a list of literals, and why none does.
-use Rattle.std.specs.Prelude.{◌≡◌, ◌≢◌, ◌⊎◌, ℕ, ◌+◌, List, [], ◌∷◌, length, Option, Some, None, MatchOption, IsSomeAnd,
-    ⊤, if◌then◌else◌}
+use Rattle.std.specs.Prelude.{◌≡◌, ◌≢◌, ◌⊎◌, ℕ, ◌+◌, List, [], ◌∷◌, length, Option, Some, None, MatchOption, IsSomeAnd, ⊤, if◌then◌else◌}
 use Rattle.std.specs.Str.{chars}
 use Prim.Native.Char.{code}
 use Rattle.rl_tokens.specs.declared.cursor.Lexeme.{Lexeme}

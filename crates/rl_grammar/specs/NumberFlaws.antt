@@ -3,13 +3,11 @@
 use Rattle.std.specs.Prelude.{◌≡◌, ◌≢◌, ◌⊎◌, ℕ, Bool, IsTrue, List, [], ◌∷◌, ◌++◌, codes}
 use Rattle.std.specs.Char.{is_ascii_digit}
 use Rattle.std.specs.List.{list_all}
-use Rattle.rl_tokens.specs.Numbers.{Decimal, Fraction, IsFraction, Sign, fraction_text, is_digit, is_exponent_letter,
-    is_power_sign, sign_text}
+use Rattle.rl_tokens.specs.Numbers.{Decimal, Fraction, IsFraction, Sign, fraction_text, is_digit, is_exponent_letter, is_power_sign, sign_text}
 use Rattle.rl_tokens.specs.Reading.{HasReading, IsPast, truth_text}
 use Rattle.rl_tokens.specs.Texts.{first_passes, is_row_part, is_underscore}
 use Rattle.rl_grammar.specs.declared.flaws.FlawKind.{FlawKind}
-use Rattle.rl_grammar.specs.declared.flaws.FlawKind.TheVariants.{Empty, NoLiteral, Unfinished, NoNumber,
-    NoExponentDigit, BadSuffix, TooLarge}
+use Rattle.rl_grammar.specs.declared.flaws.FlawKind.TheVariants.{Empty, NoLiteral, Unfinished, NoNumber, NoExponentDigit, BadSuffix, TooLarge}
 
 -- a literal, or an integer past the limit
 abbrev pub IsAnyNumber : List ℕ → Type 0

@@ -10,8 +10,7 @@ use Rattle.rl_grammar.specs.Decoded.{in_bytes}
 use Rattle.rl_grammar.specs.declared.found.Body.{Body}
 use Rattle.rl_grammar.specs.Founds.{body_in}
 use Rattle.rl_grammar.specs.declared.segments.Segment.{Segment}
-use Rattle.rl_grammar.specs.Segments.{AreUnitsOf, IsByteEnd, IsBytePlace, IsSegmentsOf, SegmentsState, TakesSegment,
-    value_bytes}
+use Rattle.rl_grammar.specs.Segments.{AreUnitsOf, IsByteEnd, IsBytePlace, IsSegmentsOf, SegmentsState, TakesSegment, value_bytes}
 
 -- the cursor gives these segments, from the one state to the other
 abbrev pub Passes : SegmentsState → List Segment → SegmentsState → Type 0

@@ -1,14 +1,12 @@
 -- The segments of a quoted literal: its units, what each stands for in bytes, and where it stands.
-use Rattle.std.specs.Prelude.{◌≡◌, ◌⊎◌, ℕ, ◌+◌, ◌-◌, ◌≤◌, ◌<◌, slice_index_or, Bool, true, false, List, [], ◌∷◌, ◌++◌,
-    length, map, nat_lt, encode_utf8, IsFalse, IsTrue, ⊤, Option, MatchOption, if◌then◌else◌}
+use Rattle.std.specs.Prelude.{◌≡◌, ◌⊎◌, ℕ, ◌+◌, ◌-◌, ◌≤◌, ◌<◌, slice_index_or, Bool, true, false, List, [], ◌∷◌, ◌++◌, length, map, nat_lt, encode_utf8, IsFalse, IsTrue, ⊤, Option, MatchOption, if◌then◌else◌}
 use Rattle.std.specs.List.{AllByRecursion, flat_map}
 use Rattle.std.specs.Str.{chars, IsUtf8}
 use Rattle.rl_tokens.specs.declared.kind.Kind.{Kind}
 use Rattle.rl_tokens.specs.declared.span.Span.{Span}
 use Rattle.rl_tokens.specs.Errors.{nowhere}
 use Rattle.rl_tokens.specs.Texts.{byte_len, first_passes}
-use Rattle.rl_tokens.specs.Quoted.{QuotedUnit, is_plain, is_string, Plain, Cooked, Raw, Single, IsUnit,
-    ContinuationsEnd, opener, raw_opener, texts, unit_text, unit_value}
+use Rattle.rl_tokens.specs.Quoted.{QuotedUnit, is_plain, is_string, Plain, Cooked, Raw, Single, IsUnit, ContinuationsEnd, opener, raw_opener, texts, unit_text, unit_value}
 use Rattle.rl_grammar.specs.Decoded.{in_bytes}
 use Rattle.rl_grammar.specs.declared.segments.Segment.{Segment}
 use Rattle.rl_grammar.specs.declared.segments.SegmentValue.{SegmentValue}

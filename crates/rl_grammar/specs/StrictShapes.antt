@@ -4,11 +4,9 @@ use Rattle.std.specs.List.{list_all, flat_map}
 use Prim.Native.Char.{code}
 use Rattle.rl_tokens.specs.declared.kind.Kind.{Kind}
 use Rattle.rl_tokens.specs.Reading.{Contents}
-use Rattle.rl_tokens.specs.Strict.{StrictUnit, strict_text, is_strict_unit, BlanksEnd, HasUnits, strict_closer,
-    IsRawInside, IsStrictSuffix, Strict}
+use Rattle.rl_tokens.specs.Strict.{StrictUnit, strict_text, is_strict_unit, BlanksEnd, HasUnits, strict_closer, IsRawInside, IsStrictSuffix, Strict}
 use Rattle.rl_grammar.specs.declared.quoted_forms.QuotedForm.{QuotedForm}
-use Rattle.rl_grammar.specs.declared.quoted_forms.QuotedForm.TheVariants.{Cooked as CookedForm, Raw as RawForm, Single
-    as SingleForm}
+use Rattle.rl_grammar.specs.declared.quoted_forms.QuotedForm.TheVariants.{Cooked as CookedForm, Raw as RawForm, Single as SingleForm}
 
 -- The text is a strict token, of some kind, with some contents and suffix.
 pub record IsToken (text : List ℕ) : Type 0 where

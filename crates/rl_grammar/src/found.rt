@@ -19,8 +19,8 @@ use crate::digit_rows::is_negative;
 use crate::digits::{is_plain_float, is_plain_integer};
 use crate::number_forms::{Number, float_suffix, read_integer, read_number};
 use crate::quoted_forms::{
-    QuotedForm, begins_character, find_bare_character, find_character, find_cooked,
-    find_raw, find_single, split_opener,
+    QuotedForm, begins_character, find_bare_character, find_character, find_cooked, find_raw,
+    find_single, split_opener,
 };
 use rl_tokens::Kind;
 use rl_tokens::text::before;

@@ -1,8 +1,6 @@
 -- Texts that a string literal holds as they stand.
 use Rattle.rl_grammar.proofs.Names.{Characters, Plain, Str, texts}
-use Rattle.rl_tokens.proofs.Common.{Bool, IsAscii, List, [], ap, append_assoc, arith, chars, chars-IsAscii, chars-nil,
-    codes, eqb, eqb-true, false, if◌then◌else◌, length, list_all, map, nat_lt, nat_tests, not, refl, sym, true, ℕ, ◌&&◌,
-    ◌++◌, ◌<◌, ◌==◌, ◌∙◌, ◌∷◌, ◌≡◌}
+use Rattle.rl_tokens.proofs.Common.{Bool, IsAscii, List, [], ap, append_assoc, arith, chars, chars-IsAscii, chars-nil, codes, eqb, eqb-true, false, if◌then◌else◌, length, list_all, map, nat_lt, nat_tests, not, refl, sym, true, ℕ, ◌&&◌, ◌++◌, ◌<◌, ◌==◌, ◌∙◌, ◌∷◌, ◌≡◌}
 use Rattle.std.specs.List.{All}
 use Rattle.std.proofs.lemmas.Bool.{false≢true}
 use Rattle.std.proofs.lemmas.List.Elements.{All-nil, All-cons}
@@ -24,9 +22,9 @@ bare_unit : (c : ℕ) → is_bare c ≡ true → written_unit Str c ≡ Plain c
 unfolding written_unit
 bare_unit c h =
     skipped (c == 0) _ _ (grind (arith, nat_tests)) ∙ skipped (c == 9) _ _ (grind (arith, nat_tests))
-        ∙ skipped (c == 10) _ _ (grind (arith, nat_tests)) ∙ skipped (c == 13) _ _ (grind (arith, nat_tests))
+    ∙ skipped (c == 10) _ _ (grind (arith, nat_tests)) ∙ skipped (c == 13) _ _ (grind (arith, nat_tests))
     ∙ skipped (c == 92) _ _ (grind (arith, nat_tests)) ∙ skipped (c == 34) _ _ (grind (arith, nat_tests))
-        ∙ skipped (is_written_as_number Str c) _ _ (grind (arith, nat_tests))
+    ∙ skipped (is_written_as_number Str c) _ _ (grind (arith, nat_tests))
 
 bare_units : (cs : List ℕ) → list_all is_bare cs ≡ true → texts (map (written_unit Str) cs) ≡ cs
 bare_units [] h = refl
@@ -61,7 +59,7 @@ bare_line a b d e text suffix bare none p q r =
     let same : chars text ≡ text = chars-IsAscii text (IsAscii-from_all text (bare_low text bare)) in
     let units : texts (map (written_unit Str) (chars text)) ≡ chars text = rw same (bare_units text bare) in
     let pieces : e ≡ ((a ++ codes "Str \"") ++ chars text) ++ codes "\" -\n" = r ∙ ap (λ z. d ++ z) end
-        ∙ ap (λ z. z ++ codes "\" -\n") (q ∙ ap (λ z. z ++ chars text) (p ∙ ap (λ z. a ++ z) front)) in
+    ∙ ap (λ z. z ++ codes "\" -\n") (q ∙ ap (λ z. z ++ chars text) (p ∙ ap (λ z. a ++ z) front)) in
     rw (units, no_suffix suffix none) (pieces ∙ append_assoc (a ++ codes "Str \"") (chars text) (codes "\" -\n")
-        ∙ append_assoc a (codes "Str \"") (chars text ++ codes "\" -\n")
+    ∙ append_assoc a (codes "Str \"") (chars text ++ codes "\" -\n")
     ∙ ap (λ z. a ++ (codes "Str \"" ++ z)) (sym (append_assoc (chars text) (34 ∷ []) (codes " -\n"))))

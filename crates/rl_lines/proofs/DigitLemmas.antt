@@ -1,6 +1,5 @@
 -- Pairs of digits, one after another.
-use Rattle.rl_tokens.proofs.Common.{IsFalse, IsTrue, List, None, Option, Some, [], ap, append_assoc, arith, eqb,
-    eqb-true, false, length, refl, sym, true, ℕ, ◌&&◌, ◌++◌, ◌<◌, ◌∙◌, ◌∷◌, ◌≡◌}
+use Rattle.rl_tokens.proofs.Common.{IsFalse, IsTrue, List, None, Option, Some, [], ap, append_assoc, arith, eqb, eqb-true, false, length, refl, sym, true, ℕ, ◌&&◌, ◌++◌, ◌<◌, ◌∙◌, ◌∷◌, ◌≡◌}
 use Rattle.std.proofs.lemmas.List.{append-nil}
 use Rattle.rl_tokens.specs.Quoted.{is_hex_digit, hex_value}
 use Rattle.rl_lines.specs.Digits.{with_front, bytes_of}
@@ -22,10 +21,10 @@ pub front_grows : (digits rest following bytes : List ℕ) (high low byte : ℕ)
     ≡ with_front (bytes ++ (byte ∷ [])) (bytes_of following)
 front_grows digits rest following bytes high low byte h r b t =
     let step : bytes_of (high ∷ low ∷ following) ≡ with_front (hex_value high low ∷ []) (bytes_of following) = rw t refl
-        in
+    in
     h ∙ ap (λ z. with_front bytes (bytes_of z)) r ∙ ap (with_front bytes) step
-        ∙ ap (λ z. with_front bytes (with_front (z ∷ []) (bytes_of following))) (sym b)
-        ∙ front_twice bytes byte (bytes_of following)
+    ∙ ap (λ z. with_front bytes (with_front (z ∷ []) (bytes_of following))) (sym b)
+    ∙ front_twice bytes byte (bytes_of following)
 
 -- a pair that is none
 pub no_pair : (digits rest following bytes : List ℕ) (high low : ℕ) → bytes_of digits ≡ with_front bytes (bytes_of rest)

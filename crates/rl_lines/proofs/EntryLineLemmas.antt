@@ -28,12 +28,11 @@ lines_of_attributes : {A : Type 0} (es : List (Entry A)) (shown : List ℕ) → 
 lines_of_attributes [] shown read e = e
 lines_of_attributes (x ∷ es) shown read (first, others, (line, p, b), h, e) =
     let is : IsLineOf (chars (token_of x.value).text) line = line_of_text (token_of x.value) x.value
-        (token_of x.value).text line (refl, All-head IsReadEntry x es read) refl p in
+    (token_of x.value).text line (refl, All-head IsReadEntry x es read) refl p in
     (first, others, (line, is, b), lines_of_attributes es others (All-tail IsReadEntry x es read) h, e)
 
 -- the lines of all entries are those of the text
 pub shows_attributes : {A : Type 0} (text : List ℕ) (es : List (Entry A)) (shown : List ℕ)
     → AreAttributesOf text 0 (attributes_of es) → All IsReadEntry es → AreLinesOfEntries es shown
     → ShowsAttributes text shown
-shows_attributes text es shown are read p = record { list = attributes_of es; are = are; lines = lines_of_attributes es
-    shown read p }
+shows_attributes text es shown are read p = record { list = attributes_of es; are = are; lines = lines_of_attributes es shown read p }

@@ -1,6 +1,5 @@
 -- What is shown of a text that was found to be a literal.
-use Rattle.rl_grammar.proofs.Names.{Byte, ByteStr, CStr, Char, Characters, Contents, Float, HasContents, HasSuffix, Int,
-    Kind, ReadsAs, SpannedText, Str, is_single, quoted_contents}
+use Rattle.rl_grammar.proofs.Names.{Byte, ByteStr, CStr, Char, Characters, Contents, Float, HasContents, HasSuffix, Int, Kind, ReadsAs, SpannedText, Str, is_single, quoted_contents}
 use Rattle.std.proofs.Common.{◌≡◌, ℕ, List, [], ◌∷◌, ◌++◌, Result, IfOk, true, refl, sym, ap, subst, ◌∙◌, inl}
 use Rattle.std.proofs.lemmas.Result.{IfOk-weaker}
 use Rattle.std.specs.Str.{chars}
@@ -40,8 +39,12 @@ pub written_shown : {E : Type 0} (r : Result SpannedText E) (kind other : Kind) 
     → HasContents kind text contents → IfOk r (λ l. IsWrittenForm other value (chars l.text))
     → IfOk r (λ l. IsShownOf kind text (chars l.text))
 written_shown r kind other text value contents is same has w =
-    IfOk-weaker r _ _ (λ l form. (contents, has, form.text_is ∙ sym same
-        ∙ ap (λ (k : Kind). payload k contents) (sym is))) w
+    IfOk-weaker r _ _ (λ l form. (
+      contents,
+      has,
+      form.text_is ∙ sym same
+          ∙ ap (λ (k : Kind). payload k contents) (sym is),
+    )) w
 
 -- the same of a character or a byte
 pub unit_shown : {E : Type 0} (r : Result SpannedText E) (kind : Kind) (text : List ℕ) (found : Found) → found.kind
@@ -52,13 +55,17 @@ pub unit_shown : {E : Type 0} (r : Result SpannedText E) (kind : Kind) (text : L
 unit_shown r kind text found is single same f w =
     let contents = quoted_contents kind (found.unit ∷ []) in
     written_shown r found.kind kind (chars text) (found.unit ∷ []) contents is same
-        (subst (λ (k : Kind). HasContents k (chars text) contents) (sym is) (unit_of kind text found is single f).reads)
-        w
+    (subst (λ (k : Kind). HasContents k (chars text) contents) (sym is) (unit_of kind text found is single f).reads)
+    w
 
 -- a number is shown by its digits
 pub number_shown : (kind : Kind) (text digits : List ℕ) → ReadsAs kind text → AreDigits kind text digits
     → IsShownOf kind text digits
 number_shown Int text digits (v, x, r) are = (v, (x, r), sym (ap (payload Int) (are v x r)))
-number_shown Float text digits (v, x, r) are = (v, (x, r), are r.numeral x r.reads
-    ∙ sym (ap (payload Float) r.contents_is))
+number_shown Float text digits (v, x, r) are = (
+  v,
+  (x, r),
+  are r.numeral x r.reads
+      ∙ sym (ap (payload Float) r.contents_is),
+)
 number_shown kind text digits reads are = absurd are

@@ -22,9 +22,12 @@ appends_none old = ([], refl, sym (append-nil old))
 -- one piece more after pieces that were appended
 pub appends_more : {A : Type 0} (IsPiece : A → List ℕ → Type 0) (xs : List A) (x : A) (a b c : List ℕ)
     → Appends (Joins IsPiece xs) a b → Appends (IsPiece x) b c → Appends (Joins IsPiece (xs ++ (x ∷ []))) a c
-appends_more IsPiece xs x a b c (s, h, e) (t, p, d) =
-    (s ++ t, joins_append IsPiece xs (x ∷ []) s t h (joins_one IsPiece x t p), d ∙ ap (λ z. z ++ t) e
-        ∙ append_assoc a s t)
+appends_more IsPiece xs x a b c (s, h, e) (t, p, d) = (
+  s ++ t,
+  joins_append IsPiece xs (x ∷ []) s t h (joins_one IsPiece x t p),
+  d ∙ ap (λ z. z ++ t) e
+      ∙ append_assoc a s t,
+)
 
 -- one piece more after pieces
 pub joins_more : {A : Type 0} (IsPiece : A → List ℕ → Type 0) (xs : List A) (x : A) (b c : List ℕ) → Joins IsPiece xs b

@@ -1,7 +1,6 @@
 -- Pieces of a line, by their characters.
 use Rattle.rl_grammar.proofs.Names.{Str, xid_ok}
-use Rattle.rl_tokens.proofs.Common.{IsUtf8, List, [], ap, append_assoc, arith, both_ways, chars, chars-append,
-    encodes-chars, eqb, eqb-true, false, length, refl, sym, true, ℕ, ◌++◌, ◌∙◌, ◌∷◌, ◌≡◌}
+use Rattle.rl_tokens.proofs.Common.{IsUtf8, List, [], ap, append_assoc, arith, both_ways, chars, chars-append, encodes-chars, eqb, eqb-true, false, length, refl, sym, true, ℕ, ◌++◌, ◌∙◌, ◌∷◌, ◌≡◌}
 use Rattle.std.specs.Prelude.{encode_utf8_all}
 use Rattle.std.proofs.lemmas.Bool.{false≢true}
 use Rattle.rl_tokens.specs.Written.{written_text}
@@ -53,7 +52,7 @@ pub end_joined : (e f g h suffix : List ℕ) → f ≡ e ++ chars (32 ∷ []) �
 end_joined e f g h suffix s t u =
     u ∙ ap (λ z. g ++ z) line_feed ∙ ap (λ z. z ++ (10 ∷ [])) t ∙ append_assoc f (suffix_word suffix) (10 ∷ [])
     ∙ ap (λ z. z ++ (suffix_word suffix ++ (10 ∷ []))) (s ∙ ap (λ z. e ++ z) space)
-        ∙ append_assoc e (32 ∷ []) (suffix_word suffix ++ (10 ∷ []))
+    ∙ append_assoc e (32 ∷ []) (suffix_word suffix ++ (10 ∷ []))
 
 -- the four pieces of a line
 pub line_joined : (a b d e h word shown suffix : List ℕ) → b ≡ a ++ word → d ≡ b ++ chars (32 ∷ []) → e ≡ d ++ shown → h

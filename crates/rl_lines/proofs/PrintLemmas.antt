@@ -1,6 +1,5 @@
 -- A literal's line, from its contents and its suffix.
-use Rattle.rl_grammar.proofs.Names.{Byte, ByteStr, CStr, Char, Contents, Digits, Float, FloatReads, HasContents,
-    HasSuffix, Int, Kind, Reads, Str, float_digits, truth_text}
+use Rattle.rl_grammar.proofs.Names.{Byte, ByteStr, CStr, Char, Contents, Digits, Float, FloatReads, HasContents, HasSuffix, Int, Kind, Reads, Str, float_digits, truth_text}
 use Rattle.rl_tokens.proofs.Common.{Bool, List, [], ap, chars, codes, false, refl, subst, true, ℕ, ◌++◌, ◌∙◌, ◌≡◌}
 use Rattle.rl_tokens.specs.declared.kind.Kind.TheVariants.{Bool as BoolKind}
 use Rattle.rl_tokens.proofs.OneReading.{one_reading}
@@ -37,18 +36,24 @@ pub prints_kind : (kind : Kind) (text old new shown suffix : List ℕ) (contents
     → HasContents kind text contents → HasSuffix kind text suffix → shown ≡ payload kind contents → new ≡ old
     ++ line (kind_label kind) shown suffix → Appends (IsLineOfKind kind text) old new
 prints_kind kind text old new shown suffix contents c s e h =
-    let one = one_reading text kind kind contents s.0 c.0 suffix c.1 s.1 in
-    (literal_line kind contents suffix, (contents, suffix, subst (λ x. Reads text kind contents x) one.2 c.1, refl), h
-        ∙ ap (λ z. old ++ line (kind_label kind) z suffix) e)
+    let one = one_reading text kind kind contents s.0 c.0 suffix c.1 s.1 in (
+      literal_line kind contents suffix,
+      (contents, suffix, subst (λ x. Reads text kind contents x) one.2 c.1, refl),
+      h
+          ∙ ap (λ z. old ++ line (kind_label kind) z suffix) e,
+    )
 
 -- the same of a float
 pub prints_float : (text old new shown suffix : List ℕ) → ((n x : List ℕ) × FloatReads text n x
     × (shown ≡ float_digits n)) → ((n : List ℕ) × FloatReads text n suffix) → new ≡ old
     ++ line (kind_label Float) shown suffix → Appends (IsLineOfFloat text) old new
 prints_float text old new shown suffix d s h =
-    let one = float_once text d.0 s.0 d.1 suffix d.2 s.1 in
-    (literal_line Float (Digits (float_digits s.0)) suffix, (s.0, suffix, s.1, refl), h
-        ∙ ap (λ z. old ++ line (kind_label Float) z suffix) (d.3 ∙ ap float_digits one.0))
+    let one = float_once text d.0 s.0 d.1 suffix d.2 s.1 in (
+      literal_line Float (Digits (float_digits s.0)) suffix,
+      (s.0, suffix, s.1, refl),
+      h
+          ∙ ap (λ z. old ++ line (kind_label Float) z suffix) (d.3 ∙ ap float_digits one.0),
+    )
 
 -- an equation's right side after what stood there
 pub appends_is : (line old new : List ℕ) → new ≡ old ++ line → Appends (λ piece. piece ≡ line) old new

@@ -1,12 +1,10 @@
 -- A whole text's line.
-use Rattle.rl_grammar.proofs.Names.{Byte, ByteStr, CStr, Char, Digits, Float, Int, Kind, Reads, ReadsAs, SpannedText,
-    Str, Truth, float_digits, truth_text}
+use Rattle.rl_grammar.proofs.Names.{Byte, ByteStr, CStr, Char, Digits, Float, Int, Kind, Reads, ReadsAs, SpannedText, Str, Truth, float_digits, truth_text}
 use Rattle.rl_tokens.proofs.Common.{List, [], ap, chars, inl, inr, subst, sym, ℕ, ◌∙◌, ◌≡◌}
 use Rattle.rl_tokens.specs.declared.kind.Kind.TheVariants.{Bool}
 use Rattle.rl_tokens.proofs.OneNumber.{float_once}
 use Rattle.rust_literals.specs.declared.lit.Lit.{Lit}
-use Rattle.rust_literals.specs.declared.lit.Lit.TheVariants.{Str as StrLit, ByteStr as ByteStrLit, CStr as CStrLit, Byte
-    as ByteLit, Char as CharLit, Int as IntLit, Float as FloatLit, Bool as BoolLit, Verbatim}
+use Rattle.rust_literals.specs.declared.lit.Lit.TheVariants.{Str as StrLit, ByteStr as ByteStrLit, CStr as CStrLit, Byte as ByteLit, Char as CharLit, Int as IntLit, Float as FloatLit, Bool as BoolLit, Verbatim}
 use Rattle.rust_literals.specs.Literals.{IsReadFrom}
 use Rattle.rust_literals.proofs.LitLemmas.{truth_reads}
 use Rattle.rl_lines.specs.Lines.{literal_line, verbatim_line, IsLineOf, IsLineOfKind, IsLineOfFloat, IsLineOfLit}
@@ -26,8 +24,14 @@ float_line l token t shown e k r p =
     let same : chars l.text ≡ chars token.text = ap (λ z. chars z.text) e in
     let one = float_once (chars l.text) p.0 r.2.numeral p.1 r.1 p.2 (rw same r.2.reads) in
     let digits : Digits (float_digits p.0) ≡ r.0 = ap (λ z. Digits (float_digits z)) one.0 ∙ sym r.2.contents_is in
-    inl (Float, r.0, r.1, subst (λ z. Reads z Float r.0 r.1) (ap chars k) r.2, p.3
-        ∙ ap (λ z. literal_line Float z p.1) digits ∙ ap (λ z. literal_line Float r.0 z) one.1)
+    inl (
+      Float,
+      r.0,
+      r.1,
+      subst (λ z. Reads z Float r.0 r.1) (ap chars k) r.2,
+      p.3
+          ∙ ap (λ z. literal_line Float z p.1) digits ∙ ap (λ z. literal_line Float r.0 z) one.1,
+    )
 
 -- the line of a literal that was read from a token is that of the token's text
 pub line_of_text : {A : Type 0} (token : SpannedText) (literal : Lit A) (t shown : List ℕ) → IsReadFrom token literal
@@ -41,8 +45,14 @@ line_of_text token (IntLit l) t shown r k p = kind_line Int l token t shown r.0 
 line_of_text token (FloatLit l) t shown r k p = float_line l token t shown r.0 k r.1 p
 line_of_text token (BoolLit l) t shown r k p =
     let word : token.text ≡ truth_text l.value = sym (ap (λ z. z.text) r.0) in
-    inl (Bool, Truth l.value, [], subst (λ z. Reads z Bool (Truth l.value) []) (ap chars k)
-        (truth_reads token.text l.value word), p)
+    inl (
+      Bool,
+      Truth l.value,
+      [],
+      subst (λ z. Reads z Bool (Truth l.value) []) (ap chars k)
+          (truth_reads token.text l.value word),
+      p,
+    )
 line_of_text token (Verbatim l) t shown r k p =
     let same : chars l.text ≡ chars t = same_text l token t r.0 k in
     inr (rw (ap chars (sym k)) r.1, p ∙ ap verbatim_line same)

@@ -13,8 +13,7 @@ use Rattle.rl_tokens.specs.Reading.{Contents, Characters, Bytes, Digits, Truth, 
 use Rattle.rl_tokens.specs.Written.{written_text}
 use Rattle.rust_literals.specs.Literals.{IsReadAs}
 use Rattle.rust_literals.specs.declared.lit.Lit.{Lit}
-use Rattle.rust_literals.specs.declared.lit.Lit.TheVariants.{Str as StrLit, ByteStr as ByteStrLit, CStr as CStrLit, Byte
-    as ByteLit, Char as CharLit, Int as IntLit, Float as FloatLit, Bool as BoolLit, Verbatim}
+use Rattle.rust_literals.specs.declared.lit.Lit.TheVariants.{Str as StrLit, ByteStr as ByteStrLit, CStr as CStrLit, Byte as ByteLit, Char as CharLit, Int as IntLit, Float as FloatLit, Bool as BoolLit, Verbatim}
 
 -- a kind's word
 abbrev pub kind_label : Kind → List ℕ

@@ -1,6 +1,5 @@
 -- Turns of reading and writing.
-use Rattle.rl_tokens.proofs.Common.{List, None, Option, Some, [], ap, append-nil, append_assoc, arith, drop, length,
-    refl, subst, sym, take, take-append-drop, take-append_seam, take_all, ℕ, ◌++◌, ◌-◌, ◌<◌, ◌∙◌, ◌≡◌}
+use Rattle.rl_tokens.proofs.Common.{List, None, Option, Some, [], ap, append-nil, append_assoc, arith, drop, length, refl, subst, sym, take, take-append-drop, take-append_seam, take_all, ℕ, ◌++◌, ◌-◌, ◌<◌, ◌∙◌, ◌≡◌}
 use Rattle.std.proofs.Common.{length-drop}
 use Rattle.std.specs.Prelude.{IfSome}
 use Rattle.std.specs.Io.KnownBytes.{Appends, Consumes, IsAtEnd, Keeps}
@@ -31,7 +30,7 @@ pub written_beginning : (a b c : Option (List ℕ)) (all rest : List ℕ) → Is
     → AppendsBeginning a c all
 written_beginning a b c all rest w k =
     let front : take (length w.front) all ≡ w.front = ap (take (length w.front)) w.all_is
-        ∙ take-append_seam w.front rest in
+    ∙ take-append_seam w.front rest in
     (length w.front, rw front (Appends-kept a b c w.front w.appends k))
 
 -- a write of none keeps what is there
@@ -44,7 +43,7 @@ none_kept (Some xs) (Some ys) bytes n e h = h ∙ ap (λ z. xs ++ take z bytes) 
 pub slice_rest : (n : ℕ) (xs : List ℕ) → xs ≡ take n xs ++ take (length xs - n) (drop n xs)
 slice_rest n xs =
     let all : take (length xs - n) (drop n xs) ≡ drop n xs = take_all (length xs - n) (drop n xs)
-        (omega (arith, length-drop n xs)) in
+    (omega (arith, length-drop n xs)) in
     rw all (sym (take-append-drop n xs))
 
 -- all that was left has been read, where a turn gives nothing

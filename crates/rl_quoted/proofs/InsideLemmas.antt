@@ -1,12 +1,10 @@
 -- Parsing inside a literal, and a literal with nothing after its closing quote.
 use Rattle.rl_grammar.proofs.Names.{Characters, HasContents, HasSuffix, SpannedText, Str}
-use Rattle.rl_tokens.proofs.Common.{Err, List, Ok, Result, [], ap, arith, chars, chars-nil, inl, inr, length, nat_tests,
-    refl, subst, true, ℕ, ◌==◌, ◌∙◌, ◌∷◌, ◌≡◌, ◌≢◌, ◌⊎◌}
+use Rattle.rl_tokens.proofs.Common.{Err, List, Ok, Result, [], ap, arith, chars, chars-nil, inl, inr, length, nat_tests, refl, subst, true, ℕ, ◌==◌, ◌∙◌, ◌∷◌, ◌≡◌, ◌≢◌, ◌⊎◌}
 use Rattle.std.proofs.lemmas.List.{nil_from_length}
 use Rattle.rl_tokens.specs.declared.span.Span.{Span}
 use Rattle.rl_tokens.specs.declared.lex_error.LexKind.{LexKind}
-use Rattle.rl_tokens.specs.declared.lex_error.LexKind.TheVariants.{DocComment, UnclosedComment, UnclosedQuote, Lifetime,
-    RawIdentifier, StrayCharacter, UnmatchedClose, UnclosedGroup, TooDeep, Memory as LexMemory}
+use Rattle.rl_tokens.specs.declared.lex_error.LexKind.TheVariants.{DocComment, UnclosedComment, UnclosedQuote, Lifetime, RawIdentifier, StrayCharacter, UnmatchedClose, UnclosedGroup, TooDeep, Memory as LexMemory}
 use Rattle.rl_tokens.specs.declared.error.Error.{Error}
 use Rattle.rl_tokens.specs.declared.error.ErrorKind.TheVariants.{Unexpected}
 use Rattle.rl_tokens.specs.Errors.{memory_at, lex_rejection}
@@ -16,8 +14,7 @@ use Rattle.rl_tokens.specs.Lexing.{Lexes, Rejects}
 use Rattle.rl_tokens.specs.Buffers.{first_span}
 use Rattle.rl_tokens.proofs.TreeRests.{run_moved}
 use Rattle.rl_quoted.specs.declared.inside.Placing.{Placing}
-use Rattle.rl_quoted.specs.Inside.{AreInside, AreMoved, IsLeftoverAt, IsReportedAt, RejectsLexingInside,
-    RejectsInsideAt, Runs}
+use Rattle.rl_quoted.specs.Inside.{AreInside, AreMoved, IsLeftoverAt, IsReportedAt, RejectsLexingInside, RejectsInsideAt, Runs}
 
 -- no suffix stands where no bytes do
 pub empty_suffix : (text suffix : List ℕ) → (length suffix == 0) ≡ true → HasSuffix Str text (chars suffix)
@@ -54,8 +51,7 @@ pub refuses_left : {T A : Type 0} (placing : Placing) (runs : List Tree → Span
     → rest ≢ [] → IsLeftoverAt placing token rest at → RejectsInsideAt placing runs token
     (record { span = at; kind = Unexpected })
 refuses_left placing runs token value rest at ran some reported =
-    inr (inr (inl (record { value = value; rest = rest; ran = ran; some = some; place = at; reported = reported; error =
-        refl })))
+    inr (inr (inl (record { value = value; rest = rest; ran = ran; some = some; place = at; reported = reported; error = refl })))
 
 -- the first tree's span, whatever the scope
 pub first_of_some : (rest : List Tree) (scope other : Span) → rest ≢ [] → first_span rest scope ≡ first_span rest other

@@ -1,7 +1,6 @@
 -- The places of parts, as reading finds them, and what stands there.
 use Rattle.rl_grammar.proofs.Names.{ByteStr, Bytes, CStr, HasContents, Kind, ReadsAs, is_single, is_string}
-use Rattle.rl_tokens.proofs.Common.{Bool, Err, IsUtf8, List, Ok, Result, Some, chars, or_left, or_right, refl, subst,
-    sym, true, ℕ, ◌∙◌, ◌≡◌, ◌⊎◌}
+use Rattle.rl_tokens.proofs.Common.{Bool, Err, IsUtf8, List, Ok, Result, Some, chars, or_left, or_right, refl, subst, sym, true, ℕ, ◌∙◌, ◌≡◌, ◌⊎◌}
 use Rattle.std.specs.Prelude.{IfErr, position}
 use Rattle.std.specs.Result.{IsOk}
 use Rattle.rl_tokens.specs.CStrings.{has_no_zero, is_zero}
@@ -26,8 +25,7 @@ found_kind kind t found r f = (one_reading (chars t) found.kind kind f.reads.0 r
 pub stands_at : (kind : Kind) (t : List ℕ) (found : Found) → found.kind ≡ kind → IsFound t found
     → StandsAt kind t found.body
 stands_at kind t found same f =
-    subst (λ k. StandsAt k t found.body) same (record { reads = f.reads; stands = f.stands; plain = f.plain; quoted =
-        f.quoted })
+    subst (λ k. StandsAt k t found.body) same (record { reads = f.reads; stands = f.stands; plain = f.plain; quoted = f.quoted })
 
 -- the body of a string, which is a quoted literal
 pub has_body : (kind : Kind) (t : List ℕ) (body : Body) → is_string kind ≡ true → StandsAt kind t body
@@ -56,4 +54,4 @@ pub plain_contents_bytes : (kind : Kind) (t body : List ℕ) (plain : Bool) → 
     ≡ true → HasBody kind (chars t) body plain → IsUtf8 body → HasContents kind (chars t) (Bytes body)
 plain_contents_bytes kind t body plain which is has u =
     bytes_of_has kind (chars t) body body plain which has (plain_bytes (chars t) has.form kind has.value body has.suffix
-        (sym has.plain_is ∙ is) u has.parts)
+    (sym has.plain_is ∙ is) u has.parts)

@@ -1,14 +1,11 @@
 -- Places in the file of what a literal stands for.
 use Rattle.rl_grammar.proofs.Names.{Kind, SpannedText, Str}
-use Rattle.rl_tokens.proofs.Common.{Bool, IsUtf8, List, [], ap, arith, chars, cond, encodes-chars, false, get_or,
-    length, ltb, ltb-false, ltb-true, map, refl, subst, sym, true, ℕ, ◌+◌, ◌-◌, ◌∙◌, ◌∷◌, ◌≡◌, ◌≤◌}
+use Rattle.rl_tokens.proofs.Common.{Bool, IsUtf8, List, [], ap, arith, chars, cond, encodes-chars, false, get_or, length, ltb, ltb-false, ltb-true, map, refl, subst, sym, true, ℕ, ◌+◌, ◌-◌, ◌∙◌, ◌∷◌, ◌≡◌, ◌≤◌}
 use Rattle.std.proofs.Common.{min}
 use Rattle.rl_tokens.specs.declared.span.Span.{Span}
 use Rattle.rl_tokens.specs.Errors.{nowhere}
-use Rattle.rl_tokens.specs.Trees.{Tree, Trees, GroupTree, IdentTree, PunctTree, LiteralTree, NoTrees, MoreTrees,
-    all_relocated, all_respanned, entry_at, looked_up, relocated, respanned}
-use Rattle.rl_grammar.specs.Segments.{IsByteEnd, IsBytePlace, IsSegmentsOf, IsSpanTable, SegmentsState, begins_in,
-    ends_in, unit_place, span_from, units_bytes}
+use Rattle.rl_tokens.specs.Trees.{Tree, Trees, GroupTree, IdentTree, PunctTree, LiteralTree, NoTrees, MoreTrees, all_relocated, all_respanned, entry_at, looked_up, relocated, respanned}
+use Rattle.rl_grammar.specs.Segments.{IsByteEnd, IsBytePlace, IsSegmentsOf, IsSpanTable, SegmentsState, begins_in, ends_in, unit_place, span_from, units_bytes}
 use Rattle.rl_grammar.proofs.SegmentLemmas.{place_at_end, unit_span}
 use Rattle.rl_grammar.proofs.SegmentLawLemmas.{end_in_text, place_in_text}
 use Rattle.rl_grammar.proofs.SegmentStarts.{given_in_whole}
@@ -26,10 +23,19 @@ range_fits kind t lo hi first last u r =
     (omega (arith, whole, begins), go (ltb lo hi) refl)
   where
     go : (b : Bool) → ltb lo hi ≡ b → last ≤ length t
-    go true e = omega (arith, ap length (encodes-chars t u), end_in_text kind (chars t) (hi - 1) last
-        (r.some (ltb-true lo hi e)))
-    go false e = omega (arith, ap length (encodes-chars t u), place_in_text kind (chars t) lo first r.begins, r.none
-        (ltb-false lo hi e))
+    go true e = omega (
+      arith,
+      ap length (encodes-chars t u),
+      end_in_text kind (chars t) (hi - 1) last
+          (r.some (ltb-true lo hi e)),
+    )
+    go false e = omega (
+      arith,
+      ap length (encodes-chars t u),
+      place_in_text kind (chars t) lo first r.begins,
+      r.none
+          (ltb-false lo hi e),
+    )
 
 -- ---- tables
 
@@ -48,12 +54,12 @@ entry_is s base table t at = go (ltb at (length table)) refl
         let n = length (units_bytes s.kind t.units) in
         let same : min at (length table - 1) ≡ n = omega (arith, large, t.long) in
         let begins = place_at_end begins_in s.kind t.units n (omega arith)
-            ∙ sym (place_at_end begins_in s.kind t.units at (omega (arith, large, t.long))) in
+        ∙ sym (place_at_end begins_in s.kind t.units at (omega (arith, large, t.long))) in
         let ends = place_at_end ends_in s.kind t.units n (omega arith)
-            ∙ sym (place_at_end ends_in s.kind t.units at (omega (arith, large, t.long))) in
+        ∙ sym (place_at_end ends_in s.kind t.units at (omega (arith, large, t.long))) in
         ap (λ z. get_or table z nowhere) same ∙ t.spans n (omega (arith, t.long))
-            ∙ ap (λ z. span_from base (s.at + z) (s.at + unit_place ends_in s.kind t.units n)) begins
-            ∙ ap (λ z. span_from base (s.at + unit_place begins_in s.kind t.units at) (s.at + z)) ends
+        ∙ ap (λ z. span_from base (s.at + z) (s.at + unit_place ends_in s.kind t.units n)) begins
+        ∙ ap (λ z. span_from base (s.at + unit_place begins_in s.kind t.units at) (s.at + z)) ends
 
 record LooksUp (kind : Kind) (text : List ℕ) (base : Span) (table : List Span) (span : Span) : Type 0 where
   pub first : ℕ
@@ -79,29 +85,21 @@ looks_up kind text s base table span whole t = go (ltb span.lo span.hi) refl
     ends at = given_in_whole ends_in kind text s at (end at) whole
         (record { units = t.units; are_left = t.are_left; place_is = refl })
 
-    first_is : looked_up table span ≡ record { file = base.file; lo = base.lo + place span.lo; hi = cond
-        (ltb span.lo span.hi) (entry_at table (span.hi - 1)).hi (base.lo + place span.lo) }
-    first_is = ap (λ (x : Span). record { file = x.file; lo = x.lo; hi = cond (ltb span.lo span.hi)
-        (entry_at table (span.hi - 1)).hi x.lo }) (entry_is s base table t span.lo)
+    first_is : looked_up table span ≡ record { file = base.file; lo = base.lo + place span.lo; hi = cond (ltb span.lo span.hi) (entry_at table (span.hi - 1)).hi (base.lo + place span.lo) }
+    first_is = ap (λ (x : Span). record { file = x.file; lo = x.lo; hi = cond (ltb span.lo span.hi) (entry_at table (span.hi - 1)).hi x.lo }) (entry_is s base table t span.lo)
 
     go : (b : Bool) → ltb span.lo span.hi ≡ b → LooksUp kind text base table span
     go true e = record {
       first = place span.lo;
       last = end (span.hi - 1);
-      range = record { begins = begins span.lo; some = λ h. ends (span.hi - 1); none = λ h. let small = ltb-true span.lo
-          span.hi e in absurd (omega (arith, small, h)) };
-      is = first_is ∙ ap (λ b. record { file = base.file; lo = base.lo + place span.lo; hi = cond b
-          (entry_at table (span.hi - 1)).hi (base.lo + place span.lo) }) e
-          ∙ ap (λ (y : Span). record { file = base.file; lo = base.lo + place span.lo; hi = y.hi })
-          (entry_is s base table t (span.hi - 1));
+      range = record { begins = begins span.lo; some = λ h. ends (span.hi - 1); none = λ h. let small = ltb-true span.lo span.hi e in absurd (omega (arith, small, h)) };
+      is = first_is ∙ ap (λ b. record { file = base.file; lo = base.lo + place span.lo; hi = cond b (entry_at table (span.hi - 1)).hi (base.lo + place span.lo) }) e ∙ ap (λ (y : Span). record { file = base.file; lo = base.lo + place span.lo; hi = y.hi }) (entry_is s base table t (span.hi - 1));
     }
     go false e = record {
       first = place span.lo;
       last = place span.lo;
-      range = record { begins = begins span.lo; some = λ h. let large = ltb-false span.lo span.hi e in absurd
-          (omega (arith, large, h)); none = λ h. refl };
-      is = first_is ∙ ap (λ b. record { file = base.file; lo = base.lo + place span.lo; hi = cond b
-          (entry_at table (span.hi - 1)).hi (base.lo + place span.lo) }) e;
+      range = record { begins = begins span.lo; some = λ h. let large = ltb-false span.lo span.hi e in absurd (omega (arith, large, h)); none = λ h. refl };
+      is = first_is ∙ ap (λ b. record { file = base.file; lo = base.lo + place span.lo; hi = cond b (entry_at table (span.hi - 1)).hi (base.lo + place span.lo) }) e;
     }
 
 -- what a table says is where the bytes come from
@@ -117,8 +115,13 @@ spans_by token s table whole t long span =
 mutual
   tree_relocated : (goes : Span → Span → Type 0) (table : List Span) → ((s : Span) → goes s (looked_up table s))
       → (t : Tree) → IsMoved goes t (relocated table t)
-  tree_relocated goes table h (GroupTree d inside span) = (all_relocated table inside, looked_up table span,
-      inside_relocated goes table h inside, h span, refl)
+  tree_relocated goes table h (GroupTree d inside span) = (
+    all_relocated table inside,
+    looked_up table span,
+    inside_relocated goes table h inside,
+    h span,
+    refl,
+  )
   tree_relocated goes table h (IdentTree i) = (looked_up table i.span, h i.span, refl)
   tree_relocated goes table h (PunctTree p) = (looked_up table p.span, h p.span, refl)
   tree_relocated goes table h (LiteralTree l) = (looked_up table l.span, h l.span, refl)
@@ -126,20 +129,37 @@ mutual
   inside_relocated : (goes : Span → Span → Type 0) (table : List Span) → ((s : Span) → goes s (looked_up table s))
       → (ts : Trees) → AreMovedInside goes ts (all_relocated table ts)
   inside_relocated goes table h NoTrees = refl
-  inside_relocated goes table h (MoreTrees t ts) = (relocated table t, all_relocated table ts, tree_relocated goes table
-      h t, inside_relocated goes table h ts, refl)
+  inside_relocated goes table h (MoreTrees t ts) = (
+    relocated table t,
+    all_relocated table ts,
+    tree_relocated goes table
+        h t,
+    inside_relocated goes table h ts,
+    refl,
+  )
 
 are_relocated : (goes : Span → Span → Type 0) (table : List Span) → ((s : Span) → goes s (looked_up table s))
     → (ts : List Tree) → AreMoved goes ts (map (relocated table) ts)
 are_relocated goes table h [] = refl
-are_relocated goes table h (t ∷ ts) = (relocated table t, map (relocated table) ts, tree_relocated goes table h t,
-    are_relocated goes table h ts, refl)
+are_relocated goes table h (t ∷ ts) = (
+  relocated table t,
+  map (relocated table) ts,
+  tree_relocated goes table h t,
+  are_relocated goes table h ts,
+  refl,
+)
 
 mutual
   tree_respanned : (goes : Span → Span → Type 0) (place : Span) → ((s : Span) → goes s place) → (t : Tree)
       → IsMoved goes t (respanned place t)
-  tree_respanned goes place h (GroupTree d inside span) = (all_respanned place inside, place, inside_respanned goes
-      place h inside, h span, refl)
+  tree_respanned goes place h (GroupTree d inside span) = (
+    all_respanned place inside,
+    place,
+    inside_respanned goes
+        place h inside,
+    h span,
+    refl,
+  )
   tree_respanned goes place h (IdentTree i) = (place, h i.span, refl)
   tree_respanned goes place h (PunctTree p) = (place, h p.span, refl)
   tree_respanned goes place h (LiteralTree l) = (place, h l.span, refl)
@@ -147,14 +167,25 @@ mutual
   inside_respanned : (goes : Span → Span → Type 0) (place : Span) → ((s : Span) → goes s place) → (ts : Trees)
       → AreMovedInside goes ts (all_respanned place ts)
   inside_respanned goes place h NoTrees = refl
-  inside_respanned goes place h (MoreTrees t ts) = (respanned place t, all_respanned place ts, tree_respanned goes place
-      h t, inside_respanned goes place h ts, refl)
+  inside_respanned goes place h (MoreTrees t ts) = (
+    respanned place t,
+    all_respanned place ts,
+    tree_respanned goes place
+        h t,
+    inside_respanned goes place h ts,
+    refl,
+  )
 
 are_respanned : (goes : Span → Span → Type 0) (place : Span) → ((s : Span) → goes s place) → (ts : List Tree)
     → AreMoved goes ts (map (respanned place) ts)
 are_respanned goes place h [] = refl
-are_respanned goes place h (t ∷ ts) = (respanned place t, map (respanned place) ts, tree_respanned goes place h t,
-    are_respanned goes place h ts, refl)
+are_respanned goes place h (t ∷ ts) = (
+  respanned place t,
+  map (respanned place) ts,
+  tree_respanned goes place h t,
+  are_respanned goes place h ts,
+  refl,
+)
 
 -- where the table puts them
 pub moved_by_table : (token : SpannedText) (s : SegmentsState) (base : Span) (table : List Span) (cut trees : List Tree)
@@ -164,7 +195,7 @@ pub moved_by_table : (token : SpannedText) (s : SegmentsState) (base : Span) (ta
 moved_by_table token s base table cut trees whole from t long is =
     let goes = IsReportedAt InFile token in
     subst (AreMoved goes cut) (sym is) (are_relocated goes table
-        (spans_by token s table whole (subst (λ b. IsSpanTable s b table) from t) long) cut)
+    (spans_by token s table whole (subst (λ b. IsSpanTable s b table) from t) long) cut)
 
 -- all at the literal
 pub moved_at_literal : (placing : Placing) (token : SpannedText) (place : Span) (cut trees : List Tree) → placing
@@ -182,4 +213,4 @@ pub moved_elsewhere : (token : SpannedText) (place : Span) (cut trees : List Tre
 moved_elsewhere token place cut trees from other is =
     let goes = IsReportedAt InFile token in
     subst (AreMoved goes cut) (sym is) (are_respanned goes place
-        (λ s. record { placed = λ long. absurd (other long); other = λ h. from }) cut)
+    (λ s. record { placed = λ long. absurd (other long); other = λ h. from }) cut)

@@ -1,14 +1,10 @@
 -- Where the parts stand of a literal that the writer wrote.
-use Rattle.rl_grammar.proofs.Names.{Byte, ByteStr, CStr, Char, Contents, Cooked, Float, Int, Kind, Reads, ReadsQuoted,
-    Single, Str, is_single, is_string, opener, quoted_contents, texts, unit_text}
-use Rattle.rl_tokens.proofs.Common.{Bool, IsCharBoundary, IsTrue, IsUtf8, List, [], ap, append_assoc, arith, both_ways,
-    chars, chars-nil, drop, encodes-append, encodes-chars, false, inl, inr, length, length-append, length-encode, refl,
-    subst, sym, take, take-append_seam, true, ℕ, ◌++◌, ◌+◌, ◌-◌, ◌<◌, ◌∙◌, ◌∷◌, ◌≡◌, ◌≤◌}
+use Rattle.rl_grammar.proofs.Names.{Byte, ByteStr, CStr, Char, Contents, Cooked, Float, Int, Kind, Reads, ReadsQuoted, Single, Str, is_single, is_string, opener, quoted_contents, texts, unit_text}
+use Rattle.rl_tokens.proofs.Common.{Bool, IsCharBoundary, IsTrue, IsUtf8, List, [], ap, append_assoc, arith, both_ways, chars, chars-nil, drop, encodes-append, encodes-chars, false, inl, inr, length, length-append, length-encode, refl, subst, sym, take, take-append_seam, true, ℕ, ◌++◌, ◌+◌, ◌-◌, ◌<◌, ◌∙◌, ◌∷◌, ◌≡◌, ◌≤◌}
 use Rattle.std.proofs.Math.Seq.{drop-append_seam, drop-length}
 use Rattle.std.proofs.Math.Utf8.{scalars}
 use Rattle.std.specs.Prelude.{◌↔◌, encode_utf8_all}
-use Rattle.std.proofs.lemmas.Str.{IsCharBoundary-at_seam, IsCharBoundary-end, IsUtf8-append, chars-encodes,
-    scalars-chars, len_utf8_ascii}
+use Rattle.std.proofs.lemmas.Str.{IsCharBoundary-at_seam, IsCharBoundary-end, IsUtf8-append, chars-encodes, scalars-chars, len_utf8_ascii}
 use Rattle.rl_tokens.specs.declared.kind.Kind.TheVariants.{Bool as BoolKind}
 use Rattle.rl_tokens.specs.Written.{IsWrittenForm}
 use Rattle.rl_tokens.proofs.CutTrees.{scalars_parts}
@@ -152,20 +148,26 @@ between kind t v e body u ends =
     let l = lengths kind t v e u in
     let quote = e.quote ∷ [] in
     let all : scalars (opener kind ++ (e.inside ++ quote)) ≡ true = subst (λ z. scalars z ≡ true) e.text_is
-        (scalars-chars t u) in
+    (scalars-chars t u) in
     let inner = scalars_parts e.inside quote (scalars_parts (opener kind) (e.inside ++ quote) all).1 in
     let u_body : IsUtf8 l.body = (e.inside, (inner.0, refl)) in
     let u_back : IsUtf8 l.back = (quote, (inner.1, refl)) in
     let total : length t ≡ length l.front + (length l.body + length l.back) = omega
-        (arith, ap length l.whole, length-append l.front (l.body ++ l.back), length-append l.body l.back) in
+    (arith, ap length l.whole, length-append l.front (l.body ++ l.back), length-append l.body l.back) in
     let at : body.lo ≡ length l.front = omega (arith, ends.at, l.front_long) in
-    let end_at : body.hi ≡ length (l.front ++ l.body) = omega (arith, ends.end_at, total, l.back_long, length-append
-        l.front l.body) in
+    let end_at : body.hi ≡ length (l.front ++ l.body) = omega (
+      arith,
+      ends.end_at,
+      total,
+      l.back_long,
+      length-append
+          l.front l.body,
+    ) in
     let long : body.hi - body.lo ≡ length l.body = omega (arith, at, end_at, length-append l.front l.body) in
     let from_body : drop body.lo t ≡ l.body ++ l.back = ap (λ z. drop body.lo z) l.whole
-        ∙ ap (λ n. drop n (l.front ++ (l.body ++ l.back))) at ∙ drop-append_seam l.front (l.body ++ l.back) in
+    ∙ ap (λ n. drop n (l.front ++ (l.body ++ l.back))) at ∙ drop-append_seam l.front (l.body ++ l.back) in
     let inside : body_in t body ≡ l.body = ap (λ z. take (body.hi - body.lo) z) from_body
-        ∙ ap (λ n. take n (l.body ++ l.back)) long ∙ take-append_seam l.body l.back in
+    ∙ ap (λ n. take n (l.body ++ l.back)) long ∙ take-append_seam l.body l.back in
     let following : suffix_in t body ≡ [] = ap (λ n. drop n t) ends.suffix_at ∙ drop-length t in
     record {
       body_is = ap chars inside ∙ chars-encodes e.inside inner.0;
@@ -187,8 +189,14 @@ pub written_long : (kind : Kind) (t bytes : List ℕ) → IsUtf8 t → is_quoted
     → IsWrittenAs kind bytes (chars t) → length (opener kind) + 1 ≤ length t
 written_long kind t bytes u q w =
     let l = lengths kind t w.value (enclosed kind (chars t) w.value q w.written) u in
-    omega (arith, ap length l.whole, length-append l.front (l.body ++ l.back), length-append l.body l.back,
-        l.front_long, l.back_long)
+    omega (
+      arith,
+      ap length l.whole,
+      length-append l.front (l.body ++ l.back),
+      length-append l.body l.back,
+      l.front_long,
+      l.back_long,
+    )
 
 -- the body is whole where it is the value
 abbrev Whole : Kind → Bool → List ℕ → List ℕ → Type 0
@@ -217,14 +225,13 @@ written_at kind t bytes body u q w at end_at suffix_at whole =
     let inside = body_in t body in
     let following = suffix_in t body in
     let At : List ℕ → List ℕ → Type 0 = λ y x. (p : PartsAre f.form kind (chars t) w.value y x)
-        × (body.lo ≡ front_len f.form kind (chars t) w.value y x p) in
+    × (body.lo ≡ front_len f.form kind (chars t) w.value y x p) in
     let placed : At (chars inside) (chars following) = subst (λ z. At z (chars following)) (sym b.body_is)
-        (subst (At e.inside) (sym b.suffix_is) (f.parts, at ∙ sym f.front)) in
+    (subst (At e.inside) (sym b.suffix_is) (f.parts, at ∙ sym f.front)) in
     let parts = placed.0 in
     let told : body.plain ≡ is_plain_body f.form kind (chars inside) = go e parts (body_text t body u b.stands)
-        (is_string kind) refl in
-    let quoted : IsQuotedAt kind t body = record { form = f.form; value = w.value; parts = parts; plain_is = told; lo_is
-        = placed.1; stands = b.stands } in
+    (is_string kind) refl in
+    let quoted : IsQuotedAt kind t body = record { form = f.form; value = w.value; parts = parts; plain_is = told; lo_is = placed.1; stands = b.stands } in
     let all = quoted_whole t kind body u quoted in
     record { reads = all.reads; stands = quoted.stands; plain = all.plain; quoted = λ h. quoted }
   where
@@ -233,11 +240,18 @@ written_at kind t bytes body u q w at end_at suffix_at whole =
         ≡ is_plain_body e.has.form kind (chars (body_in t body))
     go e p ub true s = same_bools _ _
         (λ h. not_false _ (λ other. let (cooked, fails) = cooked_other e.has.form kind (chars t) w.value _ _ s other p
-            in omega (arith, cooked_shortens kind (chars t) w.value _ _ fails ub cooked, ap length
-            ((whole.0 h).1 ∙ w.bytes_are))))
-        (λ h. whole.1 (s, plain_bytes (chars t) e.has.form kind w.value _ _ h ub p kind _ _ s e.reads
-            ∙ ap (in_bytes kind) e.value_is ∙ sym w.bytes_are))
+        in omega (
+          arith,
+          cooked_shortens kind (chars t) w.value _ _ fails ub cooked,
+          ap length
+              ((whole.0 h).1 ∙ w.bytes_are),
+        )))
+        (λ h. whole.1 (
+          s,
+          plain_bytes (chars t) e.has.form kind w.value _ _ h ub p kind _ _ s e.reads
+              ∙ ap (in_bytes kind) e.value_is ∙ sym w.bytes_are,
+        ))
     go e p ub false s = same_bools _ _
         (λ h. absurd (both_ways (is_string kind) s (whole.0 h).0))
         (λ h. absurd (both_ways (is_plain_body e.has.form kind (chars (body_in t body)))
-            (e.has.single (single_of kind q s) _) h))
+        (e.has.single (single_of kind q s) _) h))

@@ -1,7 +1,5 @@
 -- Numbers in base ten, put digit by digit from the last on.
-use Rattle.rl_tokens.proofs.Common.{Bool, IsUtf8, List, [], ap, append-nil, append_assoc, arith, drop, false,
-    if◌then◌else◌, length, nat_tests, refl, subst, suc, sym, take, take_all, true, zero, ℕ, ◌%◌, ◌++◌, ◌+◌, ◌-◌, ◌/◌,
-    ◌<◌, ◌==◌, ◌^◌, ◌∙◌, ◌∷◌, ◌≡◌, ◌≤◌}
+use Rattle.rl_tokens.proofs.Common.{Bool, IsUtf8, List, [], ap, append-nil, append_assoc, arith, drop, false, if◌then◌else◌, length, nat_tests, refl, subst, suc, sym, take, take_all, true, zero, ℕ, ◌%◌, ◌++◌, ◌+◌, ◌-◌, ◌/◌, ◌<◌, ◌==◌, ◌^◌, ◌∙◌, ◌∷◌, ◌≡◌, ◌≤◌}
 use Rattle.std.proofs.Common.{length-drop}
 use Rattle.std.specs.Fmt.{digits_onto, digit_glyph, digits, decimal}
 use Rattle.std.proofs.Math.Nat.{pow-suc}
@@ -42,8 +40,7 @@ pub record IsPut (number end : ℕ) (old : List ℕ) (at rest : ℕ) (now : List
   pub same : length now ≡ length old
 
 pub put_none : (number end : ℕ) (old : List ℕ) → number < 2 ^ 64 → IsPut number end old end number old
-put_none number end old fits = record { left = 64; left_is = refl; some = omega arith; high = omega arith; small = omega
-    (arith, fits); text = refl; same = refl }
+put_none number end old fits = record { left = 64; left_is = refl; some = omega arith; high = omega arith; small = omega (arith, fits); text = refl; same = refl }
 
 -- one digit of so many that are left
 onto_last : (k n : ℕ) (acc : List ℕ) → 0 < k → (n / 10 == 0) ≡ true → digits_onto k 10 false n acc ≡ (48 + n % 10) ∷ acc
@@ -99,7 +96,7 @@ pub put_first : (number end : ℕ) (old : List ℕ) (at rest next : ℕ) (now la
     ≡ decimal number ++ drop end old
 put_first number end old at rest next now later put text last =
     text ∙ sym (onto_last put.left rest (drop at now) (omega (arith, put.some)) (one_digit rest last)) ∙ sym put.text
-        ∙ whole number (drop end old)
+    ∙ whole number (drop end old)
 
 -- ---- places
 
@@ -112,13 +109,13 @@ pub bytes_put : (lo hi : ℕ) (a b d e tail : List ℕ) → a ≡ decimal hi ++ 
     ++ d → e ≡ place_text (Bytes lo hi) ++ tail
 bytes_put lo hi a b d e tail p q r s =
     s ∙ ap (λ z. decimal lo ++ z) (r ∙ ap (λ z. 46 ∷ z) (q ∙ ap (λ z. 46 ∷ z) p))
-        ∙ sym (append_assoc (decimal lo) (46 ∷ 46 ∷ decimal hi) tail)
+    ∙ sym (append_assoc (decimal lo) (46 ∷ 46 ∷ decimal hi) tail)
 
 pub line_put : (at : LineColumn) (a b e tail : List ℕ) → a ≡ decimal at.column ++ tail → b ≡ 58 ∷ a → e
     ≡ decimal at.line ++ b → e ≡ place_text (Line at) ++ tail
 line_put at a b e tail p q s =
     s ∙ ap (λ z. decimal at.line ++ z) (q ∙ ap (λ z. 58 ∷ z) p)
-        ∙ sym (append_assoc (decimal at.line) (58 ∷ decimal at.column) tail)
+    ∙ sym (append_assoc (decimal at.line) (58 ∷ decimal at.column) tail)
 
 no_more : (n : ℕ) (bs : List ℕ) → length bs ≡ n → drop n bs ≡ []
 no_more n bs e = drop_all n bs (omega (arith, e))
@@ -135,7 +132,7 @@ pub spaced_at_end : (place : Place) (end space at : ℕ) (old mid now : List ℕ
     ≡ place_text place ++ 32 ∷ []
 spaced_at_end place end space at old mid now l s e =
     text_at now (place_text place ++ 32 ∷ []) at (e ∙ ap (λ z. place_text place ++ z)
-        (s ∙ ap (λ z. 32 ∷ z) (no_more end old l)))
+    (s ∙ ap (λ z. 32 ∷ z) (no_more end old l)))
 
 -- a place is ASCII
 pub utf8_place : (place : Place) (text : List ℕ) → text ≡ place_text place → IsUtf8 text

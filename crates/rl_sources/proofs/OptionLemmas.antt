@@ -1,6 +1,5 @@
 -- Words of a list, and words of the command line.
-use Rattle.rl_tokens.proofs.Common.{Bool, IsTrue, List, [], ap, arith, common_steps, drop, false, get_or, length, map,
-    refl, string_bytes, subst, sym, take, take_all, true, ℕ, ◌+◌, ◌-◌, ◌<◌, ◌∙◌, ◌∷◌, ◌≡◌, ◌≢◌}
+use Rattle.rl_tokens.proofs.Common.{Bool, IsTrue, List, [], ap, arith, common_steps, drop, false, get_or, length, map, refl, string_bytes, subst, sym, take, take_all, true, ℕ, ◌+◌, ◌-◌, ◌<◌, ◌∙◌, ◌∷◌, ◌≡◌, ◌≢◌}
 use Rattle.std.proofs.Common.{MatchBool}
 use Rattle.std.specs.Prelude.{◌↔◌}
 use Rattle.std.specs.Prelude.{String}
@@ -15,8 +14,11 @@ pub found_word : (r : Bool) (words : List (List ℕ)) (word : List ℕ)
     → MatchBool r ((k : ℕ) × (k < length words) × HoldsAt (λ x. x ≡ word) words k)
     (AllWithin (λ x. x ≢ word) words 0 (length words)) → IsTrue r ↔ Contains words word
 found_word true words word (k, within, here) = (λ _. (k, within, here word), λ _. refl)
-found_word false words word none = (λ e. absurd (false≢true e), λ (k, within, here). absurd
-    (none k word (omega arith) within here))
+found_word false words word none = (
+  λ e. absurd (false≢true e),
+  λ (k, within, here). absurd
+      (none k word (omega arith) within here),
+)
 
 -- whether all words pass
 pub all_pass : (P : List ℕ → Type 0) (r : Bool) (words : List (List ℕ))
@@ -41,7 +43,7 @@ pub word_taken : {S : Type 0} (bytes : S → List ℕ) (words : List S) (i : ℕ
 word_taken bytes words i item word Whole Before After within is word_is so_far step new =
     let rest = map bytes (drop (i + 1) words) in
     let here : Whole new ↔ Before (word ∷ rest) new = subst (λ (ws : List (List ℕ)). Whole new ↔ Before ws new)
-        (taken bytes words i item word within is word_is) (so_far new) in
+    (taken bytes words i item word within is word_is) (so_far new) in
     (λ w. (step rest new).0 (here.0 w), λ a. here.1 ((step rest new).1 a))
 
 -- nothing that all words ask for, since a word can't be asked for
@@ -52,7 +54,7 @@ pub word_refused : {S : Type 0} (bytes : S → List ℕ) (words : List S) (i : �
 word_refused bytes words i item word Whole Before within is word_is so_far none new whole =
     let rest = map bytes (drop (i + 1) words) in
     none rest new (subst (λ (ws : List (List ℕ)). Before ws new) (taken bytes words i item word within is word_is)
-        ((so_far new).0 whole))
+    ((so_far new).0 whole))
 
 -- what the arguments ask for, their words ask for: all but the first
 pub asks_words : {A : Type 0} (args : List (String A)) (wishes : Wishes) → AskForOptions args wishes
@@ -60,5 +62,5 @@ pub asks_words : {A : Type 0} (args : List (String A)) (wishes : Wishes) → Ask
 asks_words [] wishes h = absurd h
 asks_words (program ∷ words) wishes h =
     let all : take (length (program ∷ words) - 1) words ≡ words = take_all (length (program ∷ words) - 1) words
-        (omega arith) in
+    (omega arith) in
     rw all h

@@ -1,8 +1,6 @@
 -- The place of a flaw in the source, and its line.
 use Rattle.rl_grammar.proofs.Names.{HasReading, IsTail, byte_len}
-use Rattle.rl_tokens.proofs.Common.{IsAscii, IsCharBoundary, IsTrue, IsUtf8, List, [], and_parts, ap, append_assoc,
-    arith, chars, chars-IsAscii, codes, drop, encode_utf8, encodes-append, encodes-chars, inl, inr, is_ascii, length,
-    length-append, list_all, ltb-true, refl, subst, sym, true, ℕ, ◌++◌, ◌+◌, ◌∙◌, ◌∷◌, ◌≡◌, ◌≤◌}
+use Rattle.rl_tokens.proofs.Common.{IsAscii, IsCharBoundary, IsTrue, IsUtf8, List, [], and_parts, ap, append_assoc, arith, chars, chars-IsAscii, codes, drop, encode_utf8, encodes-append, encodes-chars, inl, inr, is_ascii, length, length-append, list_all, ltb-true, refl, subst, sym, true, ℕ, ◌++◌, ◌+◌, ◌∙◌, ◌∷◌, ◌≡◌, ◌≤◌}
 use Rattle.std.specs.Prelude.{encode_utf8_all}
 use Rattle.std.proofs.Math.Seq.{drop-append_seam}
 use Rattle.std.proofs.lemmas.List.{append-nil}
@@ -14,10 +12,7 @@ use Rattle.rl_tokens.proofs.TailLemmas.{tail_step}
 use Rattle.rl_tokens.proofs.CutLemmas.{byte_len-append}
 use Rattle.rl_grammar.specs.declared.flaws.Flaw.{Flaw}
 use Rattle.rl_grammar.specs.declared.flaws.FlawKind.{FlawKind}
-use Rattle.rl_grammar.specs.declared.flaws.FlawKind.TheVariants.{Empty, NoLiteral, Unfinished, NoQuote, NoNumber,
-    Unclosed, UnknownEscape, NoUnicode, NoHexDigit, NoBrace, EmptyBraces, TooManyDigits, PastAscii, PastUnicode,
-    Surrogate, Nul, NotAscii, LateQuote, LoneCr, MustEscape, NoCharacter, TwoCharacters, NoExponentDigit, BadSuffix,
-    TooLarge}
+use Rattle.rl_grammar.specs.declared.flaws.FlawKind.TheVariants.{Empty, NoLiteral, Unfinished, NoQuote, NoNumber, Unclosed, UnknownEscape, NoUnicode, NoHexDigit, NoBrace, EmptyBraces, TooManyDigits, PastAscii, PastUnicode, Surrogate, Nul, NotAscii, LateQuote, LoneCr, MustEscape, NoCharacter, TwoCharacters, NoExponentDigit, BadSuffix, TooLarge}
 use Rattle.rl_grammar.specs.Flaws.{Explains, first_len}
 use Rattle.rl_grammar.specs.FlawWords.{flaw_message}
 use Rattle.rl_lines.specs.Lines.{Appends}
@@ -45,7 +40,7 @@ pub places_on : (text rest next : List ℕ) (lines : CursorState) → HoldsPlace
     → length next ≤ length rest → IsTail lines.rest next
 places_on text rest next lines holds cursor le =
     subst (λ (r : List ℕ). IsTail r next) (sym holds.rest_is) (later_tail text rest next holds.cursor.following
-        cursor.following le)
+    cursor.following le)
 
 -- what is left after the front of a text is a text
 back_utf8 : (front back : List ℕ) → IsUtf8 (encode_utf8_all (front ++ back)) → IsUtf8 (encode_utf8_all back)
@@ -58,7 +53,7 @@ first_within : (cs : List ℕ) → first_len cs ≤ byte_len cs
 first_within [] = omega arith
 first_within (c ∷ cs) =
     let whole : byte_len (c ∷ cs) ≡ length (encode_utf8 c) + byte_len cs = length-append (encode_utf8 c)
-        (encode_utf8_all cs) in
+    (encode_utf8_all cs) in
     omega (arith, whole)
 
 -- The place of a flaw of the token's text is one of the rest.
@@ -77,19 +72,19 @@ flaw_within token text rest flaw begins explains =
     let back = inside ++ begins.after in
     let u : IsUtf8 rest = begins.cursor.following.is_text in
     let cut : chars rest ≡ stops.front ++ back = begins.begins ∙ ap (λ z. z ++ begins.after) stops.text_is
-        ∙ append_assoc stops.front inside begins.after in
+    ∙ append_assoc stops.front inside begins.after in
     let bytes : rest ≡ encode_utf8_all stops.front ++ encode_utf8_all back = sym (encodes-chars rest u)
-        ∙ ap encode_utf8_all cut ∙ encodes-append stops.front back in
+    ∙ ap encode_utf8_all cut ∙ encodes-append stops.front back in
     let is_text : IsUtf8 (encode_utf8_all back) = back_utf8 stops.front back
-        (subst IsUtf8 (sym (encodes-chars rest u) ∙ ap encode_utf8_all cut) u) in
+    (subst IsUtf8 (sym (encodes-chars rest u) ∙ ap encode_utf8_all cut) u) in
     let dropped : drop flaw.lo rest ≡ encode_utf8_all back = ap (λ n. drop n rest) explains.place.lo_is
-        ∙ ap (drop (byte_len stops.front)) bytes ∙ drop-append_seam (encode_utf8_all stops.front) (encode_utf8_all back)
-        in
+    ∙ ap (drop (byte_len stops.front)) bytes ∙ drop-append_seam (encode_utf8_all stops.front) (encode_utf8_all back)
+    in
     let is_rest : IsUtf8 (drop flaw.lo rest) = subst IsUtf8 (sym dropped) is_text in
     let long : length rest ≡ byte_len stops.front + byte_len back = ap length bytes
-        ∙ length-append (encode_utf8_all stops.front) (encode_utf8_all back) in
+    ∙ length-append (encode_utf8_all stops.front) (encode_utf8_all back) in
     let whole : byte_len (chars token.text.now) ≡ byte_len stops.front + byte_len inside = ap byte_len stops.text_is
-        ∙ byte_len-append stops.front inside in
+    ∙ byte_len-append stops.front inside in
     record {
       following = record {
         front = encode_utf8_all stops.front;
@@ -144,9 +139,9 @@ flaw_line place kind = place_text place ++ (codes " error: " ++ (flaw_message ki
 line_ascii : (place : Place) (kind : FlawKind) → IsAscii (flaw_line place kind)
 line_ascii place kind =
     let after : IsAscii (flaw_message kind ++ codes "\n") = IsAscii-append (flaw_message kind) (codes "\n")
-        (low_text (flaw_message kind) (message_low kind)) (low_text (codes "\n") refl) in
+    (low_text (flaw_message kind) (message_low kind)) (low_text (codes "\n") refl) in
     IsAscii-append (place_text place) (codes " error: " ++ (flaw_message kind ++ codes "\n")) (place_ascii place)
-        (IsAscii-append (codes " error: ") (flaw_message kind ++ codes "\n") (low_text (codes " error: ") refl) after)
+    (IsAscii-append (codes " error: ") (flaw_message kind ++ codes "\n") (low_text (codes " error: ") refl) after)
 
 -- the line was appended
 pub explains_why : (options : Options) (whole text : List ℕ) (lo : ℕ) (flaw : Flaw) (place : Place) (old new : List ℕ)
@@ -154,9 +149,12 @@ pub explains_why : (options : Options) (whole text : List ℕ) (lo : ℕ) (flaw 
     → IsPlaceIn options.by_line whole (lo + flaw.lo) (lo + flaw.hi) place → new ≡ old ++ flaw_line place flaw.kind
     → Appends (IsReasonLine options whole text lo) (chars old) (chars new)
 explains_why options whole text lo flaw place old new utf8 asked explains is_place written =
-    let line = flaw_line place flaw.kind in
-    (line, inl (asked, (flaw, place, explains, is_place, refl)), pushed old new line utf8 written
-        ∙ ap (λ z. chars old ++ z) (chars-IsAscii line (line_ascii place flaw.kind)))
+    let line = flaw_line place flaw.kind in (
+      line,
+      inl (asked, (flaw, place, explains, is_place, refl)),
+      pushed old new line utf8 written
+          ∙ ap (λ z. chars old ++ z) (chars-IsAscii line (line_ascii place flaw.kind)),
+    )
 
 -- nothing was appended
 pub explains_nothing : (options : Options) (whole text : List ℕ) (lo : ℕ) (old : List ℕ)

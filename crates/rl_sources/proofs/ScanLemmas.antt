@@ -1,7 +1,5 @@
 -- What is shown of a source, token after token.
-use Rattle.rl_tokens.proofs.Common.{AllByRecursion, Bool, IsCharBoundary, IsTrue, IsUtf8, List, Option, [], ap,
-    append_assoc, arith, chars, chars-nil, drop, encode_utf8_all, encodes-append, encodes-chars, eqb-true, false, inl,
-    inr, length, not, refl, subst, sym, take, true, ℕ, ◌++◌, ◌+◌, ◌-◌, ◌==◌, ◌||◌, ◌∙◌, ◌∷◌, ◌≡◌, ◌≢◌}
+use Rattle.rl_tokens.proofs.Common.{AllByRecursion, Bool, IsCharBoundary, IsTrue, IsUtf8, List, Option, [], ap, append_assoc, arith, chars, chars-nil, drop, encode_utf8_all, encodes-append, encodes-chars, eqb-true, false, inl, inr, length, not, refl, subst, sym, take, true, ℕ, ◌++◌, ◌+◌, ◌-◌, ◌==◌, ◌||◌, ◌∙◌, ◌∷◌, ◌≡◌, ◌≢◌}
 use Rattle.std.specs.Prelude.{◌↔◌}
 use Rattle.std.specs.Io.KnownBytes.{Appends as AppendsBytes}
 use Rattle.std.proofs.KnownBytes.{Appends-nil, Appends-trans}
@@ -12,9 +10,7 @@ use Rattle.std.proofs.lemmas.List.Elements.{All-nil, All-push}
 use Rattle.rl_tokens.specs.Texts.{IsTail, byte_len}
 use Rattle.rl_tokens.specs.Cursors.{CursorState, IsCursorState}
 use Rattle.rl_tokens.specs.Lexemes.{LiteralForm, IdentifierForm, DelimiterForm, MarkForm}
-use Rattle.rl_tokens.specs.Sources.{source_text, source_end, source_view, source_kind, SourceKind, PlainKind,
-    RawIdentifierKind, LifetimeKind, DocCommentKind, StrayKind, CutSource, IsCutUpTo, IsBorrowedSource, TakesSource,
-    IsLiteralText, IsNoLiteral, PassesTo}
+use Rattle.rl_tokens.specs.Sources.{source_text, source_end, source_view, source_kind, SourceKind, PlainKind, RawIdentifierKind, LifetimeKind, DocCommentKind, StrayKind, CutSource, IsCutUpTo, IsBorrowedSource, TakesSource, IsLiteralText, IsNoLiteral, PassesTo}
 use Rattle.rl_tokens.specs.declared.sources.SourceToken.{SourceToken}
 use Rattle.rl_tokens.specs.declared.lex_error.LexError.{LexError}
 use Rattle.rl_tokens.proofs.TailLemmas.{tail_self, tail_step, cut_boundary, cut_drop}
@@ -37,7 +33,7 @@ adds_none options whole rest piece nothing = record {
   goes_on = λ cuts shown shows.
       let P : List CutSource → List ℕ → Type 0 = λ c s. ShowsUpTo options whole c rest s in
       subst (λ c. P c (shown ++ piece)) (sym (append-nil cuts))
-          (subst (P cuts) (sym (ap (λ z. shown ++ z) nothing ∙ append-nil shown)) shows);
+      (subst (P cuts) (sym (ap (λ z. shown ++ z) nothing ∙ append-nil shown)) shows);
 }
 
 -- what is shown of a token, by its cut
@@ -46,10 +42,10 @@ shown_cut : (options : Options) (whole : List ℕ) (l : SourceToken) (w : CutSou
     → IsShown options whole w shown
 shown_cut options whole l w shown is h =
     subst (λ (k : SourceKind). IsShownToken options whole k (source_text w.token) w.at (source_end w) shown)
-        (sym is.kind_is)
+    (sym is.kind_is)
     (subst (λ t. IsShownToken options whole (source_view l.form) t w.at (source_end w) shown) (sym is.chars_are)
     (subst (λ n. IsShownToken options whole (source_view l.form) (chars l.text.now) n (source_end w) shown)
-        (sym is.lo_is)
+    (sym is.lo_is)
     (subst (λ n. IsShownToken options whole (source_view l.form) (chars l.text.now) l.lo n shown) (sym is.hi_is) h)))
 
 -- one token more
@@ -65,11 +61,11 @@ adds_one options start old new l piece longer adds takes accepted (last, is_last
       goes_on = λ cuts shown shows.
           let before = adds.goes_on cuts shown shows in
           let all : (cuts ++ adds.more) ++ w ∷ [] ≡ cuts ++ (adds.more ++ w ∷ []) = append_assoc cuts adds.more (w ∷ [])
-              in
+          in
           let text : (shown ++ piece) ++ last ≡ shown ++ longer = append_assoc shown piece last
-              ∙ ap (λ z. shown ++ z) (sym longer_is) in
+          ∙ ap (λ z. shown ++ z) (sym longer_is) in
           let here : ShowsUpTo options (chars old.text) ((cuts ++ adds.more) ++ w ∷ []) (chars new.rest)
-              ((shown ++ piece) ++ last) =
+          ((shown ++ piece) ++ last) =
           record {
             are_cuts = takes.goes_on (cuts ++ adds.more) before.are_cuts;
             accepted = λ rejects. All-push IsNoStray (cuts ++ adds.more) w (before.accepted rejects)
@@ -79,8 +75,8 @@ adds_one options start old new l piece longer adds takes accepted (last, is_last
                 (shown_cut options (chars old.text) l w last takes.is_cut is_last));
           } in
           subst (λ (c : List CutSource). ShowsUpTo options (chars old.text) c (chars new.rest) (shown ++ longer)) all
-              (subst (λ s. ShowsUpTo options (chars old.text) ((cuts ++ adds.more) ++ w ∷ []) (chars new.rest) s) text
-              here);
+          (subst (λ s. ShowsUpTo options (chars old.text) ((cuts ++ adds.more) ++ w ∷ []) (chars new.rest) s) text
+          here);
     }
 
 -- the same, with the text as the loop's start and the cursor over places have it
@@ -93,17 +89,17 @@ pub adds_token : (options : Options) (text start : List ℕ) (old new : CursorSt
 adds_token options text start old new places l piece longer same seen adds takes accepted shown =
     let Here : List ℕ → Type 0 = λ t. Adds options (chars t) start (chars new.rest) longer in
     let Shown : List ℕ → Type 0 = λ t. Appends (IsShownToken options (chars t) (source_view l.form) (chars l.text.now)
-        l.lo l.hi) piece longer in
+    l.lo l.hi) piece longer in
     let Before : List ℕ → Type 0 = λ t. Adds options (chars t) start (chars old.rest) piece in
     subst Here same (adds_one options start old new l piece longer (subst Before (sym same) adds) takes accepted
-        (subst Shown seen shown))
+    (subst Shown seen shown))
 
 -- the cursor after a token
 pub stands_on : (tokens next : CursorState) (places later : List ℕ) (l : SourceToken) → IsCursorOver tokens places
     → TakesSource tokens l next → later ≡ places → IsCursorOver next later
 stands_on tokens next places later l stands takes same =
     let tail : IsTail tokens.text next.rest = tail_step tokens.text tokens.rest next.rest stands.cursor.following
-        takes.following in
+    takes.following in
     record {
       cursor = subst (λ t. IsCursorState t next.rest) (sym takes.same)
           (record { is_text = stands.cursor.is_text; following = tail });
@@ -115,7 +111,7 @@ pub begins_rest : (tokens next : CursorState) (places rest : List ℕ) (l : Sour
     → TakesSource tokens l next → rest ≡ tokens.rest → BeginsRest l places rest
 begins_rest tokens next places rest l stands takes same =
     let whole : (t : List ℕ) → t ≡ tokens.text → BeginsRest l t tokens.rest = λ t e. subst
-        (λ (t : List ℕ). BeginsRest l t tokens.rest) (sym e) (record {
+    (λ (t : List ℕ). BeginsRest l t tokens.rest) (sym e) (record {
       cursor = stands.cursor;
       lo_is = takes.place;
       hi_is = omega (arith, takes.is_cut.lo_is, takes.is_cut.hi_is, ap byte_len takes.is_cut.chars_are);
@@ -136,8 +132,15 @@ stops options text old places start piece e place same stands adds error at is_p
   chars old.rest,
   adds,
   error,
-  omega (arith, at, ap length same, ap (λ t. byte_len (chars t)) same, char_len old.rest
-      stands.cursor.following.is_text, char_len old.text stands.cursor.is_text),
+  omega (
+    arith,
+    at,
+    ap length same,
+    ap (λ t. byte_len (chars t)) same,
+    char_len old.rest
+        stands.cursor.following.is_text,
+    char_len old.text stands.cursor.is_text,
+  ),
   subst (λ (t : List ℕ). IsPlaceIn options.by_line (chars t) e.at e.at place) (stands.text_is ∙ same) is_place,
 )
 
@@ -150,7 +153,7 @@ adds_join options whole a b d first last p q = record {
       let P : List CutSource → List ℕ → Type 0 = λ c s. ShowsUpTo options whole c d s in
       subst (λ c. P c (shown ++ (first ++ last))) (append_assoc cuts p.more q.more)
       (subst (P ((cuts ++ p.more) ++ q.more)) (append_assoc shown first last)
-          (q.goes_on (cuts ++ p.more) (shown ++ first) (p.goes_on cuts shown shows)));
+      (q.goes_on (cuts ++ p.more) (shown ++ first) (p.goes_on cuts shown shows)));
 }
 
 -- ---- tokens of which nothing is shown
@@ -171,8 +174,8 @@ joins_nothing : (options : Options) (whole : List ℕ) (ws : List CutSource) →
 joins_nothing options whole [] each = refl
 joins_nothing options whole (w ∷ ws) each =
     joins_append (IsShown options whole) (w ∷ []) ws [] [] (joins_one (IsShown options whole) w []
-        (nothing_of options whole (source_text w.token) (source_kind w.token) w.at (source_end w) each.0))
-        (joins_nothing options whole ws each.1)
+    (nothing_of options whole (source_text w.token) (source_kind w.token) w.at (source_end w) each.0))
+    (joins_nothing options whole ws each.1)
 
 pub unshown_passed : (options : Options) (old new : CursorState) → options.rejects_strays ≡ false → PassesTo old new
     → IsUnshown options old new
@@ -191,8 +194,7 @@ unshown_passed options old new lax p = record {
 }
 
 pub unshown_none : (options : Options) (old : CursorState) → IsCursorState old.text old.rest → IsUnshown options old old
-unshown_none options old is = record { adds = adds_none options (chars old.text) (chars old.rest) [] refl; same = refl;
-    following = tail_self old.rest is.following.is_text }
+unshown_none options old is = record { adds = adds_none options (chars old.text) (chars old.rest) [] refl; same = refl; following = tail_self old.rest is.following.is_text }
 
 pub unshown_more : (options : Options) (a b d : CursorState) (l : SourceToken) → IsUnshown options a b
     → TakesSource b l d → (IsTrue options.rejects_strays → source_view l.form ≢ StrayKind)
@@ -209,7 +211,7 @@ pub stands_before : (options : Options) (tokens between : CursorState) (places :
     → IsUnshown options tokens between → IsCursorOver between places
 stands_before options tokens between places stands unshown =
     let tail : IsTail tokens.text between.rest = tail_step tokens.text tokens.rest between.rest stands.cursor.following
-        unshown.following in
+    unshown.following in
     record {
       cursor = subst (λ t. IsCursorState t between.rest) (sym unshown.same)
           (record { is_text = stands.cursor.is_text; following = tail });
@@ -235,23 +237,26 @@ pub adds_literal : (options : Options) (text start : List ℕ) (old new : Cursor
 adds_literal options text start old new places l piece longer same seen adds t (last, is_last, longer_is) =
     let between = t.between in
     let nothing : Adds options (chars text) (chars old.rest) (chars between.rest) [] = subst
-        (λ (z : List ℕ). Adds options (chars z) (chars old.rest) (chars between.rest) []) same t.unshown.adds in
+    (λ (z : List ℕ). Adds options (chars z) (chars old.rest) (chars between.rest) []) same t.unshown.adds in
     let before : Adds options (chars text) start (chars between.rest) piece = subst
-        (λ (z : List ℕ). Adds options (chars text) start (chars between.rest) z) (append-nil piece)
-        (adds_join options (chars text) start (chars old.rest) (chars between.rest) piece [] adds nothing) in
+    (λ (z : List ℕ). Adds options (chars text) start (chars between.rest) z) (append-nil piece)
+    (adds_join options (chars text) start (chars old.rest) (chars between.rest) piece [] adds nothing) in
     adds_token options text start between new places l piece longer (t.unshown.same ∙ same) (seen ∙ sym t.unshown.same)
-        before t.takes (λ _. no_stray (chars l.text.now) (source_view l.form) t.is_literal)
-    (last, shown_literal options (chars places) (chars l.text.now) (source_view l.form) l.lo l.hi last t.is_literal
-        is_last, longer_is)
+    before t.takes (λ _. no_stray (chars l.text.now) (source_view l.form) t.is_literal) (
+      last,
+      shown_literal options (chars places) (chars l.text.now) (source_view l.form) l.lo l.hi last t.is_literal
+          is_last,
+      longer_is,
+    )
 
 pub adds_unshown : (options : Options) (text start piece : List ℕ) (old new : CursorState) → old.text ≡ text
     → Adds options (chars text) start (chars old.rest) piece → IsUnshown options old new
     → Adds options (chars text) start (chars new.rest) piece
 adds_unshown options text start piece old new same adds unshown =
     let nothing : Adds options (chars text) (chars old.rest) (chars new.rest) [] = subst
-        (λ (z : List ℕ). Adds options (chars z) (chars old.rest) (chars new.rest) []) same unshown.adds in
+    (λ (z : List ℕ). Adds options (chars z) (chars old.rest) (chars new.rest) []) same unshown.adds in
     subst (λ (z : List ℕ). Adds options (chars text) start (chars new.rest) z) (append-nil piece)
-        (adds_join options (chars text) start (chars old.rest) (chars new.rest) piece [] adds nothing)
+    (adds_join options (chars text) start (chars old.rest) (chars new.rest) piece [] adds nothing)
 
 -- where a rest of the text begins
 pub rest_boundary : (text places rest : List ℕ) (at : ℕ) → IsCursorState text rest → places ≡ text → at + length rest
@@ -259,7 +264,7 @@ pub rest_boundary : (text places rest : List ℕ) (at : ℕ) → IsCursorState t
 rest_boundary text places rest at is seen place =
     let e : length text - length rest ≡ at = omega (arith, place) in
     subst (λ (t : List ℕ). IsCharBoundary t at) (sym seen) (subst (IsCharBoundary text) e
-        (cut_boundary text rest is.following))
+    (cut_boundary text rest is.following))
 
 pub rest_is : (text places rest taken : List ℕ) (at : ℕ) → IsCursorState text rest → places ≡ text → at + length rest
     ≡ length text → taken ≡ drop at places → taken ≡ rest
@@ -317,7 +322,7 @@ any_cases false false shown lines utf8 is k = (λ t. some_after shown (chars lin
 any_cases false true shown lines utf8 is k =
     let no_bytes : lines ≡ [] = empty_list lines k in
     let nil : shown ++ chars lines ≡ [] = ap (λ z. z ++ chars lines) (nothing_yet shown is.1) ∙ ap chars no_bytes
-        ∙ chars-nil in
+    ∙ chars-nil in
     (λ e. absurd (false≢true e), λ some. absurd (some nil))
 
 -- whether anything was written
@@ -325,7 +330,7 @@ any_more : (any more : Bool) (shown lines : List ℕ) → IsUtf8 lines → (IsTr
     ≡ (any || not (length lines == 0)) → IsTrue more ↔ ((shown ++ chars lines) ≢ [])
 any_more any more shown lines utf8 is more_is =
     subst (λ (b : Bool). IsTrue b ↔ ((shown ++ chars lines) ≢ [])) (sym more_is)
-        (any_cases any (length lines == 0) shown lines utf8 is refl)
+    (any_cases any (length lines == 0) shown lines utf8 is refl)
 
 -- lines more
 pub written_more : (options : Options) (whole rest next lines : List ℕ) (any more : Bool)
@@ -349,10 +354,13 @@ pub written_beginning : (options : Options) (whole rest next lines : List ℕ) (
 written_beginning options whole rest next lines any old mid new has adds utf8 (count, appends) = (
   has.shown ++ chars lines,
   (has.cuts ++ adds.more, next, adds.goes_on has.cuts has.shown has.shows),
-  (length (encode_utf8_all has.shown) + count, subst (λ z. AppendsBytes old new z)
-      (sym (ap (take (length (encode_utf8_all has.shown) + count)) (lines_bytes has.shown lines utf8)
-      ∙ take-append-add (encode_utf8_all has.shown) lines count))
-      (Appends-trans old mid new (encode_utf8_all has.shown) (take count lines) has.written appends)),
+  (
+    length (encode_utf8_all has.shown) + count,
+    subst (λ z. AppendsBytes old new z)
+        (sym (ap (take (length (encode_utf8_all has.shown) + count)) (lines_bytes has.shown lines utf8)
+        ∙ take-append-add (encode_utf8_all has.shown) lines count))
+        (Appends-trans old mid new (encode_utf8_all has.shown) (take count lines) has.written appends),
+  ),
 )
 
 -- a front of the source, whatever the step

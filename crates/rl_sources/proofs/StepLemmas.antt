@@ -1,8 +1,6 @@
 -- What is appended for one token.
 use Rattle.rl_grammar.proofs.Names.{HasNoReading, Kind}
-use Rattle.rl_tokens.proofs.Common.{Bool, IsAscii, IsUtf8, List, None, Option, Some, [], ap, append_assoc, arith, chars,
-    chars-IsAscii, cond, false, inl, inr, lit<, nat_tests, refl, subst, suc, sym, true, zero, ℕ, ◌%◌, ◌++◌, ◌/◌, ◌<◌,
-    ◌==◌, ◌∙◌, ◌∷◌, ◌≡◌, ◌⊎◌}
+use Rattle.rl_tokens.proofs.Common.{Bool, IsAscii, IsUtf8, List, None, Option, Some, [], ap, append_assoc, arith, chars, chars-IsAscii, cond, false, inl, inr, lit<, nat_tests, refl, subst, suc, sym, true, zero, ℕ, ◌%◌, ◌++◌, ◌/◌, ◌<◌, ◌==◌, ◌∙◌, ◌∷◌, ◌≡◌, ◌⊎◌}
 use Rattle.std.specs.Fmt.{digits, decimal, digits_onto, digit_glyph}
 use Rattle.std.proofs.lemmas.List.{append-nil}
 use Rattle.std.proofs.lemmas.Str.{IsAscii-append}
@@ -45,10 +43,10 @@ decimal_ascii n = onto_ascii 64 n [] IsAscii-nil
 pub place_ascii : (place : Place) → IsAscii (place_text place)
 place_ascii (Bytes lo hi) =
     IsAscii-append (decimal lo) (46 ∷ 46 ∷ decimal hi) (decimal_ascii lo)
-        (IsAscii-cons 46 (46 ∷ decimal hi) (lit< tt) (IsAscii-cons 46 (decimal hi) (lit< tt) (decimal_ascii hi)))
+    (IsAscii-cons 46 (46 ∷ decimal hi) (lit< tt) (IsAscii-cons 46 (decimal hi) (lit< tt) (decimal_ascii hi)))
 place_ascii (Line at) =
     IsAscii-append (decimal at.line) (58 ∷ decimal at.column) (decimal_ascii at.line)
-        (IsAscii-cons 58 (decimal at.column) (lit< tt) (decimal_ascii at.column))
+    (IsAscii-cons 58 (decimal at.column) (lit< tt) (decimal_ascii at.column))
 
 pub spaced_ascii : (place : Place) → IsAscii (place_text place ++ 32 ∷ [])
 spaced_ascii place = IsAscii-append (place_text place) (32 ∷ []) (place_ascii place)
@@ -60,18 +58,21 @@ pub placed : (place : Place) (text old mid new : List ℕ) → IsUtf8 old → mi
 placed place text old mid new utf8 written (line, is_line, e) =
     let shown = place_text place ++ 32 ∷ line in
     let before : chars mid ≡ chars old ++ (place_text place ++ 32 ∷ []) = pushed old mid (place_text place ++ 32 ∷ [])
-        utf8 written ∙ ap (λ z. chars old ++ z) (chars-IsAscii (place_text place ++ 32 ∷ []) (spaced_ascii place)) in
+    utf8 written ∙ ap (λ z. chars old ++ z) (chars-IsAscii (place_text place ++ 32 ∷ []) (spaced_ascii place)) in
     let joined : (chars old ++ (place_text place ++ 32 ∷ [])) ++ line ≡ chars old ++ shown =
     append_assoc (chars old) (place_text place ++ 32 ∷ []) line
-        ∙ ap (λ z. chars old ++ z) (append_assoc (place_text place) (32 ∷ []) line) in
+    ∙ ap (λ z. chars old ++ z) (append_assoc (place_text place) (32 ∷ []) line) in
     (shown, (line, is_line, refl), e ∙ ap (λ z. z ++ line) before ∙ joined)
 
 -- the word of a text's line, by what was found
 pub found_label : (text label : List ℕ) (kind : Option Kind) (found : Option Found)
     → IfNone found (HasNoReading (chars text)) → IfSome found (IsFound text)
     → MatchOption found (kind ≡ None) (λ f. kind ≡ Some f.kind) → label ≡ label_of kind → IsLabelOf (chars text) label
-found_label text label kind (Some f) none is k e = (Some f.kind,
-    (is.reads.0, chars (suffix_in text f.body), is.reads.1), e ∙ ap label_of k)
+found_label text label kind (Some f) none is k e = (
+  Some f.kind,
+  (is.reads.0, chars (suffix_in text f.body), is.reads.1),
+  e ∙ ap label_of k,
+)
 found_label text label kind None none is k e = (None, none, e ∙ ap label_of k)
 
 -- a text's line, and what follows it
@@ -80,9 +81,24 @@ pub explained : (options : Options) (whole text label : List ℕ) (place : Place
     → Appends (IsPlacedText place text) old mid → Appends (IsReasonLine options whole text lo) mid new
     → Appends (IsShownLiteral options whole text lo hi) old new
 explained options whole text label place lo hi old mid new is_label picked is_place
-    (first, (line, is_line, first_is), e) (reason, is_reason, f) =
-    (first ++ reason, (label, is_label, inl (picked, (first, reason, (place, line, is_place, is_line, first_is),
-        is_reason, refl))), f ∙ ap (λ z. z ++ reason) e ∙ append_assoc old first reason)
+    (first, (line, is_line, first_is), e) (reason, is_reason, f) = (
+      first ++ reason,
+      (
+        label,
+        is_label,
+        inl (
+          picked,
+          (
+            first,
+            reason,
+            (place, line, is_place, is_line, first_is),
+            is_reason,
+            refl,
+          ),
+        ),
+      ),
+      f ∙ ap (λ z. z ++ reason) e ∙ append_assoc old first reason,
+    )
 
 -- nothing of a text that isn't picked
 pub not_picked : (options : Options) (whole text label : List ℕ) (lo hi : ℕ) (old : List ℕ) → IsLabelOf text label

@@ -1,6 +1,5 @@
 -- What a scan has written after a step.
-use Rattle.rl_tokens.proofs.Common.{Bool, IsUtf8, List, Option, [], ap, chars, length, not, subst, sym, ℕ, ◌==◌, ◌||◌,
-    ◌∙◌, ◌≡◌}
+use Rattle.rl_tokens.proofs.Common.{Bool, IsUtf8, List, Option, [], ap, chars, length, not, subst, sym, ℕ, ◌==◌, ◌||◌, ◌∙◌, ◌≡◌}
 use Rattle.std.specs.Io.KnownBytes.{Appends}
 use Rattle.rl_tokens.specs.Texts.{byte_len}
 use Rattle.rl_tokens.specs.Cursors.{CursorState}
@@ -34,7 +33,7 @@ write_fails {A = A} options text lines old new places step any out mid after fau
     let found = step_adds options old (chars lines) new places step is in
     subst (λ (f : RunFault A). FailsScan {A = A} options (chars text) out after (Fault f)) (sym fault_is)
     (written_beginning options (chars text) (chars old.rest) found.0 lines any out mid after has
-        (of_text options text old found.0 (chars lines) same found.1) utf8 begins)
+    (of_text options text old found.0 (chars lines) same found.1) utf8 begins)
 
 -- there is more
 pub writes_on : (options : Options) (text lines : List ℕ) (old new : CursorState) (places : List ℕ) (any more : Bool)
@@ -43,7 +42,7 @@ pub writes_on : (options : Options) (text lines : List ℕ) (old new : CursorSta
     ≡ (any || not (length lines == 0)) → HasWritten options (chars text) (chars new.rest) more out after
 writes_on options text lines old new places any more out mid after same has is utf8 appends more_is =
     written_more options (chars text) (chars old.rest) (chars new.rest) lines any more out mid after has
-        (of_text options text old (chars new.rest) (chars lines) same is.adds) utf8 appends more_is
+    (of_text options text old (chars new.rest) (chars lines) same is.adds) utf8 appends more_is
 
 -- the source ends
 pub writes_all : (options : Options) (text lines : List ℕ) (old new : CursorState) (places : List ℕ) (any more : Bool)
@@ -52,7 +51,7 @@ pub writes_all : (options : Options) (text lines : List ℕ) (old new : CursorSt
     ≡ (any || not (length lines == 0)) → Scans options (chars text) out after more
 writes_all options text lines old new places any more out mid after same has is utf8 appends more_is =
     let all = written_more options (chars text) (chars old.rest) [] lines any more out mid after has
-        (of_text options text old [] (chars lines) same is) utf8 appends more_is in
+    (of_text options text old [] (chars lines) same is) utf8 appends more_is in
     (all.cuts, all.shown, all.shows, all.any_is, all.written)
 
 -- the source has an error
@@ -64,7 +63,7 @@ pub writes_up_to : (A : Type 0) (options : Options) (text lines : List ℕ) (old
 writes_up_to A options text lines old new places place kind any more out mid after same has
     (at, rest, adds, error, rest_place, is_place) utf8 appends more_is =
     let all = written_more options (chars text) (chars old.rest) rest lines any more out mid after has
-        (of_text options text old rest (chars lines) same adds) utf8 appends more_is in (
+    (of_text options text old rest (chars lines) same adds) utf8 appends more_is in (
       all.shown,
       record {
         cuts = all.cuts;

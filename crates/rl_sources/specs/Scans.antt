@@ -1,16 +1,14 @@
 -- What is shown of a source: a line for each of its literals, after its place, and where it is asked
 -- for one more that says why it has no reading. Texts and what is shown are lists of characters, what
 -- is written lists of bytes.
-use Rattle.std.specs.Prelude.{◌≡◌, ◌≢◌, ◌⊎◌, ◌↔◌, ℕ, ◌+◌, Bool, List, [], ◌∷◌, ◌++◌, IsTrue, codes, encode_utf8_all,
-    Option}
+use Rattle.std.specs.Prelude.{◌≡◌, ◌≢◌, ◌⊎◌, ◌↔◌, ℕ, ◌+◌, Bool, List, [], ◌∷◌, ◌++◌, IsTrue, codes, encode_utf8_all, Option}
 use Prim.Native.Char.{code}
 use Rattle.std.specs.List.{All}
 use Rattle.std.specs.Io.KnownBytes.{Appends}
 use Rattle.rl_tokens.specs.Texts.{byte_len}
 use Rattle.rl_tokens.specs.Lexemes.{LiteralForm, IdentifierForm}
 use Rattle.rl_tokens.specs.Reading.{HasReading, truth_text}
-use Rattle.rl_tokens.specs.Sources.{source_text, SourceKind, PlainKind, StrayKind, source_kind, CutSource, source_end,
-    IsCutUpTo, SourceBefore, SourceErrorAt}
+use Rattle.rl_tokens.specs.Sources.{source_text, SourceKind, PlainKind, StrayKind, source_kind, CutSource, source_end, IsCutUpTo, SourceBefore, SourceErrorAt}
 use Rattle.rl_tokens.specs.declared.lex_error.LexKind.{LexKind}
 use Rattle.rl_tokens.specs.declared.lex_error.LexKind.TheVariants.{StrayCharacter}
 use Rattle.rl_grammar.specs.declared.flaws.Flaw.{Flaw}

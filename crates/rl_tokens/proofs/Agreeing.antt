@@ -10,8 +10,7 @@ use Rattle.rl_tokens.proofs.StrictQuoted.{quoted_strict_reads}
 use Rattle.rl_tokens.proofs.StrictNumbers.{int_strict_reads, int_strict_minus, float_strict_reads, float_strict_minus}
 
 bool_reads : (t x : List ℕ) (v : Contents) → StrictBool t v x → ReadsBool t v x
-bool_reads t x v s = record { truth = s.truth; text_is = s.text
-    ∙ same s.truth; suffix_is = s.suffix; contents_is = s.contents }
+bool_reads t x v s = record { truth = s.truth; text_is = s.text ∙ same s.truth; suffix_is = s.suffix; contents_is = s.contents }
   where
     same : (b : Bool) → (if b then codes "true" else codes "false") ≡ truth_text b
     same true = refl

@@ -1,7 +1,5 @@
 -- The characters of identifiers in ASCII.
-use Rattle.rl_tokens.proofs.Common.{◌≡◌, ℕ, ◌<◌, Bool, true, false, not, ◌&&◌, ◌||◌, ◌==◌, ◌∙◌, ap, sym, refl, arith,
-    nat_lt, nat_tests, is_ascii_alphabetic, is_ascii_alphanumeric, is_xid_start-ascii, is_xid_continue-ascii,
-    is_xid_start, is_xid_continue}
+use Rattle.rl_tokens.proofs.Common.{◌≡◌, ℕ, ◌<◌, Bool, true, false, not, ◌&&◌, ◌||◌, ◌==◌, ◌∙◌, ap, sym, refl, arith, nat_lt, nat_tests, is_ascii_alphabetic, is_ascii_alphanumeric, is_xid_start-ascii, is_xid_continue-ascii, is_xid_start, is_xid_continue}
 use Rattle.rl_tokens.specs.Texts.{is_white}
 use Rattle.rl_tokens.specs.Lexemes.{is_start, is_continue}
 

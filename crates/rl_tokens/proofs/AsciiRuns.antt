@@ -1,9 +1,5 @@
 -- Runs of ASCII at the front of a text.
-use Rattle.rl_tokens.proofs.Common.{◌≡◌, ◌+◌, ◌<◌, ◌≤◌, ◌⊎◌, inl, inr, ℕ, zero, suc, Bool, true, false, cond, List, [],
-    ◌∷◌, ◌++◌, take, drop, get_or, refl, sym, ap, subst, ◌∙◌, arith, agree_below_at, and_parts, cases_Bool, nat_tests,
-    take-append-drop, prefix_len-le-length, IsCharBoundary-start, IsCharBoundary-after_ascii, IsUtf8-drop, IsUtf8-take,
-    chars-append, chars-IsAscii, encodes-chars, list_all, prefix_len, chars, encode_utf8_all, IsAscii, IsCharBoundary,
-    IsUtf8}
+use Rattle.rl_tokens.proofs.Common.{◌≡◌, ◌+◌, ◌<◌, ◌≤◌, ◌⊎◌, inl, inr, ℕ, zero, suc, Bool, true, false, cond, List, [], ◌∷◌, ◌++◌, take, drop, get_or, refl, sym, ap, subst, ◌∙◌, arith, agree_below_at, and_parts, cases_Bool, nat_tests, take-append-drop, prefix_len-le-length, IsCharBoundary-start, IsCharBoundary-after_ascii, IsUtf8-drop, IsUtf8-take, chars-append, chars-IsAscii, encodes-chars, list_all, prefix_len, chars, encode_utf8_all, IsAscii, IsCharBoundary, IsUtf8}
 use Rattle.std.proofs.lemmas.List.Sums.{prefix_len_passes}
 use Rattle.rl_tokens.specs.Texts.{first_passes, is_white, IsTail}
 use Rattle.rl_tokens.specs.Classes.{after_run, class_test}
@@ -34,7 +30,7 @@ module _ (q : ℕ → Bool) (low : PassesLow q) where
       let long = prefix_len-le-length q bs in
       let next : m + 1 ≡ suc m = omega arith in
       subst (IsCharBoundary bs) next (IsCharBoundary-after_ascii bs m u (omega arith)
-          (low (get_or bs m 0) (prefix_len_passes q bs m 0 within)))
+      (low (get_or bs m 0) (prefix_len_passes q bs m 0 within)))
 
   -- the bytes in front are ASCII
   low_all : (bs : List ℕ) → list_all q bs ≡ true → IsAscii bs
@@ -49,8 +45,11 @@ module _ (q : ℕ → Bool) (low : PassesLow q) where
     where
       go : (c < 128) ⊎ (128 ≤ c) → q c ≡ false
       go (inl small) = ap (first_passes q) (sym (low_front c cs small)) ∙ h
-      go (inr past) = elim (cases_Bool (q c)) [ inl is ↦ absurd (let small = low c is in omega arith) | inr fails ↦
-          fails ]
+      go (inr past) = elim (cases_Bool (q c)) [
+        | inl is ↦ absurd (let small = low c is in omega arith)
+        | inr fails ↦
+            fails
+      ]
 
   pub low_cut : (bs : List ℕ) → IsUtf8 bs → RunCut q bs
   low_cut bs u =
@@ -94,7 +93,7 @@ passed_over word [] back h = refl
 passed_over word (c ∷ front) back h =
     let parts = and_parts (is_held word c) (list_all (is_held word) front) h in
     ap (λ b. cond b (after_run (class_test (run_class word)) (front ++ back)) (c ∷ (front ++ back)))
-        (held_agrees word c (held_low word c parts.0) ∙ parts.0)
+    (held_agrees word c (held_low word c parts.0) ∙ parts.0)
     ∙ passed_over word front back parts.1
 
 pub run_past : (word : Bool) (bs rest : List ℕ) → IsUtf8 bs → rest ≡ drop (prefix_len (is_held word) bs) bs
@@ -103,7 +102,7 @@ run_past word bs rest u e =
     let run = held_cut word bs u in
     let test = class_test (run_class word) in
     ap (after_run test) run.cut ∙ passed_over word (chars (take (prefix_len (is_held word) bs) bs))
-        (chars (drop (prefix_len (is_held word) bs) bs)) run.plain
+    (chars (drop (prefix_len (is_held word) bs) bs)) run.plain
     ∙ ap (λ r. after_run test (chars r)) (sym e)
 
 -- and where it stops at ASCII it ends
@@ -115,5 +114,5 @@ run_ended word bs rest after b u e first low =
     let test = class_test (run_class word) in
     let fails : is_held word b ≡ false = ap (first_passes (is_held word)) (sym first ∙ ap chars e) ∙ run.stops in
     let stays : after_run test (b ∷ chars after) ≡ b ∷ chars after = ap
-        (λ t. cond t (after_run test (chars after)) (b ∷ chars after)) (held_agrees word b low ∙ fails) in
+    (λ t. cond t (after_run test (chars after)) (b ∷ chars after)) (held_agrees word b low ∙ fails) in
     sym (run_past word bs rest u e ∙ ap (after_run test) first ∙ stays ∙ sym first)

@@ -1,8 +1,5 @@
 -- Tests of characters: what one test's answer says of another's.
-use Rattle.rl_tokens.proofs.Common.{◌≡◌, ℕ, ◌<◌, ◌≤◌, ◌||◌, ◌&&◌, Bool, true, false, not, eqb, ltb, leb, List, [], ◌∷◌,
-    refl, sym, ap, subst, ◌∙◌, inl, inr, arith, digit_value, is_ascii_digit, is_ascii_hexdigit, is_ascii_alphanumeric,
-    list_all, list_any, eqb-true, ne_eqb, both_ways, and_parts, and_from, or_from, cases_Bool, cases_lt, not_from_false,
-    agree_below, agree_below_at, is_xid_start, is_xid_continue, is_xid_continue-ascii}
+use Rattle.rl_tokens.proofs.Common.{◌≡◌, ℕ, ◌<◌, ◌≤◌, ◌||◌, ◌&&◌, Bool, true, false, not, eqb, ltb, leb, List, [], ◌∷◌, refl, sym, ap, subst, ◌∙◌, inl, inr, arith, digit_value, is_ascii_digit, is_ascii_hexdigit, is_ascii_alphanumeric, list_all, list_any, eqb-true, ne_eqb, both_ways, and_parts, and_from, or_from, cases_Bool, cases_lt, not_from_false, agree_below, agree_below_at, is_xid_start, is_xid_continue, is_xid_continue-ascii}
 use Rattle.std.specs.Int.{is_in_range}
 use Rattle.std.proofs.lemmas.Bool.{le-ltb, lt-leb}
 use Rattle.unicode_ident.proofs.IdentLemmas.{is_xid_start-is_xid_continue}
@@ -91,4 +88,4 @@ pub word_without : (k : ℕ) (x : List ℕ) → k < 128 → (is_ascii_alphanumer
     → list_all (λ c. not (eqb c k)) x ≡ true
 word_without k x small not_one h =
     all_weaker is_xid_continue (λ c. not (eqb c k)) (λ c p. not_from_false (eqb c k) (continue_not k c small not_one p))
-        x (word_continues x h)
+    x (word_continues x h)

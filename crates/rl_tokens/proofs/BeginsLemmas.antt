@@ -1,7 +1,5 @@
 -- What a text begins with, by its bytes and by its characters.
-use Rattle.rl_tokens.proofs.Common.{◌≡◌, ℕ, ◌<◌, ◌≤◌, ◌⊎◌, inl, inr, true, ◌&&◌, ◌==◌, List, [], ◌∷◌, ◌++◌, ◌≢◌, ◌+◌,
-    length, drop, Option, Some, None, refl, sym, subst, ◌∙◌, ap, arith, and_parts, nat_tests, nat_lt, list_all, chars,
-    encode_utf8_all, IsUtf8, IsCharBoundary, encodes-chars, encodes-append, chars-append, IsUtf8-drop}
+use Rattle.rl_tokens.proofs.Common.{◌≡◌, ℕ, ◌<◌, ◌≤◌, ◌⊎◌, inl, inr, true, ◌&&◌, ◌==◌, List, [], ◌∷◌, ◌++◌, ◌≢◌, ◌+◌, length, drop, Option, Some, None, refl, sym, subst, ◌∙◌, ap, arith, and_parts, nat_tests, nat_lt, list_all, chars, encode_utf8_all, IsUtf8, IsCharBoundary, encodes-chars, encodes-append, chars-append, IsUtf8-drop}
 use Rattle.std.specs.Prelude.{nat_eq, IfSome, IfNone, MatchOption}
 use Rattle.std.specs.List.{starts_with}
 use Rattle.std.specs.Str.Pattern.{FindsTextPrefix}
@@ -23,9 +21,9 @@ begins_encoded [] cs low = refl
 begins_encoded (k ∷ p) [] low = refl
 begins_encoded (k ∷ p) (c ∷ cs) low =
     let h : (nat_lt k 128 ≡ true) × (list_all (λ k. nat_lt k 128) p ≡ true) = and_parts (nat_lt k 128)
-        (list_all (λ k. nat_lt k 128) p) low in
+    (list_all (λ k. nat_lt k 128) p) low in
     begins_one k p c cs (let q : nat_lt k 128 ≡ true = h.0 in grind (arith, nat_tests)) (begins_encoded p cs h.1)
-        (cases128 c)
+    (cases128 c)
 
 -- an ASCII word begins the bytes where it begins the characters
 pub begins_bytes : (p t : List ℕ) → IsUtf8 t → list_all (λ k. nat_lt k 128) p ≡ true → begins p t ≡ begins p (chars t)
@@ -56,7 +54,7 @@ pub strip_prefix_none : (n bs : List ℕ) (r : Option (Bor (List ℕ))) → Stri
 strip_prefix_none n bs (Some x) m u w = tt
 strip_prefix_none n bs None m u w = λ x e.
     m (encode_utf8_all x) (sym (encodes-chars bs w) ∙ ap encode_utf8_all e ∙ encodes-append (chars n) x
-        ∙ ap (λ z. z ++ encode_utf8_all x) (encodes-chars n u))
+    ∙ ap (λ z. z ++ encode_utf8_all x) (encodes-chars n u))
 
 pub strip_prefix_tail : (n bs : List ℕ) (r : Option (Bor (List ℕ))) → StripPrefix n bs r → IsUtf8 bs
     → IfSome r (λ x. IsTail bs x.now)

@@ -1,11 +1,8 @@
 -- What a C string stands for holds no zero.
-use Rattle.rl_tokens.proofs.Common.{◌≡◌, ℕ, ◌+◌, ◌/◌, ◌%◌, ◌≤◌, true, false, not, eqb, ltb, List, [], ◌∷◌, ◌++◌, refl,
-    ap, ◌∙◌, inl, inr, arith, encode_utf8, list_all, AllByRecursion, list_all-append, and_parts, and_from, cases_Bool,
-    not-true, not_from_false, ne_eqb, or_parts}
+use Rattle.rl_tokens.proofs.Common.{◌≡◌, ℕ, ◌+◌, ◌/◌, ◌%◌, ◌≤◌, true, false, not, eqb, ltb, List, [], ◌∷◌, ◌++◌, refl, ap, ◌∙◌, inl, inr, arith, encode_utf8, list_all, AllByRecursion, list_all-append, and_parts, and_from, cases_Bool, not-true, not_from_false, ne_eqb, or_parts}
 use Rattle.std.specs.Prelude.{encode_utf8_all}
 use Rattle.rl_tokens.specs.declared.kind.Kind.TheVariants.{CStr}
-use Rattle.rl_tokens.specs.Quoted.{QuotedUnit, Plain, CrLf, Named, Hex, Unicode, Continuation, letter_value, unit_value,
-    hex_value, unicode_value, allows_code, is_plain, IsUnit, values}
+use Rattle.rl_tokens.specs.Quoted.{QuotedUnit, Plain, CrLf, Named, Hex, Unicode, Continuation, letter_value, unit_value, hex_value, unicode_value, allows_code, is_plain, IsUnit, values}
 use Rattle.rl_tokens.specs.Reading.{Bytes, Reads}
 use Rattle.rl_tokens.specs.CStrings.{is_zero, has_no_zero}
 
@@ -39,7 +36,7 @@ encodes_no_zero [] h = refl
 encodes_no_zero (c ∷ cs) h =
     let p = and_parts (allows_code CStr c) (list_all (allows_code CStr) cs) h in
     join_no_zero (encode_utf8 c) (encode_utf8_all cs) (encode_no_zero c (not-true (eqb c 0) p.0))
-        (encodes_no_zero cs p.1)
+    (encodes_no_zero cs p.1)
 
 one_no_zero : (c : ℕ) → allows_code CStr c ≡ true → has_no_zero (c ∷ []) ≡ true
 one_no_zero c h = and_from _ _ h refl

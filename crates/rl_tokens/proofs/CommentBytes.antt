@@ -1,8 +1,5 @@
 -- Where comments end, told by the bytes of a text.
-use Rattle.rl_tokens.proofs.Common.{◌≡◌, ℕ, suc, zero, ◌<◌, ◌≤◌, ◌⊎◌, inl, inr, Bool, true, false, ◌&&◌, ◌==◌, cond,
-    List, [], ◌∷◌, ◌++◌, length, get_or, Option, Some, None, refl, sym, ◌∙◌, ap, arith, nat_tests, AllByRecursion,
-    ltb-false, is_ascii, chars, encode_utf8_all, IsUtf8, option_map, encode_ascii, length-encode, len_utf8_bounds,
-    encodes-chars, chars_from_encodes}
+use Rattle.rl_tokens.proofs.Common.{◌≡◌, ℕ, suc, zero, ◌<◌, ◌≤◌, ◌⊎◌, inl, inr, Bool, true, false, ◌&&◌, ◌==◌, cond, List, [], ◌∷◌, ◌++◌, length, get_or, Option, Some, None, refl, sym, ◌∙◌, ap, arith, nat_tests, AllByRecursion, ltb-false, is_ascii, chars, encode_utf8_all, IsUtf8, option_map, encode_ascii, length-encode, len_utf8_bounds, encodes-chars, chars_from_encodes}
 use Rattle.std.specs.Char.{encode_utf8}
 use Rattle.std.proofs.lemmas.Str.{inside_one}
 use Rattle.rl_tokens.specs.Texts.{first_passes}
@@ -90,7 +87,7 @@ block_two : (d c e : ℕ) (cs : List ℕ) → ((d : ℕ) → Same (after_block d
     ⊎ (128 ≤ e) → Same (after_block d (encode_utf8_all (c ∷ e ∷ cs))) (after_block d (c ∷ e ∷ cs))
 block_two d c e cs more one (inr high) _ =
     block_past_all d (encode_utf8 c) (encode_utf8_all (e ∷ cs)) (encode_high c high) ∙ one
-        ∙ ap (option_map encode_utf8_all) (sym (block_past_high d c (e ∷ cs) high))
+    ∙ ap (option_map encode_utf8_all) (sym (block_past_high d c (e ∷ cs) high))
 block_two d c e cs more one (inl low) (inl low') =
     ap (after_block d) (low_front c (e ∷ cs) low ∙ ap (λ x. c ∷ x) (low_front e cs low'))
     ∙ block_low d c e cs more (ap (after_block d) (sym (low_front e cs low')) ∙ one)
@@ -143,15 +140,24 @@ not_equal c k l h = false_unless (c == k) (λ e. let q : c ≡ k = grind (arith,
 -- What begins with no character of ASCII begins no comment, and is plain inside one.
 pub wide_comment : (t : List ℕ) → first_passes is_ascii t ≡ false → None ≡ after_comment t
 wide_comment [] h = refl
-wide_comment (c ∷ t) h = rw (not_equal c 47 (omega arith) (ltb-false c 128 h), not_equal c 42 (omega arith)
-    (ltb-false c 128 h)) refl
+wide_comment (c ∷ t) h = rw (
+  not_equal c 47 (omega arith) (ltb-false c 128 h),
+  not_equal c 42 (omega arith)
+      (ltb-false c 128 h),
+) refl
 
 pub wide_line : (t : List ℕ) → first_passes is_ascii t ≡ false → true ≡ is_comment_line t
 wide_line [] h = refl
-wide_line (c ∷ t) h = rw (not_equal c 33 (omega arith) (ltb-false c 128 h), not_equal c 47 (omega arith)
-    (ltb-false c 128 h)) refl
+wide_line (c ∷ t) h = rw (
+  not_equal c 33 (omega arith) (ltb-false c 128 h),
+  not_equal c 47 (omega arith)
+      (ltb-false c 128 h),
+) refl
 
 pub wide_block : (t : List ℕ) → first_passes is_ascii t ≡ false → true ≡ is_comment_block t
 wide_block [] h = refl
-wide_block (c ∷ t) h = rw (not_equal c 33 (omega arith) (ltb-false c 128 h), not_equal c 42 (omega arith)
-    (ltb-false c 128 h)) refl
+wide_block (c ∷ t) h = rw (
+  not_equal c 33 (omega arith) (ltb-false c 128 h),
+  not_equal c 42 (omega arith)
+      (ltb-false c 128 h),
+) refl

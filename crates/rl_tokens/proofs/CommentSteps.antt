@@ -1,7 +1,5 @@
 -- One step of the search for the end of a comment.
-use Rattle.rl_tokens.proofs.Common.{◌≡◌, ℕ, suc, zero, ◌+◌, ◌-◌, ◌<◌, ◌≤◌, Bool, true, false, not, ◌&&◌, ◌==◌, cond,
-    List, [], ◌∷◌, ◌++◌, append-nil, length, get_or, take, drop, Option, None, refl, sym, ◌∙◌, ap, arith,
-    prefix_len-le-length, and_from, and_parts, ne_eqb, IsUtf8-nil, chars, list_all, prefix_len}
+use Rattle.rl_tokens.proofs.Common.{◌≡◌, ℕ, suc, zero, ◌+◌, ◌-◌, ◌<◌, ◌≤◌, Bool, true, false, not, ◌&&◌, ◌==◌, cond, List, [], ◌∷◌, ◌++◌, append-nil, length, get_or, take, drop, Option, None, refl, sym, ◌∙◌, ap, arith, prefix_len-le-length, and_from, and_parts, ne_eqb, IsUtf8-nil, chars, list_all, prefix_len}
 use Rattle.std.proofs.Common.{add-one}
 use Rattle.std.proofs.lemmas.List.{drop_more, get_or-drop, drop-drop, length-drop}
 use Rattle.std.proofs.Math.Seq.{take-length}
@@ -9,8 +7,7 @@ use Rattle.rl_tokens.specs.Texts.{IsTail}
 use Rattle.rl_tokens.specs.Mirrors.SkippedAt.{after_block, after_line}
 use Rattle.rl_tokens.specs.Scanning.{is_other, IsNextMark}
 use Rattle.rl_tokens.specs.declared.scan.Marks.{Marks}
-use Rattle.rl_tokens.proofs.Comments.{closed, after_block-step, block_goes_on, false_unless, both, OneLine,
-    after_line-past, after_line-open}
+use Rattle.rl_tokens.proofs.Comments.{closed, after_block-step, block_goes_on, false_unless, both, OneLine, after_line-past, after_line-open}
 use Rattle.rl_tokens.proofs.LexemeSteps.{only}
 use Rattle.rl_tokens.proofs.ScanLemmas.{drop_next, not_first, not_second}
 
@@ -39,28 +36,28 @@ turn_at s i d l =
     ap (after_block d) (drop_more s i 0 l)
     ∙ turn d (get_or s i 0) (drop (i + 1) s)
     ∙ ap (λ e. Turns d (get_or s i 0) e (closed d (drop 1 (drop (i + 1) s)))
-        (after_block (suc d) (drop 1 (drop (i + 1) s))) (after_block d (drop (i + 1) s)))
-        (get_or-drop (i + 1) s 0 0 ∙ ap (λ k. get_or s k 0) (let e : i + 1 + 0 ≡ i + 1 = omega arith in e))
+    (after_block (suc d) (drop 1 (drop (i + 1) s))) (after_block d (drop (i + 1) s)))
+    (get_or-drop (i + 1) s 0 0 ∙ ap (λ k. get_or s k 0) (let e : i + 1 + 0 ≡ i + 1 = omega arith in e))
     ∙ ap (λ t. Turns d (get_or s i 0) (get_or s (i + 1) 0) (closed d t) (after_block (suc d) t)
-        (after_block d (drop (i + 1) s))) (drop-drop 1 (i + 1) s)
+    (after_block d (drop (i + 1) s))) (drop-drop 1 (i + 1) s)
 
 pub block_closes : (s : List ℕ) (i d : ℕ) → i < length s → get_or s i 0 ≡ 42 → get_or s (i + 1) 0 ≡ 47
     → after_block d (drop i s) ≡ closed d (drop (i + 1 + 1) s)
 block_closes s i d l p q =
     turn_at s i d l
     ∙ ap (λ c. Turns d c (get_or s (i + 1) 0) (closed d (drop (i + 1 + 1) s)) (after_block (suc d) (drop (i + 1 + 1) s))
-        (after_block d (drop (i + 1) s))) p
+    (after_block d (drop (i + 1) s))) p
     ∙ ap (λ e. Turns d 42 e (closed d (drop (i + 1 + 1) s)) (after_block (suc d) (drop (i + 1 + 1) s))
-        (after_block d (drop (i + 1) s))) q
+    (after_block d (drop (i + 1) s))) q
 
 pub block_opens : (s : List ℕ) (i d : ℕ) → i < length s → get_or s i 0 ≡ 47 → get_or s (i + 1) 0 ≡ 42
     → after_block d (drop i s) ≡ after_block (d + 1) (drop (i + 1 + 1) s)
 block_opens s i d l p q =
     turn_at s i d l
     ∙ ap (λ c. Turns d c (get_or s (i + 1) 0) (closed d (drop (i + 1 + 1) s)) (after_block (suc d) (drop (i + 1 + 1) s))
-        (after_block d (drop (i + 1) s))) p
+    (after_block d (drop (i + 1) s))) p
     ∙ ap (λ e. Turns d 47 e (closed d (drop (i + 1 + 1) s)) (after_block (suc d) (drop (i + 1 + 1) s))
-        (after_block d (drop (i + 1) s))) q
+    (after_block d (drop (i + 1) s))) q
     ∙ ap (λ n. after_block n (drop (i + 1 + 1) s)) (sym (add-one d))
 
 pub block_goes : (s : List ℕ) (i d : ℕ) → i < length s → (get_or s i 0 ≡ 42 → get_or s (i + 1) 0 ≡ 47 → ⊥)
@@ -68,14 +65,14 @@ pub block_goes : (s : List ℕ) (i d : ℕ) → i < length s → (get_or s i 0 �
 block_goes s i d l p q =
     turn_at s i d l
     ∙ ap (λ b. cond b (closed d (drop (i + 1 + 1) s)) (cond (get_or s i 0 == 47 && get_or s (i + 1) 0 == 42)
-        (after_block (suc d) (drop (i + 1 + 1) s)) (after_block d (drop (i + 1) s))))
-        (false_unless (get_or s i 0 == 42 && get_or s (i + 1) 0 == 47)
-        (λ h. let k : (get_or s i 0 ≡ 42) × (get_or s (i + 1) 0 ≡ 47) = both (get_or s i 0) 42 (get_or s (i + 1) 0) 47 h
-        in p k.0 k.1))
+    (after_block (suc d) (drop (i + 1 + 1) s)) (after_block d (drop (i + 1) s))))
+    (false_unless (get_or s i 0 == 42 && get_or s (i + 1) 0 == 47)
+    (λ h. let k : (get_or s i 0 ≡ 42) × (get_or s (i + 1) 0 ≡ 47) = both (get_or s i 0) 42 (get_or s (i + 1) 0) 47 h
+    in p k.0 k.1))
     ∙ ap (λ b. cond b (after_block (suc d) (drop (i + 1 + 1) s)) (after_block d (drop (i + 1) s)))
-        (false_unless (get_or s i 0 == 47 && get_or s (i + 1) 0 == 42)
-        (λ h. let k : (get_or s i 0 ≡ 47) × (get_or s (i + 1) 0 ≡ 42) = both (get_or s i 0) 47 (get_or s (i + 1) 0) 42 h
-        in q k.0 k.1))
+    (false_unless (get_or s i 0 == 47 && get_or s (i + 1) 0 == 42)
+    (λ h. let k : (get_or s i 0 ≡ 47) × (get_or s (i + 1) 0 ≡ 42) = both (get_or s i 0) 47 (get_or s (i + 1) 0) 42 h
+    in q k.0 k.1))
 
 -- A depth above nothing.
 pub closed-down : (d : ℕ) (t : List ℕ) → 0 < d → closed d t ≡ after_block (d - 1) t
@@ -117,13 +114,18 @@ pub block_runs : (m : Marks) (s : List ℕ) (i d n : ℕ) → m ≡ record { fir
     ≡ after_block d (drop i s)
 block_runs m s i d n is e =
     ap (after_block d) (sym (drop-drop n i s)) ∙ ap (λ k. after_block d (drop k (drop i s)))
-        (e ∙ ap (prefix_len (is_other m)) (rest_whole s i))
+    (e ∙ ap (prefix_len (is_other m)) (rest_whole s i))
     ∙ run_over m d (drop i s) (ap (λ z. z.first) is) (ap (λ z. z.second) is)
 
 pub run_inside : (m : Marks) (s : List ℕ) (i n : ℕ) → n ≡ prefix_len (is_other m) (take (length s - i) (drop i s))
     → i ≤ length s → i + n ≤ length s
-run_inside m s i n e l = omega (arith, e ∙ ap (prefix_len (is_other m)) (rest_whole s i), prefix_len-le-length
-    (is_other m) (drop i s), length-drop i s)
+run_inside m s i n e l = omega (
+  arith,
+  e ∙ ap (prefix_len (is_other m)) (rest_whole s i),
+  prefix_len-le-length
+      (is_other m) (drop i s),
+  length-drop i s,
+)
 
 -- ---- lines
 
@@ -132,14 +134,14 @@ one_line m [] is h = refl
 one_line m (c ∷ s) is h =
     let parts = and_parts (is_other m c) (list_all (is_other m) s) h in
     and_from (not (c == 10)) (list_all (λ c. not (c == 10)) s)
-        (ap not (ne_eqb c 10 (λ e. not_first m c parts.0 (e ∙ sym is)))) (one_line m s is parts.1)
+    (ap not (ne_eqb c 10 (λ e. not_first m c parts.0 (e ∙ sym is)))) (one_line m s is parts.1)
 
 -- the line ends at the mark, or there is none
 pub line_found : (m : Marks) (s t : List ℕ) (k : ℕ) → m ≡ record { first = 10; second = 10; third = 10; fourth = 10 }
     → IsNextMark m s k t → t ≡ after_line s
 line_found m s t k is next =
     sym (ap after_line (next.text_is ∙ ap (λ c. next.front ++ (c ∷ t)) (only m 10 k is next.is_mark))
-        ∙ after_line-past next.front t (one_line m next.front (ap (λ z. z.first) is) next.others))
+    ∙ after_line-past next.front t (one_line m next.front (ap (λ z. z.first) is) next.others))
 
 chars_nil : chars [] ≡ []
 unfolding chars

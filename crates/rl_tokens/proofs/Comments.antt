@@ -1,8 +1,6 @@
 -- Where block and line comments end: what the functions on lists give is what the definitions say.
-use Rattle.rl_tokens.proofs.Common.{◌≡◌, ℕ, suc, zero, ◌⊎◌, inl, inr, Bool, true, false, not, ◌&&◌, ◌==◌, cond, List,
-    [], ◌∷◌, ◌++◌, Option, Some, refl, sym, ◌∙◌, ap, arith, append_assoc, nat_tests, list_all, IsTrue}
-use Rattle.rl_tokens.specs.Trivia.{is_comment_line, is_comment_block, Inside, End, Other, Nested, inside_text, IsInside,
-    BeginsNoMark}
+use Rattle.rl_tokens.proofs.Common.{◌≡◌, ℕ, suc, zero, ◌⊎◌, inl, inr, Bool, true, false, not, ◌&&◌, ◌==◌, cond, List, [], ◌∷◌, ◌++◌, Option, Some, refl, sym, ◌∙◌, ap, arith, append_assoc, nat_tests, list_all, IsTrue}
+use Rattle.rl_tokens.specs.Trivia.{is_comment_line, is_comment_block, Inside, End, Other, Nested, inside_text, IsInside, BeginsNoMark}
 use Rattle.rl_tokens.specs.Mirrors.SkippedAt.{after_block, after_line}
 
 -- What follows a closer, where depth more blocks are open.
@@ -50,14 +48,25 @@ no_mark c e t m i same a b = record {
 
 closes_other : (d c e : ℕ) (t r : List ℕ) → (c == 42 && e == 47) ≡ false → (c == 47 && e == 42) ≡ false
     → Closes (suc d) (e ∷ t) r → Closes (suc d) (c ∷ e ∷ t) r
-closes_other d c e t r a b (i, m, is, same, more) = (Other c i, m, (no_mark c e t m i same a b, is), ap (λ x. c ∷ x)
-    same, more)
+closes_other d c e t r a b (i, m, is, same, more) = (
+  Other c i,
+  m,
+  (no_mark c e t m i same a b, is),
+  ap (λ x. c ∷ x)
+      same,
+  more,
+)
 
 closes_nested : (d c e : ℕ) (t r : List ℕ) → (c ≡ 47) × (e ≡ 42) → Closes (suc (suc d)) t r
     → Closes (suc d) (c ∷ e ∷ t) r
-closes_nested d c e t r q (i, m, is, same, (j, k, js, same', more)) =
-    (Nested i j, k, (is, js), (let s : t ≡ (inside_text i ++ inside_text j) ++ k = same
-        ∙ ap (λ x. inside_text i ++ x) same' ∙ sym (append_assoc (inside_text i) (inside_text j) k) in cc), more)
+closes_nested d c e t r q (i, m, is, same, (j, k, js, same', more)) = (
+  Nested i j,
+  k,
+  (is, js),
+  (let s : t ≡ (inside_text i ++ inside_text j) ++ k = same
+      ∙ ap (λ x. inside_text i ++ x) same' ∙ sym (append_assoc (inside_text i) (inside_text j) k) in cc),
+  more,
+)
 
 closes_end : (d c e : ℕ) (t r : List ℕ) → (c ≡ 42) × (e ≡ 47) → Closes d t r → Closes (suc d) (c ∷ e ∷ t) r
 closes_end d c e t r q more = (End, t, tt, cc, more)
@@ -72,7 +81,7 @@ after_block-sound d [] r h = absurd (cc)
 after_block-sound d (c ∷ []) r h = absurd (cc)
 after_block-sound d (c ∷ e ∷ t) r h =
     elim (chosen3 (c == 42 && e == 47) (c == 47 && e == 42) (closed d t) (after_block (suc d) t) (after_block d (e ∷ t))
-        (Some r) (sym (after_block-step d c e t) ∙ h)) [
+    (Some r) (sym (after_block-step d c e t) ∙ h)) [
       | inl (is, x) ↦ closes_end d c e t r (both c 42 e 47 is) (closed_sound d t r x (λ n. after_block-sound n t r))
       | inr (inl (_, is, y)) ↦ closes_nested d c e t r (both c 47 e 42 is) (after_block-sound (suc d) t r y)
       | inr (inr (a, b, y)) ↦ closes_other d c e t r a b (after_block-sound d (e ∷ t) r y)
@@ -98,9 +107,9 @@ past_other : (d c : ℕ) (s t : List ℕ) → BeginsNoMark (c ∷ s) → (e : �
     → after_block d (c ∷ s ++ t) ≡ after_block d (s ++ t)
 past_other d c s t none e u same =
     let a : (c == 42 && e == 47) ≡ false = false_unless (c == 42 && e == 47)
-        (λ h. let q : (c ≡ 42) × (e ≡ 47) = both c 42 e 47 h in none.no_closer u cc) in
+    (λ h. let q : (c ≡ 42) × (e ≡ 47) = both c 42 e 47 h in none.no_closer u cc) in
     let b : (c == 47 && e == 42) ≡ false = false_unless (c == 47 && e == 42)
-        (λ h. let q : (c ≡ 47) × (e ≡ 42) = both c 47 e 42 h in none.no_opener u cc) in
+    (λ h. let q : (c ≡ 47) × (e ≡ 42) = both c 47 e 42 h in none.no_opener u cc) in
     let g : s ++ t ≡ e ∷ u ++ t = ap (λ x. x ++ t) same in
     ap (λ x. after_block d (c ∷ x)) g ∙ block_goes_on d c e (u ++ t) a b ∙ sym (ap (λ x. after_block d x) g)
 

@@ -1,7 +1,5 @@
 -- The token that is cut off next, and what is borrowed of it.
-use Rattle.rl_tokens.proofs.Common.{◌≡◌, ℕ, ◌+◌, ◌-◌, List, ◌++◌, length, length-append, take, slice_range, refl, sym,
-    ◌∙◌, ap, arith, append_cancel_right, encodes-append, encodes-chars, chars_from_encodes, chars, encode_utf8_all,
-    IsUtf8}
+use Rattle.rl_tokens.proofs.Common.{◌≡◌, ℕ, ◌+◌, ◌-◌, List, ◌++◌, length, length-append, take, slice_range, refl, sym, ◌∙◌, ap, arith, append_cancel_right, encodes-append, encodes-chars, chars_from_encodes, chars, encode_utf8_all, IsUtf8}
 use Rattle.rl_tokens.specs.Texts.{IsTail, byte_len}
 use Rattle.rl_tokens.specs.Skipping.{Skipped}
 use Rattle.rl_tokens.specs.Lexemes.{lexeme_text, LexemeForm}
@@ -54,8 +52,8 @@ token_at : (text rest following token : List ℕ) (form : LexemeForm) → IsTail
     (length text - length rest) (length text - length following)
 token_at text rest following token form in_text in_rest front is token_is =
     let taken : token ≡ take (length rest - length following) rest = token_is
-        ∙ ap (λ n. take n rest) (let q : length rest - length following - 0
-        ≡ length rest - length following = omega arith in q) in
+    ∙ ap (λ n. take n rest) (let q : length rest - length following - 0
+    ≡ length rest - length following = omega arith in q) in
     record {
       front = front;
       rest_text = in_text.is_text;
@@ -85,8 +83,7 @@ takes text rest following next l is in_rest in_tail skips at =
     let ends : end_of w ≡ l.hi = omega (arith, token_len at, ap length (token_is at)) in
     record {
       cut = w;
-      is_cut = record { form_is = at.front.form_is; bytes_are = token_is at; chars_are = sym (token_chars at); lo_is =
-          refl; hi_is = ends };
+      is_cut = record { form_is = at.front.form_is; bytes_are = token_is at; chars_are = sym (token_chars at); lo_is = refl; hi_is = ends };
       after = chars following;
       begins = at.front.text_is;
       is_lexeme = at.front.is_lexeme;

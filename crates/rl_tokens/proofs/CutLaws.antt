@@ -1,11 +1,9 @@
 -- A text is cut in one way, as far as it goes.
-use Rattle.rl_tokens.proofs.Common.{◌≡◌, ℕ, ◌+◌, List, [], ◌∷◌, ◌++◌, map, Option, Some, None, refl, sym, ◌∙◌, ap,
-    subst, arith, option_and_then, encode_utf8_all, none-some}
+use Rattle.rl_tokens.proofs.Common.{◌≡◌, ℕ, ◌+◌, List, [], ◌∷◌, ◌++◌, map, Option, Some, None, refl, sym, ◌∙◌, ap, subst, arith, option_and_then, encode_utf8_all, none-some}
 use Rattle.rl_tokens.specs.Skipping.{Skipped}
 use Rattle.rl_tokens.specs.Lexemes.{Lexeme, lexeme_text, IsLexeme, LexemeForm, form_of}
 use Rattle.rl_tokens.specs.Mirrors.LexemeAt.{lexeme_at}
-use Rattle.rl_tokens.specs.Lexing.{LexedToken, end_of, LexesUpTo, OpenGroup, after_form, after_lexeme, open_groups,
-    flat_form, flat_token}
+use Rattle.rl_tokens.specs.Lexing.{LexedToken, end_of, LexesUpTo, OpenGroup, after_form, after_lexeme, open_groups, flat_form, flat_token}
 use Rattle.rl_tokens.specs.Texts.{byte_len}
 use Rattle.rl_tokens.proofs.Comments.{same_Some}
 use Rattle.rl_tokens.proofs.Pieces.{one_rest}
@@ -37,7 +35,7 @@ same_first at t v w x y a is m b js n =
     let u = lexeme_text v.lexeme ++ x in
     let e : u ≡ lexeme_text w.lexeme ++ y = one_rest t u (lexeme_text w.lexeme ++ y) a b in
     let f = one_front u (lexeme_text v.lexeme) (lexeme_text w.lexeme) x y refl e (v.lexeme, is, refl)
-        (w.lexeme, js, refl) in
+    (w.lexeme, js, refl) in
     let p : ◌≡◌ {A = Option (LexemeForm × List ℕ)} (Some (form_of v.lexeme, x)) (Some (form_of w.lexeme, y)) =
     sym (lexeme_at-past v.lexeme x is) ∙ ap lexeme_at e ∙ lexeme_at-past w.lexeme y js in
     record {
@@ -53,13 +51,13 @@ same_end v w x y same = omega (arith, same.at, ap byte_len same.text)
 same_flat : (v w : LexedToken) (x y : List ℕ) → SameFirst v w x y → (file : ℕ) → flat_token file v ≡ flat_token file w
 same_flat v w x y same file =
     ap (λ f. flat_form f (encode_utf8_all (lexeme_text v.lexeme)) (record { file = file; lo = v.at; hi = end_of v }))
-        same.form
+    same.form
     ∙ ap (λ t. flat_form (form_of w.lexeme) (encode_utf8_all t) (record { file = file; lo = v.at; hi = end_of v }))
-        same.text
+    same.text
     ∙ ap (λ n. flat_form (form_of w.lexeme) (encode_utf8_all (lexeme_text w.lexeme))
-        (record { file = file; lo = n; hi = end_of v })) same.at
+    (record { file = file; lo = n; hi = end_of v })) same.at
     ∙ ap (λ n. flat_form (form_of w.lexeme) (encode_utf8_all (lexeme_text w.lexeme))
-        (record { file = file; lo = w.at; hi = n })) (same_end v w x y same)
+    (record { file = file; lo = w.at; hi = n })) (same_end v w x y same)
 
 same_tail : (groups : List OpenGroup) (v w : LexedToken) (x y : List ℕ) → SameFirst v w x y
     → after_lexeme groups v.lexeme v.at ≡ after_lexeme groups w.lexeme w.at
@@ -86,12 +84,12 @@ same_cut at t gs [] (w ∷ ws) r s g h a p stuck (y, b, js, n, more) q stuck' =
     let e : r ≡ lexeme_text w.lexeme ++ y = one_rest t r (lexeme_text w.lexeme ++ y) a b in
     let k : g ≡ gs = sym (same_Some gs g p) in
     absurd (nothing_tail (after_lexeme gs w.lexeme w.at) ws h (ap (λ x. after_lexeme x w.lexeme w.at) (sym k)
-        ∙ stuck w.lexeme y w.at js e) q)
+    ∙ stuck w.lexeme y w.at js e) q)
 same_cut at t gs (v ∷ vs) [] r s g h (x, a, is, m, more) p stuck b q stuck' =
     let e : s ≡ lexeme_text v.lexeme ++ x = one_rest t s (lexeme_text v.lexeme ++ x) b a in
     let k : h ≡ gs = sym (same_Some gs h q) in
     absurd (nothing_tail (after_lexeme gs v.lexeme v.at) vs g (ap (λ z. after_lexeme z v.lexeme v.at) (sym k)
-        ∙ stuck' v.lexeme x v.at is e) p)
+    ∙ stuck' v.lexeme x v.at is e) p)
 same_cut at t gs (v ∷ vs) (w ∷ ws) r s g h (x, a, is, m, more) p stuck (y, b, js, n, more') q stuck' =
     let same : SameFirst v w x y = same_first at t v w x y a is m b js n in
     let (g1, g1_is, p1) = opened (after_lexeme gs v.lexeme v.at) vs g p in
@@ -99,9 +97,9 @@ same_cut at t gs (v ∷ vs) (w ∷ ws) r s g h (x, a, is, m, more) p stuck (y, b
     let same_groups : h1 ≡ g1 = same_Some h1 g1 (sym h1_is ∙ sym (same_tail gs v w x y same) ∙ g1_is) in
     let more1 : LexesUpTo (end_of v) x ws s =
     subst (λ (k : ℕ). LexesUpTo k x ws s) (sym (same_end v w x y same))
-        (subst (λ (z : List ℕ). LexesUpTo (end_of w) z ws s) (sym same.rest) more') in
+    (subst (λ (z : List ℕ). LexesUpTo (end_of w) z ws s) (sym same.rest) more') in
     let rec = same_cut (end_of v) x g1 vs ws r s g h more p1 stuck more1
-        (ap (λ z. open_groups z ws) (sym same_groups) ∙ q1) stuck' in
+    (ap (λ z. open_groups z ws) (sym same_groups) ∙ q1) stuck' in
     record {
       flat = λ file. ap (λ f. f ∷ map (flat_token file) vs) (same_flat v w x y same file)
           ∙ ap (λ fs. flat_token file w ∷ fs) (rec.flat file);
@@ -121,7 +119,7 @@ begins_cut at t (v ∷ vs) (w ∷ ws) r (x, a, is, m, more) (y, b, js, n, more')
     let same : SameFirst v w x y = same_first at t v w x y a is m b js n in
     let following : LexesUpTo (end_of v) x ws [] =
     subst (λ (k : ℕ). LexesUpTo k x ws []) (sym (same_end v w x y same))
-        (subst (λ (z : List ℕ). LexesUpTo (end_of w) z ws []) (sym same.rest) more') in
+    (subst (λ (z : List ℕ). LexesUpTo (end_of w) z ws []) (sym same.rest) more') in
     let rec = begins_cut (end_of v) x vs ws r more following in (
       rec.0,
       λ file. ap (λ f. f ∷ map (flat_token file) ws) (sym (same_flat v w x y same file))

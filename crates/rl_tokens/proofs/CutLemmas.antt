@@ -1,6 +1,5 @@
 -- A cut that goes one token further.
-use Rattle.rl_tokens.proofs.Common.{◌≡◌, ℕ, ◌+◌, List, [], ◌∷◌, ◌++◌, length, length-append, Option, Some, None, refl,
-    sym, ◌∙◌, ap, subst, arith, encodes-append, encode_utf8_all, option_and_then}
+use Rattle.rl_tokens.proofs.Common.{◌≡◌, ℕ, ◌+◌, List, [], ◌∷◌, ◌++◌, length, length-append, Option, Some, None, refl, sym, ◌∙◌, ap, subst, arith, encodes-append, encode_utf8_all, option_and_then}
 use Rattle.rl_tokens.specs.Skipping.{Skipped}
 use Rattle.rl_tokens.specs.Lexemes.{lexeme_text, IsLexeme}
 use Rattle.rl_tokens.specs.Lexing.{LexedToken, end_of, LexesUpTo, OpenGroup, after_lexeme, open_groups}

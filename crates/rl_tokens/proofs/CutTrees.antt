@@ -1,17 +1,13 @@
 -- The tokens among the trees of a text are as they were cut.
-use Rattle.rl_tokens.proofs.Common.{◌≡◌, ℕ, Bool, true, false, List, [], ◌∷◌, ◌++◌, map, inl, inr, refl, sym, ◌∙◌, ap,
-    subst, ⊤, if◌then◌else◌, AllByRecursion, chars, encode_utf8_all, scalar, and_parts, and_from}
+use Rattle.rl_tokens.proofs.Common.{◌≡◌, ℕ, Bool, true, false, List, [], ◌∷◌, ◌++◌, map, inl, inr, refl, sym, ◌∙◌, ap, subst, ⊤, if◌then◌else◌, AllByRecursion, chars, encode_utf8_all, scalar, and_parts, and_from}
 use Rattle.std.proofs.Math.Utf8.{scalars}
 use Rattle.std.proofs.lemmas.Str.{chars-encodes}
 use Rattle.rl_tokens.specs.declared.span.Span.{Span}
 use Rattle.rl_tokens.specs.Texts.{SpannedText}
 use Rattle.rl_tokens.specs.Skipping.{Skipped}
-use Rattle.rl_tokens.specs.Trees.{Tree, GroupTree, IdentTree, PunctTree, LiteralTree, FlatToken, Opening, Closing,
-    FlatIdent, FlatLiteral, flat, flat_trees}
-use Rattle.rl_tokens.specs.Lexemes.{lexeme_text, IsLexeme, LexemeForm, LiteralForm, IdentifierForm, DelimiterForm,
-    MarkForm, form_of}
-use Rattle.rl_tokens.specs.Lexing.{LexedToken, end_of, LexesUpTo, is_opener, delimiter_for, flat_form, flat_token,
-    Lexes}
+use Rattle.rl_tokens.specs.Trees.{Tree, GroupTree, IdentTree, PunctTree, LiteralTree, FlatToken, Opening, Closing, FlatIdent, FlatLiteral, flat, flat_trees}
+use Rattle.rl_tokens.specs.Lexemes.{lexeme_text, IsLexeme, LexemeForm, LiteralForm, IdentifierForm, DelimiterForm, MarkForm, form_of}
+use Rattle.rl_tokens.specs.Lexing.{LexedToken, end_of, LexesUpTo, is_opener, delimiter_for, flat_form, flat_token, Lexes}
 use Rattle.rl_tokens.specs.PrintedTrees.{IsLexedLiteral}
 
 -- The parts of a text are characters too.
@@ -60,10 +56,13 @@ flat_is_cut file w after is scalar = go (form_of w.lexeme) refl
     delimiter false c = tt
 
     go : (f : LexemeForm) → form_of w.lexeme ≡ f → IsCutFlat (flat_form f bytes span)
-    go LiteralForm form = (lexeme_text w.lexeme, (w.lexeme, after, is, form, refl), record
-        { bytes = refl; characters = chars-encodes (lexeme_text w.lexeme) scalar })
-    go IdentifierForm form = (lexeme_text w.lexeme, record { bytes = refl; characters = chars-encodes
-        (lexeme_text w.lexeme) scalar })
+    go LiteralForm form = (
+      lexeme_text w.lexeme,
+      (w.lexeme, after, is, form, refl),
+      record
+          { bytes = refl; characters = chars-encodes (lexeme_text w.lexeme) scalar },
+    )
+    go IdentifierForm form = (lexeme_text w.lexeme, record { bytes = refl; characters = chars-encodes (lexeme_text w.lexeme) scalar })
     go (DelimiterForm c) form = delimiter (is_opener c) c
     go (MarkForm c) form = tt
 
@@ -77,7 +76,7 @@ cuts_are_cut : (file at : ℕ) (t : List ℕ) (ws : List LexedToken) (r : List �
 cuts_are_cut file at t [] r cut h = tt
 cuts_are_cut file at t (w ∷ ws) r (after, skipped, is, place, more) h =
     let both = scalars_parts (lexeme_text w.lexeme) after (skipped_scalars t (lexeme_text w.lexeme ++ after) skipped h)
-        in
+    in
     (flat_is_cut file w after is both.0, cuts_are_cut file (end_of w) after ws r more both.1)
 
 all_tail : (P : FlatToken → Type 0) (xs ys : List FlatToken) → AllByRecursion P (xs ++ ys) → AllByRecursion P ys
@@ -89,12 +88,15 @@ trees_are_cut [] h = tt
 trees_are_cut (LiteralTree l ∷ trees) (p, h) = (p, trees_are_cut trees h)
 trees_are_cut (IdentTree i ∷ trees) (p, h) = (p, trees_are_cut trees h)
 trees_are_cut (PunctTree m ∷ trees) (p, h) = (tt, trees_are_cut trees h)
-trees_are_cut (GroupTree d inside span ∷ trees) h = (tt, trees_are_cut trees
-    (all_tail IsCutFlat (flat (GroupTree d inside span)) (flat_trees trees) h))
+trees_are_cut (GroupTree d inside span ∷ trees) h = (
+  tt,
+  trees_are_cut trees
+      (all_tail IsCutFlat (flat (GroupTree d inside span)) (flat_trees trees) h),
+)
 
 -- Of the trees of a text, each literal has the text of one that was cut.
 pub lexed_trees : (t : List ℕ) (file : ℕ) (trees : List Tree) → scalars t ≡ true → Lexes t file trees
     → AllByRecursion IsCutTree trees
 lexed_trees t file trees h lexes =
     trees_are_cut trees (subst (λ (fs : List FlatToken). AllByRecursion IsCutFlat fs) lexes.flat_is
-        (cuts_are_cut file 0 t lexes.cuts [] lexes.are_cuts h))
+    (cuts_are_cut file 0 t lexes.cuts [] lexes.are_cuts h))

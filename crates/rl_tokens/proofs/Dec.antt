@@ -1,6 +1,5 @@
 -- Numbers in base ten, of any size.
-use Rattle.rl_tokens.proofs.Common.{◌≡◌, ℕ, suc, zero, ◌/◌, ◌%◌, ◌<◌, ◌≤◌, ◌^◌, true, false, ◌==◌, cond, List, [], ◌∷◌,
-    sym, ap, ◌∙◌, arith, nat_tests}
+use Rattle.rl_tokens.proofs.Common.{◌≡◌, ℕ, suc, zero, ◌/◌, ◌%◌, ◌<◌, ◌≤◌, ◌^◌, true, false, ◌==◌, cond, List, [], ◌∷◌, sym, ap, ◌∙◌, arith, nat_tests}
 use Rattle.std.proofs.Math.Nat.{pow-suc}
 use Rattle.std.specs.Fmt.{digits, decimal, digits_onto, digit_glyph}
 use Rattle.rl_tokens.specs.Numbers.{limit}
@@ -18,11 +17,11 @@ pub room : (k j n : ℕ) (acc : List ℕ) → n < 10 ^ suc k → n < 10 ^ suc j 
 room zero j n acc h l =
     let now : List ℕ = digit_glyph false (n % 10) ∷ acc in
     ap (λ b. cond b now now) (one_digit n h) ∙ sym (ap (λ b. cond b now (digits_onto j 10 false (n / 10) now))
-        (one_digit n h))
+    (one_digit n h))
 room (suc k) zero n acc h l =
     let now : List ℕ = digit_glyph false (n % 10) ∷ acc in
     ap (λ b. cond b now (digits_onto (suc k) 10 false (n / 10) now)) (one_digit n l)
-        ∙ sym (ap (λ b. cond b now now) (one_digit n l))
+    ∙ sym (ap (λ b. cond b now now) (one_digit n l))
 room (suc k) (suc j) n acc h l =
     let now : List ℕ = digit_glyph false (n % 10) ∷ acc in
     ap (λ z. cond (n / 10 == 0) now z) (room k j (n / 10) now (quotient_small n (suc k) h) (quotient_small n (suc j) l))

@@ -1,16 +1,12 @@
 -- Why no lexeme begins what is left of a text, and that this is the text's first error.
-use Rattle.rl_tokens.proofs.Common.{◌≡◌, ◌≢◌, ℕ, ◌+◌, ◌-◌, ◌<◌, Bool, true, false, ◌||◌, ◌==◌, List, [], length, Option,
-    Some, None, refl, sym, ◌∙◌, ap, subst, arith, or_from, encodes-chars, nat_tests, IfNone, codes, if◌then◌else◌,
-    chars, IsUtf8, encode_utf8_all}
+use Rattle.rl_tokens.proofs.Common.{◌≡◌, ◌≢◌, ℕ, ◌+◌, ◌-◌, ◌<◌, Bool, true, false, ◌||◌, ◌==◌, List, [], length, Option, Some, None, refl, sym, ◌∙◌, ap, subst, arith, or_from, encodes-chars, nat_tests, IfNone, codes, if◌then◌else◌, chars, IsUtf8, encode_utf8_all}
 use Rattle.std.specs.Option.{is_some}
 use Rattle.rl_tokens.specs.declared.lex_error.LexKind.{LexKind}
-use Rattle.rl_tokens.specs.declared.lex_error.LexKind.TheVariants.{DocComment, UnclosedComment, UnclosedQuote, Lifetime,
-    RawIdentifier, StrayCharacter, UnmatchedClose, UnclosedGroup, TooDeep, Memory}
+use Rattle.rl_tokens.specs.declared.lex_error.LexKind.TheVariants.{DocComment, UnclosedComment, UnclosedQuote, Lifetime, RawIdentifier, StrayCharacter, UnmatchedClose, UnclosedGroup, TooDeep, Memory}
 use Rattle.rl_tokens.specs.declared.lex_error.LexError.{LexError}
 use Rattle.rl_tokens.specs.Texts.{begins, byte_len}
 use Rattle.rl_tokens.specs.Cursors.{CursorState, IsCursorState, IsFirstError}
-use Rattle.rl_tokens.specs.Lexing.{LexedToken, LexesUpTo, open_groups, OpenGroup, error_place, begins_doc_comment,
-    begins_lifetime, BeginsNoLexeme, ErrorAt, HasFirstError, Rejects}
+use Rattle.rl_tokens.specs.Lexing.{LexedToken, LexesUpTo, open_groups, OpenGroup, error_place, begins_doc_comment, begins_lifetime, BeginsNoLexeme, ErrorAt, HasFirstError, Rejects}
 use Rattle.rl_tokens.specs.Mirrors.TreeBuilders.{error_kind}
 use Rattle.rl_tokens.proofs.LexemeOpeners.{quote_begins, no_quote_begins}
 use Rattle.rl_tokens.proofs.Rests.{tail_length}
@@ -30,7 +26,7 @@ rest_place text rest at is is_rest place = omega (arith, char_len text is, char_
 kind_here : (groups : List OpenGroup) (r : List ℕ) → r ≢ [] → BeginsNoLexeme r → ErrorAt (error_kind r) groups r
 kind_here groups r some none =
     go (begins_doc_comment r) (begins (codes "/*") r) (begins_quote r) (begins_lifetime r) (begins_raw_identifier r)
-        refl refl refl refl refl
+    refl refl refl refl refl
   where
     go : (doc block quote life raw : Bool) → begins_doc_comment r ≡ doc → begins (codes "/*") r ≡ block → begins_quote r
         ≡ quote → begins_lifetime r ≡ life → begins_raw_identifier r ≡ raw
@@ -96,9 +92,9 @@ stops_here text rest e kind is empty empty_is some none kind_is e_is =
     let here : place + length rest ≡ length text = omega (arith, tail_length text rest is.following) in
     let error : (groups : List OpenGroup) → ErrorAt kind groups (chars rest) =
     λ groups. rw kind_is (kind_here groups (chars rest) (chars_some rest is.following.is_text (sym empty_is ∙ some))
-        none) in
+    none) in
     let first : (cuts : List LexedToken) (groups : List OpenGroup) → LexesUpTo 0 (chars text) cuts (chars rest)
-        → open_groups [] cuts ≡ Some groups → HasFirstError (chars text) kind place =
+    → open_groups [] cuts ≡ Some groups → HasFirstError (chars text) kind place =
     λ cuts groups are open_now. record {
       cuts = cuts;
       rest = chars rest;

@@ -1,17 +1,12 @@
 -- Where an error stands no token goes on, and it is one error.
-use Rattle.rl_tokens.proofs.Common.{◌≡◌, ◌≢◌, ℕ, Bool, true, false, not, ◌&&◌, ◌||◌, ◌==◌, cond, List, [], ◌∷◌, ◌++◌,
-    length, slice_index, Option, Some, None, refl, sym, ◌∙◌, ap, subst, lit<, and_parts, or_parts, none-some, codes,
-    nat_lt, if◌then◌else◌}
+use Rattle.rl_tokens.proofs.Common.{◌≡◌, ◌≢◌, ℕ, Bool, true, false, not, ◌&&◌, ◌||◌, ◌==◌, cond, List, [], ◌∷◌, ◌++◌, length, slice_index, Option, Some, None, refl, sym, ◌∙◌, ap, subst, lit<, and_parts, or_parts, none-some, codes, nat_lt, if◌then◌else◌}
 use Rattle.rl_tokens.specs.declared.lex_error.LexKind.{LexKind}
-use Rattle.rl_tokens.specs.declared.lex_error.LexKind.TheVariants.{DocComment, UnclosedComment, UnclosedQuote, Lifetime,
-    RawIdentifier, StrayCharacter, UnmatchedClose, UnclosedGroup, TooDeep, Memory}
+use Rattle.rl_tokens.specs.declared.lex_error.LexKind.TheVariants.{DocComment, UnclosedComment, UnclosedQuote, Lifetime, RawIdentifier, StrayCharacter, UnmatchedClose, UnclosedGroup, TooDeep, Memory}
 use Rattle.rl_tokens.specs.Texts.{is_among, first_passes, begins}
-use Rattle.rl_tokens.specs.Lexemes.{Lexeme, lexeme_text, IsLexeme, LexemeForm, form_of, DelimiterForm, MarkForm,
-    delimiters, is_start, begins_raw_identifier}
+use Rattle.rl_tokens.specs.Lexemes.{Lexeme, lexeme_text, IsLexeme, LexemeForm, form_of, DelimiterForm, MarkForm, delimiters, is_start, begins_raw_identifier}
 use Rattle.rl_tokens.specs.Mirrors.LexemeAt.{lexeme_at, SlashHead, begins_quote}
 use Rattle.rl_tokens.specs.Classes.{after_run, is_hash}
-use Rattle.rl_tokens.specs.Lexing.{OpenGroup, is_opener, is_closer, closes, popped, after_form, begins_doc_comment,
-    begins_lifetime, BeginsNoLexeme, ErrorAt}
+use Rattle.rl_tokens.specs.Lexing.{OpenGroup, is_opener, is_closer, closes, popped, after_form, begins_doc_comment, begins_lifetime, BeginsNoLexeme, ErrorAt}
 use Rattle.rl_tokens.specs.Mirrors.TreeBuilders.{error_kind}
 use Rattle.rl_tokens.proofs.Comments.{false_unless, same_Some}
 use Rattle.rl_tokens.proofs.Pieces.{is_equal}
@@ -63,7 +58,7 @@ doc_slash (c ∷ []) h = absurd (one (c == 47) h)
     one false h = absurd (cc)
 doc_slash (c ∷ d ∷ t) h =
     slash_and c d t (two (c == 47) (d == 47) (d == 42) (begins (codes "/") t) (begins (codes "//") t)
-        (begins (codes "!") t) (begins (codes "*") t) (begins (codes "*/") t) (begins (codes "**") t) h)
+    (begins (codes "!") t) (begins (codes "*") t) (begins (codes "*/") t) (begins (codes "**") t) h)
   where
     two : (a p q x y z u v w : Bool) → (((a && (p && x)) && not (a && (p && y))) || (a && (p && z))
         || ((a && (q && u)) && not ((a && (q && v)) || (a && (q && w)))) || (a && (q && z))) ≡ true → (a ≡ true)
@@ -93,14 +88,17 @@ delimiter_stuck : (groups : List OpenGroup) (c : ℕ) (t : List ℕ) → is_amon
     → ((at : ℕ) → after_form groups (DelimiterForm c) at ≡ None) → IsStuck groups (c ∷ t)
 delimiter_stuck groups c t is none l after at is_l same =
     let p : ◌≡◌ {A = Option (LexemeForm × List ℕ)} (Some (form_of l, after)) (Some (DelimiterForm c, t)) = sym
-        (found_form l after (c ∷ t) is_l same) ∙ front_delimiter c t is in
+    (found_form l after (c ∷ t) is_l same) ∙ front_delimiter c t is in
     let form : form_of l ≡ DelimiterForm c = ap (λ (q : LexemeForm × List ℕ). q.0)
-        (same_Some (form_of l, after) (DelimiterForm c, t) p) in
+    (same_Some (form_of l, after) (DelimiterForm c, t) p) in
     ap (λ f. after_form groups f at) form ∙ none at
 
 closer_among : (c : ℕ) → is_closer c ≡ true → (is_among delimiters c ≡ true) × (is_opener c ≡ false)
-closer_among c h = (among (codes ")]}") (is_among delimiters) c refl h, not_true (is_opener c)
-    (among (codes ")]}") (λ k. not (is_opener k)) c refl h))
+closer_among c h = (
+  among (codes ")]}") (is_among delimiters) c refl h,
+  not_true (is_opener c)
+      (among (codes ")]}") (λ k. not (is_opener k)) c refl h),
+)
 
 opener_among : (c : ℕ) → is_opener c ≡ true → is_among delimiters c ≡ true
 opener_among c h = among (codes "([{") (is_among delimiters) c refl h
@@ -110,12 +108,12 @@ close_stuck : (groups : List OpenGroup) (r : List ℕ) → first_passes (λ c. i
 close_stuck groups r h =
     let (c, t, same, is) = passes_split (λ c. is_closer c && not (closes groups c)) r h in
     let k : (is_closer c ≡ true) × (not (closes groups c) ≡ true) = and_parts (is_closer c) (not (closes groups c)) is
-        in
+    in
     let m = closer_among c k.0 in
     subst (λ (x : List ℕ). IsStuck groups x) (sym same)
     (delimiter_stuck groups c t m.0 (λ at.
     ap (λ b. if b then (if nat_lt (length groups) 128 then Some (record { opener = c; at = at } ∷ groups) else None)
-        else (if closes groups c then Some (popped groups) else None)) m.1
+    else (if closes groups c then Some (popped groups) else None)) m.1
     ∙ ap (λ b. if b then Some (popped groups) else None) (not_true (closes groups c) k.1)))
 
 deep_stuck : (groups : List OpenGroup) (r : List ℕ) → first_passes is_opener r ≡ true → length groups ≡ 128
@@ -125,7 +123,7 @@ deep_stuck groups r h n =
     subst (λ (x : List ℕ). IsStuck groups x) (sym same)
     (delimiter_stuck groups c t (opener_among c is) (λ at.
     ap (λ b. if b then (if nat_lt (length groups) 128 then Some (record { opener = c; at = at } ∷ groups) else None)
-        else (if closes groups c then Some (popped groups) else None)) is
+    else (if closes groups c then Some (popped groups) else None)) is
     ∙ ap (λ m. if nat_lt m 128 then Some (record { opener = c; at = at } ∷ groups) else None) n))
 
 pub nothing_stuck : (groups : List OpenGroup) (r : List ℕ) → r ≡ [] → IsStuck groups r
@@ -246,7 +244,7 @@ stray_kind r some none quote h =
     let d = or_parts _ _ e.0 in
     let b = or_parts _ _ d.0 in
     no_lexeme_kind r StrayCharacter (no_lexeme_at r none) some
-        (chosen_kind r false false false false false b.0 b.1 quote d.1 e.1)
+    (chosen_kind r false false false false false b.0 b.1 quote d.1 e.1)
 
 delimiter_kind : (k : LexKind) (c : ℕ) (t r : List ℕ) → r ≡ c ∷ t → is_among delimiters c ≡ true
     → kind_by_form (DelimiterForm c) ≡ k → k ≡ kind_at (lexeme_at r) r
@@ -269,7 +267,7 @@ pub error_kind_at : (k : LexKind) (groups : List OpenGroup) (r : List ℕ) → E
 error_kind_at DocComment groups r h =
     no_lexeme_kind r DocComment (slash_none r (doc_slash r h)) (slash_some r (doc_slash r h))
     (chosen_kind r true (begins (codes "/*") r) (begins_quote r) (begins_lifetime r) (begins_raw_identifier r) h refl
-        refl refl refl)
+    refl refl refl)
 error_kind_at UnclosedComment groups r (h, other) =
     no_lexeme_kind r UnclosedComment (slash_none r (block_slash r h)) (slash_some r (block_slash r h))
     (chosen_kind r false true (begins_quote r) (begins_lifetime r) (begins_raw_identifier r) other h refl refl refl)

@@ -2,9 +2,7 @@
 use Rattle.rl_tokens.proofs.Common.{◌≡◌, List, [], ◌∷◌, ◌++◌, refl, sym, ◌∙◌, ap, append_assoc}
 use Rattle.rl_tokens.specs.declared.span.Span.{Span}
 use Rattle.rl_tokens.specs.declared.token.Delimiter.{Delimiter}
-use Rattle.rl_tokens.specs.Trees.{Tree, Trees, GroupTree, IdentTree, PunctTree, LiteralTree, NoTrees, MoreTrees,
-    inside_of, FlatToken, Opening, Closing, FlatIdent, FlatPunct, FlatLiteral, opener_span, closer_span, flat,
-    flat_inside, flat_trees}
+use Rattle.rl_tokens.specs.Trees.{Tree, Trees, GroupTree, IdentTree, PunctTree, LiteralTree, NoTrees, MoreTrees, inside_of, FlatToken, Opening, Closing, FlatIdent, FlatPunct, FlatLiteral, opener_span, closer_span, flat, flat_inside, flat_trees}
 
 -- a level of trees ends here
 abbrev EndsLevel : List FlatToken → Type 0
@@ -51,9 +49,11 @@ Same ts us xs ys = (ts ≡ us) × (xs ≡ ys)
 same_group : (d c : Delimiter) (inside other : Trees) (s r : Span) (ts us : Trees) (xs ys : List FlatToken) → d ≡ c
     → inside ≡ other → s ≡ r → Same ts us xs ys → Same (MoreTrees (GroupTree d inside s) ts)
     (MoreTrees (GroupTree c other r) us) xs ys
-same_group d c inside other s r ts us xs ys p q k (e, f) =
-    (ap (λ x. MoreTrees (GroupTree x inside s) ts) p ∙ ap (λ x. MoreTrees (GroupTree c x s) ts) q
-        ∙ ap (λ x. MoreTrees (GroupTree c other x) ts) k ∙ ap (MoreTrees (GroupTree c other r)) e, f)
+same_group d c inside other s r ts us xs ys p q k (e, f) = (
+  ap (λ x. MoreTrees (GroupTree x inside s) ts) p ∙ ap (λ x. MoreTrees (GroupTree c x s) ts) q
+      ∙ ap (λ x. MoreTrees (GroupTree c other x) ts) k ∙ ap (MoreTrees (GroupTree c other r)) e,
+  f,
+)
 
 flat_same : (ts us : Trees) (xs ys : List FlatToken) → EndsLevel xs → EndsLevel ys → flat_inside ts ++ xs
     ≡ flat_inside us ++ ys → Same ts us xs ys
@@ -80,14 +80,14 @@ flat_same (MoreTrees (LiteralTree i) ts) (MoreTrees (LiteralTree j) us) xs ys p 
 flat_same (MoreTrees (GroupTree d inside s) ts) (MoreTrees (GroupTree c other r) us) xs ys p q e =
     let opening : ◌≡◌ {A = FlatToken} (Opening d (opener_span s)) (Opening c (opener_span r)) = cc in
     let following : ((flat_inside inside ++ (Closing d (closer_span s) ∷ [])) ++ flat_inside ts) ++ xs
-        ≡ ((flat_inside other ++ (Closing c (closer_span r) ∷ [])) ++ flat_inside us) ++ ys = cc in
+    ≡ ((flat_inside other ++ (Closing c (closer_span r) ∷ [])) ++ flat_inside us) ++ ys = cc in
     let f : flat_inside inside ++ (Closing d (closer_span s) ∷ (flat_inside ts ++ xs)) ≡ flat_inside other
-        ++ (Closing c (closer_span r) ∷ (flat_inside us ++ ys)) =
+    ++ (Closing c (closer_span r) ∷ (flat_inside us ++ ys)) =
     sym (group_rest inside d s ts xs) ∙ following ∙ group_rest other c r us ys in
     let k = flat_same inside other (Closing d (closer_span s) ∷ (flat_inside ts ++ xs))
-        (Closing c (closer_span r) ∷ (flat_inside us ++ ys)) tt tt f in
+    (Closing c (closer_span r) ∷ (flat_inside us ++ ys)) tt tt f in
     let closings : Closing d (closer_span s) ∷ (flat_inside ts ++ xs)
-        ≡ Closing c (closer_span r) ∷ (flat_inside us ++ ys) = k.1 in
+    ≡ Closing c (closer_span r) ∷ (flat_inside us ++ ys) = k.1 in
     let opens : opener_span s ≡ opener_span r = cc in
     let closes : closer_span s ≡ closer_span r = cc in
     let rest : flat_inside ts ++ xs ≡ flat_inside us ++ ys = cc in

@@ -1,6 +1,5 @@
 -- Rows of hashes, as raw literals have them.
-use Rattle.rl_tokens.proofs.Common.{◌≡◌, ◌≢◌, ℕ, suc, zero, Bool, true, false, ◌&&◌, ◌==◌, cond, List, [], ◌∷◌, ◌++◌,
-    length, drop, replicate, refl, sym, ◌∙◌, ap, and_parts, append_cancel_right, list_all}
+use Rattle.rl_tokens.proofs.Common.{◌≡◌, ◌≢◌, ℕ, suc, zero, Bool, true, false, ◌&&◌, ◌==◌, cond, List, [], ◌∷◌, ◌++◌, length, drop, replicate, refl, sym, ◌∙◌, ap, and_parts, append_cancel_right, list_all}
 use Rattle.std.proofs.lemmas.List.{length-replicate}
 use Rattle.rl_tokens.specs.Classes.{is_hash, after_run}
 use Rattle.rl_tokens.specs.Lexemes.{begins_hashes}
@@ -73,13 +72,15 @@ hashes_are (c ∷ h) is =
 pub hashes_met : (h s r : List ℕ) → list_all is_hash h ≡ true → s ≡ h ++ r → (begins_hashes (length h) s ≡ true)
     × (drop (length h) s ≡ r)
 hashes_met h s r is e =
-    let same : s ≡ replicate (length h) 35 ++ r = e ∙ ap (λ z. z ++ r) (hashes_are h is) in
-    (ap (begins_hashes (length h)) same ∙ hashes_here (length h) r, ap (drop (length h)) same
-        ∙ drop_hashes (length h) r)
+    let same : s ≡ replicate (length h) 35 ++ r = e ∙ ap (λ z. z ++ r) (hashes_are h is) in (
+      ap (begins_hashes (length h)) same ∙ hashes_here (length h) r,
+      ap (drop (length h)) same
+          ∙ drop_hashes (length h) r,
+    )
 
 pub hashes_missed : (h s : List ℕ) → list_all is_hash h ≡ true → ((x : List ℕ) → s ≢ h ++ x)
     → begins_hashes (length h) s ≡ false
 hashes_missed h s is none =
     let rest = drop (length h) s in
     false_unless (begins_hashes (length h) s) (λ b. none rest (hashes_split (length h) s b
-        ∙ ap (λ z. z ++ rest) (sym (hashes_are h is))))
+    ∙ ap (λ z. z ++ rest) (sym (hashes_are h is))))

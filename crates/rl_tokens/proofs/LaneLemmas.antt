@@ -1,7 +1,5 @@
 -- From the mask of sixteen bytes to the run of bytes that pass a test.
-use Rattle.rl_tokens.proofs.Common.{◌≡◌, ℕ, ◌+◌, ◌*◌, ◌%◌, ◌^◌, ◌<◌, ◌≤◌, ◌||◌, ◌&&◌, nat_le, Bool, true, false, not,
-    cond, eqb, List, [], ◌∷◌, map, length, drop, refl, sym, ap, ap₂, ◌∙◌, arith, length-chunk, mask_l-mod, length-map,
-    prefix_len-le-length, eq-eqb, ne_eqb, nat_tests, prefix_len, bit_or, chunk, mask_l, zip2, top, count_trailing_zeros}
+use Rattle.rl_tokens.proofs.Common.{◌≡◌, ℕ, ◌+◌, ◌*◌, ◌%◌, ◌^◌, ◌<◌, ◌≤◌, ◌||◌, ◌&&◌, nat_le, Bool, true, false, not, cond, eqb, List, [], ◌∷◌, map, length, drop, refl, sym, ap, ap₂, ◌∙◌, arith, length-chunk, mask_l-mod, length-map, prefix_len-le-length, eq-eqb, ne_eqb, nat_tests, prefix_len, bit_or, chunk, mask_l, zip2, top, count_trailing_zeros}
 use Rattle.std.proofs.Common.{nat_eq, nat_lt}
 use Rattle.std.proofs.lemmas.Simd.{chunk-drop, leading_from_mask_l, trailing_mask_l}
 use Rattle.std.proofs.lemmas.List.Folds.{prefix_len-append}
@@ -96,7 +94,7 @@ module _ {X : Type 0} (p q : X → Bool) (opposite : (x : X) → not (q x) ≡ p
   run_through d i n room none =
       let c = chunk i n d in
       split d i n ∙ ap (λ b. cond b (length c + prefix_len q (drop (i + n) d)) (prefix_len q c))
-          (eq-eqb _ _ (same_run c ∙ leading_from_mask_l p c none))
+      (eq-eqb _ _ (same_run c ∙ leading_from_mask_l p c none))
       ∙ ap (λ k. k + prefix_len q (drop (i + n) d)) (length-chunk i n d room)
 
   -- the lowest bit tells the first byte that fails
@@ -105,5 +103,5 @@ module _ {X : Type 0} (p q : X → Bool) (opposite : (x : X) → not (q x) ≡ p
   run_stops d i n room short some =
       let c = chunk i n d in
       split d i n ∙ ap (λ b. cond b (length c + prefix_len q (drop (i + n) d)) (prefix_len q c))
-          (ne_eqb _ _ (λ (e : prefix_len q c ≡ length c). omega (arith, all_pass c (sym (same_run c) ∙ e))))
+      (ne_eqb _ _ (λ (e : prefix_len q c ≡ length c). omega (arith, all_pass c (sym (same_run c) ∙ e))))
       ∙ same_run c ∙ sym (trailing_mask_l p 64 c (omega (arith, length-chunk i n d room)) some)

@@ -1,20 +1,16 @@
 -- How the lexer's loop ends: all is cut, or the first error stands here.
-use Rattle.rl_tokens.proofs.Common.{◌≡◌, ℕ, ◌+◌, ◌⊎◌, inl, inr, List, [], ◌++◌, length, Some, Result, Ok, Err, refl,
-    sym, ◌∙◌, ap, subst, arith, chars-nil, IfOk, chars, IsUtf8}
+use Rattle.rl_tokens.proofs.Common.{◌≡◌, ℕ, ◌+◌, ◌⊎◌, inl, inr, List, [], ◌++◌, length, Some, Result, Ok, Err, refl, sym, ◌∙◌, ap, subst, arith, chars-nil, IfOk, chars, IsUtf8}
 use Rattle.rl_tokens.specs.declared.token.TokenStream.{TokenStream}
 use Rattle.rl_tokens.specs.declared.nest.TreeBuilder.{TreeBuilder}
 use Rattle.rl_tokens.specs.declared.lex_error.LexKind.{LexKind}
 use Rattle.rl_tokens.specs.declared.lex_error.LexKind.TheVariants.{UnmatchedClose, UnclosedGroup, TooDeep, Memory}
 use Rattle.rl_tokens.specs.declared.lex_error.LexError.{LexError}
-use Rattle.rl_tokens.specs.Lexemes.{LexemeBefore, Lexeme, QuotedLexeme, RawLexeme, CharacterLexeme, BasedLexeme,
-    DecimalLexeme, IdentifierLexeme, DelimiterLexeme, MarkLexeme, lexeme_text, IsLexeme, LexemeForm, form_of}
+use Rattle.rl_tokens.specs.Lexemes.{LexemeBefore, Lexeme, QuotedLexeme, RawLexeme, CharacterLexeme, BasedLexeme, DecimalLexeme, IdentifierLexeme, DelimiterLexeme, MarkLexeme, lexeme_text, IsLexeme, LexemeForm, form_of}
 use Rattle.rl_tokens.specs.Cursors.{form_view, CursorState, TakesNext, IsFirstError}
 use Rattle.rl_tokens.specs.declared.cursor.Lexeme.{Lexeme as Borrowed}
 use Rattle.rl_tokens.specs.Trees.{Tree, stream_view, flat_trees}
-use Rattle.rl_tokens.specs.Lexing.{OpenGroup, LexesUpTo, error_place, BeginsLexeme, BeginsNoLexeme, ErrorAt,
-    HasFirstError, LeavesRestAt, Rejects, Lexes}
-use Rattle.rl_tokens.specs.Mirrors.TreeBuilders.{groups_of, flat_builder, EndsInGroup, ClosesWrong, OpensTooDeep,
-    RejectsForm}
+use Rattle.rl_tokens.specs.Lexing.{OpenGroup, LexesUpTo, error_place, BeginsLexeme, BeginsNoLexeme, ErrorAt, HasFirstError, LeavesRestAt, Rejects, Lexes}
+use Rattle.rl_tokens.specs.Mirrors.TreeBuilders.{groups_of, flat_builder, EndsInGroup, ClosesWrong, OpensTooDeep, RejectsForm}
 use Rattle.rl_tokens.proofs.LexLoop.{HasCut}
 use Rattle.rl_tokens.proofs.ErrorKinds.{rest_place, error_rejects}
 
@@ -83,12 +79,12 @@ rejected_lexeme : {A : Type 0} (text rest after : List ℕ) (file : ℕ) (nest :
     → Rejects (chars text) kind at
 rejected_lexeme text rest after file nest l UnmatchedClose at is has place same whole h =
     let here : ErrorAt UnmatchedClose (groups_of nest) (chars rest) = subst
-        (λ (r : List ℕ). ErrorAt UnmatchedClose (groups_of nest) r) (sym same) (closes_wrong (groups_of nest) l after h)
-        in
+    (λ (r : List ℕ). ErrorAt UnmatchedClose (groups_of nest) r) (sym same) (closes_wrong (groups_of nest) l after h)
+    in
     error_found text rest file nest UnmatchedClose at at is has.following.is_text has place here refl
 rejected_lexeme text rest after file nest l TooDeep at is has place same whole h =
     let here : ErrorAt TooDeep (groups_of nest) (chars rest) = subst
-        (λ (r : List ℕ). ErrorAt TooDeep (groups_of nest) r) (sym same) (opens_deep (groups_of nest) l after h) in
+    (λ (r : List ℕ). ErrorAt TooDeep (groups_of nest) r) (sym same) (opens_deep (groups_of nest) l after h) in
     error_found text rest file nest TooDeep at at is has.following.is_text has place here refl
 rejected_lexeme text rest after file nest l Memory at is has place same whole h = leaves_here text rest file nest at is
     has.following.is_text has place (after, (lexeme_text l, (l, whole, refl), same))
@@ -100,7 +96,7 @@ pub rejected_token : {A : Type 0} (text : List ℕ) (from to : CursorState) (fil
     → Rejects (chars text) e.kind e.at
 rejected_token text from to file nest l e is same has next at_is h =
     rejected_lexeme text from.rest next.after file nest next.cut.lexeme e.kind e.at is has
-        (omega (arith, next.place, ap length same, at_is)) next.begins next.is_lexeme
+    (omega (arith, next.place, ap length same, at_is)) next.begins next.is_lexeme
     (subst (λ (f : LexemeForm). RejectsForm (groups_of nest) f e.kind) (sym next.is_cut.form_is) h)
 
 -- the cursor stays where no token begins what is left, and tells the error
@@ -110,9 +106,9 @@ pub error_told : {A : Type 0} (text : List ℕ) (old new : CursorState) (file : 
 error_told text old new file nest e same stays has first =
     let here : IsFirstError old e.kind e.at = subst (λ (t : CursorState). IsFirstError t e.kind e.at) stays first in
     let cuts : LexesUpTo 0 (chars old.text) has.cuts (chars old.rest) = subst
-        (λ (t : List ℕ). LexesUpTo 0 (chars t) has.cuts (chars old.rest)) (sym same) has.are_cuts in
+    (λ (t : List ℕ). LexesUpTo 0 (chars t) has.cuts (chars old.rest)) (sym same) has.are_cuts in
     error_rejects (chars text) e.kind e.at (subst (λ (t : List ℕ). HasFirstError (chars t) e.kind e.at) same
-        (here has.cuts (groups_of nest) cuts has.are_open))
+    (here has.cuts (groups_of nest) cuts has.are_open))
 
 -- where it tells none, the text has ended
 pub told_end : (old new : CursorState) → new ≡ old → BeginsNoLexeme (chars old.rest) → (new.rest ≡ [])

@@ -10,15 +10,15 @@ use Rattle.rl_tokens.proofs.ErrorLaws.{nothing_stuck, error_stuck, kind_at, erro
 pub one_list : OneList
 one_list t file xs ys a b =
     let same = same_cut 0 t [] a.cuts b.cuts [] [] [] [] a.are_cuts a.none_open (nothing_stuck [] [] refl) b.are_cuts
-        b.none_open (nothing_stuck [] [] refl) in
+    b.none_open (nothing_stuck [] [] refl) in
     flat_trees_same xs ys (sym a.flat_is ∙ same.flat file ∙ b.flat_is)
 
 pub one_error : OneError
 one_error t k l m n a b =
     let same = same_cut 0 t [] a.cuts b.cuts a.rest b.rest a.groups b.groups a.are_cuts a.are_open
-        (error_stuck k a.groups a.rest a.error) b.are_cuts b.are_open (error_stuck l b.groups b.rest b.error) in
+    (error_stuck k a.groups a.rest a.error) b.are_cuts b.are_open (error_stuck l b.groups b.rest b.error) in
     let kinds : k ≡ l = error_kind_at k a.groups a.rest a.error ∙ ap (λ r. kind_at (lexeme_at r) r) same.rest
-        ∙ sym (error_kind_at l b.groups b.rest b.error) in
+    ∙ sym (error_kind_at l b.groups b.rest b.error) in
     let places : a.rest_at ≡ b.rest_at = omega (arith, a.rest_place, b.rest_place, ap byte_len same.rest) in (
       kinds,
       a.at_is
@@ -31,6 +31,6 @@ one_error t k l m n a b =
 pub never_both : NeverBoth
 never_both t file trees k at a b =
     let same = same_cut 0 t [] a.cuts b.cuts [] b.rest [] b.groups a.are_cuts a.none_open (nothing_stuck [] [] refl)
-        b.are_cuts b.are_open (error_stuck k b.groups b.rest b.error) in
+    b.are_cuts b.are_open (error_stuck k b.groups b.rest b.error) in
     no_error k (subst (λ (g : List OpenGroup). ErrorAt k g []) (sym same.groups)
-        (subst (λ (r : List ℕ). ErrorAt k b.groups r) (sym same.rest) b.error))
+    (subst (λ (r : List ℕ). ErrorAt k b.groups r) (sym same.rest) b.error))

@@ -1,13 +1,9 @@
 -- What the lexer's loop keeps.
-use Rattle.rl_tokens.proofs.Common.{◌≡◌, ℕ, ◌+◌, inl, inr, true, not, ◌&&◌, ◌||◌, ◌==◌, List, [], ◌∷◌, ◌++◌, length,
-    map, Some, refl, sym, ◌∙◌, ap, subst, arith, and_parts, map-append, encode_ascii, list_all, chars, encode_utf8_all,
-    is_xid_start, is_xid_continue}
+use Rattle.rl_tokens.proofs.Common.{◌≡◌, ℕ, ◌+◌, inl, inr, true, not, ◌&&◌, ◌||◌, ◌==◌, List, [], ◌∷◌, ◌++◌, length, map, Some, refl, sym, ◌∙◌, ap, subst, arith, and_parts, map-append, encode_ascii, list_all, chars, encode_utf8_all, is_xid_start, is_xid_continue}
 use Rattle.rl_tokens.specs.Texts.{is_white, xid_ok, IsTail}
 use Rattle.rl_tokens.specs.Skipping.{Skipped}
 use Rattle.rl_tokens.specs.Puncts.{is_punct}
-use Rattle.rl_tokens.specs.Lexemes.{Lexeme, QuotedLexeme, RawLexeme, CharacterLexeme, BasedLexeme, DecimalLexeme,
-    IdentifierLexeme, DelimiterLexeme, MarkLexeme, lexeme_text, IsLexeme, LexemeForm, form_of, delimiters, is_start,
-    is_continue}
+use Rattle.rl_tokens.specs.Lexemes.{Lexeme, QuotedLexeme, RawLexeme, CharacterLexeme, BasedLexeme, DecimalLexeme, IdentifierLexeme, DelimiterLexeme, MarkLexeme, lexeme_text, IsLexeme, LexemeForm, form_of, delimiters, is_start, is_continue}
 use Rattle.rl_tokens.specs.Cursors.{form_view, CursorState, TakesNext}
 use Rattle.rl_tokens.specs.declared.nest.TreeBuilder.{TreeBuilder}
 use Rattle.rl_tokens.specs.declared.cursor.Lexeme.{Lexeme as Borrowed}
@@ -35,9 +31,9 @@ row_continues : (cs : List ℕ) → list_all is_continue cs ≡ true → list_al
 row_continues [] h = refl
 row_continues (c ∷ cs) h =
     let k : (is_continue c ≡ true) × (list_all is_continue cs ≡ true) = and_parts (is_continue c)
-        (list_all is_continue cs) h in
+    (list_all is_continue cs) h in
     ap (λ b. b && list_all is_xid_continue cs) (and_parts (is_xid_continue c) (not (is_white c)) k.0).0
-        ∙ row_continues cs k.1
+    ∙ row_continues cs k.1
 
 fits : (l : Lexeme) (after token : List ℕ) (lo hi : ℕ) → IsLexeme l after → chars token ≡ lexeme_text l
     → encode_utf8_all (lexeme_text l) ≡ token → lo + length token ≡ hi → IsFitting (form_of l) token lo hi
@@ -58,8 +54,13 @@ pub token_fits : {old new : CursorState} {l : Borrowed} → TakesNext old l new
     → IsFitting (form_view l.form) l.text.now l.lo l.hi
 token_fits {l = l} t =
     let w = t.cut in
-    let len : l.lo + length l.text.now ≡ l.hi = omega (arith, t.is_cut.lo_is, t.is_cut.hi_is, ap length
-        t.is_cut.bytes_are) in
+    let len : l.lo + length l.text.now ≡ l.hi = omega (
+      arith,
+      t.is_cut.lo_is,
+      t.is_cut.hi_is,
+      ap length
+          t.is_cut.bytes_are,
+    ) in
     subst (λ (f : LexemeForm). IsFitting f l.text.now l.lo l.hi) t.is_cut.form_is
     (fits w.lexeme t.after l.text.now l.lo l.hi t.is_lexeme (sym t.is_cut.chars_are) t.is_cut.bytes_are len)
 
@@ -70,7 +71,7 @@ pub has_more : {A : Type 0} (text : List ℕ) (from to : CursorState) (file : �
 has_more text from to file old new l same has next takes =
     let w = next.cut in
     let Goes : List ℕ → Type 0 = λ t. (done : List LexedToken) → LexesUpTo 0 (chars t) done (chars from.rest)
-        → LexesUpTo 0 (chars t) (done ++ w ∷ []) (chars to.rest) in
+    → LexesUpTo 0 (chars t) (done ++ w ∷ []) (chars to.rest) in
     let goes_on : Goes text = subst Goes same next.goes_on in
     record {
       cuts = has.cuts ++ w ∷ [];
@@ -84,8 +85,8 @@ has_more text from to file old new l same has next takes =
           map-append (flat_token file) has.cuts (w ∷ [])
           ∙ ap (λ z. z ++ flat_token file w ∷ []) has.flat
           ∙ ap (λ z. flat_builder old ++ z ∷ []) (flat_borrowed file l w next.is_cut
-              ∙ ap (λ n. flat_form (form_view l.form) l.text.now (record { file = n; lo = l.lo; hi = l.hi }))
-              (sym has.file_is))
+          ∙ ap (λ n. flat_form (form_view l.form) l.text.now (record { file = n; lo = l.lo; hi = l.hi }))
+          (sym has.file_is))
           ∙ sym takes.flat;
       file_is = takes.file ∙ has.file_is;
       following = tail_step text from.rest to.rest has.following next.following;

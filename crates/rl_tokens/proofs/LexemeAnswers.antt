@@ -1,6 +1,5 @@
 -- What `lexeme_at` says, in the words of the definitions.
-use Rattle.rl_tokens.proofs.Common.{◌≡◌, ℕ, ◌++◌, List, Option, Some, None, sym, ◌∙◌, ap, Bor, IfSome, IfNone,
-    option_map, chars, none-some}
+use Rattle.rl_tokens.proofs.Common.{◌≡◌, ℕ, ◌++◌, List, Option, Some, None, sym, ◌∙◌, ap, Bor, IfSome, IfNone, option_map, chars, none-some}
 use Rattle.rl_tokens.specs.declared.lexeme.Form.{Form as FoundForm}
 use Rattle.rl_tokens.specs.Lexemes.{LexemeForm, form_of, LexemeBefore}
 use Rattle.rl_tokens.specs.Cursors.{form_view}

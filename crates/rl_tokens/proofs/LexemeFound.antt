@@ -1,28 +1,15 @@
 -- What `lexeme_at` takes off is a lexeme.
-use Rattle.rl_tokens.proofs.Common.{◌≡◌, ℕ, suc, zero, ◌<◌, inl, inr, Bool, true, false, not, ◌&&◌, ◌||◌, ◌==◌, cond,
-    List, [], ◌∷◌, ◌++◌, Option, Some, None, slice_index, drop, replicate, refl, sym, ◌∙◌, ap, subst, arith,
-    append_assoc, and_parts, or_from, list_all, if◌then◌else◌, option_map, is_ascii_digit, none-some}
+use Rattle.rl_tokens.proofs.Common.{◌≡◌, ℕ, suc, zero, ◌<◌, inl, inr, Bool, true, false, not, ◌&&◌, ◌||◌, ◌==◌, cond, List, [], ◌∷◌, ◌++◌, Option, Some, None, slice_index, drop, replicate, refl, sym, ◌∙◌, ap, subst, arith, append_assoc, and_parts, or_from, list_all, if◌then◌else◌, option_map, is_ascii_digit, none-some}
 use Rattle.rl_tokens.specs.Texts.{is_underscore, is_among, first_passes, is_row_part}
-use Rattle.rl_tokens.specs.Lexemes.{is_base_letter, delimiters, marks, begins_hashes, begins_dot, BodyPart, PlainPart,
-    EscapedPart, body_text, IsBody, CharacterBody, OneCharacter, EscapedCharacter, character_body_text, IsCharacterBody,
-    LexedFraction, NoLexedFraction, LexedDot, lexed_fraction_text, lexed_sign_text, LexedExponent, NoLexedExponent,
-    LexedPower, lexed_exponent_text, IsRow, IsLexedSuffix, IsRawBody, IsLexedFraction, IsLexedExponent, LiteralPrefix,
-    NoPrefix, BytePrefix, CPrefix, prefix_text, Lexeme, QuotedLexeme, RawLexeme, CharacterLexeme, BasedLexeme,
-    DecimalLexeme, IdentifierLexeme, DelimiterLexeme, MarkLexeme, lexeme_text, IsLexeme, LexemeForm, LiteralForm,
-    IdentifierForm, DelimiterForm, MarkForm, form_of, is_start, is_continue}
+use Rattle.rl_tokens.specs.Lexemes.{is_base_letter, delimiters, marks, begins_hashes, begins_dot, BodyPart, PlainPart, EscapedPart, body_text, IsBody, CharacterBody, OneCharacter, EscapedCharacter, character_body_text, IsCharacterBody, LexedFraction, NoLexedFraction, LexedDot, lexed_fraction_text, lexed_sign_text, LexedExponent, NoLexedExponent, LexedPower, lexed_exponent_text, IsRow, IsLexedSuffix, IsRawBody, IsLexedFraction, IsLexedExponent, LiteralPrefix, NoPrefix, BytePrefix, CPrefix, prefix_text, Lexeme, QuotedLexeme, RawLexeme, CharacterLexeme, BasedLexeme, DecimalLexeme, IdentifierLexeme, DelimiterLexeme, MarkLexeme, lexeme_text, IsLexeme, LexemeForm, LiteralForm, IdentifierForm, DelimiterForm, MarkForm, form_of, is_start, is_continue}
 use Rattle.rl_tokens.proofs.Comments.{chosen, chosen3, same_Some}
 use Rattle.rl_tokens.proofs.Pieces.{is_equal}
 use Rattle.rl_tokens.specs.Puncts.{is_punct}
-use Rattle.rl_tokens.specs.Mirrors.LexemeAt.{after_suffix, after_quote, hashes, after_raw, after_apostrophe,
-    after_single, after_lexed_fraction, after_lexed_exponent, after_decimal, HeadClass, LetterBHead, LetterCHead,
-    LetterRHead, OtherLetterHead, QuoteHead, ApostropheHead, DigitHead, SlashHead, StrayHead, start_class, other_class,
-    head_class, quoted_at, raw_at, single_at, word_at, by_class, lexeme_at, literal_at, DelimiterHead, MarkHead,
-    after_digit, begins_hashed_quote, begins_exponent, after_sign, begins_otherwise}
+use Rattle.rl_tokens.specs.Mirrors.LexemeAt.{after_suffix, after_quote, hashes, after_raw, after_apostrophe, after_single, after_lexed_fraction, after_lexed_exponent, after_decimal, HeadClass, LetterBHead, LetterCHead, LetterRHead, OtherLetterHead, QuoteHead, ApostropheHead, DigitHead, SlashHead, StrayHead, start_class, other_class, head_class, quoted_at, raw_at, single_at, word_at, by_class, lexeme_at, literal_at, DelimiterHead, MarkHead, after_digit, begins_hashed_quote, begins_exponent, after_sign, begins_otherwise}
 use Rattle.rl_tokens.specs.Classes.{is_hash, after_run}
 use Rattle.rl_tokens.proofs.HashLemmas.{hashes_split, hashes_inside}
 use Rattle.rl_tokens.proofs.LexemeRows.{power_text}
-use Rattle.rl_tokens.proofs.LexemeOpeners.{opens_found, sign_found, underscores_found, passes_split, no_exponent_begins,
-    none_otherwise}
+use Rattle.rl_tokens.proofs.LexemeOpeners.{opens_found, sign_found, underscores_found, passes_split, no_exponent_begins, none_otherwise}
 use Rattle.rl_tokens.proofs.LexemeFronts.{decimal_text, raw_text}
 
 -- Rows and suffixes.
@@ -31,8 +18,7 @@ Row test t r = (row : List ℕ) × IsRow test row r × (t ≡ row ++ r)
 
 run_step : (test : ℕ → Bool) (c : ℕ) (t : List ℕ) (b : Bool) → test c ≡ b → Row test t (after_run test t)
     → Row test (c ∷ t) (cond b (after_run test t) (c ∷ t))
-run_step test c t true h (row, is, same) = (c ∷ row, record { each = ap (λ b. b && list_all test row) h
-    ∙ is.each; ends = is.ends }, ap (λ s. c ∷ s) same)
+run_step test c t true h (row, is, same) = (c ∷ row, record { each = ap (λ b. b && list_all test row) h ∙ is.each; ends = is.ends }, ap (λ s. c ∷ s) same)
 run_step test c t false h more = ([], record { each = refl; ends = h }, refl)
 
 pub run_found : (test : ℕ → Bool) (t : List ℕ) → Row test t (after_run test t)
@@ -67,8 +53,12 @@ body_escaped : (c e : ℕ) (t r : List ℕ) → (c == 92) ≡ true → Body t r 
 body_escaped c e t r h (parts, is, same) = (EscapedPart e ∷ parts, is, (let q : c ≡ 92 = is_equal c 92 h in cc))
 
 body_plain : (c : ℕ) (t r : List ℕ) → (c == 34) ≡ false → (c == 92) ≡ false → Body t r → Body (c ∷ t) r
-body_plain c t r a b (parts, is, same) = (PlainPart c ∷ parts, (ap (λ x. not (x || c == 92)) a ∙ ap not b, is), ap
-    (λ s. c ∷ s) same)
+body_plain c t r a b (parts, is, same) = (
+  PlainPart c ∷ parts,
+  (ap (λ x. not (x || c == 92)) a ∙ ap not b, is),
+  ap
+      (λ s. c ∷ s) same,
+)
 
 pub quote_found : (t r : List ℕ) → after_quote t ≡ Some r → Body t r
 quote_found [] r h = absurd (none-some r h)
@@ -96,9 +86,15 @@ raw_ends n c t r h same =
     ([], tt, cc)
 
 raw_more : (n c : ℕ) (t r : List ℕ) → (c == 34 && begins_hashes n t) ≡ false → RawBody n t r → RawBody n (c ∷ t) r
-raw_more n c t r h (body, is, same) =
-    (c ∷ body, (ap (λ b. c == 34 && b) (sym (hashes_inside n body (replicate n 35 ++ r))
-        ∙ ap (begins_hashes n) (sym same)) ∙ h, is), ap (λ s. c ∷ s) same)
+raw_more n c t r h (body, is, same) = (
+  c ∷ body,
+  (
+    ap (λ b. c == 34 && b) (sym (hashes_inside n body (replicate n 35 ++ r))
+        ∙ ap (begins_hashes n) (sym same)) ∙ h,
+    is,
+  ),
+  ap (λ s. c ∷ s) same,
+)
 
 pub raw_found : (n : ℕ) (t r : List ℕ) → after_raw n t ≡ Some r → RawBody n t r
 raw_found n [] r h = absurd (none-some r h)
@@ -116,9 +112,13 @@ more_ends : (c : ℕ) (t r : List ℕ) → (c == 39) ≡ true → t ≡ r → Mo
 more_ends c t r h same = ([], refl, (let q : c ≡ 39 = is_equal c 39 h in cc))
 
 more_more : (c : ℕ) (t r : List ℕ) → (c == 39) ≡ false → (c == 10) ≡ false → More t r → More (c ∷ t) r
-more_more c t r a b (more, is, same) = (c ∷ more, ap (λ x. not (x || c == 10)
-    && list_all (λ d. not (d == 39 || d == 10)) more) a ∙ ap (λ x. not x
-    && list_all (λ d. not (d == 39 || d == 10)) more) b ∙ is, ap (λ s. c ∷ s) same)
+more_more c t r a b (more, is, same) = (
+  c ∷ more,
+  ap (λ x. not (x || c == 10)
+      && list_all (λ d. not (d == 39 || d == 10)) more) a ∙ ap (λ x. not x
+      && list_all (λ d. not (d == 39 || d == 10)) more) b ∙ is,
+  ap (λ s. c ∷ s) same,
+)
 
 apostrophe_found : (t r : List ℕ) → after_apostrophe t ≡ Some r → More t r
 apostrophe_found [] r h = absurd (none-some r h)
@@ -163,7 +163,7 @@ fraction_step t false h = (NoLexedFraction, h, refl)
 fraction_step t true h =
     let (digits, row, same) = run_found (is_row_part is_ascii_digit) (drop 1 t) in
     let e : t ≡ 46 ∷ (digits ++ after_run (is_row_part is_ascii_digit) (drop 1 t)) = dot_split t h
-        ∙ ap (λ s. 46 ∷ s) same in
+    ∙ ap (λ s. 46 ∷ s) same in
     (LexedDot digits, (ap begins_dot (sym e) ∙ h, row), e)
 
 pub fraction_found : (t : List ℕ) → Fractioned t (after_lexed_fraction t)
@@ -187,8 +187,8 @@ power_found c t letter digit =
     let (more, row, u_is) = run_found (is_row_part is_ascii_digit) u in
     let v : after_sign t ≡ replicate n 95 ++ d ∷ u = v_is ∙ ap (λ x. replicate n 95 ++ x) w_is in
     let r : after_run (is_row_part is_ascii_digit) (after_sign t)
-        ≡ after_run (is_row_part is_ascii_digit) u = ap (after_run (is_row_part is_ascii_digit)) v
-        ∙ part_run n d u is in
+    ≡ after_run (is_row_part is_ascii_digit) u = ap (after_run (is_row_part is_ascii_digit)) v
+    ∙ part_run n d u is in
     subst (λ (x : List ℕ). Powered (c ∷ t) x) (sym r) (
       LexedPower c s n d more,
       (letter, is, row),
@@ -202,8 +202,8 @@ exponent_step t false h = (NoLexedExponent, no_exponent_begins t h, refl)
 exponent_step [] true h = absurd (cc)
 exponent_step (c ∷ t) true h =
     let k : ((c == 101 || c == 69) ≡ true) × (first_passes is_ascii_digit (after_run is_underscore (after_sign t))
-        ≡ true) = and_parts (c == 101 || c == 69) (first_passes is_ascii_digit (after_run is_underscore (after_sign t)))
-        h in
+    ≡ true) = and_parts (c == 101 || c == 69) (first_passes is_ascii_digit (after_run is_underscore (after_sign t)))
+    h in
     power_found c t k.0 k.1
 
 pub exponent_found : (t : List ℕ) → Powered t (after_lexed_exponent t)
@@ -230,13 +230,13 @@ decimal_found d t is other =
     let (f, fraction, a_is) = fraction_found (after_run (is_row_part is_ascii_digit) t) in
     let (e, exponent, b_is) = exponent_found (after_lexed_fraction (after_run (is_row_part is_ascii_digit) t)) in
     let (x, suffix, c_is) = suffix_found (after_lexed_exponent
-        (after_lexed_fraction (after_run (is_row_part is_ascii_digit) t))) in
+    (after_lexed_fraction (after_run (is_row_part is_ascii_digit) t))) in
     let b : after_lexed_fraction (after_run (is_row_part is_ascii_digit) t) ≡ lexed_exponent_text e
-        ++ (x ++ after_decimal t) = b_is ∙ ap (λ s. lexed_exponent_text e ++ s) c_is in
+    ++ (x ++ after_decimal t) = b_is ∙ ap (λ s. lexed_exponent_text e ++ s) c_is in
     let a : after_run (is_row_part is_ascii_digit) t ≡ lexed_fraction_text f
-        ++ (lexed_exponent_text e ++ (x ++ after_decimal t)) = a_is ∙ ap (λ s. lexed_fraction_text f ++ s) b in
+    ++ (lexed_exponent_text e ++ (x ++ after_decimal t)) = a_is ∙ ap (λ s. lexed_fraction_text f ++ s) b in
     let whole : t ≡ more ++ (lexed_fraction_text f ++ (lexed_exponent_text e ++ (x ++ after_decimal t))) = t_is
-        ∙ ap (λ s. more ++ s) a in (
+    ∙ ap (λ s. more ++ s) a in (
       DecimalLexeme d more f e x,
       (
         is,
@@ -364,9 +364,17 @@ word_found : (c : ℕ) (t : List ℕ) (p : LexemeForm × List ℕ) → is_start 
     → word_at t ≡ Some p → Found (c ∷ t) p
 word_found c t p is other h =
     let (more, row, t_is) = run_found is_continue t in
-    let here : Found (c ∷ t) (IdentifierForm, after_run is_continue t) =
-    (IdentifierLexeme c more, (is, row, none_otherwise (c ∷ more ++ after_run is_continue t)
-        (ap (λ s. begins_otherwise (c ∷ s)) (sym t_is) ∙ other)), ap (λ s. c ∷ s) t_is, refl) in
+    let here : Found (c ∷ t) (IdentifierForm, after_run is_continue t) = (
+      IdentifierLexeme c more,
+      (
+        is,
+        row,
+        none_otherwise (c ∷ more ++ after_run is_continue t)
+            (ap (λ s. begins_otherwise (c ∷ s)) (sym t_is) ∙ other),
+      ),
+      ap (λ s. c ∷ s) t_is,
+      refl,
+    ) in
     subst (λ (x : LexemeForm × List ℕ). Found (c ∷ t) x) (same_Some (IdentifierForm, after_run is_continue t) p h) here
 
 prefixed : (k : ℕ) (t : List ℕ) → slice_index t 0 ≡ k → 0 < k → t ≡ k ∷ drop 1 t
@@ -386,37 +394,37 @@ raw_tail : (c : ℕ) (prefix : LiteralPrefix) (t : List ℕ) (p : LexemeForm × 
     → Found (c ∷ t) p
 raw_tail c prefix t p e h x =
     let k : ((slice_index t 0 == 114) ≡ true) × (begins_hashed_quote (drop 1 t) ≡ true) = and_parts
-        (slice_index t 0 == 114) (begins_hashed_quote (drop 1 t)) h in
+    (slice_index t 0 == 114) (begins_hashed_quote (drop 1 t)) h in
     after_prefix c 114 t p (is_equal (slice_index t 0) 114 k.0) (omega arith)
     (subst (λ (s : List ℕ). Found (s ++ 114 ∷ drop 1 t) p) e
     (literal_from (prefix_text prefix ++ 114 ∷ drop 1 t) (raw_at (drop 1 t)) p x
-        (λ r y. raw_all prefix (drop 1 t) r k.1 y)))
+    (λ r y. raw_all prefix (drop 1 t) r k.1 y)))
 
 from_b : (t : List ℕ) (p : LexemeForm × List ℕ) → is_start 98 ≡ true → by_class LetterBHead 98 t ≡ Some p
     → Found (98 ∷ t) p
 from_b t p is h =
     elim (chosen3 (slice_index t 0 == 34) (slice_index t 0 == 39) (literal_at (quoted_at (drop 1 t)))
-        (literal_at (single_at (drop 1 t))) (cond (slice_index t 0 == 114 && begins_hashed_quote (drop 1 t))
-        (literal_at (raw_at (drop 1 t))) (word_at t)) (Some p) h) [
+    (literal_at (single_at (drop 1 t))) (cond (slice_index t 0 == 114 && begins_hashed_quote (drop 1 t))
+    (literal_at (raw_at (drop 1 t))) (word_at t)) (Some p) h) [
       | inl (a, x) ↦ after_prefix 98 34 t p (is_equal (slice_index t 0) 34 a) (omega arith)
           (literal_from (98 ∷ 34 ∷ drop 1 t) (quoted_at (drop 1 t)) p x (λ r y. quoted_found BytePrefix (drop 1 t) r y))
       | inr (inl (_, a, x)) ↦ after_prefix 98 39 t p (is_equal (slice_index t 0) 39 a) (omega arith)
           (literal_from (98 ∷ 39 ∷ drop 1 t) (single_at (drop 1 t)) p x (λ r y. character_found true (drop 1 t) r y))
       | inr (inr (a, b, x)) ↦ elim (chosen (slice_index t 0 == 114 && begins_hashed_quote (drop 1 t))
           (literal_at (raw_at (drop 1 t))) (word_at t) (Some p) x) [
-        | inl (d, y) ↦ raw_tail 98 BytePrefix t p refl d y
-        | inr (d, y) ↦ word_found 98 t p is (or_from (slice_index t 0 == 34
-            || (slice_index t 0 == 39 || (slice_index t 0 == 114 && begins_hashed_quote (drop 1 t)))) false
-            (none3 (slice_index t 0 == 34) (slice_index t 0 == 39)
-            (slice_index t 0 == 114 && begins_hashed_quote (drop 1 t)) a b d) refl) y
-      ]
+            | inl (d, y) ↦ raw_tail 98 BytePrefix t p refl d y
+            | inr (d, y) ↦ word_found 98 t p is (or_from (slice_index t 0 == 34
+                || (slice_index t 0 == 39 || (slice_index t 0 == 114 && begins_hashed_quote (drop 1 t)))) false
+                (none3 (slice_index t 0 == 34) (slice_index t 0 == 39)
+                (slice_index t 0 == 114 && begins_hashed_quote (drop 1 t)) a b d) refl) y
+          ]
     ]
 
 from_c : (t : List ℕ) (p : LexemeForm × List ℕ) → is_start 99 ≡ true → by_class LetterCHead 99 t ≡ Some p
     → Found (99 ∷ t) p
 from_c t p is h =
     elim (chosen3 (slice_index t 0 == 34) (slice_index t 0 == 114 && begins_hashed_quote (drop 1 t))
-        (literal_at (quoted_at (drop 1 t))) (literal_at (raw_at (drop 1 t))) (word_at t) (Some p) h) [
+    (literal_at (quoted_at (drop 1 t))) (literal_at (raw_at (drop 1 t))) (word_at t) (Some p) h) [
       | inl (a, x) ↦ after_prefix 99 34 t p (is_equal (slice_index t 0) 34 a) (omega arith)
           (literal_from (99 ∷ 34 ∷ drop 1 t) (quoted_at (drop 1 t)) p x (λ r y. quoted_found CPrefix (drop 1 t) r y))
       | inr (inl (_, d, y)) ↦ raw_tail 99 CPrefix t p refl d y
@@ -429,7 +437,7 @@ from_r : (t : List ℕ) (p : LexemeForm × List ℕ) → is_start 114 ≡ true �
     → Found (114 ∷ t) p
 from_r t p is h =
     elim (chosen3 (begins_hashed_quote t) (slice_index t 0 == 35 && first_passes is_start (drop 1 t))
-        (literal_at (raw_at t)) None (word_at t) (Some p) h) [
+    (literal_at (raw_at t)) None (word_at t) (Some p) h) [
       | inl (a, x) ↦ literal_from (114 ∷ t) (raw_at t) p x (λ r y. raw_all NoPrefix t r a y)
       | inr (inl (_, d, y)) ↦ absurd (none-some p y)
       | inr (inr (a, d, y)) ↦ word_found 114 t p is (or_from (begins_hashed_quote t)
@@ -485,7 +493,7 @@ by_head DelimiterHead c t p is h = found_at (c ∷ t) (DelimiterForm c, t) p h (
 by_head MarkHead c t p is h = found_at (c ∷ t) (MarkForm c, t) p h (MarkLexeme c, inl is, refl, refl)
 by_head SlashHead c t p e h =
     at_head c 47 t p e (slash_found t (first_passes (λ d. d == 47 || d == 42) t) p refl
-        (ap (λ x. cond (first_passes (λ d. d == 47 || d == 42) t) None (Some (MarkForm x, t))) (sym e) ∙ h))
+    (ap (λ x. cond (first_passes (λ d. d == 47 || d == 42) t) None (Some (MarkForm x, t))) (sym e) ∙ h))
 by_head StrayHead c t p e h = absurd (none-some p h)
 
 pub lexeme_at-found : (t : List ℕ) (p : LexemeForm × List ℕ) → lexeme_at t ≡ Some p → Found t p

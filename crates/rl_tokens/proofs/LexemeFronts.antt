@@ -1,26 +1,14 @@
 -- A lexeme is what `lexeme_at` takes off, so at most one front of a text is a lexeme with the rest.
-use Rattle.rl_tokens.proofs.Common.{◌≡◌, ℕ, ◌<◌, inl, inr, Bool, true, false, not, ◌&&◌, ◌||◌, ◌==◌, cond, List, [],
-    ◌∷◌, ◌++◌, Option, Some, None, slice_index, drop, replicate, refl, sym, ◌∙◌, ap, subst, arith, append_assoc, lit<,
-    and_parts, or_parts, nat_tests, list_all, IsTrue, nat_lt, is_ascii_alphabetic, is_ascii_digit, option_map,
-    is_xid_start-ascii, append_cancel_right}
+use Rattle.rl_tokens.proofs.Common.{◌≡◌, ℕ, ◌<◌, inl, inr, Bool, true, false, not, ◌&&◌, ◌||◌, ◌==◌, cond, List, [], ◌∷◌, ◌++◌, Option, Some, None, slice_index, drop, replicate, refl, sym, ◌∙◌, ap, subst, arith, append_assoc, lit<, and_parts, or_parts, nat_tests, list_all, IsTrue, nat_lt, is_ascii_alphabetic, is_ascii_digit, option_map, is_xid_start-ascii, append_cancel_right}
 use Rattle.rl_tokens.specs.Texts.{is_white, is_among, first_passes, is_row_part}
-use Rattle.rl_tokens.specs.Lexemes.{BeginsOtherwise, is_base_letter, delimiters, marks, BodyPart, body_text, IsBody,
-    CharacterBody, character_body_text, IsCharacterBody, LexedFraction, lexed_fraction_text, LexedExponent,
-    lexed_exponent_text, IsRow, IsLexedSuffix, IsRawBody, LiteralPrefix, NoPrefix, BytePrefix, CPrefix, Lexeme,
-    QuotedLexeme, RawLexeme, CharacterLexeme, BasedLexeme, DecimalLexeme, IdentifierLexeme, DelimiterLexeme, MarkLexeme,
-    lexeme_text, IsLexeme, LexemeForm, LiteralForm, IdentifierForm, DelimiterForm, MarkForm, form_of, is_start,
-    is_continue}
+use Rattle.rl_tokens.specs.Lexemes.{BeginsOtherwise, is_base_letter, delimiters, marks, BodyPart, body_text, IsBody, CharacterBody, character_body_text, IsCharacterBody, LexedFraction, lexed_fraction_text, LexedExponent, lexed_exponent_text, IsRow, IsLexedSuffix, IsRawBody, LiteralPrefix, NoPrefix, BytePrefix, CPrefix, Lexeme, QuotedLexeme, RawLexeme, CharacterLexeme, BasedLexeme, DecimalLexeme, IdentifierLexeme, DelimiterLexeme, MarkLexeme, lexeme_text, IsLexeme, LexemeForm, LiteralForm, IdentifierForm, DelimiterForm, MarkForm, form_of, is_start, is_continue}
 use Rattle.rl_tokens.proofs.Gaps.{OneLexeme}
 use Rattle.rl_tokens.proofs.Comments.{false_unless, same_Some}
 use Rattle.rl_tokens.proofs.Pieces.{is_equal}
 use Rattle.rl_tokens.specs.Puncts.{is_punct}
-use Rattle.rl_tokens.specs.Mirrors.LexemeAt.{after_suffix, after_raw, after_lexed_fraction, after_lexed_exponent,
-    after_decimal, HeadClass, LetterBHead, LetterCHead, LetterRHead, OtherLetterHead, QuoteHead, ApostropheHead,
-    DigitHead, SlashHead, StrayHead, start_class, other_class, head_class, quoted_at, raw_at, single_at, word_at,
-    by_class, lexeme_at, literal_at, DelimiterHead, MarkHead, begins_hashed_quote, begins_otherwise}
+use Rattle.rl_tokens.specs.Mirrors.LexemeAt.{after_suffix, after_raw, after_lexed_fraction, after_lexed_exponent, after_decimal, HeadClass, LetterBHead, LetterCHead, LetterRHead, OtherLetterHead, QuoteHead, ApostropheHead, DigitHead, SlashHead, StrayHead, start_class, other_class, head_class, quoted_at, raw_at, single_at, word_at, by_class, lexeme_at, literal_at, DelimiterHead, MarkHead, begins_hashed_quote, begins_otherwise}
 use Rattle.rl_tokens.specs.Classes.{is_hash, after_run}
-use Rattle.rl_tokens.proofs.LexemeRows.{not_true, run_past, suffix_past, quote_past, raw_past, single_past,
-    fraction_past, not_among}
+use Rattle.rl_tokens.proofs.LexemeRows.{not_true, run_past, suffix_past, quote_past, raw_past, single_past, fraction_past, not_among}
 use Rattle.rl_tokens.proofs.HashLemmas.{hashes_count, hashes_past}
 use Rattle.rl_tokens.proofs.LexemeOpeners.{raw_opens_here, exponent_past, no_otherwise}
 
@@ -78,7 +66,7 @@ pub stray_class : (c : ℕ) → is_start c ≡ false → is_among delimiters c �
     ≡ false → is_ascii_digit c ≡ false → (c == 34) ≡ false → (c == 39) ≡ false → head_class c ≡ StrayHead
 stray_class c start delimiter slash mark digit quote apostrophe =
     class_other c start ∙ none (is_among delimiters c) (c == 47) (is_among marks c) (is_ascii_digit c) (c == 34)
-        (c == 39) delimiter slash mark digit quote apostrophe
+    (c == 39) delimiter slash mark digit quote apostrophe
   where
     none : (d s m n q a : Bool) → d ≡ false → s ≡ false → m ≡ false → n ≡ false → q ≡ false → a ≡ false
         → cond d DelimiterHead (cond s SlashHead (cond (m || s) MarkHead
@@ -108,7 +96,7 @@ quoted_past : (parts : List BodyPart) (x t : List ℕ) → IsBody parts → IsLe
     → quoted_at (body_text parts ++ 34 ∷ x ++ t) ≡ Some t
 quoted_past parts x t is suffix =
     ap quoted_at (append_assoc (body_text parts) (34 ∷ x) t) ∙ ap (option_map after_suffix)
-        (quote_past parts (x ++ t) is) ∙ ap Some (suffix_past x t suffix)
+    (quote_past parts (x ++ t) is) ∙ ap Some (suffix_past x t suffix)
 
 front_quoted : (p : LiteralPrefix) (parts : List BodyPart) (x t : List ℕ) → IsBody parts → IsLexedSuffix x t
     → lexeme_at (lexeme_text (QuotedLexeme p parts x) ++ t) ≡ Some (LiteralForm, t)
@@ -124,7 +112,7 @@ single_front : (inside : CharacterBody) (x t : List ℕ) → IsCharacterBody ins
     → single_at (character_body_text inside ++ 39 ∷ x ++ t) ≡ Some t
 single_front inside x t is suffix =
     ap single_at (append_assoc (character_body_text inside) (39 ∷ x) t)
-        ∙ ap (option_map after_suffix) (single_past inside (x ++ t) is) ∙ ap Some (suffix_past x t suffix)
+    ∙ ap (option_map after_suffix) (single_past inside (x ++ t) is) ∙ ap Some (suffix_past x t suffix)
 
 front_character : (b : Bool) (inside : CharacterBody) (x t : List ℕ) → IsCharacterBody inside → IsLexedSuffix x t
     → lexeme_at (lexeme_text (CharacterLexeme b inside x) ++ t) ≡ Some (LiteralForm, t)
@@ -167,7 +155,7 @@ raw_front : (n : ℕ) (body x t : List ℕ) → IsRawBody n body → IsLexedSuff
 raw_front n body x t is suffix =
     let u = body ++ 34 ∷ (replicate n 35 ++ (x ++ t)) in
     ap (λ k. option_map after_suffix (after_raw k (drop 1 (after_run is_hash (replicate n 35 ++ 34 ∷ u)))))
-        (hashes_count n u)
+    (hashes_count n u)
     ∙ ap (λ s. option_map after_suffix (after_raw n (drop 1 s))) (hashes_past n u)
     ∙ ap (option_map after_suffix) (raw_past n body (x ++ t) is)
     ∙ ap Some (suffix_past x t suffix)
@@ -182,17 +170,17 @@ front_raw NoPrefix n body x t is suffix =
     let u = replicate n 35 ++ 34 ∷ (body ++ 34 ∷ (replicate n 35 ++ (x ++ t))) in
     ap (λ s. lexeme_at (114 ∷ s)) (raw_text n body x t) ∙ at_class 114 u LetterRHead class114
     ∙ raw_chosen u (cond (slice_index u 0 == 35 && first_passes is_start (drop 1 u)) None (word_at u)) t
-        (raw_opens_here n (body ++ 34 ∷ (replicate n 35 ++ (x ++ t)))) (raw_front n body x t is suffix)
+    (raw_opens_here n (body ++ 34 ∷ (replicate n 35 ++ (x ++ t)))) (raw_front n body x t is suffix)
 front_raw BytePrefix n body x t is suffix =
     let u = replicate n 35 ++ 34 ∷ (body ++ 34 ∷ (replicate n 35 ++ (x ++ t))) in
     ap (λ s. lexeme_at (98 ∷ 114 ∷ s)) (raw_text n body x t) ∙ at_class 98 (114 ∷ u) LetterBHead class98
     ∙ raw_chosen u (word_at (114 ∷ u)) t (raw_opens_here n (body ++ 34 ∷ (replicate n 35 ++ (x ++ t))))
-        (raw_front n body x t is suffix)
+    (raw_front n body x t is suffix)
 front_raw CPrefix n body x t is suffix =
     let u = replicate n 35 ++ 34 ∷ (body ++ 34 ∷ (replicate n 35 ++ (x ++ t))) in
     ap (λ s. lexeme_at (99 ∷ 114 ∷ s)) (raw_text n body x t) ∙ at_class 99 (114 ∷ u) LetterCHead class99
     ∙ raw_chosen u (word_at (114 ∷ u)) t (raw_opens_here n (body ++ 34 ∷ (replicate n 35 ++ (x ++ t))))
-        (raw_front n body x t is suffix)
+    (raw_front n body x t is suffix)
 
 -- Numbers.
 front_based : (letter : ℕ) (digits t : List ℕ) → IsTrue (is_base_letter letter) → IsRow is_continue digits t
@@ -200,7 +188,7 @@ front_based : (letter : ℕ) (digits t : List ℕ) → IsTrue (is_base_letter le
 front_based letter digits t is row =
     at_class 48 (letter ∷ digits ++ t) DigitHead (class_other 48 (start_ascii 48 (lit< tt)))
     ∙ ap (λ b. Some (LiteralForm, cond b (after_run is_continue (digits ++ t)) (after_decimal (letter ∷ digits ++ t))))
-        is
+    is
     ∙ ap (λ s. Some (LiteralForm, s)) (run_past is_continue digits t row)
 
 digit_low : (d : ℕ) → is_ascii_digit d ≡ true → d < 128
@@ -209,7 +197,7 @@ digit_low d is = grind (arith, nat_tests)
 digit_no_start : (d : ℕ) → is_ascii_digit d ≡ true → ascii_start d ≡ true → ⊥
 digit_no_start d is h =
     let k : (d == 95 || is_ascii_alphabetic d) ≡ true = (and_parts (d == 95 || is_ascii_alphabetic d) (not (is_white d))
-        h).0 in
+    h).0 in
     grind (arith, nat_tests)
 
 pub digit_not_start : (d : ℕ) → is_ascii_digit d ≡ true → is_start d ≡ false
@@ -242,9 +230,9 @@ front_decimal d more f e x t (is, not_based, row, fraction, exponent, suffix) =
     ∙ at_class d u DigitHead (class_digit d is)
     ∙ ap (λ b. Some (LiteralForm, cond b (after_run is_continue (drop 1 u)) (after_decimal u))) not_based
     ∙ ap (λ s. Some (LiteralForm, after_suffix (after_lexed_exponent (after_lexed_fraction s))))
-        (run_past (is_row_part is_ascii_digit) more (lexed_fraction_text f ++ (lexed_exponent_text e ++ (x ++ t))) row)
+    (run_past (is_row_part is_ascii_digit) more (lexed_fraction_text f ++ (lexed_exponent_text e ++ (x ++ t))) row)
     ∙ ap (λ s. Some (LiteralForm, after_suffix (after_lexed_exponent s)))
-        (fraction_past f (lexed_exponent_text e ++ (x ++ t)) fraction)
+    (fraction_past f (lexed_exponent_text e ++ (x ++ t)) fraction)
     ∙ ap (λ s. Some (LiteralForm, after_suffix s)) (exponent_past e (x ++ t) exponent)
     ∙ ap (λ s. Some (LiteralForm, s)) (suffix_past x t suffix)
 
@@ -282,7 +270,7 @@ front_identifier : (c : ℕ) (more t : List ℕ) → IsTrue (is_start c) → IsR
     → (BeginsOtherwise (c ∷ more ++ t) → ⊥) → lexeme_at (c ∷ more ++ t) ≡ Some (IdentifierForm, t)
 front_identifier c more t is row other =
     at_class c (more ++ t) (start_class c) (class_start c is) ∙ word_class c (more ++ t)
-        (no_otherwise (c ∷ more ++ t) other) ∙ ap (λ s. Some (IdentifierForm, s)) (run_past is_continue more t row)
+    (no_otherwise (c ∷ more ++ t) other) ∙ ap (λ s. Some (IdentifierForm, s)) (run_past is_continue more t row)
 
 -- All eight.
 pub lexeme_at-past : (l : Lexeme) (t : List ℕ) → IsLexeme l t → lexeme_at (lexeme_text l ++ t) ≡ Some (form_of l, t)

@@ -1,12 +1,7 @@
 -- A lexeme but a mark stays one before a gap and at the end.
-use Rattle.rl_tokens.proofs.Common.{◌≡◌, ℕ, ◌<◌, Bool, true, false, not, ◌&&◌, ◌||◌, ◌==◌, cond, List, [], ◌∷◌, ◌++◌,
-    slice_index, drop, replicate, refl, sym, ◌∙◌, ap, subst, arith, append_assoc, lit<, and_parts, nat_tests, list_all,
-    is_xid_start, is_xid_continue, is_ascii_alphanumeric, is_ascii_digit, is_xid_continue-ascii}
+use Rattle.rl_tokens.proofs.Common.{◌≡◌, ℕ, ◌<◌, Bool, true, false, not, ◌&&◌, ◌||◌, ◌==◌, cond, List, [], ◌∷◌, ◌++◌, slice_index, drop, replicate, refl, sym, ◌∙◌, ap, subst, arith, append_assoc, lit<, and_parts, nat_tests, list_all, is_xid_start, is_xid_continue, is_ascii_alphanumeric, is_ascii_digit, is_xid_continue-ascii}
 use Rattle.rl_tokens.specs.Texts.{is_white, is_underscore, first_passes, is_row_part}
-use Rattle.rl_tokens.specs.Lexemes.{is_base_letter, begins_dot, LexedFraction, NoLexedFraction, LexedDot,
-    lexed_fraction_text, lexed_sign_text, LexedExponent, NoLexedExponent, LexedPower, lexed_exponent_text, IsRow,
-    IsLexedSuffix, IsLexedFraction, IsLexedExponent, QuotedLexeme, RawLexeme, CharacterLexeme, BasedLexeme,
-    DecimalLexeme, IdentifierLexeme, DelimiterLexeme, MarkLexeme, IsLexeme, is_start, is_continue}
+use Rattle.rl_tokens.specs.Lexemes.{is_base_letter, begins_dot, LexedFraction, NoLexedFraction, LexedDot, lexed_fraction_text, lexed_sign_text, LexedExponent, NoLexedExponent, LexedPower, lexed_exponent_text, IsRow, IsLexedSuffix, IsLexedFraction, IsLexedExponent, QuotedLexeme, RawLexeme, CharacterLexeme, BasedLexeme, DecimalLexeme, IdentifierLexeme, DelimiterLexeme, MarkLexeme, IsLexeme, is_start, is_continue}
 use Rattle.rl_tokens.proofs.Gaps.{BeginsGap, StaysBeforeGap}
 use Rattle.rl_tokens.proofs.Comments.{false_unless}
 use Rattle.rl_tokens.proofs.Pieces.{is_equal}
@@ -81,8 +76,7 @@ row_gap test row s after gap solid is r = record { each = r.each; ends = passes_
 
 suffix_gap : (x after gap : List ℕ) → BeginsGap gap → IsLexedSuffix x after → IsLexedSuffix x gap
 suffix_gap [] after gap is h = gap_fails is_start gap start_solid is
-suffix_gap (c ∷ x) after gap is (h, r) = (h, record { each = r.each; ends = gap_fails is_continue gap continue_solid is
-    })
+suffix_gap (c ∷ x) after gap is (h, r) = (h, record { each = r.each; ends = gap_fails is_continue gap continue_solid is })
 
 -- Exponents.
 run_gap : (u test : ℕ → Bool) (s after gap : List ℕ) → Solid u → Solid test → BeginsGap gap
@@ -123,19 +117,19 @@ exponent_gap [] after (c ∷ t) is suffix e = ap (λ b. b && first_passes is_asc
 exponent_gap (c ∷ []) after gap is (h, r) e =
     ap (λ s. (c == 101 || c == 69) && first_passes is_ascii_digit (after_run is_underscore s)) (sign_gap gap is)
     ∙ ap (λ b. (c == 101 || c == 69) && b) (run_gap is_underscore is_ascii_digit [] [] gap underscore_solid digit_solid
-        is refl)
+    is refl)
     ∙ and_false (c == 101 || c == 69)
 exponent_gap (c ∷ p ∷ q) after gap is (h, r) e =
     let k : is_continue p ≡ true = (and_parts (is_continue p) (list_all is_continue q) r.each).0 in
     let a : (p == 43) ≡ false = not_among p 43 is_continue k (continue_ascii 43 (lit< tt)) in
     let b : (p == 45) ≡ false = not_among p 45 is_continue k (continue_ascii 45 (lit< tt)) in
     ap (λ s. (c == 101 || c == 69) && first_passes is_ascii_digit (after_run is_underscore s))
-        (no_sign p (q ++ gap) a b)
+    (no_sign p (q ++ gap) a b)
     ∙ and_more (c == 101 || c == 69) (first_passes is_ascii_digit (after_run is_underscore (p ∷ q ++ after)))
-        (first_passes is_ascii_digit (after_run is_underscore (p ∷ q ++ gap)))
+    (first_passes is_ascii_digit (after_run is_underscore (p ∷ q ++ gap)))
     (run_gap is_underscore is_ascii_digit (p ∷ q) after gap underscore_solid digit_solid is)
     (ap (λ s. (c == 101 || c == 69) && first_passes is_ascii_digit (after_run is_underscore s))
-        (sym (no_sign p (q ++ after) a b)) ∙ e)
+    (sym (no_sign p (q ++ after) a b)) ∙ e)
 
 -- Dot parts.
 not_dot : (c : ℕ) (t : List ℕ) → (c == 46) ≡ false → begins_dot (c ∷ t) ≡ false
@@ -164,11 +158,11 @@ fraction_gap NoLexedFraction e x after gap is h ie suffix = dot_gap e x after ga
 fraction_gap (LexedDot digits) e x after gap is (h, r) ie suffix =
     let t = lexed_exponent_text e in
     let k : first_passes (λ d. d == 46 || is_start d) (digits ++ (t ++ (x ++ after)))
-        ≡ false = not_true (first_passes (λ d. d == 46 || is_start d) (digits ++ (t ++ (x ++ after)))) h in
+    ≡ false = not_true (first_passes (λ d. d == 46 || is_start d) (digits ++ (t ++ (x ++ after)))) h in
     let m : first_passes (λ d. d == 46 || is_start d) (digits ++ (t ++ (x ++ gap))) ≡ false =
     ap (first_passes (λ d. d == 46 || is_start d)) (sym (assoc3 digits t x gap))
     ∙ passes_gap (λ d. d == 46 || is_start d) (digits ++ (t ++ x)) after gap dot_solid is
-        (ap (first_passes (λ d. d == 46 || is_start d)) (assoc3 digits t x after) ∙ k) in (
+    (ap (first_passes (λ d. d == 46 || is_start d)) (assoc3 digits t x after) ∙ k) in (
       ap not m,
       subst (λ (s : List ℕ). IsRow (is_row_part is_ascii_digit) digits s) (assoc2 t x gap)
           (row_gap (is_row_part is_ascii_digit) digits (t ++ x) after gap part_solid is
@@ -187,13 +181,13 @@ decimal_gap : (d : ℕ) (more : List ℕ) (f : LexedFraction) (e : LexedExponent
 decimal_gap d more f e x after gap is (id, not_based, row, fraction, exponent, suffix) =
     let t = lexed_fraction_text f ++ (lexed_exponent_text e ++ x) in
     let at : (rest : List ℕ) → (more ++ t) ++ rest ≡ more ++ (lexed_fraction_text f
-        ++ (lexed_exponent_text e ++ (x ++ rest))) = λ rest. append_assoc more t rest
-        ∙ ap (λ s. more ++ s) (assoc3 (lexed_fraction_text f) (lexed_exponent_text e) x rest) in (
+    ++ (lexed_exponent_text e ++ (x ++ rest))) = λ rest. append_assoc more t rest
+    ∙ ap (λ s. more ++ s) (assoc3 (lexed_fraction_text f) (lexed_exponent_text e) x rest) in (
       id,
       ap (λ s. d == 48 && first_passes is_base_letter s) (sym (at gap))
           ∙ and_more (d == 48) (first_passes is_base_letter ((more ++ t) ++ after))
-              (first_passes is_base_letter ((more ++ t) ++ gap)) (passes_gap is_base_letter (more ++ t) after gap
-              base_solid is)
+          (first_passes is_base_letter ((more ++ t) ++ gap)) (passes_gap is_base_letter (more ++ t) after gap
+          base_solid is)
           (ap (λ s. d == 48 && first_passes is_base_letter s) (at after) ∙ not_based),
       subst (λ (s : List ℕ). IsRow (is_row_part is_ascii_digit) more s)
           (assoc3 (lexed_fraction_text f) (lexed_exponent_text e) x gap)
@@ -220,7 +214,7 @@ raw_none [] (c ∷ t) row is = ap (λ b. slice_index (cond b (after_run is_hash 
 raw_none (c ∷ x) gap row is =
     let k : is_continue c ≡ true = (and_parts (is_continue c) (list_all is_continue x) row).0 in
     ap (λ b. slice_index (cond b (after_run is_hash (x ++ gap)) (c ∷ x ++ gap)) 0 == 34)
-        (not_among c 35 is_continue k (continue_ascii 35 (lit< tt)))
+    (not_among c 35 is_continue k (continue_ascii 35 (lit< tt)))
     ∙ not_among c 34 is_continue k (continue_ascii 34 (lit< tt))
 
 none_all : (a b r : Bool) → ((a && false) || ((b && false) || (r && false))) ≡ false
@@ -255,14 +249,14 @@ otherwise_gap : (c : ℕ) (more gap : List ℕ) → list_all is_continue more �
 otherwise_gap c more gap row is =
     let u = more ++ gap in
     none_of (c == 98) (c == 99) (c == 114) (slice_index u 0 == 34) (slice_index u 0 == 39)
-        (slice_index u 0 == 114 && begins_hashed_quote (drop 1 u)) (begins_hashed_quote u)
-        (slice_index u 0 == 35 && first_passes is_start (drop 1 u))
+    (slice_index u 0 == 114 && begins_hashed_quote (drop 1 u)) (begins_hashed_quote u)
+    (slice_index u 0 == 35 && first_passes is_start (drop 1 u))
     (hash_none 34 more gap row is (code_solid 34 refl refl) (continue_ascii 34 (lit< tt)) refl)
     (hash_none 39 more gap row is (code_solid 39 refl refl) (continue_ascii 39 (lit< tt)) refl)
     (second_raw more gap row is)
     (raw_none more gap row is)
     (ap (λ b. b && first_passes is_start (drop 1 u)) (hash_none 35 more gap row is (code_solid 35 refl refl)
-        (continue_ascii 35 (lit< tt)) refl))
+    (continue_ascii 35 (lit< tt)) refl))
 
 run_end : (row after gap : List ℕ) → BeginsGap gap → IsRow is_continue row after → IsRow is_continue row gap
 run_end row after gap is r = row_gap is_continue row [] after gap continue_solid is r

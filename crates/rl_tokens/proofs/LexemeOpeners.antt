@@ -1,15 +1,9 @@
 -- What the tests say of how a text begins, in the words of the lexemes.
-use Rattle.rl_tokens.proofs.Common.{◌≡◌, ℕ, suc, zero, ◌<◌, ◌⊎◌, inl, inr, Bool, true, false, not, ◌&&◌, ◌||◌, ◌==◌,
-    cond, List, [], ◌∷◌, ◌++◌, slice_index, drop, replicate, refl, sym, ◌∙◌, ap, arith, and_parts, codes,
-    is_ascii_digit, and_from, or_left, or_right}
+use Rattle.rl_tokens.proofs.Common.{◌≡◌, ℕ, suc, zero, ◌<◌, ◌⊎◌, inl, inr, Bool, true, false, not, ◌&&◌, ◌||◌, ◌==◌, cond, List, [], ◌∷◌, ◌++◌, slice_index, drop, replicate, refl, sym, ◌∙◌, ap, arith, and_parts, codes, is_ascii_digit, and_from, or_left, or_right}
 use Rattle.rl_tokens.specs.Texts.{is_underscore, first_passes, begins, is_row_part}
-use Rattle.rl_tokens.specs.Lexemes.{is_start, BeginsHashedQuote, LiteralPrefix, NoPrefix, BytePrefix, CPrefix,
-    prefix_text, BeginsRaw, begins_prefixed_quote, begins_raw_identifier, BeginsOtherwise, LexedSign, NoLexedSign,
-    LexedPlus, LexedMinus, lexed_sign_text, LexedExponent, NoLexedExponent, LexedPower, lexed_exponent_text,
-    IsLexedExponent, BeginsLexedExponent}
+use Rattle.rl_tokens.specs.Lexemes.{is_start, BeginsHashedQuote, LiteralPrefix, NoPrefix, BytePrefix, CPrefix, prefix_text, BeginsRaw, begins_prefixed_quote, begins_raw_identifier, BeginsOtherwise, LexedSign, NoLexedSign, LexedPlus, LexedMinus, lexed_sign_text, LexedExponent, NoLexedExponent, LexedPower, lexed_exponent_text, IsLexedExponent, BeginsLexedExponent}
 use Rattle.rl_tokens.specs.Lexing.{begins_lifetime, BeginsQuote}
-use Rattle.rl_tokens.specs.Mirrors.LexemeAt.{hashes, begins_hashed_quote, begins_raw_after, begins_raw, begins_quote,
-    begins_otherwise, after_sign, begins_exponent, after_lexed_exponent}
+use Rattle.rl_tokens.specs.Mirrors.LexemeAt.{hashes, begins_hashed_quote, begins_raw_after, begins_raw, begins_quote, begins_otherwise, after_sign, begins_exponent, after_lexed_exponent}
 use Rattle.rl_tokens.specs.Classes.{is_hash, after_run}
 use Rattle.rl_tokens.proofs.Comments.{false_unless}
 use Rattle.rl_tokens.proofs.Pieces.{is_equal}
@@ -99,8 +93,11 @@ underscores_found (c ∷ t) = go (c == 95) refl (underscores_found t)
   where
     go : (b : Bool) → (c == 95) ≡ b → ((n : ℕ) × (t ≡ replicate n 95 ++ after_run is_underscore t)) → (n : ℕ)
         × (c ∷ t ≡ replicate n 95 ++ cond b (after_run is_underscore t) (c ∷ t))
-    go true h (n, same) = (suc n, ap (λ s. c ∷ s) same ∙ ap (λ x. x ∷ (replicate n 95 ++ after_run is_underscore t))
-        (is_equal c 95 h))
+    go true h (n, same) = (
+      suc n,
+      ap (λ s. c ∷ s) same ∙ ap (λ x. x ∷ (replicate n 95 ++ after_run is_underscore t))
+          (is_equal c 95 h),
+    )
     go false h more = (zero, refl)
 
 pub sign_found : (t : List ℕ) → (s : LexedSign) × (t ≡ lexed_sign_text s ++ after_sign t)
@@ -123,7 +120,7 @@ exponent_here t b =
     ap begins_exponent b.text_is
     ∙ and_from _ _ b.is_letter
     (ap (λ x. first_passes is_ascii_digit (after_run is_underscore x))
-        (sign_past b.sign b.underscores b.digit b.rest b.is_digit)
+    (sign_past b.sign b.underscores b.digit b.rest b.is_digit)
     ∙ ap (first_passes is_ascii_digit) (underscores_past b.underscores b.digit b.rest b.is_digit)
     ∙ b.is_digit)
 
@@ -157,19 +154,19 @@ exponent_past NoLexedExponent t none =
     ap (λ b. cond b (after_run (is_row_part is_ascii_digit) (after_sign (drop 1 t))) t) (no_exponent_here t none)
 exponent_past (LexedPower letter s n d more) t (is_letter, is, row) =
     let g : after_sign (lexed_sign_text s ++ (replicate n 95 ++ d ∷ (more ++ t))) ≡ replicate n 95
-        ++ d ∷ (more ++ t) = sign_past s n d (more ++ t) is in
+    ++ d ∷ (more ++ t) = sign_past s n d (more ++ t) is in
     ap after_lexed_exponent (power_text letter s n d more t)
     ∙ ap (λ b. cond (b && first_passes is_ascii_digit (after_run is_underscore
-        (after_sign (lexed_sign_text s ++ (replicate n 95 ++ d ∷ (more ++ t))))))
-        (after_run (is_row_part is_ascii_digit) (after_sign (lexed_sign_text s ++ (replicate n 95 ++ d ∷ (more ++ t)))))
-        (letter ∷ (lexed_sign_text s ++ (replicate n 95 ++ d ∷ (more ++ t))))) is_letter
+    (after_sign (lexed_sign_text s ++ (replicate n 95 ++ d ∷ (more ++ t))))))
+    (after_run (is_row_part is_ascii_digit) (after_sign (lexed_sign_text s ++ (replicate n 95 ++ d ∷ (more ++ t)))))
+    (letter ∷ (lexed_sign_text s ++ (replicate n 95 ++ d ∷ (more ++ t))))) is_letter
     ∙ ap (λ x. cond (first_passes is_ascii_digit (after_run is_underscore x)) (after_run (is_row_part is_ascii_digit) x)
-        (letter ∷ (lexed_sign_text s ++ (replicate n 95 ++ d ∷ (more ++ t))))) g
+    (letter ∷ (lexed_sign_text s ++ (replicate n 95 ++ d ∷ (more ++ t))))) g
     ∙ ap (λ x. cond (first_passes is_ascii_digit x) (after_run (is_row_part is_ascii_digit)
-        (replicate n 95 ++ d ∷ (more ++ t))) (letter ∷ (lexed_sign_text s ++ (replicate n 95 ++ d ∷ (more ++ t)))))
-        (underscores_past n d (more ++ t) is)
+    (replicate n 95 ++ d ∷ (more ++ t))) (letter ∷ (lexed_sign_text s ++ (replicate n 95 ++ d ∷ (more ++ t)))))
+    (underscores_past n d (more ++ t) is)
     ∙ ap (λ b. cond b (after_run (is_row_part is_ascii_digit) (replicate n 95 ++ d ∷ (more ++ t)))
-        (letter ∷ (lexed_sign_text s ++ (replicate n 95 ++ d ∷ (more ++ t))))) is
+    (letter ∷ (lexed_sign_text s ++ (replicate n 95 ++ d ∷ (more ++ t))))) is
     ∙ digits_past n d more t is row
 
 -- ---- what is no identifier
@@ -180,11 +177,15 @@ raw_split [] h = absurd (cc)
 raw_split (c ∷ []) h = absurd (cc)
 raw_split (c ∷ e ∷ cs) h =
     let k : ((c == 114 && e == 35) ≡ true) × (first_passes is_start cs ≡ true) = and_parts (c == 114 && e == 35)
-        (first_passes is_start cs) h in
+    (first_passes is_start cs) h in
     let m : ((c == 114) ≡ true) × ((e == 35) ≡ true) = and_parts (c == 114) (e == 35) k.0 in
-    let (d, u, same, is) = passes_split is_start cs k.1 in
-    (d, u, ap (λ x. x ∷ e ∷ cs) (is_equal c 114 m.0) ∙ ap (λ x. 114 ∷ x ∷ cs) (is_equal e 35 m.1)
-        ∙ ap (λ x. 114 ∷ 35 ∷ x) same, is)
+    let (d, u, same, is) = passes_split is_start cs k.1 in (
+      d,
+      u,
+      ap (λ x. x ∷ e ∷ cs) (is_equal c 114 m.0) ∙ ap (λ x. 114 ∷ x ∷ cs) (is_equal e 35 m.1)
+          ∙ ap (λ x. 114 ∷ 35 ∷ x) same,
+      is,
+    )
 
 prefixed_here : (t : List ℕ) → begins_prefixed_quote t ≡ true → begins_otherwise t ≡ true
 prefixed_here t h =
@@ -225,7 +226,7 @@ then_is c k l t a b low = ap (λ x. x ∷ t) (is_equal c k a) ∙ ap (λ x. k �
 otherwise_b : (c : ℕ) (t : List ℕ) → (c == 98) ≡ true → tail_b t ≡ true → BeginsOtherwise (c ∷ t)
 otherwise_b c t c_is h =
     elim (or_cases (slice_index t 0 == 34) (slice_index t 0 == 39
-        || (slice_index t 0 == 114 && begins_hashed_quote (drop 1 t))) h) [
+    || (slice_index t 0 == 114 && begins_hashed_quote (drop 1 t))) h) [
       | inl a ↦ inl (ap begins_prefixed_quote (then_is c 98 34 t c_is a (omega arith)))
       | inr a ↦ elim (or_cases (slice_index t 0 == 39) (slice_index t 0 == 114 && begins_hashed_quote (drop 1 t)) a) [
         | inl b ↦ inl (ap begins_prefixed_quote (then_is c 98 39 t c_is b (omega arith)))
@@ -299,7 +300,7 @@ quote_here t (inr (inr (inr (h, other)))) = or_right _ _ (and_from _ _ h (ap not
 pub quote_begins : (t : List ℕ) → begins_quote t ≡ true → BeginsQuote t
 quote_begins t h =
     elim (one_of (begins (codes "\"") t) (begins (codes "b\"") t) (begins (codes "c\"") t) (begins_raw t)
-        (begins (codes "b'") t) (begins (codes "'") t && not (begins_lifetime t)) h) [
+    (begins (codes "b'") t) (begins (codes "'") t && not (begins_lifetime t)) h) [
       | inl a ↦ inl a
       | inr (inl a) ↦ inr (inl a)
       | inr (inr (inl a)) ↦ inr (inr (inl (raw_begins t a)))

@@ -1,16 +1,11 @@
 -- Each stage of a lexeme, past what it is made of.
-use Rattle.rl_tokens.proofs.Common.{◌≡◌, ℕ, suc, zero, Bool, true, false, not, ◌&&◌, ◌||◌, ◌==◌, cond, List, [], ◌∷◌,
-    ◌++◌, Some, None, drop, replicate, refl, sym, ◌∙◌, ap, subst, append_assoc, and_parts, list_all, is_ascii_digit}
+use Rattle.rl_tokens.proofs.Common.{◌≡◌, ℕ, suc, zero, Bool, true, false, not, ◌&&◌, ◌||◌, ◌==◌, cond, List, [], ◌∷◌, ◌++◌, Some, None, drop, replicate, refl, sym, ◌∙◌, ap, subst, append_assoc, and_parts, list_all, is_ascii_digit}
 use Rattle.rl_tokens.specs.Texts.{is_underscore, first_passes, is_row_part}
-use Rattle.rl_tokens.specs.Lexemes.{BodyPart, PlainPart, EscapedPart, body_text, IsBody, CharacterBody, OneCharacter,
-    EscapedCharacter, character_body_text, IsCharacterBody, LexedFraction, NoLexedFraction, LexedDot,
-    lexed_fraction_text, LexedSign, NoLexedSign, LexedPlus, LexedMinus, lexed_sign_text, LexedPower,
-    lexed_exponent_text, IsRow, IsLexedSuffix, IsRawBody, IsLexedFraction, is_continue}
+use Rattle.rl_tokens.specs.Lexemes.{BodyPart, PlainPart, EscapedPart, body_text, IsBody, CharacterBody, OneCharacter, EscapedCharacter, character_body_text, IsCharacterBody, LexedFraction, NoLexedFraction, LexedDot, lexed_fraction_text, LexedSign, NoLexedSign, LexedPlus, LexedMinus, lexed_sign_text, LexedPower, lexed_exponent_text, IsRow, IsLexedSuffix, IsRawBody, IsLexedFraction, is_continue}
 use Rattle.rl_tokens.proofs.Comments.{false_unless}
 use Rattle.rl_tokens.proofs.HashLemmas.{hashes_here, drop_hashes, hashes_inside}
 use Rattle.rl_tokens.proofs.Pieces.{is_equal}
-use Rattle.rl_tokens.specs.Mirrors.LexemeAt.{after_suffix, after_quote, after_raw, after_apostrophe, after_single,
-    after_lexed_fraction, after_sign}
+use Rattle.rl_tokens.specs.Mirrors.LexemeAt.{after_suffix, after_quote, after_raw, after_apostrophe, after_single, after_lexed_fraction, after_sign}
 use Rattle.rl_tokens.specs.Classes.{after_run}
 
 pub not_true : (a : Bool) → not a ≡ true → a ≡ false
@@ -31,7 +26,7 @@ run_past test [] t is = run_stops test t is.ends
 run_past test (c ∷ row) t is =
     let k : (test c ≡ true) × (list_all test row ≡ true) = and_parts (test c) (list_all test row) is.each in
     ap (λ b. cond b (after_run test (row ++ t)) (c ∷ row ++ t)) k.0
-        ∙ run_past test row t (record { each = k.1; ends = is.ends })
+    ∙ run_past test row t (record { each = k.1; ends = is.ends })
 
 pub suffix_past : (x t : List ℕ) → IsLexedSuffix x t → after_suffix (x ++ t) ≡ t
 suffix_past [] [] is = refl
@@ -68,11 +63,11 @@ quote_past (EscapedPart c ∷ parts) t is = quote_past parts t is
 pub raw_past : (n : ℕ) (body t : List ℕ) → IsRawBody n body → after_raw n (body ++ 34 ∷ (replicate n 35 ++ t)) ≡ Some t
 raw_past n [] t is =
     ap (λ b. cond b (Some (drop n (replicate n 35 ++ t))) (after_raw n (replicate n 35 ++ t))) (hashes_here n t)
-        ∙ ap Some (drop_hashes n t)
+    ∙ ap Some (drop_hashes n t)
 raw_past n (c ∷ body) t (here, is) =
     ap (λ b. cond b (Some (drop n (body ++ 34 ∷ (replicate n 35 ++ t))))
-        (after_raw n (body ++ 34 ∷ (replicate n 35 ++ t)))) (ap (λ b. c == 34 && b)
-        (hashes_inside n body (replicate n 35 ++ t)) ∙ here)
+    (after_raw n (body ++ 34 ∷ (replicate n 35 ++ t)))) (ap (λ b. c == 34 && b)
+    (hashes_inside n body (replicate n 35 ++ t)) ∙ here)
     ∙ raw_past n body t is
 
 -- Characters.
@@ -81,7 +76,7 @@ apostrophe_past : (more t : List ℕ) → list_all (λ d. not (d == 39 || d == 1
 apostrophe_past [] t is = refl
 apostrophe_past (c ∷ more) t is =
     let k : (not (c == 39 || c == 10) ≡ true) × (list_all (λ d. not (d == 39 || d == 10)) more ≡ true) = and_parts
-        (not (c == 39 || c == 10)) (list_all (λ d. not (d == 39 || d == 10)) more) is in
+    (not (c == 39 || c == 10)) (list_all (λ d. not (d == 39 || d == 10)) more) is in
     let m : ((c == 39) ≡ false) × ((c == 10) ≡ false) = neither_true (c == 39) (c == 10) k.0 in
     ap (λ b. cond b (Some (more ++ 39 ∷ t)) (cond (c == 10) None (after_apostrophe (more ++ 39 ∷ t)))) m.0
     ∙ ap (λ b. cond b None (after_apostrophe (more ++ 39 ∷ t))) m.1
@@ -98,7 +93,7 @@ pub fraction_past : (f : LexedFraction) (t : List ℕ) → IsLexedFraction f t
 fraction_past NoLexedFraction t is = ap (λ b. cond b (after_run (is_row_part is_ascii_digit) (drop 1 t)) t) is
 fraction_past (LexedDot digits) t (begins, row) =
     ap (λ b. cond b (after_run (is_row_part is_ascii_digit) (digits ++ t)) (46 ∷ digits ++ t)) begins
-        ∙ run_past (is_row_part is_ascii_digit) digits t row
+    ∙ run_past (is_row_part is_ascii_digit) digits t row
 
 pub not_among : (c k : ℕ) (test : ℕ → Bool) → test c ≡ true → test k ≡ false → (c == k) ≡ false
 not_among c k test passed other = false_unless (c == k) (λ h. let q : c ≡ k = is_equal c k h in let r : test k
@@ -123,7 +118,7 @@ sign_past LexedMinus n d t is = refl
 sign_past NoLexedSign (suc n) d t is = refl
 sign_past NoLexedSign zero d t is =
     ap (λ b. cond (b || d == 45) t (d ∷ t)) (not_among d 43 is_ascii_digit is refl)
-        ∙ ap (λ b. cond b t (d ∷ t)) (not_among d 45 is_ascii_digit is refl)
+    ∙ ap (λ b. cond b t (d ∷ t)) (not_among d 45 is_ascii_digit is refl)
 
 pub power_text : (letter : ℕ) (s : LexedSign) (n d : ℕ) (more t : List ℕ)
     → lexed_exponent_text (LexedPower letter s n d more) ++ t ≡ letter ∷

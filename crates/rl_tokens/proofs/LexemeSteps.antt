@@ -1,6 +1,5 @@
 -- Single steps of the loops over a lexeme.
-use Rattle.rl_tokens.proofs.Common.{◌≡◌, ◌≢◌, ℕ, ◌⊎◌, inl, inr, ◌||◌, ◌&&◌, true, false, ◌==◌, cond, List, [], ◌∷◌,
-    ◌++◌, append-nil, drop, Some, None, refl, sym, subst, ◌∙◌, ap, arith, and_parts, ne_eqb, list_all, nat_tests}
+use Rattle.rl_tokens.proofs.Common.{◌≡◌, ◌≢◌, ℕ, ◌⊎◌, inl, inr, ◌||◌, ◌&&◌, true, false, ◌==◌, cond, List, [], ◌∷◌, ◌++◌, append-nil, drop, Some, None, refl, sym, subst, ◌∙◌, ap, arith, and_parts, ne_eqb, list_all, nat_tests}
 use Rattle.rl_tokens.proofs.LexemeRows.{quote_now}
 use Rattle.rl_tokens.specs.Lexemes.{begins_hashes}
 use Rattle.rl_tokens.specs.Mirrors.LexemeAt.{after_quote, after_raw}
@@ -13,7 +12,7 @@ use Rattle.rl_tokens.proofs.Comments.{false_unless}
 pub quote_passes : (s t : List ℕ) (c : ℕ) → s ≡ c ∷ t → c ≢ 34 → c ≢ 92 → after_quote t ≡ after_quote s
 quote_passes s t c e a b =
     sym (ap after_quote e ∙ go t (false_unless (c == 34) (λ h. let q : c ≡ 34 = grind (arith, nat_tests) in a q))
-        (false_unless (c == 92) (λ h. let q : c ≡ 92 = grind (arith, nat_tests) in b q)))
+    (false_unless (c == 92) (λ h. let q : c ≡ 92 = grind (arith, nat_tests) in b q)))
   where
     go : (t : List ℕ) → (c == 34) ≡ false → (c == 92) ≡ false → after_quote (c ∷ t) ≡ after_quote t
     go [] p q = ap (λ x. cond x (Some []) None) p
@@ -28,7 +27,7 @@ quote_over m [] s a b h = refl
 quote_over m (c ∷ run) s a b h =
     let parts = and_parts (is_other m c) (list_all (is_other m) run) h in
     sym (quote_passes (c ∷ (run ++ s)) (run ++ s) c refl (λ e. not_first m c parts.0 (e ∙ sym a))
-        (λ e. not_second m c parts.0 (e ∙ sym b))) ∙ quote_over m run s a b parts.1
+    (λ e. not_second m c parts.0 (e ∙ sym b))) ∙ quote_over m run s a b parts.1
 
 quote_at : (m : Marks) (s t : List ℕ) (k : ℕ) → m.first ≡ 34 → m.second ≡ 92 → IsNextMark m s k t → after_quote s
     ≡ after_quote (k ∷ t)
@@ -58,7 +57,7 @@ raw_over m n [] s a h = refl
 raw_over m n (c ∷ run) s a h =
     let parts = and_parts (is_other m c) (list_all (is_other m) run) h in
     ap (λ b. cond (b && begins_hashes n (run ++ s)) (Some (drop n (run ++ s))) (after_raw n (run ++ s)))
-        (ne_eqb c 34 (λ e. not_first m c parts.0 (e ∙ sym a))) ∙ raw_over m n run s a parts.1
+    (ne_eqb c 34 (λ e. not_first m c parts.0 (e ∙ sym a))) ∙ raw_over m n run s a parts.1
 
 raw_at : (m : Marks) (n : ℕ) (s t : List ℕ) (k : ℕ) → m.first ≡ 34 → IsNextMark m s k t → k ≡ 34 → after_raw n s
     ≡ cond (begins_hashes n t) (Some (drop n t)) (after_raw n t)

@@ -1,6 +1,5 @@
 -- Lines and columns of places in a text.
-use Rattle.rl_tokens.proofs.Common.{◌≡◌, ℕ, ◌+◌, ◌-◌, ◌≤◌, List, [], ◌∷◌, ◌++◌, length, take, slice_range, refl, sym,
-    ap, ◌∙◌, arith, append_assoc, length-append, chars, IsUtf8}
+use Rattle.rl_tokens.proofs.Common.{◌≡◌, ℕ, ◌+◌, ◌-◌, ◌≤◌, List, [], ◌∷◌, ◌++◌, length, take, slice_range, refl, sym, ap, ◌∙◌, arith, append_assoc, length-append, chars, IsUtf8}
 use Rattle.rl_tokens.specs.Texts.{IsTail}
 use Rattle.rl_tokens.specs.Lines.{next_place, place_after, first_place, IsPlaceOf}
 use Rattle.rl_tokens.specs.declared.lines.LineColumn.{LineColumn}
@@ -17,15 +16,14 @@ pub place_of_rest : (text rest after passed : List ℕ) (at new : LineColumn) �
 place_of_rest text rest after passed at new is in_rest utf8 passed_is new_is line column =
     let before = is.place in
     let taken : passed ≡ take (length rest - length after) rest = passed_is
-        ∙ ap (λ n. take n rest) (let q : length rest - length after - 0 ≡ length rest - length after = omega arith in q)
-        in
+    ∙ ap (λ n. take n rest) (let q : length rest - length after - 0 ≡ length rest - length after = omega arith in q)
+    in
     let same : chars rest ≡ chars passed ++ chars after = cut_chars rest passed after utf8 in_rest taken in
     let long : length passed + length after ≡ length rest = omega
-        (arith, ap length (cut_join rest after in_rest ∙ ap (λ z. z ++ after) (sym taken)), length-append passed after)
-        in
+    (arith, ap length (cut_join rest after in_rest ∙ ap (λ z. z ++ after) (sym taken)), length-append passed after)
+    in
     record {
-      cursor = record { is_text = is.cursor.is_text; following = tail_step text rest after is.cursor.following in_rest
-          };
+      cursor = record { is_text = is.cursor.is_text; following = tail_step text rest after is.cursor.following in_rest };
       place = record {
         front = before.front ++ chars passed;
         text_is = before.text_is ∙ ap (λ z. before.front ++ z) same

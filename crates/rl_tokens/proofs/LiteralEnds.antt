@@ -1,7 +1,5 @@
 -- What may follow a literal in a print, and what no such text begins with.
-use Rattle.rl_tokens.proofs.Common.{◌≡◌, ℕ, ◌<◌, inl, inr, Bool, true, false, not, ◌&&◌, ◌||◌, ◌==◌, List, [], ◌∷◌,
-    ◌++◌, refl, ◌∙◌, ap, lit<, and_parts, IsTrue, ⊤, codes, list_all, is_ascii_digit, is_ascii_alphanumeric, and_from,
-    or_from, is_xid_start, is_xid_continue}
+use Rattle.rl_tokens.proofs.Common.{◌≡◌, ℕ, ◌<◌, inl, inr, Bool, true, false, not, ◌&&◌, ◌||◌, ◌==◌, List, [], ◌∷◌, ◌++◌, refl, ◌∙◌, ap, lit<, and_parts, IsTrue, ⊤, codes, list_all, is_ascii_digit, is_ascii_alphanumeric, and_from, or_from, is_xid_start, is_xid_continue}
 use Rattle.rl_tokens.specs.Texts.{is_white, is_among, first_passes, is_row_part}
 use Rattle.rl_tokens.specs.Lexemes.{is_base_letter, IsLexedSuffix, IsLexeme, is_start, is_continue}
 use Rattle.rl_tokens.proofs.Gaps.{BeginsGap}
@@ -51,7 +49,7 @@ pub clear_continue : Clear is_continue
 clear_continue =
     clear_from is_continue (λ c w. ap (λ b. is_xid_continue c && not b) w ∙ and_false (is_xid_continue c))
     (λ c is. continue_ascii c (low_among enders c refl is) ∙ fails_among
-        (λ k. (is_ascii_alphanumeric k || (k == 95)) && not (is_white k)) refl c is)
+    (λ k. (is_ascii_alphanumeric k || (k == 95)) && not (is_white k)) refl c is)
 
 -- It is no digit.
 pub clear_digit : Clear is_ascii_digit
@@ -118,7 +116,7 @@ pub suffix_starts : (c : ℕ) (cs : List ℕ) → IsStrictSuffix (c ∷ cs) → 
 suffix_starts c cs (inl e) = absurd (cc)
 suffix_starts c cs (inr w) =
     and_from (c == 95 || is_xid_start c) (not (is_white c)) (and_parts (c == 95 || is_xid_start c)
-        (list_all is_xid_continue cs) w.identifier).0
+    (list_all is_xid_continue cs) w.identifier).0
     (and_parts (not (is_white c)) (list_all (λ c. not (is_white c)) cs) w.no_white).0
 
 -- Each character of it goes on with an identifier.
@@ -131,8 +129,7 @@ suffix_continues x (inr w) = all_both is_xid_continue (λ c. not (is_white c)) x
 pub strict_suffix_lexed : (x after : List ℕ) → IsStrictSuffix x → EndsLiteral after → IsLexedSuffix x after
 strict_suffix_lexed [] after is ends = ends_fails is_start after clear_start ends
 strict_suffix_lexed (c ∷ cs) after is ends =
-    (suffix_starts c cs is, record { each = (and_parts (is_continue c) (list_all is_continue cs)
-        (suffix_continues (c ∷ cs) is)).1; ends = ends_fails is_continue after clear_continue ends })
+    (suffix_starts c cs is, record { each = (and_parts (is_continue c) (list_all is_continue cs) (suffix_continues (c ∷ cs) is)).1; ends = ends_fails is_continue after clear_continue ends })
 
 -- The words.
 letter_continues : (c : ℕ) → c < 128 → ((is_ascii_alphanumeric c || (c == 95)) && not (is_white c)) ≡ true

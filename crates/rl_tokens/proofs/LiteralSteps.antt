@@ -1,12 +1,10 @@
 -- What stands between one literal of a source and the next.
-use Rattle.rl_tokens.proofs.Common.{◌≡◌, ◌⊎◌, inl, inr, ℕ, true, false, ◌==◌, ◌+◌, ◌-◌, ◌≤◌, List, [], ◌∷◌, ◌++◌, refl,
-    sym, ap, subst, ◌∙◌, append_assoc, append-nil, arith, AllByRecursion, chars}
+use Rattle.rl_tokens.proofs.Common.{◌≡◌, ◌⊎◌, inl, inr, ℕ, true, false, ◌==◌, ◌+◌, ◌-◌, ◌≤◌, List, [], ◌∷◌, ◌++◌, refl, sym, ap, subst, ◌∙◌, append_assoc, append-nil, arith, AllByRecursion, chars}
 use Rattle.rl_tokens.specs.Texts.{byte_len, is_white, IsTail}
 use Rattle.rl_tokens.specs.Trivia.{White}
 use Rattle.rl_tokens.specs.Skipping.{Skipped}
 use Rattle.rl_tokens.specs.Cursors.{CursorState, IsCursorState}
-use Rattle.rl_tokens.specs.Sources.{CutSource, SourceKind, source_kind, source_text, source_view, SourceBefore,
-    SourcesUpTo, source_end, IsCutUpTo, TakesSource, IsLiteralText, IsNoLiteral, PassesTo}
+use Rattle.rl_tokens.specs.Sources.{CutSource, SourceKind, source_kind, source_text, source_view, SourceBefore, SourcesUpTo, source_end, IsCutUpTo, TakesSource, IsLiteralText, IsNoLiteral, PassesTo}
 use Rattle.rl_tokens.specs.Mirrors.LiteralsAt.{HoldsNoLiteral}
 use Rattle.rl_tokens.specs.declared.sources.SourceToken.{SourceToken}
 use Rattle.rl_tokens.proofs.TailLemmas.{tail_step}
@@ -48,7 +46,7 @@ pub holds_one : (t after r : List ℕ) (kind : SourceKind) (token : SourceBefore
 holds_one t after r kind token other skipped short =
     let w = token.token in
     let long : byte_len t ≡ byte_len (source_text w) + byte_len after = ap byte_len token.text_is
-        ∙ byte_len-append (source_text w) after in
+    ∙ byte_len-append (source_text w) after in
     record {
       cuts = λ whole. record { token = w; at = byte_len whole - byte_len t } ∷ [];
       others = λ whole. (λ is. other (subst (λ z. IsLiteralText z (source_text w)) token.kind_is is), tt);
@@ -86,8 +84,7 @@ pub reach_end : (t r : List ℕ) → Skipped t r → Reaches t r
 reach_end t r skipped = record { start = r; skipped = skipped; holds = holds_start r }
 
 pub reach_white : (c : ℕ) (t r : List ℕ) → is_white c ≡ true → Reaches t r → Reaches (c ∷ t) r
-reach_white c t r white h = record { start = h.start; skipped = skipped_after (c ∷ t) t h.start
-    (after_piece-past (White c) t white) h.skipped; holds = h.holds }
+reach_white c t r white h = record { start = h.start; skipped = skipped_after (c ∷ t) t h.start (after_piece-past (White c) t white) h.skipped; holds = h.holds }
 
 pub reach_token : (c : ℕ) (t after r : List ℕ) (kind : SourceKind) → (c == 47) ≡ false → is_white c ≡ false
     → (token : SourceBefore (c ∷ t) kind after) → (IsLiteralText kind (source_text token.token) → ⊥) → Reaches after r
@@ -119,9 +116,9 @@ passes_join a b d p q = record {
   others = all_join p.cuts q.cuts p.others q.others;
   goes_on = λ done cut.
       let before : IsCutUpTo (chars b.text) (done ++ p.cuts) (chars b.rest) = subst
-          (λ z. IsCutUpTo (chars z) (done ++ p.cuts) (chars b.rest)) (sym p.same) (p.goes_on done cut) in
+      (λ z. IsCutUpTo (chars z) (done ++ p.cuts) (chars b.rest)) (sym p.same) (p.goes_on done cut) in
       let more = subst (λ z. IsCutUpTo (chars z) ((done ++ p.cuts) ++ q.cuts) (chars d.rest)) p.same
-          (q.goes_on (done ++ p.cuts) before) in
+      (q.goes_on (done ++ p.cuts) before) in
       subst (λ z. IsCutUpTo (chars a.text) z (chars d.rest)) (append_assoc done p.cuts q.cuts) more;
   same = q.same ∙ p.same;
   following = tail_step a.rest b.rest d.rest p.following q.following;
@@ -143,5 +140,4 @@ is_no_literal old new l t other = λ is. other (subst (λ z. IsLiteralText z (ch
 
 pub passes_one : (old new : CursorState) (l : SourceToken) → TakesSource old l new
     → (IsLiteralText (source_view l.form) (chars l.text.now) → ⊥) → PassesTo old new
-passes_one old new l t other = record { cuts = t.cut ∷ []; others = (is_no_literal old new l t other, tt); goes_on =
-    t.goes_on; same = t.same; following = t.following }
+passes_one old new l t other = record { cuts = t.cut ∷ []; others = (is_no_literal old new l t other, tt); goes_on = t.goes_on; same = t.same; following = t.following }

@@ -1,6 +1,5 @@
 -- The groups that are open, and what was read with them, as trees and groups come and go.
-use Rattle.rl_tokens.proofs.Common.{◌≡◌, ◌≢◌, ℕ, suc, ◌+◌, ◌-◌, ◌<◌, true, false, List, [], ◌∷◌, ◌++◌, length, map,
-    Some, refl, sym, ◌∙◌, ap, arith, append_assoc, map-append}
+use Rattle.rl_tokens.proofs.Common.{◌≡◌, ◌≢◌, ℕ, suc, ◌+◌, ◌-◌, ◌<◌, true, false, List, [], ◌∷◌, ◌++◌, length, map, Some, refl, sym, ◌∙◌, ap, arith, append_assoc, map-append}
 use Rattle.std.proofs.Common.{reverse}
 use Rattle.std.proofs.lemmas.List.{reverse-append, length-reverse}
 use Rattle.rl_tokens.specs.declared.span.Span.{Span}
@@ -12,11 +11,9 @@ use Rattle.rl_tokens.specs.declared.token.Group.{Group}
 use Rattle.rl_tokens.specs.declared.token.Delimiter.{Delimiter}
 use Rattle.rl_tokens.specs.declared.token.Delimiter.TheVariants.{Parenthesis, Brace, Bracket}
 use Rattle.rl_tokens.specs.declared.lex_error.LexKind.TheVariants.{UnclosedGroup}
-use Rattle.rl_tokens.specs.Trees.{Tree, FlatToken, Opening, Closing, FlatPunct, FlatLiteral, FlatIdent, opener_span,
-    closer_span, trees_of, delimiter_of, stream_of, group_span, tree_view, stream_view, flat, flat_trees}
+use Rattle.rl_tokens.specs.Trees.{Tree, FlatToken, Opening, Closing, FlatPunct, FlatLiteral, FlatIdent, opener_span, closer_span, trees_of, delimiter_of, stream_of, group_span, tree_view, stream_view, flat, flat_trees}
 use Rattle.rl_tokens.specs.Lexing.{is_pair, closes, popped, innermost, after_form, flat_form}
-use Rattle.rl_tokens.specs.Mirrors.TreeBuilders.{opener_of, closer_of, group_of, groups_of, flat_open, flat_builder,
-    TakesToken, TakesTree, OpensGroup, ClosesGroup, EndsInGroup}
+use Rattle.rl_tokens.specs.Mirrors.TreeBuilders.{opener_of, closer_of, group_of, groups_of, flat_open, flat_builder, TakesToken, TakesTree, OpensGroup, ClosesGroup, EndsInGroup}
 use Rattle.rl_tokens.specs.Puncts.{Mark}
 use Rattle.rl_tokens.specs.Texts.{SpannedText}
 use Rattle.rl_tokens.specs.Lexemes.{LexemeForm, MarkForm, LiteralForm, IdentifierForm}
@@ -71,7 +68,7 @@ flat_open-push file (x ∷ xs) o =
     let p = Opening x.delimiter (record { file = file; lo = x.at; hi = x.at + 1 }) in
     ap (λ z. f ++ (p ∷ z)) (flat_open-push file xs o)
     ∙ sym (append_assoc f (p ∷ flat_open file xs) (flat_trees (stream_view o.before)
-        ++ (Opening o.delimiter (record { file = file; lo = o.at; hi = o.at + 1 }) ∷ [])))
+    ++ (Opening o.delimiter (record { file = file; lo = o.at; hi = o.at + 1 }) ∷ [])))
 
 -- a group was opened
 pub opens_group : {A : Type 0} (old new : TreeBuilder A) (o : GroupBuilder A) → new.opened.items ≡ old.opened.items
@@ -108,13 +105,13 @@ flat_closed g d file at lo hi inside d_is span_is inside_is one =
     let low : hi - 1 ≡ lo = omega arith in
     flat-group g
     ∙ ap (λ x. Opening x (opener_span (group_span g)) ∷ (flat_trees (stream_view (stream_of g))
-        ++ (Closing x (closer_span (group_span g)) ∷ []))) d_is
+    ++ (Closing x (closer_span (group_span g)) ∷ []))) d_is
     ∙ ap (λ s. Opening d (opener_span s) ∷ (flat_trees (stream_view (stream_of g)) ++ (Closing d (closer_span s) ∷ [])))
-        span_is
+    span_is
     ∙ ap (λ x. Opening d (record { file = file; lo = at; hi = at + 1 }) ∷
-        (x ++ (Closing d (record { file = file; lo = hi - 1; hi = hi }) ∷ []))) inside_is
+    (x ++ (Closing d (record { file = file; lo = hi - 1; hi = hi }) ∷ []))) inside_is
     ∙ ap (λ n. Opening d (record { file = file; lo = at; hi = at + 1 }) ∷
-        (inside ++ (Closing d (record { file = file; lo = n; hi = hi }) ∷ []))) low
+    (inside ++ (Closing d (record { file = file; lo = n; hi = hi }) ∷ []))) low
 
 same_closer : (d : Delimiter) → is_pair (opener_of d) (closer_of d) ≡ true
 same_closer Parenthesis = refl
@@ -141,7 +138,7 @@ pub closes_group : {A : Type 0} (old between new : TreeBuilder A) (o : GroupBuil
 closes_group old between new o g d lo hi popped_is before file d_is g_delimiter g_stream g_span one takes =
     let xs = between.opened.items in
     let groups_are : groups_of old ≡ group_of o ∷ reverse (map group_of xs) = ap (λ os. reverse (map group_of os))
-        popped_is ∙ groups-push xs o in
+    popped_is ∙ groups-push xs o in
     let inside = flat_trees (stream_view old.trees) in
     let front = flat_open old.file xs in
     let opening : FlatToken = Opening d (record { file = old.file; lo = o.at; hi = o.at + 1 }) in
@@ -150,7 +147,7 @@ closes_group old between new o g d lo hi popped_is before file d_is g_delimiter 
     flat_closed g d old.file o.at lo hi inside g_delimiter g_span (ap (λ s. flat_trees (stream_view s)) g_stream) one in
     let new_file : new.file ≡ old.file = takes.file_same ∙ file in
     let new_flat : flat_builder new ≡ front ++ (flat_trees (stream_view between.trees)
-        ++ (opening ∷ (inside ++ (closing ∷ [])))) =
+    ++ (opening ∷ (inside ++ (closing ∷ [])))) =
     ap (λ f. flat_open f new.opened.items ++ flat_trees (stream_view new.trees)) new_file
     ∙ ap (λ os. flat_open old.file os.items ++ flat_trees (stream_view new.trees)) takes.opened_same
     ∙ ap (λ z. front ++ z) (takes.trees ∙ ap (λ z. flat_trees (stream_view between.trees) ++ z) closed) in
@@ -158,9 +155,9 @@ closes_group old between new o g d lo hi popped_is before file d_is g_delimiter 
     ap (λ os. flat_open old.file os ++ inside) popped_is
     ∙ ap (λ z. z ++ inside) (flat_open-push old.file xs o)
     ∙ ap (λ s. (front ++ (flat_trees (stream_view s) ++ (Opening o.delimiter
-        (record { file = old.file; lo = o.at; hi = o.at + 1 }) ∷ []))) ++ inside) before
+    (record { file = old.file; lo = o.at; hi = o.at + 1 }) ∷ []))) ++ inside) before
     ∙ ap (λ x. (front ++ (flat_trees (stream_view between.trees)
-        ++ (Opening x (record { file = old.file; lo = o.at; hi = o.at + 1 }) ∷ []))) ++ inside) d_is in
+    ++ (Opening x (record { file = old.file; lo = o.at; hi = o.at + 1 }) ∷ []))) ++ inside) d_is in
     record {
       closes_it = ap (λ gs. closes gs (closer_of d)) groups_are ∙ ap (λ x. is_pair (opener_of x) (closer_of d)) d_is
           ∙ same_closer d;
@@ -191,7 +188,7 @@ pub ends_in_group : {A : Type 0} (old : TreeBuilder A) (xs : List (GroupBuilder 
     → old.opened.items ≡ xs ++ o ∷ [] → EndsInGroup (groups_of old) (record { kind = UnclosedGroup; at = o.at })
 ends_in_group old xs o popped_is =
     let groups_are : groups_of old ≡ group_of o ∷ reverse (map group_of xs) = ap (λ os. reverse (map group_of os))
-        popped_is ∙ groups-push xs o in
+    popped_is ∙ groups-push xs o in
     record {
       kind = refl;
       some_open = λ none. let q : group_of o ∷ reverse (map group_of xs) ≡ [] = sym groups_are ∙ none in absurd (cc);
@@ -207,7 +204,7 @@ takes_leaf old new t f is takes = (
   ap (λ k. flat_open k new.opened.items ++ flat_trees (stream_view new.trees)) takes.file_same
       ∙ ap (λ os. flat_open old.file os.items ++ flat_trees (stream_view new.trees)) takes.opened_same
       ∙ ap (λ z. flat_open old.file old.opened.items ++ z) (takes.trees
-          ∙ ap (λ z. flat_trees (stream_view old.trees) ++ z) is)
+      ∙ ap (λ z. flat_trees (stream_view old.trees) ++ z) is)
       ∙ sym (append_assoc (flat_open old.file old.opened.items) (flat_trees (stream_view old.trees)) (f ∷ [])),
   takes.file_same,
 )
@@ -217,10 +214,10 @@ pub takes_mark : {A : Type 0} (old new : TreeBuilder A) (p : Mark) (form : Lexem
     → TakesTree old new (tree.Punct p) → TakesToken old new form text lo hi
 takes_mark {A} old new p form c text lo hi form_is p_is takes =
     let (groups, flat_new, file) = takes_leaf old new (tree.Punct p) (FlatPunct p) (ap flat (tree_view-punct A p)) takes
-        in
+    in
     let span : Span = record { file = old.file; lo = lo; hi = hi } in
     let token : flat_form form text span ≡ FlatPunct p = ap (λ f. flat_form f text span) form_is
-        ∙ ap FlatPunct (sym p_is) in
+    ∙ ap FlatPunct (sym p_is) in
     record {
       groups = ap (λ f. after_form (groups_of old) f lo) form_is ∙ ap Some (sym groups);
       flat = flat_new ∙ ap (λ f. flat_builder old ++ f ∷ []) (sym token);
@@ -232,10 +229,10 @@ pub takes_literal : {A : Type 0} (old new : TreeBuilder A) (l : SpannedText) (fo
     → TakesTree old new (tree.Literal l) → TakesToken old new form text lo hi
 takes_literal {A} old new l form text lo hi form_is l_is takes =
     let (groups, flat_new, file) = takes_leaf old new (tree.Literal l) (FlatLiteral l) (ap flat (tree_view-literal A l))
-        takes in
+    takes in
     let span : Span = record { file = old.file; lo = lo; hi = hi } in
     let token : flat_form form text span ≡ FlatLiteral l = ap (λ f. flat_form f text span) form_is
-        ∙ ap FlatLiteral (sym l_is) in
+    ∙ ap FlatLiteral (sym l_is) in
     record {
       groups = ap (λ f. after_form (groups_of old) f lo) form_is ∙ ap Some (sym groups);
       flat = flat_new ∙ ap (λ f. flat_builder old ++ f ∷ []) (sym token);
@@ -243,14 +240,13 @@ takes_literal {A} old new l form text lo hi form_is l_is takes =
     }
 
 pub takes_ident : {A : Type 0} (old new : TreeBuilder A) (i : SpannedText) (form : LexemeForm) (text : List ℕ)
-    (lo hi : ℕ) → form ≡ IdentifierForm → i ≡ record { text = text; span = record { file = old.file; lo = lo; hi = hi }
-    } → TakesTree old new (tree.Ident i) → TakesToken old new form text lo hi
+    (lo hi : ℕ) → form ≡ IdentifierForm → i ≡ record { text = text; span = record { file = old.file; lo = lo; hi = hi } } → TakesTree old new (tree.Ident i) → TakesToken old new form text lo hi
 takes_ident {A} old new i form text lo hi form_is i_is takes =
     let (groups, flat_new, file) = takes_leaf old new (tree.Ident i) (FlatIdent i) (ap flat (tree_view-ident A i)) takes
-        in
+    in
     let span : Span = record { file = old.file; lo = lo; hi = hi } in
     let token : flat_form form text span ≡ FlatIdent i = ap (λ f. flat_form f text span) form_is
-        ∙ ap FlatIdent (sym i_is) in
+    ∙ ap FlatIdent (sym i_is) in
     record {
       groups = ap (λ f. after_form (groups_of old) f lo) form_is ∙ ap Some (sym groups);
       flat = flat_new ∙ ap (λ f. flat_builder old ++ f ∷ []) (sym token);

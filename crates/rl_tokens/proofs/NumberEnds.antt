@@ -1,12 +1,9 @@
 -- A number by its first digit, and where it ends at once.
-use Rattle.rl_tokens.proofs.Common.{◌≡◌, ℕ, ◌⊎◌, inl, inr, Bool, true, false, not, ◌&&◌, ◌||◌, ◌==◌, cond, List, [],
-    ◌∷◌, Some, refl, sym, ◌∙◌, ap, lit<, arith, drop, nat_tests, is_ascii, is_ascii_digit}
+use Rattle.rl_tokens.proofs.Common.{◌≡◌, ℕ, ◌⊎◌, inl, inr, Bool, true, false, not, ◌&&◌, ◌||◌, ◌==◌, cond, List, [], ◌∷◌, Some, refl, sym, ◌∙◌, ap, lit<, arith, drop, nat_tests, is_ascii, is_ascii_digit}
 use Rattle.rl_tokens.proofs.Comments.{false_unless}
 use Rattle.rl_tokens.specs.Texts.{is_underscore, first_passes, is_row_part}
 use Rattle.rl_tokens.specs.Lexemes.{LiteralForm, is_base_letter, is_start, is_continue}
-use Rattle.rl_tokens.specs.Mirrors.LexemeAt.{DigitHead, QuoteHead, ApostropheHead, SlashHead, by_class, literal_at,
-    quoted_at, single_at, after_digit, after_suffix, after_lexed_exponent, after_lexed_fraction, after_decimal,
-    lexeme_at, after_sign}
+use Rattle.rl_tokens.specs.Mirrors.LexemeAt.{DigitHead, QuoteHead, ApostropheHead, SlashHead, by_class, literal_at, quoted_at, single_at, after_digit, after_suffix, after_lexed_exponent, after_lexed_fraction, after_decimal, lexeme_at, after_sign}
 use Rattle.rl_tokens.specs.Classes.{after_run}
 use Rattle.rl_tokens.proofs.LexemeRows.{neither_true, not_among}
 use Rattle.rl_tokens.proofs.LexemeFronts.{at_class, class34, class39, class47, class_digit, start_ascii}
@@ -35,18 +32,18 @@ number_ends (c ∷ u) h =
     let parts : ((c == 46) ≡ false) × (is_start c ≡ false) = neither_true (c == 46) (is_start c) h in
     let plain : not (is_start c) ≡ true = ap not parts.1 in
     let small : (c == 101) ≡ false = not_among c 101 (λ d. not (is_start d)) plain (ap not (start_ascii 101 (lit< tt)))
-        in
+    in
     let large : (c == 69) ≡ false = not_among c 69 (λ d. not (is_start d)) plain (ap not (start_ascii 69 (lit< tt))) in
     let fraction : after_lexed_fraction (c ∷ u) ≡ c ∷ u = ap (λ b. cond
-        (b && not (first_passes (λ d. d == 46 || is_start d) u)) (after_run (is_row_part is_ascii_digit) u) (c ∷ u))
-        parts.0 in
+    (b && not (first_passes (λ d. d == 46 || is_start d) u)) (after_run (is_row_part is_ascii_digit) u) (c ∷ u))
+    parts.0 in
     let exponent : after_lexed_exponent (c ∷ u) ≡ c ∷ u =
     ap (λ b. cond ((b || c == 69) && first_passes is_ascii_digit (after_run is_underscore (after_sign u)))
-        (after_run (is_row_part is_ascii_digit) (after_sign u)) (c ∷ u)) small
+    (after_run (is_row_part is_ascii_digit) (after_sign u)) (c ∷ u)) small
     ∙ ap (λ b. cond (b && first_passes is_ascii_digit (after_run is_underscore (after_sign u)))
-        (after_run (is_row_part is_ascii_digit) (after_sign u)) (c ∷ u)) large in
+    (after_run (is_row_part is_ascii_digit) (after_sign u)) (c ∷ u)) large in
     ap (λ x. after_suffix (after_lexed_exponent x)) fraction ∙ ap after_suffix exponent
-        ∙ ap (λ b. cond b (after_run is_continue u) (c ∷ u)) parts.1
+    ∙ ap (λ b. cond b (after_run is_continue u) (c ∷ u)) parts.1
 
 -- a row of digits, and what ends it
 pub no_digit : (t : List ℕ) → first_passes is_ascii t ≡ false → after_run is_ascii_digit t ≡ t
@@ -75,8 +72,8 @@ same_row (d ∷ u) h = go (is_ascii_digit d) refl h (same_row u)
     go false is h more =
         ap (λ a. cond (a || d == 95) (after_run (is_row_part is_ascii_digit) u) (d ∷ u)) is
         ∙ ap (λ a. cond a (after_run (is_row_part is_ascii_digit) u) (d ∷ u))
-            (not_among d 95 no_start (ap not (neither_true (d == 46) (is_start d) h).1)
-            (starts 95 (start_ascii 95 (lit< tt))))
+        (not_among d 95 no_start (ap not (neither_true (d == 46) (is_start d) h).1)
+        (starts 95 (start_ascii 95 (lit< tt))))
 
 -- a row of digits is part of the row that holds underscores too
 row_on : (t : List ℕ) → after_run (is_row_part is_ascii_digit) (after_run is_ascii_digit t)
@@ -122,7 +119,7 @@ pub number_short : (c : ℕ) (t r : List ℕ) → r ≡ after_run is_ascii_digit
     ≡ after_digit c t
 number_short c t r e h =
     let k : first_passes goes_on_none (after_run is_ascii_digit t) ≡ true = ap (first_passes goes_on_none) (sym e)
-        ∙ h in
+    ∙ h in
     e
     ∙ sym (number_ends (after_run is_ascii_digit t) k)
     ∙ ap (λ s. after_suffix (after_lexed_exponent (after_lexed_fraction s))) (sym (same_row t k))

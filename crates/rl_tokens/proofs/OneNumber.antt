@@ -1,19 +1,13 @@
 -- A text has one reading as a number at most.
-use Rattle.rl_tokens.proofs.Common.{◌≡◌, ℕ, ◌||◌, Bool, true, false, not, cond, eqb, List, [], ◌∷◌, ◌++◌, refl, sym, ap,
-    subst, ◌∙◌, ◌⊎◌, inl, inr, append_assoc, is_ascii_digit, list_all, list_any, list_all-append, eqb-true, both_ways,
-    and_parts, and_from, or_parts, or_cases, or_left, or_right, cases_Bool, not-true}
+use Rattle.rl_tokens.proofs.Common.{◌≡◌, ℕ, ◌||◌, Bool, true, false, not, cond, eqb, List, [], ◌∷◌, ◌++◌, refl, sym, ap, subst, ◌∙◌, ◌⊎◌, inl, inr, append_assoc, is_ascii_digit, list_all, list_any, list_all-append, eqb-true, both_ways, and_parts, and_from, or_parts, or_cases, or_left, or_right, cases_Bool, not-true}
 use Rattle.rl_tokens.specs.Texts.{first_passes, begins, is_underscore, is_row_part}
 use Rattle.rl_tokens.specs.Quoted.{place_value, without_underscores}
-use Rattle.rl_tokens.specs.Numbers.{Base, Binary, Octal, Decimal, Hexadecimal, radix, prefix, is_digit, Sign, NoSign,
-    Minus, sign_text, IsAfterPrefix, IsSuffix, is_exponent_letter, AllowsSuffix, IntReads, Fraction, NoFraction, Dot,
-    fraction_text, IsFraction, Exponent, NoExponent, Power, exponent_text, is_power_sign, BeginsExponent, IsExponent,
-    FloatReads, float_digits}
+use Rattle.rl_tokens.specs.Numbers.{Base, Binary, Octal, Decimal, Hexadecimal, radix, prefix, is_digit, Sign, NoSign, Minus, sign_text, IsAfterPrefix, IsSuffix, is_exponent_letter, AllowsSuffix, IntReads, Fraction, NoFraction, Dot, fraction_text, IsFraction, Exponent, NoExponent, Power, exponent_text, is_power_sign, BeginsExponent, IsExponent, FloatReads, float_digits}
 use Rattle.rl_tokens.specs.Reading.{Contents, Digits, ReadsInt, ReadsFloat}
 use Rattle.rl_tokens.specs.Strict.{dec}
 use Rattle.rl_tokens.proofs.Dec.{dec_is_decimal}
 use Rattle.rl_tokens.proofs.Basics.{apart, all_weaker, digit_is_ten}
-use Rattle.rl_tokens.proofs.StrictNumbers.{no_part, suffix_no_part, digit_front, same_run, IsForeign, foreign_dot,
-    foreign_plus, foreign_minus, suffix_without, foreign_inside, letter_no_part, passes_on}
+use Rattle.rl_tokens.proofs.StrictNumbers.{no_part, suffix_no_part, digit_front, same_run, IsForeign, foreign_dot, foreign_plus, foreign_minus, suffix_without, foreign_inside, letter_no_part, passes_on}
 
 -- ---- signs
 
@@ -63,16 +57,19 @@ int_once t x y s z m n a b =
     let ta = prefix a.base ++ (a.digits ++ x) in
     let tb = prefix b.base ++ (b.digits ++ y) in
     let signs = same_sign s z ta tb (digit_front a.base a.digits x a.front) (digit_front b.base b.digits y b.front)
-        (sym a.text_is ∙ b.text_is) in
+    (sym a.text_is ∙ b.text_is) in
     let bases : b.base ≡ a.base = sym (base_is b.base (b.digits ++ y) b.front) ∙ ap base_at (sym signs.1)
-        ∙ base_is a.base (a.digits ++ x) a.front in
+    ∙ base_is a.base (a.digits ++ x) a.front in
     let Each : Base → Type 0 = λ k. list_all (is_row_part (is_digit k)) b.digits ≡ true in
     let Of : Base → Type 0 = λ k. AllowsSuffix k y in
     let text : ta ≡ prefix a.base ++ (b.digits ++ y) = signs.1 ∙ ap (λ k. prefix k ++ (b.digits ++ y)) bases in
     let p = at_base a.base a.digits b.digits x y a.each (subst Each bases b.each) a.is_suffix a.is_suffix_of b.is_suffix
-        (subst Of bases b.is_suffix_of) text in
-    (signs.0, a.magnitude_is ∙ ap (λ d. place_value (radix a.base) (without_underscores d)) p.0
-        ∙ ap (λ k. place_value (radix k) (without_underscores b.digits)) (sym bases) ∙ sym b.magnitude_is, p.1)
+    (subst Of bases b.is_suffix_of) text in (
+      signs.0,
+      a.magnitude_is ∙ ap (λ d. place_value (radix a.base) (without_underscores d)) p.0
+          ∙ ap (λ k. place_value (radix k) (without_underscores b.digits)) (sym bases) ∙ sym b.magnitude_is,
+      p.1,
+    )
 
 -- ---- floats
 
@@ -94,10 +91,9 @@ digit_in (c ∷ row) each some =
       | inl d ↦ record { underscores = []; digit = c; rest = row; all_underscores = refl; is_digit = d; row_is = refl }
       | inr d ↦
           let under : is_underscore c ≡ true = elim (or_cases (is_digit Decimal c) (is_underscore c) p.0)
-              [ inl h ↦ absurd (both_ways (is_ascii_digit c) d (digit_is_ten c ∙ h)) | inr h ↦ h ] in
+          [ inl h ↦ absurd (both_ways (is_ascii_digit c) d (digit_is_ten c ∙ h)) | inr h ↦ h ] in
           let r = digit_in row p.1 (ap (λ b. b || list_any is_ascii_digit row) (sym d) ∙ some) in
-          record { underscores = c ∷ r.underscores; digit = r.digit; rest = r.rest; all_underscores = and_from
-              (is_underscore c) _ under r.all_underscores; is_digit = r.is_digit; row_is = ap (λ z. c ∷ z) r.row_is }
+          record { underscores = c ∷ r.underscores; digit = r.digit; rest = r.rest; all_underscores = and_from (is_underscore c) _ under r.all_underscores; is_digit = r.is_digit; row_is = ap (λ z. c ∷ z) r.row_is }
     ]
 
 underscores_are_parts : (us : List ℕ) → list_all is_underscore us ≡ true → list_all (is_row_part (is_digit Decimal)) us
@@ -134,37 +130,39 @@ same_power us s row vs z sow x y hu hs hr hv hz hw sx sy e =
       | inl a ↦ elim (sign_cases z hz) [
         | inl b ↦
             let f : (us ++ row) ++ x ≡ (vs ++ sow) ++ y = ap (λ q. (us ++ (q ++ row)) ++ x) (sym a) ∙ e
-                ∙ ap (λ q. (vs ++ (q ++ sow)) ++ y) b in
+            ∙ ap (λ q. (vs ++ (q ++ sow)) ++ y) b in
             let p = same_run part (us ++ row) (vs ++ sow) x y (all_join part us row pu hr) (all_join part vs sow pv hw)
-                nx ny f in
+            nx ny f in
             (ap (λ q. us ++ (q ++ row)) a ∙ p.0 ∙ ap (λ q. vs ++ (q ++ sow)) (sym b), p.1)
         | inr b ↦
             let f : (us ++ row) ++ x ≡ vs ++ (b.0 ∷ (sow ++ y)) = ap (λ q. (us ++ (q ++ row)) ++ x) (sym a) ∙ e
-                ∙ ap (λ q. (vs ++ (q ++ sow)) ++ y) b.3 ∙ append_assoc vs (b.0 ∷ sow) y in
+            ∙ ap (λ q. (vs ++ (q ++ sow)) ++ y) b.3 ∙ append_assoc vs (b.0 ∷ sow) y in
             let p = same_run part (us ++ row) vs x (b.0 ∷ (sow ++ y)) (all_join part us row pu hr) pv nx
-                (b.1.no_digit Decimal) f in
+            (b.1.no_digit Decimal) f in
             absurd (foreign_inside b.0 x [] (sow ++ y) b.2 p.1 (suffix_without b.0 x b.1 sx))
       ]
       | inr a ↦ elim (sign_cases z hz) [
         | inl b ↦
             let f : us ++ (a.0 ∷ (row ++ x)) ≡ (vs ++ sow) ++ y = sym
-                (ap (λ q. (us ++ (q ++ row)) ++ x) a.3 ∙ append_assoc us (a.0 ∷ row) x) ∙ e
-                ∙ ap (λ q. (vs ++ (q ++ sow)) ++ y) b in
+            (ap (λ q. (us ++ (q ++ row)) ++ x) a.3 ∙ append_assoc us (a.0 ∷ row) x) ∙ e
+            ∙ ap (λ q. (vs ++ (q ++ sow)) ++ y) b in
             let p = same_run part us (vs ++ sow) (a.0 ∷ (row ++ x)) y pu (all_join part vs sow pv hw)
-                (a.1.no_digit Decimal) ny f in
+            (a.1.no_digit Decimal) ny f in
             absurd (foreign_inside a.0 y [] (row ++ x) a.2 (sym p.1) (suffix_without a.0 y a.1 sy))
         | inr b ↦
             let f : us ++ (a.0 ∷ (row ++ x)) ≡ vs ++ (b.0 ∷ (sow ++ y)) = sym
-                (ap (λ q. (us ++ (q ++ row)) ++ x) a.3 ∙ append_assoc us (a.0 ∷ row) x) ∙ e
-                ∙ ap (λ q. (vs ++ (q ++ sow)) ++ y) b.3 ∙ append_assoc vs (b.0 ∷ sow) y in
+            (ap (λ q. (us ++ (q ++ row)) ++ x) a.3 ∙ append_assoc us (a.0 ∷ row) x) ∙ e
+            ∙ ap (λ q. (vs ++ (q ++ sow)) ++ y) b.3 ∙ append_assoc vs (b.0 ∷ sow) y in
             let p = same_run part us vs (a.0 ∷ (row ++ x)) (b.0 ∷ (sow ++ y)) pu pv (a.1.no_digit Decimal)
-                (b.1.no_digit Decimal) f in
+            (b.1.no_digit Decimal) f in
             let g : a.0 ∷ (row ++ x) ≡ b.0 ∷ (sow ++ y) = p.1 in
             let head : a.0 ≡ b.0 = cc in
             let tail : row ++ x ≡ sow ++ y = cc in
-            let q = same_run part row sow x y hr hw nx ny tail in
-            (ap (λ w. us ++ (w ++ row)) a.3 ∙ ap (λ w. w ++ (a.0 ∷ row)) p.0 ∙ ap (λ w. vs ++ (w ∷ row)) head
-                ∙ ap (λ w. vs ++ (b.0 ∷ w)) q.0 ∙ ap (λ w. vs ++ (w ++ sow)) (sym b.3), q.1)
+            let q = same_run part row sow x y hr hw nx ny tail in (
+              ap (λ w. us ++ (w ++ row)) a.3 ∙ ap (λ w. w ++ (a.0 ∷ row)) p.0 ∙ ap (λ w. vs ++ (w ∷ row)) head
+                  ∙ ap (λ w. vs ++ (b.0 ∷ w)) q.0 ∙ ap (λ w. vs ++ (w ++ sow)) (sym b.3),
+              q.1,
+            )
       ]
     ]
 
@@ -249,7 +247,7 @@ float_text : (s w f e x t numeral : List ℕ) → numeral ≡ s ++ (w ++ (f ++ e
     ++ (w ++ (f ++ (e ++ x)))
 float_text s w f e x t numeral n h =
     h ∙ ap (λ z. z ++ x) n ∙ append_assoc s (w ++ (f ++ e)) x ∙ ap (λ z. s ++ z) (append_assoc w (f ++ e) x)
-        ∙ ap (λ z. s ++ (w ++ z)) (append_assoc f e x)
+    ∙ ap (λ z. s ++ (w ++ z)) (append_assoc f e x)
 
 pub float_once : (t n m x y : List ℕ) → FloatReads t n x → FloatReads t m y → (n ≡ m) × (x ≡ y)
 float_once t n m x y a b =
@@ -262,16 +260,19 @@ float_once t n m x y a b =
     let pa = exponent_no_part a.exponent x a.is_exponent a.is_suffix in
     let pb = exponent_no_part b.exponent y b.is_exponent b.is_suffix in
     let s = same_sign a.sign b.sign (a.whole ++ (fa ++ (ea ++ x))) (b.whole ++ (fb ++ (eb ++ y)))
-        (passes_on is_ascii_digit a.whole _ a.first) (passes_on is_ascii_digit b.whole _ b.first) (sym ta ∙ tb) in
+    (passes_on is_ascii_digit a.whole _ a.first) (passes_on is_ascii_digit b.whole _ b.first) (sym ta ∙ tb) in
     let w = same_run (is_row_part (is_digit Decimal)) a.whole b.whole (fa ++ (ea ++ x)) (fb ++ (eb ++ y)) a.each b.each
-        (fraction_no_part a.fraction (ea ++ x) pa) (fraction_no_part b.fraction (eb ++ y) pb) s.1 in
+    (fraction_no_part a.fraction (ea ++ x) pa) (fraction_no_part b.fraction (eb ++ y) pb) s.1 in
     let f = same_fraction a.fraction b.fraction (ea ++ x) (eb ++ y) a.is_fraction b.is_fraction pa pb
-        (exponent_no_dot a.exponent x a.is_exponent a.is_suffix)
-        (exponent_no_dot b.exponent y b.is_exponent b.is_suffix) w.1 in
-    let e = same_exponent a.exponent b.exponent x y a.is_exponent b.is_exponent a.is_suffix b.is_suffix f.1 in
-    (a.numeral_is ∙ ap (λ z. sign_text z ++ (a.whole ++ (fa ++ ea))) s.0
-        ∙ ap (λ z. sign_text b.sign ++ (z ++ (fa ++ ea))) w.0 ∙ ap (λ z. sign_text b.sign ++ (b.whole ++ (z ++ ea))) f.0
-        ∙ ap (λ z. sign_text b.sign ++ (b.whole ++ (fb ++ z))) e.0 ∙ sym b.numeral_is, e.1)
+    (exponent_no_dot a.exponent x a.is_exponent a.is_suffix)
+    (exponent_no_dot b.exponent y b.is_exponent b.is_suffix) w.1 in
+    let e = same_exponent a.exponent b.exponent x y a.is_exponent b.is_exponent a.is_suffix b.is_suffix f.1 in (
+      a.numeral_is ∙ ap (λ z. sign_text z ++ (a.whole ++ (fa ++ ea))) s.0
+          ∙ ap (λ z. sign_text b.sign ++ (z ++ (fa ++ ea))) w.0 ∙ ap (λ z. sign_text b.sign ++ (b.whole ++ (z ++ ea)))
+          f.0
+          ∙ ap (λ z. sign_text b.sign ++ (b.whole ++ (fb ++ z))) e.0 ∙ sym b.numeral_is,
+      e.1,
+    )
 
 -- an integer of any magnitude
 pub record AnyInt (t : List ℕ) (v : Contents) (x : List ℕ) : Type 0 where
@@ -281,14 +282,15 @@ pub record AnyInt (t : List ℕ) (v : Contents) (x : List ℕ) : Type 0 where
   pub contents_is : v ≡ Digits (sign_text sign ++ dec magnitude)
 
 pub any_int : (t x : List ℕ) (v : Contents) → ReadsInt t v x → AnyInt t v x
-any_int t x v r = record { sign = r.sign; magnitude = r.magnitude; reads = r.reads; contents_is = r.contents_is
-    ∙ ap (λ z. Digits (sign_text r.sign ++ z)) (sym (dec_is_decimal r.magnitude r.within)) }
+any_int t x v r = record { sign = r.sign; magnitude = r.magnitude; reads = r.reads; contents_is = r.contents_is ∙ ap (λ z. Digits (sign_text r.sign ++ z)) (sym (dec_is_decimal r.magnitude r.within)) }
 
 pub any_int_once : (t x y : List ℕ) (v w : Contents) → AnyInt t v x → AnyInt t w y → (v ≡ w) × (x ≡ y)
 any_int_once t x y v w a b =
-    let p = int_once t x y a.sign b.sign a.magnitude b.magnitude a.reads b.reads in
-    (a.contents_is ∙ ap (λ z. Digits (sign_text z ++ dec a.magnitude)) p.0
-        ∙ ap (λ z. Digits (sign_text b.sign ++ dec z)) p.1 ∙ sym b.contents_is, p.2)
+    let p = int_once t x y a.sign b.sign a.magnitude b.magnitude a.reads b.reads in (
+      a.contents_is ∙ ap (λ z. Digits (sign_text z ++ dec a.magnitude)) p.0
+          ∙ ap (λ z. Digits (sign_text b.sign ++ dec z)) p.1 ∙ sym b.contents_is,
+      p.2,
+    )
 
 pub reads_float_once : (t x y : List ℕ) (v w : Contents) → ReadsFloat t v x → ReadsFloat t w y → (v ≡ w) × (x ≡ y)
 reads_float_once t x y v w a b =

@@ -1,15 +1,10 @@
 -- A quoted text has one reading of each form at most.
-use Rattle.rl_tokens.proofs.Common.{◌≡◌, ℕ, zero, suc, ◌||◌, ◌&&◌, Bool, true, false, not, cond, eqb, List, [], ◌∷◌,
-    ◌++◌, replicate, Option, Some, None, refl, sym, ap, subst, ◌∙◌, inl, inr, append_assoc, list_all, AllByRecursion,
-    list_all-append, eqb-true, and_parts, or_cases}
+use Rattle.rl_tokens.proofs.Common.{◌≡◌, ℕ, zero, suc, ◌||◌, ◌&&◌, Bool, true, false, not, cond, eqb, List, [], ◌∷◌, ◌++◌, replicate, Option, Some, None, refl, sym, ap, subst, ◌∙◌, inl, inr, append_assoc, list_all, AllByRecursion, list_all-append, eqb-true, and_parts, or_cases}
 use Rattle.std.proofs.lemmas.Bool.{and_left, and_right}
 use Rattle.rl_tokens.specs.declared.kind.Kind.{Kind}
 use Rattle.rl_tokens.specs.declared.kind.Kind.TheVariants.{Str, ByteStr, CStr, Byte, Char, Int, Float, Bool as BoolKind}
 use Rattle.rl_tokens.specs.Texts.{first_passes, is_underscore}
-use Rattle.rl_tokens.specs.Quoted.{QuotedUnit, Letter, Plain, CrLf, Named, Hex, Unicode, Continuation, LowerN, LowerR,
-    LowerT, Backslash, Apostrophe, Quote, Zero, letter_value, letter_text, unit_text, unit_value, unicode_value,
-    content_of, hex_value, is_hex_digit, is_blank, is_line_end, is_string, is_plain, IsUnit, texts, values, EndsBefore,
-    ContinuationsEnd, opener, raw_opener, Cooked, Raw, Single}
+use Rattle.rl_tokens.specs.Quoted.{QuotedUnit, Letter, Plain, CrLf, Named, Hex, Unicode, Continuation, LowerN, LowerR, LowerT, Backslash, Apostrophe, Quote, Zero, letter_value, letter_text, unit_text, unit_value, unicode_value, content_of, hex_value, is_hex_digit, is_blank, is_line_end, is_string, is_plain, IsUnit, texts, values, EndsBefore, ContinuationsEnd, opener, raw_opener, Cooked, Raw, Single}
 use Rattle.rl_tokens.proofs.HashLemmas.{hashes_all}
 use Rattle.rl_tokens.proofs.Basics.{apart}
 use Rattle.rl_tokens.proofs.StrictNumbers.{same_run}
@@ -65,16 +60,11 @@ pub record PlainFacts (k : Kind) (c : ℕ) : Type 0 where
   pub no_quote : (eqb c 34 && is_string k) ≡ false
 
 plain_facts : (k : Kind) (c : ℕ) → is_plain k c ≡ true → PlainFacts k c
-plain_facts Str c h = record { no_backslash = apart (is_plain Str) c 92 h refl; no_return = and_left _ true
-    (apart (is_plain Str) c 13 h refl); no_quote = and_left _ true (apart (is_plain Str) c 34 h refl) }
-plain_facts ByteStr c h = record { no_backslash = apart (is_plain ByteStr) c 92 h refl; no_return = and_left _ true
-    (apart (is_plain ByteStr) c 13 h refl); no_quote = and_left _ true (apart (is_plain ByteStr) c 34 h refl) }
-plain_facts CStr c h = record { no_backslash = apart (is_plain CStr) c 92 h refl; no_return = and_left _ true
-    (apart (is_plain CStr) c 13 h refl); no_quote = and_left _ true (apart (is_plain CStr) c 34 h refl) }
-plain_facts Char c h = record { no_backslash = apart (is_plain Char) c 92 h refl; no_return = and_right _ false refl;
-    no_quote = and_right _ false refl }
-plain_facts Byte c h = record { no_backslash = apart (is_plain Byte) c 92 h refl; no_return = and_right _ false refl;
-    no_quote = and_right _ false refl }
+plain_facts Str c h = record { no_backslash = apart (is_plain Str) c 92 h refl; no_return = and_left _ true (apart (is_plain Str) c 13 h refl); no_quote = and_left _ true (apart (is_plain Str) c 34 h refl) }
+plain_facts ByteStr c h = record { no_backslash = apart (is_plain ByteStr) c 92 h refl; no_return = and_left _ true (apart (is_plain ByteStr) c 13 h refl); no_quote = and_left _ true (apart (is_plain ByteStr) c 34 h refl) }
+plain_facts CStr c h = record { no_backslash = apart (is_plain CStr) c 92 h refl; no_return = and_left _ true (apart (is_plain CStr) c 13 h refl); no_quote = and_left _ true (apart (is_plain CStr) c 34 h refl) }
+plain_facts Char c h = record { no_backslash = apart (is_plain Char) c 92 h refl; no_return = and_right _ false refl; no_quote = and_right _ false refl }
+plain_facts Byte c h = record { no_backslash = apart (is_plain Byte) c 92 h refl; no_return = and_right _ false refl; no_quote = and_right _ false refl }
 plain_facts kind c h = absurd (cc)
 
 plain_at : (k : Kind) (c : ℕ) (r : List ℕ) → is_plain k c ≡ true → unit_at k (c ∷ r) ≡ found (content_of k (c ∷ [])) r
@@ -105,14 +95,14 @@ before_at [] r h = refl
 before_at (c ∷ more) r h =
     let p = and_parts (is_more c) (list_all is_more more) h in
     ap (λ b. cond b [] (c ∷ before_brace (more ++ (125 ∷ r)))) (apart is_more c 125 p.0 refl)
-        ∙ ap (λ z. c ∷ z) (before_at more r p.1)
+    ∙ ap (λ z. c ∷ z) (before_at more r p.1)
 
 after_at : (more r : List ℕ) → list_all is_more more ≡ true → after_brace (more ++ (125 ∷ r)) ≡ r
 after_at [] r h = refl
 after_at (c ∷ more) r h =
     let p = and_parts (is_more c) (list_all is_more more) h in
     ap (λ b. cond b (more ++ (125 ∷ r)) (after_brace (more ++ (125 ∷ r)))) (apart is_more c 125 p.0 refl)
-        ∙ after_at more r p.1
+    ∙ after_at more r p.1
 
 unicode_found : (k : Kind) (first : ℕ) (more r : List ℕ) → list_all is_more more ≡ true
     → unit_at k ((92 ∷ 117 ∷ 123 ∷ first ∷ (more ++ (125 ∷ []))) ++ r)
@@ -171,7 +161,7 @@ first_unit : (k : Kind) (u : QuotedUnit) (us : List QuotedUnit) (x : List ℕ) �
     → ContinuationsEnd (u ∷ us) → unit_at k (texts (u ∷ us) ++ (34 ∷ x)) ≡ found (unit_value k u) (texts us ++ (34 ∷ x))
 first_unit k u us x each ends =
     ap (unit_at k) (append_assoc (unit_text u) (texts us) (34 ∷ x))
-        ∙ unit_complete k u (texts us ++ (34 ∷ x)) each.0 (ends_on u (texts us) x ends.0)
+    ∙ unit_complete k u (texts us ++ (34 ∷ x)) each.0 (ends_on u (texts us) x ends.0)
 
 quote_none : (k : Kind) (x : List ℕ) → is_string k ≡ true → unit_at k (34 ∷ x) ≡ None
 quote_none k x h = ap (λ b. cond b None (found (content_of k (34 ∷ [])) x)) h
@@ -182,13 +172,13 @@ rows_same : (k : Kind) (us ws : List QuotedUnit) (x y : List ℕ) → is_string 
 rows_same k [] [] x y s eu cu ew cw e = (refl, cc)
 rows_same k [] (w ∷ ws) x y s eu cu ew cw e =
     let h : None ≡ found (unit_value k w) (texts ws ++ (34 ∷ y)) = sym (quote_none k x s) ∙ ap (unit_at k) e
-        ∙ first_unit k w ws y ew cw in absurd (cc)
+    ∙ first_unit k w ws y ew cw in absurd (cc)
 rows_same k (u ∷ us) [] x y s eu cu ew cw e =
     let h : None ≡ found (unit_value k u) (texts us ++ (34 ∷ x)) = sym (quote_none k y s) ∙ ap (unit_at k) (sym e)
-        ∙ first_unit k u us x eu cu in absurd (cc)
+    ∙ first_unit k u us x eu cu in absurd (cc)
 rows_same k (u ∷ us) (w ∷ ws) x y s eu cu ew cw e =
     let f = some_pair (unit_value k u, texts us ++ (34 ∷ x)) (unit_value k w, texts ws ++ (34 ∷ y))
-        (sym (first_unit k u us x eu cu) ∙ ap (unit_at k) e ∙ first_unit k w ws y ew cw) in
+    (sym (first_unit k u us x eu cu) ∙ ap (unit_at k) e ∙ first_unit k w ws y ew cw) in
     let r = rows_same k us ws x y s eu.1 cu.1 ew.1 cw.1 f.1 in
     (ap (λ z. z ++ values k us) f.0 ∙ ap (λ z. unit_value k w ++ z) r.0, r.1)
 
@@ -199,7 +189,7 @@ same_tail (c ∷ a) b d e = same_tail a b d (let e = e in cc)
 pub cooked_once : (k : Kind) (t v x w y : List ℕ) → Cooked k t v x → Cooked k t w y → (v ≡ w) × (x ≡ y)
 cooked_once k t v x w y a b =
     let r = rows_same k a.units b.units x y a.string a.each a.ends b.each b.ends
-        (same_tail (opener k) _ _ (sym a.text_is ∙ b.text_is)) in
+    (same_tail (opener k) _ _ (sym a.text_is ∙ b.text_is)) in
     (a.value_is ∙ r.0 ∙ sym b.value_is, r.1)
 
 single_found : (k : Kind) (u : QuotedUnit) (x : List ℕ) → IsUnit k u → unit_at k (unit_text u ++ (39 ∷ x))
@@ -214,9 +204,9 @@ single_found k (Continuation c run) x h = unit_complete k (Continuation c run) (
 pub single_once : (k : Kind) (t v x w y : List ℕ) → Single k t v x → Single k t w y → (v ≡ w) × (x ≡ y)
 single_once k t v x w y a b =
     let e = same_tail (opener k) (unit_text a.unit ++ (39 ∷ x)) (unit_text b.unit ++ (39 ∷ y))
-        (sym a.text_is ∙ b.text_is) in
+    (sym a.text_is ∙ b.text_is) in
     let f = some_pair (unit_value k a.unit, 39 ∷ x) (unit_value k b.unit, 39 ∷ y)
-        (sym (single_found k a.unit x a.is_unit) ∙ ap (unit_at k) e ∙ single_found k b.unit y b.is_unit) in
+    (sym (single_found k a.unit x a.is_unit) ∙ ap (unit_at k) e ∙ single_found k b.unit y b.is_unit) in
     let g : 39 ∷ x ≡ 39 ∷ y = f.1 in
     (a.value_is ∙ f.0 ∙ sym b.value_is, cc)
 
@@ -228,7 +218,7 @@ no_quote c = not (eqb c 34)
 quote_inside : (p b q : List ℕ) → list_all no_quote p ≡ true → p ≡ b ++ (34 ∷ q) → ⊥
 quote_inside p b q h e =
     let r = and_parts (list_all no_quote b) (list_all no_quote (34 ∷ q))
-        (sym (list_all-append no_quote b (34 ∷ q)) ∙ ap (list_all no_quote) (sym e) ∙ h) in
+    (sym (list_all-append no_quote b (34 ∷ q)) ∙ ap (list_all no_quote) (sym e) ∙ h) in
     let f : false ≡ true = r.1 in
     absurd (cc)
 
@@ -253,11 +243,11 @@ raw_once k t v x w y a b =
     let ra = a.inside ++ (34 ∷ (replicate a.hashes 35 ++ x)) in
     let rb = b.inside ++ (34 ∷ (replicate b.hashes 35 ++ y)) in
     let f = same_run (λ c. eqb c 35) (replicate a.hashes 35) (replicate b.hashes 35) (34 ∷ ra) (34 ∷ rb)
-        (hashes_all a.hashes) (hashes_all b.hashes) refl refl e in
+    (hashes_all a.hashes) (hashes_all b.hashes) refl refl e in
     let g : 34 ∷ ra ≡ 34 ∷ rb = f.1 in
     let inner : ra ≡ rb = cc in
     let l = last_same a.inside b.inside (replicate a.hashes 35 ++ x) (replicate b.hashes 35 ++ y)
-        (hashes_no_quote a.hashes x a.no_quote) (hashes_no_quote b.hashes y b.no_quote) inner in (
+    (hashes_no_quote a.hashes x a.no_quote) (hashes_no_quote b.hashes y b.no_quote) inner in (
       a.value_is ∙ ap (content_of k) l.0 ∙ sym b.value_is,
       same_tail (replicate a.hashes 35) x y (l.1 ∙ ap (λ z. z ++ y) (sym f.0)),
     )

@@ -1,19 +1,16 @@
 -- A text has one reading at most.
-use Rattle.rl_tokens.proofs.Common.{◌≡◌, ℕ, ◌||◌, Bool, true, false, cond, eqb, List, [], ◌∷◌, ◌++◌, refl, sym, ap,
-    subst, ◌∙◌, ◌⊎◌, inl, inr, is_ascii_digit}
+use Rattle.rl_tokens.proofs.Common.{◌≡◌, ℕ, ◌||◌, Bool, true, false, cond, eqb, List, [], ◌∷◌, ◌++◌, refl, sym, ap, subst, ◌∙◌, ◌⊎◌, inl, inr, is_ascii_digit}
 use Rattle.rl_tokens.specs.declared.kind.Kind.{Kind}
 use Rattle.rl_tokens.specs.declared.kind.Kind.TheVariants.{Str, ByteStr, CStr, Byte, Char, Int, Float, Bool as BoolKind}
 use Rattle.rl_tokens.specs.Quoted.{is_string, is_single, opener, raw_opener, Cooked, Raw, Single}
-use Rattle.rl_tokens.specs.Reading.{Contents, Truth, ReadsQuoted, ReadsFloat, ReadsBool, truth_text, quoted_contents,
-    Reads}
+use Rattle.rl_tokens.specs.Reading.{Contents, Truth, ReadsQuoted, ReadsFloat, ReadsBool, truth_text, quoted_contents, Reads}
 use Rattle.rl_tokens.specs.Numbers.{NoSign}
 use Rattle.rl_tokens.specs.Strict.{Strict}
 use Rattle.rl_tokens.proofs.Basics.{apart}
 use Rattle.rl_tokens.proofs.Agreeing.{strict_reads}
 use Rattle.rl_tokens.proofs.StrictNumbers.{strict_int}
 use Rattle.rl_tokens.proofs.OneQuoted.{cooked_once, raw_once, single_once}
-use Rattle.rl_tokens.proofs.OneNumber.{begins_number, int_front, float_front, AnyInt, any_int, any_int_once,
-    reads_float_once}
+use Rattle.rl_tokens.proofs.OneNumber.{begins_number, int_front, float_front, AnyInt, any_int, any_int_once, reads_float_once}
 
 -- what a text's front tells: the kind and form of a quoted text, a number, a truth value
 data Front : Type 0 where
@@ -90,13 +87,10 @@ record Seen (t : List ℕ) (k : Kind) (v : Contents) (x : List ℕ) : Type 0 whe
 quoted_seen : (t : List ℕ) (k : Kind) (v : Contents) (x : List ℕ) → ReadsQuoted t k v x → Seen t k v x
 quoted_seen t k v x r =
     elim r.form [
-      | inl a ↦ record { front = CookedFront k; front_is = ap front_at a.text_is
-          ∙ cooked_front k _ a.string; shown = (refl, r.value, a, r.contents_is) }
+      | inl a ↦ record { front = CookedFront k; front_is = ap front_at a.text_is ∙ cooked_front k _ a.string; shown = (refl, r.value, a, r.contents_is) }
       | inr b ↦ elim b [
-        | inl a ↦ record { front = RawFront k; front_is = ap front_at a.text_is
-            ∙ raw_front k _ a.string; shown = (refl, r.value, a, r.contents_is) }
-        | inr a ↦ record { front = SingleFront k; front_is = ap front_at a.text_is
-            ∙ single_front k _ a.single; shown = (refl, r.value, a, r.contents_is) }
+        | inl a ↦ record { front = RawFront k; front_is = ap front_at a.text_is ∙ raw_front k _ a.string; shown = (refl, r.value, a, r.contents_is) }
+        | inr a ↦ record { front = SingleFront k; front_is = ap front_at a.text_is ∙ single_front k _ a.single; shown = (refl, r.value, a, r.contents_is) }
       ]
     ]
 
@@ -106,12 +100,9 @@ seen t ByteStr v x r = quoted_seen t ByteStr v x r
 seen t CStr v x r = quoted_seen t CStr v x r
 seen t Byte v x r = quoted_seen t Byte v x r
 seen t Char v x r = quoted_seen t Char v x r
-seen t Int v x r = record { front = NumberFront; front_is = number_front t (int_front t x r.sign r.magnitude r.reads);
-    shown = inl (refl, any_int t x v r) }
-seen t Float v x r = record { front = NumberFront; front_is = number_front t (float_front t r.numeral x r.reads); shown
-    = inr (refl, r) }
-seen t BoolKind v x r = record { front = TruthFront; front_is = ap front_at r.text_is
-    ∙ truth_front r.truth; shown = (refl, r) }
+seen t Int v x r = record { front = NumberFront; front_is = number_front t (int_front t x r.sign r.magnitude r.reads); shown = inl (refl, any_int t x v r) }
+seen t Float v x r = record { front = NumberFront; front_is = number_front t (float_front t r.numeral x r.reads); shown = inr (refl, r) }
+seen t BoolKind v x r = record { front = TruthFront; front_is = ap front_at r.text_is ∙ truth_front r.truth; shown = (refl, r) }
 
 same_truth : (a b : Bool) → truth_text a ≡ truth_text b → a ≡ b
 same_truth true true e = refl
@@ -135,9 +126,12 @@ once_at NumberFront t k l v w x y (inr a) (inr b) = let p = reads_float_once t x
     (a.0 ∙ sym b.0, p.0, p.1)
 once_at NumberFront t k l v w x y (inl a) (inr b) = absurd (b.1.no_integer a.1.sign a.1.magnitude x a.1.reads)
 once_at NumberFront t k l v w x y (inr a) (inl b) = absurd (a.1.no_integer b.1.sign b.1.magnitude y b.1.reads)
-once_at TruthFront t k l v w x y a b =
-    (a.0 ∙ sym b.0, a.1.contents_is ∙ ap Truth (same_truth a.1.truth b.1.truth (sym a.1.text_is ∙ b.1.text_is))
-        ∙ sym b.1.contents_is, a.1.suffix_is ∙ sym b.1.suffix_is)
+once_at TruthFront t k l v w x y a b = (
+  a.0 ∙ sym b.0,
+  a.1.contents_is ∙ ap Truth (same_truth a.1.truth b.1.truth (sym a.1.text_is ∙ b.1.text_is))
+      ∙ sym b.1.contents_is,
+  a.1.suffix_is ∙ sym b.1.suffix_is,
+)
 
 pub one_reading : (t : List ℕ) (k l : Kind) (v w : Contents) (x y : List ℕ) → Reads t k v x → Reads t l w y → (k ≡ l)
     × (v ≡ w) × (x ≡ y)
@@ -151,8 +145,7 @@ one_reading t k l v w x y a b =
 strict_seen : (t : List ℕ) (k : Kind) (v : Contents) (x : List ℕ) → Strict t k v x → Seen t k v x
 strict_seen t Int v x s =
     let i = strict_int t x v s in
-    record { front = NumberFront; front_is = number_front t (int_front t x NoSign i.magnitude i.reads); shown = inl
-        (refl, record { sign = NoSign; magnitude = i.magnitude; reads = i.reads; contents_is = i.contents_is }) }
+    record { front = NumberFront; front_is = number_front t (int_front t x NoSign i.magnitude i.reads); shown = inl (refl, record { sign = NoSign; magnitude = i.magnitude; reads = i.reads; contents_is = i.contents_is }) }
 strict_seen t Str v x s = seen t Str v x (strict_reads t Str v x s tt)
 strict_seen t ByteStr v x s = seen t ByteStr v x (strict_reads t ByteStr v x s tt)
 strict_seen t CStr v x s = seen t CStr v x (strict_reads t CStr v x s tt)

@@ -1,13 +1,10 @@
 -- `after_piece` takes off exactly a piece or an open line, and so a text has at most one rest.
-use Rattle.rl_tokens.proofs.Common.{◌≡◌, ℕ, suc, zero, ◌+◌, ◌⊎◌, inl, inr, Bool, true, false, ◌==◌, cond, List, [], ◌∷◌,
-    ◌++◌, length, Option, Some, None, refl, sym, ◌∙◌, ap, subst, arith, append_assoc, nat_tests, AllByRecursion}
+use Rattle.rl_tokens.proofs.Common.{◌≡◌, ℕ, suc, zero, ◌+◌, ◌⊎◌, inl, inr, Bool, true, false, ◌==◌, cond, List, [], ◌∷◌, ◌++◌, length, Option, Some, None, refl, sym, ◌∙◌, ap, subst, arith, append_assoc, nat_tests, AllByRecursion}
 use Rattle.rl_tokens.specs.Texts.{is_white, first_passes}
-use Rattle.rl_tokens.specs.Trivia.{is_comment_line, is_comment_block, inside_text, TriviaPiece, White, Line, Block,
-    trivia_piece_text, IsTriviaPiece, trivia_text, IsTrivia}
+use Rattle.rl_tokens.specs.Trivia.{is_comment_line, is_comment_block, inside_text, TriviaPiece, White, Line, Block, trivia_piece_text, IsTriviaPiece, trivia_text, IsTrivia}
 use Rattle.rl_tokens.specs.Skipping.{IsOpenLine, BeginsTrivia, Skipped, OneRest}
 use Rattle.rl_tokens.specs.Mirrors.SkippedAt.{after_block, after_line, after_comment, after_piece}
-use Rattle.rl_tokens.proofs.Comments.{chosen, same_Some, false_unless, Closes, after_block-sound, after_block-past,
-    OneLine, after_line-past, after_line-open, plain_line-same, plain_block-same}
+use Rattle.rl_tokens.proofs.Comments.{chosen, same_Some, false_unless, Closes, after_block-sound, after_block-past, OneLine, after_line-past, after_line-open, plain_line-same, plain_block-same}
 use Rattle.rl_tokens.specs.Classes.{after_run}
 
 -- What after_line gives: the text after the first LF, or nothing.
@@ -36,8 +33,7 @@ none-some x e = cc
 
 takes_line : (t r : List ℕ) → is_comment_line t ≡ true → LineEnds t r → TakesOff (47 ∷ 47 ∷ t) r
 takes_line t r plain (inl (body, one, same)) =
-    inl (Line body, record { plain = sym (plain_line-same body r) ∙ ap is_comment_line (sym same)
-        ∙ plain; one_line = one }, ap (λ x. 47 ∷ 47 ∷ x) (same ∙ sym (append_assoc body (10 ∷ []) r)))
+    inl (Line body, record { plain = sym (plain_line-same body r) ∙ ap is_comment_line (sym same) ∙ plain; one_line = one }, ap (λ x. 47 ∷ 47 ∷ x) (same ∙ sym (append_assoc body (10 ∷ []) r)))
 takes_line t r plain (inr (one, nothing)) =
     inr (record { body = t; is_body = record { plain = plain; one_line = one }; text = refl }, nothing)
 
@@ -53,7 +49,7 @@ takes_comment : (t r : List ℕ) → after_comment t ≡ Some r → TakesOff (47
 takes_comment [] r h = absurd (none-some r h)
 takes_comment (c ∷ t) r h =
     elim (chosen (c == 47) (cond (is_comment_line t) (Some (after_line t)) None)
-        (cond (c == 42) (cond (is_comment_block t) (after_block 0 t) None) None) (Some r) h) [
+    (cond (c == 42) (cond (is_comment_block t) (after_block 0 t) None) None) (Some r) h) [
       | inl (a, x) ↦ elim (chosen (is_comment_line t) (Some (after_line t)) None (Some r) x) [
         | inl (p, y) ↦ subst (λ (z : List ℕ × List ℕ). TakesOff z.0 z.1)
             (let q : c ≡ 47 = is_equal c 47 a in let s : after_line t
@@ -91,14 +87,14 @@ pub after_piece-past : (p : TriviaPiece) (r : List ℕ) → IsTriviaPiece p → 
     ≡ Some r
 after_piece-past (White c) r w =
     ap (λ x. cond x (after_comment r) (cond (is_white c) (Some r) None)) (white_not_slash c w)
-        ∙ ap (λ x. cond x (Some r) None) w
+    ∙ ap (λ x. cond x (Some r) None) w
 after_piece-past (Line body) r is =
     ap (λ x. cond (is_comment_line x) (Some (after_line x)) None) (append_assoc body (10 ∷ []) r)
     ∙ ap (λ x. cond x (Some (after_line (body ++ 10 ∷ r))) None) (plain_line-same body r ∙ is.plain)
     ∙ ap Some (after_line-past body r is.one_line)
 after_piece-past (Block i) r (is, plain) =
     ap (λ x. cond x (after_block 0 (inside_text i ++ r)) None) (plain_block-same i r ∙ plain)
-        ∙ after_block-past i 0 r is
+    ∙ after_block-past i 0 r is
 
 pub after_piece-open : (t : List ℕ) → IsOpenLine t → after_piece t ≡ Some []
 after_piece-open t l =
@@ -143,7 +139,7 @@ skip_in-trivia [] n r is = refl
 skip_in-trivia (p ∷ ps) n r (is, more) =
     ap (λ x. skip_in (suc (adds ps n)) x) (append_assoc (trivia_piece_text p) (trivia_text ps) r)
     ∙ ap (λ x. goes_on (skip_in (adds ps n)) (trivia_piece_text p ++ (trivia_text ps ++ r)) x)
-        (after_piece-past p (trivia_text ps ++ r) is)
+    (after_piece-past p (trivia_text ps ++ r) is)
     ∙ skip_in-trivia ps n r more
 
 skip_in-stops : (n : ℕ) (t : List ℕ) → after_piece t ≡ None → skip_in n t ≡ t
@@ -177,8 +173,13 @@ one_rest t r s a b =
     let (qs, g) = reaches t s b in
     let m = adds qs 0 in
     let n = adds ps 0 in
-    let e : adds ps (suc m) ≡ adds qs (suc n) = omega (arith, adds-length ps (suc m), adds-length qs (suc n),
-        adds-length ps 0, adds-length qs 0) in
+    let e : adds ps (suc m) ≡ adds qs (suc n) = omega (
+      arith,
+      adds-length ps (suc m),
+      adds-length qs (suc n),
+      adds-length ps 0,
+      adds-length qs 0,
+    ) in
     sym (f m) ∙ ap (λ k. skip_in k t) e ∙ g n
 
 -- A piece more in front.
@@ -192,8 +193,7 @@ nothing_tail r (inr s) = s.nothing
 
 trivia_more : (p : TriviaPiece) (front : List ℕ) → IsTriviaPiece p → IsTrivia front
     → IsTrivia (trivia_piece_text p ++ front)
-trivia_more p front is more = record { pieces = p ∷ more.pieces; each = (is, more.each); text = ap
-    (λ x. trivia_piece_text p ++ x) more.text }
+trivia_more p front is more = record { pieces = p ∷ more.pieces; each = (is, more.each); text = ap (λ x. trivia_piece_text p ++ x) more.text }
 
 pub no_trivia : IsTrivia []
 no_trivia = record { pieces = []; each = tt; text = refl }
@@ -203,17 +203,12 @@ joined t a b m r h k = h ∙ ap (λ x. a ++ x) k ∙ sym (append_assoc a b r)
 
 skipped_more : (p : TriviaPiece) (t m r : List ℕ) → IsTriviaPiece p → t ≡ trivia_piece_text p ++ m → Skipped m r
     → Skipped t r
-skipped_more p t m r is same (inl s) = inl (record { front = trivia_piece_text p
-    ++ s.front; is_trivia = trivia_more p s.front is s.is_trivia; text = joined t (trivia_piece_text p) s.front m r same
-    s.text; stops = s.stops })
-skipped_more p t m r is same (inr s) = inr (record { front = trivia_piece_text p
-    ++ s.front; line = s.line; is_trivia = trivia_more p s.front is s.is_trivia; is_line = s.is_line; text = joined t
-    (trivia_piece_text p) s.front m s.line same s.text; nothing = s.nothing })
+skipped_more p t m r is same (inl s) = inl (record { front = trivia_piece_text p ++ s.front; is_trivia = trivia_more p s.front is s.is_trivia; text = joined t (trivia_piece_text p) s.front m r same s.text; stops = s.stops })
+skipped_more p t m r is same (inr s) = inr (record { front = trivia_piece_text p ++ s.front; line = s.line; is_trivia = trivia_more p s.front is s.is_trivia; is_line = s.is_line; text = joined t (trivia_piece_text p) s.front m s.line same s.text; nothing = s.nothing })
 
 skipped_by : (t m r : List ℕ) → TakesOff t m → Skipped m r → Skipped t r
 skipped_by t m r (inl (p, is, same)) s = skipped_more p t m r is same s
-skipped_by t m r (inr (line, nothing)) s = inr (record { front = []; line = t; is_trivia = no_trivia; is_line = line;
-    text = refl; nothing = nothing_tail r (subst (λ (x : List ℕ). Skipped x r) nothing s) })
+skipped_by t m r (inr (line, nothing)) s = inr (record { front = []; line = t; is_trivia = no_trivia; is_line = line; text = refl; nothing = nothing_tail r (subst (λ (x : List ℕ). Skipped x r) nothing s) })
 
 pub skipped_after : (t m r : List ℕ) → after_piece t ≡ Some m → Skipped m r → Skipped t r
 skipped_after t m r h s = skipped_by t m r (after_piece-sound t m h) s

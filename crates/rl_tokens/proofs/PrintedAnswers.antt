@@ -3,8 +3,7 @@ use Rattle.rl_tokens.proofs.Common.{◌≡◌, ℕ, List, Result, Ok, Err, refl,
 use Rattle.std.specs.Result.{IfErr}
 use Rattle.rl_tokens.specs.declared.token.TokenStream.{TokenStream}
 use Rattle.rl_tokens.specs.declared.lex_error.LexKind.{LexKind}
-use Rattle.rl_tokens.specs.declared.lex_error.LexKind.TheVariants.{DocComment, UnclosedComment, UnclosedQuote, Lifetime,
-    RawIdentifier, StrayCharacter, UnmatchedClose, UnclosedGroup, TooDeep, Memory}
+use Rattle.rl_tokens.specs.declared.lex_error.LexKind.TheVariants.{DocComment, UnclosedComment, UnclosedQuote, Lifetime, RawIdentifier, StrayCharacter, UnmatchedClose, UnclosedGroup, TooDeep, Memory}
 use Rattle.rl_tokens.specs.declared.lex_error.LexError.{LexError}
 use Rattle.rl_tokens.specs.Trees.{Tree, stream_view}
 use Rattle.rl_tokens.specs.Lexing.{Lexes, HasFirstError, Rejects}

@@ -1,16 +1,12 @@
 -- A text of gaps and items is cut where they meet.
-use Rattle.rl_tokens.proofs.Common.{◌≡◌, ℕ, ◌+◌, inl, inr, Bool, true, false, not, ◌&&◌, ◌||◌, ◌==◌, List, [], ◌∷◌,
-    ◌++◌, map, length, Some, None, refl, sym, ◌∙◌, ap, subst, arith, append-nil, lit<, ⊤, option_and_then,
-    encode_utf8_all, AllByRecursion, list_all, none-some, encode_ascii, is_xid_start}
+use Rattle.rl_tokens.proofs.Common.{◌≡◌, ℕ, ◌+◌, inl, inr, Bool, true, false, not, ◌&&◌, ◌||◌, ◌==◌, List, [], ◌∷◌, ◌++◌, map, length, Some, None, refl, sym, ◌∙◌, ap, subst, arith, append-nil, lit<, ⊤, option_and_then, encode_utf8_all, AllByRecursion, list_all, none-some, encode_ascii, is_xid_start}
 use Rattle.rl_tokens.specs.Texts.{is_white, is_among, byte_len}
 use Rattle.rl_tokens.specs.Trivia.{White, Line, Block, IsTrivia}
 use Rattle.rl_tokens.specs.Skipping.{BeginsTrivia}
-use Rattle.rl_tokens.specs.Lexemes.{delimiters, marks, Lexeme, IdentifierLexeme, MarkLexeme, lexeme_text, IsLexeme,
-    LiteralForm, form_of}
+use Rattle.rl_tokens.specs.Lexemes.{delimiters, marks, Lexeme, IdentifierLexeme, MarkLexeme, lexeme_text, IsLexeme, LiteralForm, form_of}
 use Rattle.rl_tokens.specs.Mirrors.LexemeAt.{SlashHead, StrayHead, head_class, lexeme_at}
 use Rattle.rl_tokens.specs.Trees.{Tree, PunctTree, LiteralTree, flat, flat_trees}
-use Rattle.rl_tokens.specs.Lexing.{LexedToken, LexesUpTo, OpenGroup, after_form, open_groups, flat_form, flat_token,
-    Lexes}
+use Rattle.rl_tokens.specs.Lexing.{LexedToken, LexesUpTo, OpenGroup, after_form, open_groups, flat_form, flat_token, Lexes}
 use Rattle.rl_tokens.specs.Printed.{Item, WordItem, LiteralItem, MinusItem, item_text, Entry, printed_text, token_at}
 use Rattle.rl_tokens.specs.PrintedTrees.{item_trees, printed_trees}
 use Rattle.rl_tokens.proofs.Comments.{false_unless}
@@ -31,7 +27,7 @@ white_class : (c : ℕ) → is_white c ≡ true → head_class c ≡ StrayHead
 white_class c w =
     stray_class c (ap (λ b. (c == 95 || is_xid_start c) && not b) w ∙ and_false (c == 95 || is_xid_start c))
     (not_white_among delimiters c refl w) (not_among c 47 is_white w refl) (not_white_among marks c refl w)
-        (digit_solid c (ap (λ b. b || c == 47) w)) (not_among c 34 is_white w refl) (not_among c 39 is_white w refl)
+    (digit_solid c (ap (λ b. b || c == 47) w)) (not_among c 34 is_white w refl) (not_among c 39 is_white w refl)
 
 trivia_none : (t : List ℕ) → BeginsTrivia t → lexeme_at t ≡ None
 trivia_none t (inl (White c, rest, w, same)) = ap lexeme_at same ∙ at_class c rest StrayHead (white_class c w)
@@ -54,8 +50,7 @@ record CutInto (file at : ℕ) (t : List ℕ) (trees : List Tree) : Type 0 where
 last_cut : (file at : ℕ) (last : List ℕ) → IsTrivia last → CutInto file at last []
 last_cut file at last is = record {
   cuts = [];
-  are_cuts = inl (record { front = last; is_trivia = is; text = sym (append-nil last); stops = stops-from_none [] refl
-      });
+  are_cuts = inl (record { front = last; is_trivia = is; text = sym (append-nil last); stops = stops-from_none [] refl });
   none_open = λ groups. refl;
   flat_is = refl;
 }
@@ -87,7 +82,7 @@ literal_flat : (file at : ℕ) (l : Lexeme) (text : List ℕ) → form_of l ≡ 
 literal_flat file at l text form same =
     ap (λ x. flat (LiteralTree (token_at file at x))) same
     ∙ ap (λ f. flat_form f (encode_utf8_all (lexeme_text l)) (record
-        { file = file; lo = at; hi = at + byte_len (lexeme_text l) }) ∷ []) (sym form)
+    { file = file; lo = at; hi = at + byte_len (lexeme_text l) }) ∷ []) (sym form)
 
 literal_neutral : (l : Lexeme) → form_of l ≡ LiteralForm → (groups : List OpenGroup) (n : ℕ)
     → after_form groups (form_of l) n ≡ Some groups
@@ -98,8 +93,7 @@ minus_len = ap (λ z. length (z ++ [])) (encode_ascii 45 (lit< tt))
 
 minus_flat : (file at : ℕ) → flat (PunctTree (record { ch = 45; span = record { file = file; lo = at; hi = at + 1 } }))
     ≡ flat_token file (record { lexeme = MarkLexeme 45; at = at }) ∷ []
-minus_flat file at = ap (λ n. flat (PunctTree (record { ch = 45; span = record { file = file; lo = at; hi = at + n }
-    }))) (sym minus_len)
+minus_flat file at = ap (λ n. flat (PunctTree (record { ch = 45; span = record { file = file; lo = at; hi = at + n } }))) (sym minus_len)
 
 -- Below a family says what may follow a literal. The text of a literal that is one lexeme before each such text:
 pub record LexedBefore (ends : List ℕ → Type 0) (text : List ℕ) : Type 0 where
@@ -129,10 +123,10 @@ literal_cut : (ends : List ℕ → Type 0) (file at : ℕ) (gap text after : Lis
     → CutInto file at (gap ++ (text ++ after)) (LiteralTree (token_at file (at + byte_len gap) text) ∷ trees)
 literal_cut ends file at gap text after trees is_gap l follows rest =
     subst (λ (x : List ℕ). CutInto file at (gap ++ (x ++ after))
-        (LiteralTree (token_at file (at + byte_len gap) text) ∷ trees)) (sym l.text_is)
+    (LiteralTree (token_at file (at + byte_len gap) text) ∷ trees)) (sym l.text_is)
     (token_cut file at gap l.lexeme after (LiteralTree (token_at file (at + byte_len gap) text)) trees is_gap
-        (l.is_lexeme after follows) (literal_neutral l.lexeme l.form)
-        (literal_flat file (at + byte_len gap) l.lexeme text l.form l.text_is)
+    (l.is_lexeme after follows) (literal_neutral l.lexeme l.form)
+    (literal_flat file (at + byte_len gap) l.lexeme text l.form l.text_is)
     (subst (λ (x : List ℕ). CutInto file (at + byte_len gap + byte_len x) after trees) l.text_is rest))
 
 word_cut : (file at : ℕ) (gap : List ℕ) (truth : Bool) (after : List ℕ) (trees : List Tree) → IsTrivia gap
@@ -150,16 +144,16 @@ minus_cut : (ends : List ℕ → Type 0) (file at : ℕ) (gap text after : List 
 minus_cut ends file at gap text after trees is_gap l follows rest =
     let n = at + byte_len gap in
     let places : n + byte_len (45 ∷ text) ≡ n + 1 + byte_len [] + byte_len text = omega
-        (arith, byte_len-append (45 ∷ []) text, minus_len) in
+    (arith, byte_len-append (45 ∷ []) text, minus_len) in
     let here : n + 1 + byte_len [] ≡ n + 1 = omega arith in
     let number : CutInto file (n + 1) (text ++ after) (LiteralTree (token_at file (n + 1 + byte_len []) text) ∷ trees) =
     literal_cut ends file (n + 1) [] text after trees no_trivia l follows
-        (subst (λ (k : ℕ). CutInto file k after trees) places rest) in
+    (subst (λ (k : ℕ). CutInto file k after trees) places rest) in
     token_cut file at gap (MarkLexeme 45) (text ++ after) (PunctTree
-        (record { ch = 45; span = record { file = file; lo = n; hi = n + 1 } }))
-        (LiteralTree (token_at file (n + 1) text) ∷ trees) is_gap (inl refl) (λ groups n. refl) (minus_flat file n)
+    (record { ch = 45; span = record { file = file; lo = n; hi = n + 1 } }))
+    (LiteralTree (token_at file (n + 1) text) ∷ trees) is_gap (inl refl) (λ groups n. refl) (minus_flat file n)
     (subst (λ (k : ℕ). CutInto file (n + k) (text ++ after) (LiteralTree (token_at file (n + 1) text) ∷ trees))
-        (sym minus_len)
+    (sym minus_len)
     (subst (λ (k : ℕ). CutInto file (n + 1) (text ++ after) (LiteralTree (token_at file k text) ∷ trees)) here number))
 
 item_cut : (ends : List ℕ → Type 0) (file at : ℕ) (gap : List ℕ) (item : Item) (after : List ℕ) (trees : List Tree)
@@ -179,7 +173,7 @@ entries_cut : (ends : List ℕ → Type 0) (file at : ℕ) (entries : List Entry
 entries_cut ends file at [] last each follow is_last = last_cut file at last is_last
 entries_cut ends file at (e ∷ es) last ((is_gap, is), each) (follows, follow) is_last =
     item_cut ends file at e.gap e.item (printed_text es last) (printed_trees file
-        (at + byte_len e.gap + byte_len (item_text e.item)) es) is_gap is follows
+    (at + byte_len e.gap + byte_len (item_text e.item)) es) is_gap is follows
     (entries_cut ends file (at + byte_len e.gap + byte_len (item_text e.item)) es last each follow is_last)
 
 -- A printed text lexes as its items, where each is one lexeme before what follows it.
@@ -188,5 +182,4 @@ pub entries_lex : (ends : List ℕ → Type 0) (file : ℕ) (t : List ℕ) (entr
     → EndsEach ends entries last → IsTrivia last → Lexes t file (printed_trees file 0 entries)
 entries_lex ends file t entries last same each follow is_last =
     let c = entries_cut ends file 0 entries last each follow is_last in
-    record { cuts = c.cuts; are_cuts = subst (λ (x : List ℕ). LexesUpTo 0 x c.cuts []) (sym same) c.are_cuts; none_open
-        = c.none_open []; flat_is = c.flat_is }
+    record { cuts = c.cuts; are_cuts = subst (λ (x : List ℕ). LexesUpTo 0 x c.cuts []) (sym same) c.are_cuts; none_open = c.none_open []; flat_is = c.flat_is }

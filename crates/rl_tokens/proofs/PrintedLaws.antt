@@ -1,19 +1,15 @@
 -- Printed lists are cut into their items.
-use Rattle.rl_tokens.proofs.Common.{◌≡◌, ◌≢◌, ℕ, inl, inr, ◌||◌, ◌==◌, true, List, [], ◌∷◌, ◌++◌, drop, refl, sym, ◌∙◌,
-    ap, subst, append_assoc, append-nil, codes, AllByRecursion, or_right}
+use Rattle.rl_tokens.proofs.Common.{◌≡◌, ◌≢◌, ℕ, inl, inr, ◌||◌, ◌==◌, true, List, [], ◌∷◌, ◌++◌, drop, refl, sym, ◌∙◌, ap, subst, append_assoc, append-nil, codes, AllByRecursion, or_right}
 use Rattle.rl_tokens.specs.declared.kind.Kind.{Kind}
 use Rattle.rl_tokens.specs.declared.kind.Kind.TheVariants.{Str, ByteStr, CStr, Byte, Char, Int, Float, Bool as BoolKind}
 use Rattle.rl_tokens.specs.Texts.{is_white, first_passes, is_among}
-use Rattle.rl_tokens.specs.Trivia.{TriviaPiece, White, Line, Block, trivia_piece_text, IsTriviaPiece, trivia_text,
-    IsTrivia}
-use Rattle.rl_tokens.specs.Lexemes.{Lexeme, QuotedLexeme, RawLexeme, CharacterLexeme, BasedLexeme, DecimalLexeme,
-    IdentifierLexeme, DelimiterLexeme, MarkLexeme, LiteralForm, form_of}
+use Rattle.rl_tokens.specs.Trivia.{TriviaPiece, White, Line, Block, trivia_piece_text, IsTriviaPiece, trivia_text, IsTrivia}
+use Rattle.rl_tokens.specs.Lexemes.{Lexeme, QuotedLexeme, RawLexeme, CharacterLexeme, BasedLexeme, DecimalLexeme, IdentifierLexeme, DelimiterLexeme, MarkLexeme, LiteralForm, form_of}
 use Rattle.rl_tokens.proofs.Gaps.{KeepsItsEnd, BeginsGap}
 use Rattle.rl_tokens.specs.Reading.{Contents}
 use Rattle.rl_tokens.specs.Strict.{Strict}
 use Rattle.rl_tokens.specs.Quoted.{is_number}
-use Rattle.rl_tokens.specs.Printed.{Item, WordItem, LiteralItem, MinusItem, item_text, Entry, printed_text,
-    IsStrictItem, IsApart}
+use Rattle.rl_tokens.specs.Printed.{Item, WordItem, LiteralItem, MinusItem, item_text, Entry, printed_text, IsStrictItem, IsApart}
 use Rattle.rl_tokens.specs.PrintedTrees.{IsLexedLiteral, IsLexedItem, PrintedLexes, ReprintedLexes}
 use Rattle.rl_tokens.proofs.LexemeGaps.{stays_before_gap}
 use Rattle.rl_tokens.proofs.PrintedCuts.{LexedBefore, LexedItem, EndsEach, entries_lex}
@@ -114,10 +110,10 @@ pub printed_lexes : PrintedLexes
 printed_lexes t entries last file printed =
     entries_lex EndsLiteral file t entries last printed.text
     (all_from (λ (e : Entry). IsTrivia e.gap × IsStrictItem e.item)
-        (λ (e : Entry). IsTrivia e.gap × LexedItem EndsLiteral e.item) strict_item entries printed.items)
+    (λ (e : Entry). IsTrivia e.gap × LexedItem EndsLiteral e.item) strict_item entries printed.items)
     (follow_each EndsLiteral entries last
     (all_by (λ (e : Entry). IsTrivia e.gap × IsStrictItem e.item) IsApart (Follows EndsLiteral) item_follows
-        (drop 1 entries) (tail_first _ entries printed.items) printed.apart)
+    (drop 1 entries) (tail_first _ entries printed.items) printed.apart)
     (gap_ends last (last_begins last printed.last_gap)))
     printed.last_gap
 
@@ -133,8 +129,7 @@ literal_keeps (DelimiterLexeme c) form = tt
 literal_keeps (MarkLexeme c) form = absurd (cc)
 
 cut_stays : (text : List ℕ) → IsLexedLiteral text → LexedBefore BeginsGap text
-cut_stays text (l, after, is, form, same) = record { lexeme = l; is_lexeme = λ gap begins. stays_before_gap l after gap
-    (literal_keeps l form) is begins; form = form; text_is = same }
+cut_stays text (l, after, is, form, same) = record { lexeme = l; is_lexeme = λ gap begins. stays_before_gap l after gap (literal_keeps l form) is begins; form = form; text_is = same }
 
 item_stays : (item : Item) → IsLexedItem item → LexedItem BeginsGap item
 item_stays (WordItem truth) is = λ after begins. word_ends truth after (gap_ends after begins)
@@ -146,11 +141,11 @@ pub reprinted_lexes : ReprintedLexes
 reprinted_lexes t entries last file printed =
     entries_lex BeginsGap file t entries last printed.text
     (all_from (λ (e : Entry). IsTrivia e.gap × IsLexedItem e.item)
-        (λ (e : Entry). IsTrivia e.gap × LexedItem BeginsGap e.item) (λ e is. (is.0, item_stays e.item is.1)) entries
-        printed.items)
+    (λ (e : Entry). IsTrivia e.gap × LexedItem BeginsGap e.item) (λ e is. (is.0, item_stays e.item is.1)) entries
+    printed.items)
     (follow_each BeginsGap entries last
     (all_by (λ (e : Entry). IsTrivia e.gap × IsLexedItem e.item) (λ (e : Entry). e.gap ≢ []) (Follows BeginsGap)
-        (λ e is some rest. filled_gap e.gap (item_text e.item ++ rest) is.0 some) (drop 1 entries)
-        (tail_first _ entries printed.items) printed.apart)
+    (λ e is some rest. filled_gap e.gap (item_text e.item ++ rest) is.0 some) (drop 1 entries)
+    (tail_first _ entries printed.items) printed.apart)
     (last_begins last printed.last_gap))
     printed.last_gap

@@ -1,6 +1,5 @@
 -- One character more of a row, by the loops that go over it.
-use Rattle.rl_tokens.proofs.Common.{◌≡◌, ◌≢◌, ℕ, Bool, true, false, ◌==◌, cond, List, ◌∷◌, Some, None, sym, ◌∙◌, ap,
-    arith, nat_tests}
+use Rattle.rl_tokens.proofs.Common.{◌≡◌, ◌≢◌, ℕ, Bool, true, false, ◌==◌, cond, List, ◌∷◌, Some, None, sym, ◌∙◌, ap, arith, nat_tests}
 use Rattle.rl_tokens.specs.Mirrors.LexemeAt.{after_apostrophe}
 use Rattle.rl_tokens.specs.Classes.{after_run}
 
@@ -13,4 +12,4 @@ apostrophe_step s t c e quote line =
     let q : (c == 39) ≡ false = grind (arith, nat_tests) in
     let n : (c == 10) ≡ false = grind (arith, nat_tests) in
     sym (ap after_apostrophe e ∙ ap (λ b. cond b (Some t) (cond (c == 10) None (after_apostrophe t))) q
-        ∙ ap (λ b. cond b None (after_apostrophe t)) n)
+    ∙ ap (λ b. cond b None (after_apostrophe t)) n)

@@ -1,7 +1,5 @@
 -- From the lanes of sixteen bytes to the run of ASCII that they hold.
-use Rattle.rl_tokens.proofs.Common.{◌≡◌, ℕ, suc, ◌+◌, ◌%◌, ◌^◌, ◌<◌, ◌≤◌, Bool, true, not, List, [], ◌∷◌, map, length,
-    get_or, replicate, refl, sym, ap, ap₂, ◌∙◌, arith, agree_below, agree_below_at, map-map, mask_l-mod, length-chunk,
-    length-map, chunk, zip2, mask_l, top}
+use Rattle.rl_tokens.proofs.Common.{◌≡◌, ℕ, suc, ◌+◌, ◌%◌, ◌^◌, ◌<◌, ◌≤◌, Bool, true, not, List, [], ◌∷◌, map, length, get_or, replicate, refl, sym, ap, ap₂, ◌∙◌, arith, agree_below, agree_below_at, map-map, mask_l-mod, length-chunk, length-map, chunk, zip2, mask_l, top}
 use Rattle.std.proofs.Common.{Fits, w8}
 use Rattle.std.proofs.lemmas.Simd.{zip2-map, get_or-chunk}
 use Rattle.rl_tokens.specs.Mirrors.RunsAt.{is_held, ends_run}
@@ -32,7 +30,7 @@ masked_as q d i n f room few fits lanes all =
     ap (λ l. mask_l l % 2 ^ 64) (ap (map (top 7)) lanes ∙ map-map (top 7) f v)
     ∙ mask_l-mod (map (λ x. top 7 (f x)) v) 64 (omega (arith, length-map v (λ x. top 7 (f x)), long))
     ∙ ap mask_l (same_tests (λ x. top 7 (f x)) q all v (λ k short. omega
-        (arith, (fits (i + k)).fits, get_or-chunk i n d k 0 (omega (arith, long)))))
+    (arith, (fits (i + k)).fits, get_or-chunk i n d k 0 (omega (arith, long)))))
 
 -- what ends a run is what it doesn't hold
 pub ends_opposite : (word : Bool) (c : ℕ) → not (is_held word c) ≡ ends_run word c

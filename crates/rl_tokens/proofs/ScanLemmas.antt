@@ -1,9 +1,5 @@
 -- Runs of bytes that pass a test, told as runs of characters.
-use Rattle.rl_tokens.proofs.Common.{◌≡◌, ◌≢◌, ◌==◌, ℕ, suc, ◌+◌, ◌<◌, ◌≤◌, ◌⊎◌, inl, inr, ◌||◌, Bool, true, false, not,
-    cond, List, [], ◌∷◌, ◌++◌, length, take, drop, get_or, refl, sym, ap, subst, ◌∙◌, arith, and_from, and_parts,
-    both_ways, eq-eqb, ltb-false, ltb-true, prefix_len-le-length, take-append-drop, encodes-chars, chars-append,
-    IsUtf8-take, IsUtf8-drop, chars_past_char, encode_ascii, list_all, prefix_len, is_ascii, chars, encode_utf8_all,
-    IsUtf8, IsCharBoundary}
+use Rattle.rl_tokens.proofs.Common.{◌≡◌, ◌≢◌, ◌==◌, ℕ, suc, ◌+◌, ◌<◌, ◌≤◌, ◌⊎◌, inl, inr, ◌||◌, Bool, true, false, not, cond, List, [], ◌∷◌, ◌++◌, length, take, drop, get_or, refl, sym, ap, subst, ◌∙◌, arith, and_from, and_parts, both_ways, eq-eqb, ltb-false, ltb-true, prefix_len-le-length, take-append-drop, encodes-chars, chars-append, IsUtf8-take, IsUtf8-drop, chars_past_char, encode_ascii, list_all, prefix_len, is_ascii, chars, encode_utf8_all, IsUtf8, IsCharBoundary}
 use Rattle.std.proofs.lemmas.Bool.{cond-false}
 use Rattle.std.proofs.lemmas.List.Sums.{prefix_len_stops}
 use Rattle.std.proofs.lemmas.Str.{IsCharBoundary-before_ascii, IsCharBoundary-end}
@@ -20,8 +16,12 @@ PassesHigh q = (b : ℕ) → 128 ≤ b → q b ≡ true
 
 -- no mark is past ASCII
 pub other_high : (m : Marks) → AreAscii m → PassesHigh (is_other m)
-other_high m h b high = rw (not_equal b m.first h.0 high, not_equal b m.second h.1 high, not_equal b m.third h.2 high,
-    not_equal b m.fourth h.3 high) refl
+other_high m h b high = rw (
+  not_equal b m.first h.0 high,
+  not_equal b m.second h.1 high,
+  not_equal b m.third h.2 high,
+  not_equal b m.fourth h.3 high,
+) refl
 
 -- ---- the front that passes
 
@@ -101,25 +101,24 @@ module _ (q : ℕ → Bool) (high : PassesHigh q) where
   run_plain bs u =
       let front = take (prefix_len q bs) bs in
       all_encoded (chars front) (ap (list_all q) (encodes-chars front
-          (IsUtf8-take bs (prefix_len q bs) u (run_boundary bs))) ∙ prefix_passes q bs)
+      (IsUtf8-take bs (prefix_len q bs) u (run_boundary bs))) ∙ prefix_passes q bs)
 
   -- and the one after it doesn't
   pub run_stop : (bs : List ℕ) → IsUtf8 bs → first_passes q (chars (drop (prefix_len q bs) bs)) ≡ false
   run_stop bs u =
       let rest = drop (prefix_len q bs) bs in
       head_encoded (chars rest) (ap (first_passes q) (encodes-chars rest
-          (IsUtf8-drop bs (prefix_len q bs) u (run_boundary bs))) ∙ prefix_ends q bs)
+      (IsUtf8-drop bs (prefix_len q bs) u (run_boundary bs))) ∙ prefix_ends q bs)
 
   pub run_cut : (bs : List ℕ) → IsUtf8 bs → chars bs ≡ chars (take (prefix_len q bs) bs)
       ++ chars (drop (prefix_len q bs) bs)
   run_cut bs u =
       let n = prefix_len q bs in
       ap chars (sym (take-append-drop n bs)) ∙ chars-append (take n bs) (drop n bs)
-          (IsUtf8-take bs n u (run_boundary bs))
+      (IsUtf8-take bs n u (run_boundary bs))
 
   pub run_tail : (bs : List ℕ) → IsUtf8 bs → IsTail bs (drop (prefix_len q bs) bs)
-  run_tail bs u = record { front = take (prefix_len q bs) bs; text_is = sym (take-append-drop (prefix_len q bs) bs);
-      is_text = IsUtf8-drop bs (prefix_len q bs) u (run_boundary bs) }
+  run_tail bs u = record { front = take (prefix_len q bs) bs; text_is = sym (take-append-drop (prefix_len q bs) bs); is_text = IsUtf8-drop bs (prefix_len q bs) u (run_boundary bs) }
 
 -- ---- a character of ASCII at the front
 

@@ -1,16 +1,12 @@
 -- A source's next token, and what is borrowed of it.
-use Rattle.rl_tokens.proofs.Common.{◌≡◌, ◌≢◌, ℕ, ◌+◌, ◌-◌, ◌⊎◌, inl, inr, Bool, true, false, ◌||◌, ◌==◌, List, [], ◌∷◌,
-    ◌++◌, length, length-append, take, slice_range, refl, sym, ◌∙◌, ap, subst, arith, codes, if◌then◌else◌,
-    append_cancel_right, encodes-append, encodes-chars, chars_from_encodes, chars, encode_utf8_all, IsUtf8}
+use Rattle.rl_tokens.proofs.Common.{◌≡◌, ◌≢◌, ℕ, ◌+◌, ◌-◌, ◌⊎◌, inl, inr, Bool, true, false, ◌||◌, ◌==◌, List, [], ◌∷◌, ◌++◌, length, length-append, take, slice_range, refl, sym, ◌∙◌, ap, subst, arith, codes, if◌then◌else◌, append_cancel_right, encodes-append, encodes-chars, chars_from_encodes, chars, encode_utf8_all, IsUtf8}
 use Rattle.rl_tokens.specs.Texts.{IsTail, byte_len, first_passes, begins}
 use Rattle.rl_tokens.specs.Skipping.{Skipped}
 use Rattle.rl_tokens.specs.Cursors.{CursorState, IsCursorState}
 use Rattle.rl_tokens.specs.Lexing.{BeginsQuote}
 use Rattle.rl_tokens.specs.Mirrors.LexemeAt.{begins_quote}
 use Rattle.rl_tokens.specs.Mirrors.SourceAt.{source_error_kind, opens}
-use Rattle.rl_tokens.specs.Sources.{is_apostrophe, StrayToken, source_text, BeginsProper, Opens, IsSource, SourceKind,
-    StrayKind, source_kind, source_view, SourceBefore, BeginsNoSource, IsWithoutPreamble, CutSource, source_end,
-    SourcesUpTo, IsCutUpTo, TakesSource, SourceErrorAt, SourceError, IsFirstSourceError}
+use Rattle.rl_tokens.specs.Sources.{is_apostrophe, StrayToken, source_text, BeginsProper, Opens, IsSource, SourceKind, StrayKind, source_kind, source_view, SourceBefore, BeginsNoSource, IsWithoutPreamble, CutSource, source_end, SourcesUpTo, IsCutUpTo, TakesSource, SourceErrorAt, SourceError, IsFirstSourceError}
 use Rattle.rl_tokens.specs.declared.lex_error.LexError.{LexError}
 use Rattle.rl_tokens.specs.declared.lex_error.LexKind.{LexKind}
 use Rattle.rl_tokens.specs.declared.lex_error.LexKind.TheVariants.{UnclosedComment, UnclosedQuote}
@@ -100,8 +96,8 @@ source_at : (text rest following token : List ℕ) (kind : SourceKind) → IsTai
     (length text - length rest) (length text - length following)
 source_at text rest following token kind in_text in_rest front is token_is =
     let taken : token ≡ take (length rest - length following) rest = token_is
-        ∙ ap (λ n. take n rest) (let q : length rest - length following - 0
-        ≡ length rest - length following = omega arith in q) in
+    ∙ ap (λ n. take n rest) (let q : length rest - length following - 0
+    ≡ length rest - length following = omega arith in q) in
     record {
       front = front;
       rest_text = in_text.is_text;
@@ -123,8 +119,7 @@ takes text rest following next l is in_rest in_tail skips at =
     let ends : source_end w ≡ l.hi = omega (arith, token_len at, ap length (token_is at)) in
     record {
       cut = w;
-      is_cut = record { kind_is = at.front.kind_is; bytes_are = token_is at; chars_are = sym (token_chars at); lo_is =
-          refl; hi_is = ends };
+      is_cut = record { kind_is = at.front.kind_is; bytes_are = token_is at; chars_are = sym (token_chars at); lo_is = refl; hi_is = ends };
       after = chars following;
       begins = at.front.text_is;
       is_source = at.front.is_source;
@@ -144,7 +139,7 @@ pub takes_source : (text rest following next : List ℕ) (l : SourceToken) → I
 takes_source text rest following next l is front in_rest utf8 token_is lo hi skips in_tail =
     let at : SourceAt text rest following l.text.now (source_view l.form) l.lo l.hi =
     rw (lo, hi) (source_at text rest following l.text.now (source_view l.form) is.following in_rest front utf8 token_is)
-        in
+    in
     takes text rest following next l is in_rest in_tail skips at
 
 -- ---- errors
@@ -190,8 +185,7 @@ error_here (c ∷ t) some none = go (opens (c ∷ t)) refl
   where
     go : (b : Bool) → opens (c ∷ t) ≡ b → SourceErrorAt (source_error_kind (c ∷ t)) (c ∷ t)
     go true h = opens_one (c ∷ t) some none (open_bits (c ∷ t) h)
-    go false h = absurd (none StrayKind t (record { token = StrayToken c; is_source =
-        (no_proper (c ∷ t) none, closed_here (c ∷ t) h); text_is = refl; kind_is = refl }))
+    go false h = absurd (none StrayKind t (record { token = StrayToken c; is_source = (no_proper (c ∷ t) none, closed_here (c ∷ t) h); text_is = refl; kind_is = refl }))
 
 -- What the cursor tells where no token begins what is left.
 pub record StopsSource (t : CursorState) (e : LexError) : Type 0 where
@@ -207,9 +201,9 @@ stops_source text rest e kind is empty empty_is some none kind_is e_is =
     let place : ℕ = length text - length rest in
     let here : place + length rest ≡ length text = omega (arith, tail_length text rest is.following) in
     let error : SourceErrorAt kind (chars rest) = rw kind_is (error_here (chars rest)
-        (chars_some rest is.following.is_text (sym empty_is ∙ some)) none) in
+    (chars_some rest is.following.is_text (sym empty_is ∙ some)) none) in
     let first : (cuts : List CutSource) → IsCutUpTo (chars text) cuts (chars rest)
-        → SourceError (chars text) kind place =
+    → SourceError (chars text) kind place =
     λ cuts are. record {
       cuts = cuts;
       rest = chars rest;

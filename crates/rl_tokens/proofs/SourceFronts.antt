@@ -1,29 +1,21 @@
 -- What a source has beside lexemes, at the front of a text: what `other_at` takes off is such a
 -- token, and each such token is what it takes off.
-use Rattle.rl_tokens.proofs.Common.{◌≡◌, ℕ, inl, inr, Bool, true, false, not, ◌||◌, ◌==◌, cond, List, [], ◌∷◌, ◌++◌,
-    append-nil, Option, Some, None, slice_index, drop, refl, sym, ◌∙◌, ap, subst, Bor, arith, or_parts, ltb-false,
-    none-some, is_ascii, ⊤, codes, list_all, IfSome, IfNone, option_map, option_and_then, chars}
+use Rattle.rl_tokens.proofs.Common.{◌≡◌, ℕ, inl, inr, Bool, true, false, not, ◌||◌, ◌==◌, cond, List, [], ◌∷◌, ◌++◌, append-nil, Option, Some, None, slice_index, drop, refl, sym, ◌∙◌, ap, subst, Bor, arith, or_parts, ltb-false, none-some, is_ascii, ⊤, codes, list_all, IfSome, IfNone, option_map, option_and_then, chars}
 use Rattle.rl_tokens.proofs.ScanLemmas.{not_false}
 use Rattle.rl_tokens.specs.Texts.{first_passes, begins}
 use Rattle.rl_tokens.specs.Trivia.{Inside, inside_text, IsInside, is_comment_line, is_comment_block}
 use Rattle.rl_tokens.specs.Skipping.{Skipped}
 use Rattle.rl_tokens.specs.Scanning.{is_one_of, is_other}
-use Rattle.rl_tokens.specs.Lexemes.{lexeme_text, IsRow, LexemeBefore, LexemeForm, is_start, is_continue,
-    begins_raw_identifier}
+use Rattle.rl_tokens.specs.Lexemes.{lexeme_text, IsRow, LexemeBefore, LexemeForm, is_start, is_continue, begins_raw_identifier}
 use Rattle.rl_tokens.specs.Mirrors.LexemeAt.{begins_quote, FormBefore}
 use Rattle.rl_tokens.specs.Classes.{after_run}
 use Rattle.rl_tokens.specs.Mirrors.SkippedAt.{after_block}
-use Rattle.rl_tokens.specs.Mirrors.SourceAt.{after_doc, after_name, after_marked, after_any_name, unless_quoted,
-    after_lifetime, of_kind, other_at, opens, stray_at, or_stray, any_at}
-use Rattle.rl_tokens.specs.Sources.{is_in_line, is_apostrophe, SourceLexeme, PlainToken, RawIdentifierToken,
-    LifetimeToken, RawLifetimeToken, DocLineToken, DocBlockToken, StrayToken, source_text, IsName, IsProper,
-    BeginsProper, Opens, IsSource, SourceKind, PlainKind, RawIdentifierKind, LifetimeKind, DocCommentKind, StrayKind,
-    source_kind, source_view, SourceBefore, BeginsNoSource, IsScriptLine}
+use Rattle.rl_tokens.specs.Mirrors.SourceAt.{after_doc, after_name, after_marked, after_any_name, unless_quoted, after_lifetime, of_kind, other_at, opens, stray_at, or_stray, any_at}
+use Rattle.rl_tokens.specs.Sources.{is_in_line, is_apostrophe, SourceLexeme, PlainToken, RawIdentifierToken, LifetimeToken, RawLifetimeToken, DocLineToken, DocBlockToken, StrayToken, source_text, IsName, IsProper, BeginsProper, Opens, IsSource, SourceKind, PlainKind, RawIdentifierKind, LifetimeKind, DocCommentKind, StrayKind, source_kind, source_view, SourceBefore, BeginsNoSource, IsScriptLine}
 use Rattle.rl_tokens.specs.declared.scan.Marks.{Marks}
 use Rattle.rl_tokens.specs.declared.source.SourceForm.{SourceForm}
 use Rattle.rl_tokens.proofs.CommentBytes.{not_equal}
-use Rattle.rl_tokens.proofs.Comments.{chosen, same_Some, Closes, after_block-sound, after_block-past, plain_line-same,
-    plain_block-same}
+use Rattle.rl_tokens.proofs.Comments.{chosen, same_Some, Closes, after_block-sound, after_block-past, plain_line-same, plain_block-same}
 use Rattle.rl_tokens.proofs.CommentSteps.{one_line}
 use Rattle.rl_tokens.proofs.LexemeFound.{run_found}
 use Rattle.rl_tokens.proofs.LexemeOpeners.{raw_split, quote_begins, no_quote_begins}
@@ -41,8 +33,7 @@ line_stops m (c ∷ r) is h = ap (λ x. not (x == 10)) (only m 10 c is (not_fals
 pub line_ends : (m : Marks) (t a r : List ℕ) → m ≡ record { first = 10; second = 10; third = 10; fourth = 10 } → t ≡ a
     ++ r → list_all (is_other m) a ≡ true → first_passes (is_other m) r ≡ false → r ≡ after_run is_in_line t
 line_ends m t a r is cut others stops =
-    let row : IsRow is_in_line a r = record { each = one_line m a (ap (λ z. z.first) is) others; ends = line_stops m r
-        is stops } in
+    let row : IsRow is_in_line a r = record { each = one_line m a (ap (λ z. z.first) is) others; ends = line_stops m r is stops } in
     sym (ap (after_run is_in_line) cut ∙ run_past is_in_line a r row)
 
 -- what ends a line doesn't change whether it is plain
@@ -83,7 +74,7 @@ lifetime_past : (c : ℕ) (more t : List ℕ) → IsName c more t → first_pass
     → begins_raw_identifier (c ∷ more ++ t) ≡ false → after_lifetime (c ∷ more ++ t) ≡ Some t
 lifetime_past c more t is free plain =
     ap (λ b. option_and_then unless_quoted (cond b (after_name (drop 2 (c ∷ more ++ t))) (after_name (c ∷ more ++ t))))
-        plain
+    plain
     ∙ ap (option_and_then unless_quoted) (name_past c more t is)
     ∙ quoted_past t free
 
@@ -91,7 +82,7 @@ raw_lifetime_past : (c : ℕ) (more t : List ℕ) → IsName c more t → first_
     → after_lifetime (114 ∷ 35 ∷ c ∷ more ++ t) ≡ Some t
 raw_lifetime_past c more t is free =
     ap (λ b. option_and_then unless_quoted (cond b (after_name (c ∷ more ++ t))
-        (after_name (114 ∷ 35 ∷ c ∷ more ++ t)))) is.0
+    (after_name (114 ∷ 35 ∷ c ∷ more ++ t)))) is.0
     ∙ ap (option_and_then unless_quoted) (name_past c more t is)
     ∙ quoted_past t free
 
@@ -139,9 +130,13 @@ name_found (c ∷ t) r h =
   where
     go : is_start c ≡ true → after_run is_continue t ≡ r → NameBefore (c ∷ t) r
     go a e =
-        let (row, is, same) = run_found is_continue t in
-        (c, row, (a, subst (λ (x : List ℕ). IsRow is_continue row x) e is), ap (λ x. c ∷ x)
-            (same ∙ ap (λ x. row ++ x) e))
+        let (row, is, same) = run_found is_continue t in (
+          c,
+          row,
+          (a, subst (λ (x : List ℕ). IsRow is_continue row x) e is),
+          ap (λ x. c ∷ x)
+              (same ∙ ap (λ x. row ++ x) e),
+        )
 
 marked_found : (t r : List ℕ) → after_marked t ≡ Some r → SourceBefore (114 ∷ t) RawIdentifierKind r
 marked_found [] r h = absurd (none-some r h)
@@ -152,8 +147,7 @@ marked_found (c ∷ t) r h =
     ]
   where
     go : (c == 35) ≡ true → NameBefore t r → SourceBefore (114 ∷ c ∷ t) RawIdentifierKind r
-    go a (d, more, is, same) = record { token = RawIdentifierToken d more; is_source = is; text_is = ap
-        (λ x. 114 ∷ x ∷ t) (is_equal c 35 a) ∙ ap (λ x. 114 ∷ 35 ∷ x) same; kind_is = refl }
+    go a (d, more, is, same) = record { token = RawIdentifierToken d more; is_source = is; text_is = ap (λ x. 114 ∷ x ∷ t) (is_equal c 35 a) ∙ ap (λ x. 114 ∷ 35 ∷ x) same; kind_is = refl }
 
 raw_rest : (t : List ℕ) → begins_raw_identifier t ≡ true → t ≡ 114 ∷ 35 ∷ drop 2 t
 raw_rest t h = let (d, u, same, is) = raw_split t h in same ∙ ap (λ x. 114 ∷ 35 ∷ drop 2 x) (sym same)
@@ -167,12 +161,10 @@ any_name_found t r free h =
     ]
   where
     raw : begins_raw_identifier t ≡ true → NameBefore (drop 2 t) r → SourceBefore (39 ∷ t) LifetimeKind r
-    raw a (c, more, is, same) = record { token = RawLifetimeToken c more; is_source = (is, free); text_is = ap
-        (λ x. 39 ∷ x) (raw_rest t a) ∙ ap (λ x. 39 ∷ 114 ∷ 35 ∷ x) same; kind_is = refl }
+    raw a (c, more, is, same) = record { token = RawLifetimeToken c more; is_source = (is, free); text_is = ap (λ x. 39 ∷ x) (raw_rest t a) ∙ ap (λ x. 39 ∷ 114 ∷ 35 ∷ x) same; kind_is = refl }
 
     plain : begins_raw_identifier t ≡ false → NameBefore t r → SourceBefore (39 ∷ t) LifetimeKind r
-    plain a (c, more, is, same) = record { token = LifetimeToken c more; is_source =
-        (is, free, ap begins_raw_identifier (sym same) ∙ a); text_is = ap (λ x. 39 ∷ x) same; kind_is = refl }
+    plain a (c, more, is, same) = record { token = LifetimeToken c more; is_source = (is, free, ap begins_raw_identifier (sym same) ∙ a); text_is = ap (λ x. 39 ∷ x) same; kind_is = refl }
 
 lifetime_found : (t r : List ℕ) → after_lifetime t ≡ Some r → SourceBefore (39 ∷ t) LifetimeKind r
 lifetime_found t r h = go (after_any_name t) refl h
@@ -196,21 +188,19 @@ doc_line_found t r doc e =
     let (row, is, same) = run_found is_in_line t in
     let is_row : IsRow is_in_line row r = subst (λ (x : List ℕ). IsRow is_in_line row x) e is in
     let whole : t ≡ row ++ r = same ∙ ap (λ x. row ++ x) e in
-    record { token = DocLineToken row; is_source = (is_row, sym (line_plain row r is_row.ends)
-        ∙ ap is_comment_line (sym whole) ∙ doc); text_is = ap (λ x. 47 ∷ 47 ∷ x) whole; kind_is = refl }
+    record { token = DocLineToken row; is_source = (is_row, sym (line_plain row r is_row.ends) ∙ ap is_comment_line (sym whole) ∙ doc); text_is = ap (λ x. 47 ∷ 47 ∷ x) whole; kind_is = refl }
 
 doc_block_found : (t r : List ℕ) → is_comment_block t ≡ false → Closes 1 t r
     → SourceBefore (47 ∷ 42 ∷ t) DocCommentKind r
 doc_block_found t r doc (i, m, is, same, more) =
     let whole : t ≡ inside_text i ++ r = same ∙ ap (λ x. inside_text i ++ x) more in
-    record { token = DocBlockToken i; is_source = (is, sym (plain_block-same i r) ∙ ap is_comment_block (sym whole)
-        ∙ doc); text_is = ap (λ x. 47 ∷ 42 ∷ x) whole; kind_is = refl }
+    record { token = DocBlockToken i; is_source = (is, sym (plain_block-same i r) ∙ ap is_comment_block (sym whole) ∙ doc); text_is = ap (λ x. 47 ∷ 42 ∷ x) whole; kind_is = refl }
 
 doc_found : (t r : List ℕ) → after_doc t ≡ Some r → SourceBefore (47 ∷ t) DocCommentKind r
 doc_found [] r h = absurd (none-some r h)
 doc_found (c ∷ t) r h =
     elim (chosen (c == 47) (cond (is_comment_line t) None (Some (after_run is_in_line t)))
-        (cond (c == 42) (cond (is_comment_block t) None (after_block 0 t)) None) (Some r) h) [
+    (cond (c == 42) (cond (is_comment_block t) None (after_block 0 t)) None) (Some r) h) [
       | inl (a, x) ↦ elim (chosen (is_comment_line t) None (Some (after_run is_in_line t)) (Some r) x) [
         | inl (p, y) ↦ absurd (none-some r y)
         | inr (p, y) ↦ subst (λ (x : ℕ). SourceBefore (47 ∷ x ∷ t) DocCommentKind r) (sym (is_equal c 47 a))
@@ -239,20 +229,20 @@ pub other_at-found : (t : List ℕ) (p : SourceKind × List ℕ) → other_at t 
 other_at-found [] p h = absurd (none-some p h)
 other_at-found (c ∷ t) p h =
     elim (chosen (c == 47) (of_kind DocCommentKind (after_doc t))
-        (cond (c == 39) (of_kind LifetimeKind (after_lifetime t))
-        (cond (c == 114) (of_kind RawIdentifierKind (after_marked t)) None)) (Some p) h) [
+    (cond (c == 39) (of_kind LifetimeKind (after_lifetime t))
+    (cond (c == 114) (of_kind RawIdentifierKind (after_marked t)) None)) (Some p) h) [
       | inl (a, x) ↦ subst (λ (z : ℕ). Found (z ∷ t) p) (sym (is_equal c 47 a))
           (of_kind_found DocCommentKind (after_doc t) (47 ∷ t) p x (doc_found t))
       | inr (a, x) ↦ elim (chosen (c == 39) (of_kind LifetimeKind (after_lifetime t))
           (cond (c == 114) (of_kind RawIdentifierKind (after_marked t)) None) (Some p) x) [
-        | inl (b, y) ↦ subst (λ (z : ℕ). Found (z ∷ t) p) (sym (is_equal c 39 b))
-            (of_kind_found LifetimeKind (after_lifetime t) (39 ∷ t) p y (lifetime_found t))
-        | inr (b, y) ↦ elim (chosen (c == 114) (of_kind RawIdentifierKind (after_marked t)) None (Some p) y) [
-          | inl (d, z) ↦ subst (λ (z : ℕ). Found (z ∷ t) p) (sym (is_equal c 114 d))
-              (of_kind_found RawIdentifierKind (after_marked t) (114 ∷ t) p z (marked_found t))
-          | inr (d, z) ↦ absurd (none-some p z)
-        ]
-      ]
+            | inl (b, y) ↦ subst (λ (z : ℕ). Found (z ∷ t) p) (sym (is_equal c 39 b))
+                (of_kind_found LifetimeKind (after_lifetime t) (39 ∷ t) p y (lifetime_found t))
+            | inr (b, y) ↦ elim (chosen (c == 114) (of_kind RawIdentifierKind (after_marked t)) None (Some p) y) [
+              | inl (d, z) ↦ subst (λ (z : ℕ). Found (z ∷ t) p) (sym (is_equal c 114 d))
+                  (of_kind_found RawIdentifierKind (after_marked t) (114 ∷ t) p z (marked_found t))
+              | inr (d, z) ↦ absurd (none-some p z)
+            ]
+          ]
     ]
 
 -- ---- strays
@@ -301,8 +291,7 @@ opens_here r none = go (begins (codes "/*") r) (begins_quote r) (slice_index r 0
 -- ---- in the words of the definitions
 
 pub plain_before : (t r : List ℕ) (form : LexemeForm) → FormBefore t form r → SourceBefore t (PlainKind form) r
-plain_before t r form is = record { token = PlainToken is.lexeme; is_source = is.is_lexeme; text_is = is.text_is;
-    kind_is = ap PlainKind is.form_is }
+plain_before t r form is = record { token = PlainToken is.lexeme; is_source = is.is_lexeme; text_is = is.text_is; kind_is = ap PlainKind is.form_is }
 
 abbrev Answer : Type 0
 Answer = Option (SourceForm × Bor (List ℕ))
@@ -408,5 +397,8 @@ wide_other (c ∷ t) h =
 
 pub wide_doc : (t : List ℕ) → first_passes is_ascii t ≡ false → None ≡ after_doc t
 wide_doc [] h = refl
-wide_doc (c ∷ t) h = rw (not_equal c 47 (omega arith) (ltb-false c 128 h), not_equal c 42 (omega arith)
-    (ltb-false c 128 h)) refl
+wide_doc (c ∷ t) h = rw (
+  not_equal c 47 (omega arith) (ltb-false c 128 h),
+  not_equal c 42 (omega arith)
+      (ltb-false c 128 h),
+) refl

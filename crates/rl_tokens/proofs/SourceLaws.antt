@@ -1,19 +1,13 @@
 -- A source is cut in one way, and what the lexer cuts of a text is cut of it as a source too.
-use Rattle.rl_tokens.proofs.Common.{◌≡◌, ℕ, inl, inr, true, false, not, ◌&&◌, ◌==◌, cond, List, [], ◌∷◌, ◌++◌, map,
-    Option, Some, None, slice_index, drop, refl, sym, ◌∙◌, ap, subst, arith, lit<, and_parts, append_cancel_right,
-    none-some, list_all, option_map, is_xid_continue-ascii}
+use Rattle.rl_tokens.proofs.Common.{◌≡◌, ℕ, inl, inr, true, false, not, ◌&&◌, ◌==◌, cond, List, [], ◌∷◌, ◌++◌, map, Option, Some, None, slice_index, drop, refl, sym, ◌∙◌, ap, subst, arith, lit<, and_parts, append_cancel_right, none-some, list_all, option_map, is_xid_continue-ascii}
 use Rattle.rl_tokens.specs.Texts.{first_passes, is_white, byte_len}
 use Rattle.rl_tokens.specs.Trivia.{inside_text}
 use Rattle.rl_tokens.specs.Lexemes.{Lexeme, lexeme_text, IsLexeme, IsRow, LexemeForm, form_of, is_start, is_continue}
 use Rattle.rl_tokens.specs.Lexing.{LexedToken, end_of, LexesUpTo}
-use Rattle.rl_tokens.specs.Mirrors.LexemeAt.{after_apostrophe, after_suffix, after_single, literal_at, raw_at, word_at,
-    LetterRHead, ApostropheHead, SlashHead, lexeme_at}
+use Rattle.rl_tokens.specs.Mirrors.LexemeAt.{after_apostrophe, after_suffix, after_single, literal_at, raw_at, word_at, LetterRHead, ApostropheHead, SlashHead, lexeme_at}
 use Rattle.rl_tokens.specs.Classes.{after_run, is_hash}
 use Rattle.rl_tokens.specs.Mirrors.SourceAt.{other_at}
-use Rattle.rl_tokens.specs.Sources.{is_in_line, is_apostrophe, SourceLexeme, PlainToken, RawIdentifierToken,
-    LifetimeToken, RawLifetimeToken, DocLineToken, DocBlockToken, StrayToken, source_text, IsProper, IsSource,
-    SourceKind, PlainKind, source_kind, BeginsNoSource, without_mark, IsScriptLine, IsWithoutLine, CutSource,
-    source_end, SourcesUpTo, told, OneCutting, plain_cut, HoldsLexemes}
+use Rattle.rl_tokens.specs.Sources.{is_in_line, is_apostrophe, SourceLexeme, PlainToken, RawIdentifierToken, LifetimeToken, RawLifetimeToken, DocLineToken, DocBlockToken, StrayToken, source_text, IsProper, IsSource, SourceKind, PlainKind, source_kind, BeginsNoSource, without_mark, IsScriptLine, IsWithoutLine, CutSource, source_end, SourcesUpTo, told, OneCutting, plain_cut, HoldsLexemes}
 use Rattle.rl_tokens.proofs.Comments.{same_Some}
 use Rattle.rl_tokens.proofs.LexemeFronts.{at_class, class39, class47, class114, lexeme_at-past, same_pair, start_ascii}
 use Rattle.rl_tokens.proofs.LexemeRows.{not_among, run_past}
@@ -53,7 +47,7 @@ lifetime_no_lexeme : (c : ℕ) (s : List ℕ) → is_start c ≡ true → first_
 lifetime_no_lexeme c s is free =
     at_class 39 (c ∷ s) ApostropheHead class39
     ∙ ap (λ o. literal_at (option_map after_suffix o)) (no_single c s
-        (not_among c 92 is_start is (start_ascii 92 (lit< tt))) free)
+    (not_among c 92 is_start is (start_ascii 92 (lit< tt))) free)
 
 other_no_lexeme : (w : SourceLexeme) (t : List ℕ) → IsOther w → IsSource w t → lexeme_at (source_text w ++ t) ≡ None
 other_no_lexeme (PlainToken l) t other is = absurd other
@@ -99,16 +93,16 @@ both_plain : (l m : Lexeme) (x y : List ℕ) → IsLexeme l x → IsLexeme m y �
     → SameToken (PlainToken l) (PlainToken m) x y
 both_plain l m x y is js e =
     let p = same_pair (form_of l) (form_of m) x y (sym (lexeme_at-past l x is) ∙ ap lexeme_at e ∙ lexeme_at-past m y js)
-        in
+    in
     record { kind = ap PlainKind p.0; rest = p.1 }
 
 both_other : (v w : SourceLexeme) (x y : List ℕ) → IsOther v → IsOther w → IsSource v x → IsSource w y → source_text v
     ++ x ≡ source_text w ++ y → SameToken v w x y
 both_other v w x y a b is js e =
     let p : ◌≡◌ {A = Option (SourceKind × List ℕ)} (Some (source_kind v, x)) (Some (source_kind w, y)) = sym
-        (other_at-past v x a is) ∙ ap other_at e ∙ other_at-past w y b js in
+    (other_at-past v x a is) ∙ ap other_at e ∙ other_at-past w y b js in
     let q : ◌≡◌ {A = SourceKind × List ℕ} (source_kind v, x) (source_kind w, y) = same_Some (source_kind v, x)
-        (source_kind w, y) p in
+    (source_kind w, y) p in
     record { kind = ap (λ (z : SourceKind × List ℕ). z.0) q; rest = ap (λ (z : SourceKind × List ℕ). z.1) q }
 
 not_mixed : (l : Lexeme) (w : SourceLexeme) (x y : List ℕ) → IsOther w → IsLexeme l x → IsSource w y → lexeme_text l
@@ -143,7 +137,7 @@ one_token v w x y is js e = go (sort_of v) (sort_of w)
     go : Sort v → Sort w → SameToken v w x y
     go (IsPlainSort l p) (IsPlainSort m q) =
         moved (PlainToken l) (PlainToken m) p q (both_plain l m x y (as_plain v x l p is) (as_plain w y m q js)
-            (sym (text v (PlainToken l) x p) ∙ e ∙ text w (PlainToken m) y q))
+        (sym (text v (PlainToken l) x p) ∙ e ∙ text w (PlainToken m) y q))
     go (IsPlainSort l p) (IsOtherSort b) = absurd (not_mixed l w x y b (as_plain v x l p is) js
         (sym (text v (PlainToken l) x p) ∙ e))
     go (IsPlainSort l p) (IsStraySort d q) = absurd (not_stray d (PlainToken l) y x (as_plain v x l p is)
@@ -171,7 +165,7 @@ told_same : (v w : CutSource) → source_kind v.token ≡ source_kind w.token �
     → v.at ≡ w.at → told v ≡ told w
 told_same v w a b d =
     ap (λ z. (z, source_text v.token, v.at)) a ∙ ap (λ z. (source_kind w.token, z, v.at)) b
-        ∙ ap (λ z. (source_kind w.token, source_text w.token, z)) d
+    ∙ ap (λ z. (source_kind w.token, source_text w.token, z)) d
 
 one_cut : (at : ℕ) (t : List ℕ) (vs ws : List CutSource) (r s : List ℕ) → SourcesUpTo at t vs r → BeginsNoSource r
     → SourcesUpTo at t ws s → BeginsNoSource s → (map told vs ≡ map told ws) × (r ≡ s)
@@ -182,15 +176,15 @@ one_cut at t (v ∷ vs) [] r s (x, a, is, m, more) none b none' = absurd
     (begins_source v.token s x none' (one_rest t s (source_text v.token ++ x) b a) is)
 one_cut at t (v ∷ vs) (w ∷ ws) r s (x, a, is, m, more) none (y, b, js, n, more') none' =
     let e : source_text v.token ++ x ≡ source_text w.token ++ y = one_rest t (source_text v.token ++ x)
-        (source_text w.token ++ y) a b in
+    (source_text w.token ++ y) a b in
     let same : SameToken v.token w.token x y = one_token v.token w.token x y is js e in
     let text : source_text v.token ≡ source_text w.token = append_cancel_right (source_text v.token)
-        (source_text w.token) x (e ∙ ap (λ z. source_text w.token ++ z) (sym same.rest)) in
+    (source_text w.token) x (e ∙ ap (λ z. source_text w.token ++ z) (sym same.rest)) in
     let place : v.at ≡ w.at = omega (arith, m, n, ap byte_len e) in
     let ends : source_end v ≡ source_end w = omega (arith, place, ap byte_len text) in
     let more1 : SourcesUpTo (source_end v) x ws s =
     subst (λ (k : ℕ). SourcesUpTo k x ws s) (sym ends) (subst (λ (z : List ℕ). SourcesUpTo (source_end w) z ws s)
-        (sym same.rest) more') in
+    (sym same.rest) more') in
     let rec = one_cut (source_end v) x vs ws r s more none more1 none' in
     (ap (λ z. z ∷ map told vs) (told_same v w same.kind text place) ∙ ap (λ z. told w ∷ z) rec.0, rec.1)
 
@@ -211,7 +205,7 @@ one_cutting t vs ws r s a none b none' =
     let body : a.body ≡ b.body = one_line_front (without_mark t) a.body b.body a.front b.front in
     let at : a.at ≡ b.at = omega (arith, a.place, b.place, ap byte_len body) in
     let cuts : SourcesUpTo a.at a.body ws s = subst (λ (k : ℕ). SourcesUpTo k a.body ws s) (sym at)
-        (subst (λ (z : List ℕ). SourcesUpTo b.at z ws s) (sym body) b.are_cuts) in
+    (subst (λ (z : List ℕ). SourcesUpTo b.at z ws s) (sym body) b.are_cuts) in
     one_cut a.at a.body vs ws r s a.are_cuts none cuts none'
 
 -- ---- what the lexer cuts
@@ -222,5 +216,4 @@ lexed at t [] r h = h
 lexed at t (w ∷ ws) r (after, skipped, is, place, more) = (after, skipped, is, place, lexed (end_of w) after ws r more)
 
 pub holds_lexemes : HoldsLexemes
-holds_lexemes t cuts r front are = record { at = 0; body = t; front = front; place = omega arith; are_cuts = lexed 0 t
-    cuts r are }
+holds_lexemes t cuts r front are = record { at = 0; body = t; front = front; place = omega arith; are_cuts = lexed 0 t cuts r are }

@@ -1,17 +1,10 @@
 -- A strict number is one lexeme before what may follow a literal.
-use Rattle.rl_tokens.proofs.Common.{◌≡◌, ℕ, ◌<◌, ◌≤◌, ◌⊎◌, inl, inr, suc, Bool, true, false, not, ◌&&◌, ◌||◌, ◌==◌,
-    List, [], ◌∷◌, ◌++◌, replicate, refl, sym, ◌∙◌, ap, subst, arith, append_assoc, append-nil, lit<, nat_lt, list_all,
-    list_any, digit_value, is_ascii_digit, is_ascii_hexdigit, is_ascii_alphanumeric, and_parts, and_from, or_from,
-    or_cases, eqb-true, ltb-true, lt-ltb, agree_below_at, nat_tests, list_all-append}
+use Rattle.rl_tokens.proofs.Common.{◌≡◌, ℕ, ◌<◌, ◌≤◌, ◌⊎◌, inl, inr, suc, Bool, true, false, not, ◌&&◌, ◌||◌, ◌==◌, List, [], ◌∷◌, ◌++◌, replicate, refl, sym, ◌∙◌, ap, subst, arith, append_assoc, append-nil, lit<, nat_lt, list_all, list_any, digit_value, is_ascii_digit, is_ascii_hexdigit, is_ascii_alphanumeric, and_parts, and_from, or_from, or_cases, eqb-true, ltb-true, lt-ltb, agree_below_at, nat_tests, list_all-append}
 use Rattle.rl_tokens.specs.Texts.{is_white, first_passes, begins, is_row_part}
 use Rattle.rl_tokens.specs.Numbers.{Decimal, is_digit}
-use Rattle.rl_tokens.specs.Lexemes.{is_base_letter, begins_dot, LexedFraction, NoLexedFraction, LexedDot,
-    lexed_fraction_text, LexedSign, NoLexedSign, LexedPlus, LexedMinus, lexed_sign_text, LexedExponent, NoLexedExponent,
-    LexedPower, lexed_exponent_text, IsLexedFraction, IsLexedExponent, BasedLexeme, DecimalLexeme, is_start,
-    is_continue}
+use Rattle.rl_tokens.specs.Lexemes.{is_base_letter, begins_dot, LexedFraction, NoLexedFraction, LexedDot, lexed_fraction_text, LexedSign, NoLexedSign, LexedPlus, LexedMinus, lexed_sign_text, LexedExponent, NoLexedExponent, LexedPower, lexed_exponent_text, IsLexedFraction, IsLexedExponent, BasedLexeme, DecimalLexeme, is_start, is_continue}
 use Rattle.rl_tokens.specs.Reading.{Contents}
-use Rattle.rl_tokens.specs.Strict.{is_row, IsDigits, IsDecimalText, IsStrictSuffix, IsNumberSuffix, StrictInt,
-    StrictFloat, IsStrictExponent}
+use Rattle.rl_tokens.specs.Strict.{is_row, IsDigits, IsDecimalText, IsStrictSuffix, IsNumberSuffix, StrictInt, StrictFloat, IsStrictExponent}
 use Rattle.rl_tokens.proofs.Basics.{all_weaker, passes_same, digit_is_ten, hex_is_sixteen}
 use Rattle.rl_tokens.proofs.StrictNumbers.{suffix_of_strict, suffix_no_part}
 use Rattle.rl_tokens.proofs.LexemeRows.{not_among}
@@ -19,8 +12,7 @@ use Rattle.rl_tokens.proofs.LexemeOpeners.{no_exponent_begins}
 use Rattle.rl_tokens.proofs.LexemeFronts.{start_ascii, digit_not_start, decimal_text}
 use Rattle.rl_tokens.proofs.LexemeGaps.{and_false, and_more, continue_ascii, assoc3}
 use Rattle.rl_tokens.proofs.PrintedCuts.{LexedBefore}
-use Rattle.rl_tokens.proofs.LiteralEnds.{EndsLiteral, Clear, clear_continue, clear_part, clear_dot, clear_base,
-    clear_exponent, clear_code, ends_fails, front_fails, suffix_starts, suffix_continues, strict_suffix_lexed}
+use Rattle.rl_tokens.proofs.LiteralEnds.{EndsLiteral, Clear, clear_continue, clear_part, clear_dot, clear_base, clear_exponent, clear_code, ends_fails, front_fails, suffix_starts, suffix_continues, strict_suffix_lexed}
 use Rattle.rl_tokens.specs.Mirrors.LexemeAt.{begins_exponent, after_sign}
 use Rattle.rl_tokens.specs.Classes.{after_run}
 
@@ -92,17 +84,18 @@ fraction_lexed : (f : LexedFraction) (e x after : List ℕ) → EndsLiteral afte
     → IsLexedFraction f (e ++ (x ++ after))
 fraction_lexed NoLexedFraction e x after ends h = no_dot (e ++ (x ++ after))
     (fails_tail2 (λ c. c == 46) e x after (clear_code 46 refl refl) ends h)
-fraction_lexed (LexedDot digits) e x after ends (begins, each, row_ends) =
-    (ap not (fails_tail3 is_dot_or_start digits e x after clear_dot ends begins), record
-        { each = each; ends = fails_tail2 (is_row_part is_ascii_digit) e x after clear_part ends row_ends })
+fraction_lexed (LexedDot digits) e x after ends (begins, each, row_ends) = (
+  ap not (fails_tail3 is_dot_or_start digits e x after clear_dot ends begins),
+  record
+      { each = each; ends = fails_tail2 (is_row_part is_ascii_digit) e x after clear_part ends row_ends },
+)
 
 exponent_lexed : (e : LexedExponent) (x after : List ℕ) → EndsLiteral after → ExponentFacts e x
     → IsLexedExponent e (x ++ after)
 exponent_lexed NoLexedExponent x after ends h =
     no_exponent_begins (x ++ after) (no_exponent (x ++ after) (front_fails is_letter x after clear_exponent ends h))
 exponent_lexed (LexedPower letter sign n d more) x after ends (is, digit, each, row_ends) =
-    (is, digit, record { each = each; ends = front_fails (is_row_part is_ascii_digit) x after clear_part ends row_ends
-        })
+    (is, digit, record { each = each; ends = front_fails (is_row_part is_ascii_digit) x after clear_part ends row_ends })
 
 decimal_lexed : (t : List ℕ) → DecimalFacts t → LexedBefore EndsLiteral t
 decimal_lexed t s =
@@ -116,9 +109,8 @@ decimal_lexed t s =
         s.is_digit,
         ap (λ z. s.digit == 48 && first_passes is_base_letter z) (sym (decimal_text s.more f e s.suffix after))
             ∙ and_more (s.digit == 48) (first_passes is_base_letter u) (first_passes is_base_letter (u ++ after))
-                (front_fails is_base_letter u after clear_base ends) (not_based s.digit u decimal),
-        record { each = s.each; ends = fails_tail3 (is_row_part is_ascii_digit) f e s.suffix after clear_part ends
-            s.row_ends },
+            (front_fails is_base_letter u after clear_base ends) (not_based s.digit u decimal),
+        record { each = s.each; ends = fails_tail3 (is_row_part is_ascii_digit) f e s.suffix after clear_part ends s.row_ends },
         fraction_lexed s.fraction e s.suffix after ends s.is_fraction,
         exponent_lexed s.exponent s.suffix after ends s.is_exponent,
         strict_suffix_lexed s.suffix after s.is_suffix ends,
@@ -137,8 +129,7 @@ record DigitRow (row : List ℕ) : Type 0 where
 
 digit_row : (row : List ℕ) → IsDigits row → DigitRow row
 digit_row [] (first, each) = absurd (cc)
-digit_row (d ∷ more) (first, each) = record { digit = d; more = more; text = refl; is_digit = first; each =
-    (and_parts (is_row is_ascii_digit d) (list_all (is_row is_ascii_digit) more) each).1 }
+digit_row (d ∷ more) (first, each) = record { digit = d; more = more; text = refl; is_digit = first; each = (and_parts (is_row is_ascii_digit d) (list_all (is_row is_ascii_digit) more) each).1 }
 
 suffix_no_numeral : (x : List ℕ) → IsNumberSuffix x → first_passes (is_row_part is_ascii_digit) x ≡ false
 suffix_no_numeral x is = passes_same (is_row_part is_ascii_digit) (is_row_part (is_digit Decimal))
@@ -174,13 +165,11 @@ power_row (c ∷ row) each some =
     go : (b : Bool) → is_ascii_digit c ≡ b → is_row is_ascii_digit c ≡ true → list_all (is_row is_ascii_digit) row
         ≡ true → (list_any is_ascii_digit row ≡ true → PowerRow row) → (b || list_any is_ascii_digit row) ≡ true
         → PowerRow (c ∷ row)
-    go true digit here each rest some = record { underscores = 0; digit = c; more = row; text = refl; is_digit = digit;
-        each = each }
+    go true digit here each rest some = record { underscores = 0; digit = c; more = row; text = refl; is_digit = digit; each = each }
     go false digit here each rest some =
         let r = rest some in
         let e : (c == 95) ≡ true = ap (λ b. b || c == 95) (sym digit) ∙ here in
-        record { underscores = suc r.underscores; digit = r.digit; more = r.more; text = ap (λ z. z ∷ row)
-            (eqb-true c 95 e) ∙ ap (λ z. 95 ∷ z) r.text; is_digit = r.is_digit; each = r.each }
+        record { underscores = suc r.underscores; digit = r.digit; more = r.more; text = ap (λ z. z ∷ row) (eqb-true c 95 e) ∙ ap (λ z. 95 ∷ z) r.text; is_digit = r.is_digit; each = r.each }
 
 record PowerFacts (e : List ℕ) : Type 0 where
   pub letter : ℕ
@@ -200,8 +189,7 @@ power_facts : (e : List ℕ) → IsStrictExponent e → PowerFacts e
 power_facts e s =
     let p = power_row s.row s.each s.some in
     let (sign, same) = sign_of s.sign s.is_sign in
-    record { letter = s.letter; sign = sign; row = s.row; is_letter = s.is_letter; power = p; text = s.text
-        ∙ ap (λ z. s.letter ∷ (z ++ s.row)) same ∙ ap (λ z. s.letter ∷ (lexed_sign_text sign ++ z)) p.text }
+    record { letter = s.letter; sign = sign; row = s.row; is_letter = s.is_letter; power = p; text = s.text ∙ ap (λ z. s.letter ∷ (z ++ s.row)) same ∙ ap (λ z. s.letter ∷ (lexed_sign_text sign ++ z)) p.text }
 
 -- Integers.
 decimal_int : (t x : List ℕ) (v : Contents) (s : StrictInt t v x) → s.prefix ≡ [] → IsDigits s.row → IsDecimalText t
@@ -233,9 +221,9 @@ hex_continues c h =
     let low : c < 128 = hex_low c h in
     let same : (not (is_ascii_hexdigit c) || ((is_ascii_alphanumeric c || (c == 95)) && not (is_white c))) ≡ true =
     agree_below_at (λ c. not (is_ascii_hexdigit c) || ((is_ascii_alphanumeric c || (c == 95)) && not (is_white c)))
-        (λ c. true) 128 c refl low in
+    (λ c. true) 128 c refl low in
     continue_ascii c low ∙ ap (λ b. not b || ((is_ascii_alphanumeric c || (c == 95)) && not (is_white c))) (sym h)
-        ∙ same
+    ∙ same
 
 row_continues : (n c : ℕ) → n ≤ 16 → is_row (λ d. nat_lt (digit_value d) n) c ≡ true → is_continue c ≡ true
 row_continues n c few h =
@@ -250,9 +238,9 @@ based_int : (letter n : ℕ) (t x : List ℕ) (v : Contents) (s : StrictInt t v 
     ≡ n → n ≤ 16 → is_base_letter letter ≡ true → LexedBefore EndsLiteral t
 based_int letter n t x v s front base few is =
     let each : list_all (is_row (λ d. nat_lt (digit_value d) n)) s.row
-        ≡ true = subst (λ (k : ℕ). list_all (is_row (λ d. nat_lt (digit_value d) k)) s.row ≡ true) base s.each in
+    ≡ true = subst (λ (k : ℕ). list_all (is_row (λ d. nat_lt (digit_value d) k)) s.row ≡ true) base s.each in
     let digits : list_all is_continue s.row ≡ true = all_weaker (is_row (λ d. nat_lt (digit_value d) n)) is_continue
-        (λ c h. row_continues n c few h) s.row each in
+    (λ c h. row_continues n c few h) s.row each in
     record {
       lexeme = BasedLexeme letter (s.row ++ x);
       is_lexeme = λ after ends. (
@@ -311,27 +299,27 @@ dot_alone : (t x d : List ℕ) (v : Contents) (s : StrictFloat t v x) → IsDigi
 dot_alone t x d v s digits numeral none =
     float_from t x d v s (LexedDot []) NoLexedExponent digits numeral refl
     (ap (first_passes is_dot_or_start) none, refl, ap (first_passes (is_row_part is_ascii_digit)) none)
-        (ap (first_passes is_letter) none)
+    (ap (first_passes is_letter) none)
 
 -- after a dot the digits begin neither as a dot does nor as an identifier
 digits_behind_dot : (f s : List ℕ) → IsDigits f → first_passes is_dot_or_start (f ++ s) ≡ false
 digits_behind_dot f s digits =
     let r = digit_row f digits in
     ap (λ z. first_passes is_dot_or_start (z ++ s)) r.text ∙ or_from (r.digit == 46) (is_start r.digit)
-        (not_among r.digit 46 is_ascii_digit r.is_digit refl) (digit_not_start r.digit r.is_digit)
+    (not_among r.digit 46 is_ascii_digit r.is_digit refl) (digit_not_start r.digit r.is_digit)
 
 pointed : (t x d f : List ℕ) (v : Contents) (s : StrictFloat t v x) → IsDigits d → IsDigits f → s.numeral ≡ d
     ++ (46 ∷ f) → first_passes is_letter x ≡ false → LexedBefore EndsLiteral t
 pointed t x d f v s digits following numeral no_letter =
     float_from t x d v s (LexedDot f) NoLexedExponent digits (numeral ∙ ap (λ z. d ++ (46 ∷ z)) (sym (append-nil f)))
-        refl
+    refl
     (digits_behind_dot f x following, following.1, suffix_no_numeral x s.suffix) no_letter
 
 whole_power : (t x d e : List ℕ) (v : Contents) (s : StrictFloat t v x) → IsDigits d → PowerFacts e → s.numeral ≡ d ++ e
     → LexedBefore EndsLiteral t
 whole_power t x d e v s digits p numeral =
     float_from t x d v s NoLexedFraction (LexedPower p.letter p.sign p.power.underscores p.power.digit p.power.more)
-        digits (numeral ∙ ap (λ z. d ++ z) p.text)
+    digits (numeral ∙ ap (λ z. d ++ z) p.text)
     (letter_fails (is_row_part is_ascii_digit) p.letter refl refl p.is_letter)
     (letter_fails (λ c. c == 46) p.letter refl refl p.is_letter)
     (p.is_letter, p.power.is_digit, p.power.each, suffix_no_numeral x s.suffix)
@@ -340,9 +328,12 @@ pointed_power : (t x d f e : List ℕ) (v : Contents) (s : StrictFloat t v x) �
     → s.numeral ≡ (d ++ (46 ∷ f)) ++ e → LexedBefore EndsLiteral t
 pointed_power t x d f e v s digits following p numeral =
     float_from t x d v s (LexedDot f) (LexedPower p.letter p.sign p.power.underscores p.power.digit p.power.more) digits
-    (numeral ∙ append_assoc d (46 ∷ f) e ∙ ap (λ z. d ++ ((46 ∷ f) ++ z)) p.text) refl
-    (digits_behind_dot f _ following, following.1, letter_fails (is_row_part is_ascii_digit) p.letter refl refl
-        p.is_letter)
+    (numeral ∙ append_assoc d (46 ∷ f) e ∙ ap (λ z. d ++ ((46 ∷ f) ++ z)) p.text) refl (
+      digits_behind_dot f _ following,
+      following.1,
+      letter_fails (is_row_part is_ascii_digit) p.letter refl refl
+          p.is_letter,
+    )
     (p.is_letter, p.power.is_digit, p.power.each, suffix_no_numeral x s.suffix)
 
 -- A strict float is one lexeme before what may follow it.

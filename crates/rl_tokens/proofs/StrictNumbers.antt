@@ -1,22 +1,13 @@
 -- A strict number reads as the lenient reading says, with a minus before it too.
-use Rattle.rl_tokens.proofs.Common.{◌≡◌, ℕ, ◌+◌, ◌*◌, ◌^◌, ◌<◌, ◌≤◌, ◌||◌, ◌&&◌, Bool, true, false, not, eqb, ltb, List,
-    [], ◌∷◌, ◌++◌, length, refl, sym, ap, subst, ◌∙◌, ◌⊎◌, inl, inr, arith, append_assoc, append-nil, nat_lt,
-    digit_value, is_ascii_digit, is_ascii_hexdigit, is_ascii_alphabetic, is_ascii_alphanumeric, list_all, list_any,
-    list_all-append, eqb-true, eq-eqb, both_ways, and_parts, and_from, or_parts, or_cases, or_from, cases_lt, ltb-true,
-    lt-ltb, not-true, agree_below_at, not_from_false, is_xid_start, is_xid_continue, is_xid_start-ascii}
+use Rattle.rl_tokens.proofs.Common.{◌≡◌, ℕ, ◌+◌, ◌*◌, ◌^◌, ◌<◌, ◌≤◌, ◌||◌, ◌&&◌, Bool, true, false, not, eqb, ltb, List, [], ◌∷◌, ◌++◌, length, refl, sym, ap, subst, ◌∙◌, ◌⊎◌, inl, inr, arith, append_assoc, append-nil, nat_lt, digit_value, is_ascii_digit, is_ascii_hexdigit, is_ascii_alphabetic, is_ascii_alphanumeric, list_all, list_any, list_all-append, eqb-true, eq-eqb, both_ways, and_parts, and_from, or_parts, or_cases, or_from, cases_lt, ltb-true, lt-ltb, not-true, agree_below_at, not_from_false, is_xid_start, is_xid_continue, is_xid_start-ascii}
 use Rattle.std.proofs.lemmas.Bool.{false_from_ne_true}
 use Rattle.rl_tokens.specs.Texts.{first_passes, begins, is_underscore, is_row_part}
 use Rattle.rl_tokens.specs.Quoted.{place_value, without_underscores}
-use Rattle.rl_tokens.specs.Numbers.{Base, Binary, Octal, Decimal, Hexadecimal, radix, prefix, is_digit, Sign, NoSign,
-    Minus, sign_text, begins_base, IsAfterPrefix, IsSuffix, is_exponent_letter, IsExponentSuffix, AllowsSuffix,
-    IntReads, limit, Fraction, NoFraction, Dot, fraction_text, IsFraction, Exponent, NoExponent, Power, exponent_text,
-    is_power_sign, BeginsExponent, IsExponent, float_digits}
+use Rattle.rl_tokens.specs.Numbers.{Base, Binary, Octal, Decimal, Hexadecimal, radix, prefix, is_digit, Sign, NoSign, Minus, sign_text, begins_base, IsAfterPrefix, IsSuffix, is_exponent_letter, IsExponentSuffix, AllowsSuffix, IntReads, limit, Fraction, NoFraction, Dot, fraction_text, IsFraction, Exponent, NoExponent, Power, exponent_text, is_power_sign, BeginsExponent, IsExponent, float_digits}
 use Rattle.rl_tokens.specs.Reading.{Contents, Digits, ReadsInt, HasNoInteger, ReadsFloat}
-use Rattle.rl_tokens.specs.Strict.{dec, is_row, bare, spelled_number, IsDigits, IsDecimalText, IsNumberSuffix,
-    StrictInt, IsStrictExponent, StrictFloat}
+use Rattle.rl_tokens.specs.Strict.{dec, is_row, bare, spelled_number, IsDigits, IsDecimalText, IsNumberSuffix, StrictInt, IsStrictExponent, StrictFloat}
 use Rattle.rl_tokens.proofs.Dec.{dec_is_decimal}
-use Rattle.rl_tokens.proofs.Basics.{apart, all_weaker, all_same, passes_same, digit_is_ten, hex_is_sixteen,
-    word_without, range_past}
+use Rattle.rl_tokens.proofs.Basics.{apart, all_weaker, all_same, passes_same, digit_is_ten, hex_is_sixteen, word_without, range_past}
 
 -- ---- suffixes
 
@@ -25,7 +16,7 @@ start_no_digit c h =
     elim (cases_lt c 128) [
       | inl a ↦ false_from_ne_true (is_ascii_digit c) (λ d.
           let never : (is_ascii_alphabetic c && is_ascii_digit c)
-              ≡ false = agree_below_at (λ c. is_ascii_alphabetic c && is_ascii_digit c) (λ c. false) 128 c refl a in
+          ≡ false = agree_below_at (λ c. is_ascii_alphabetic c && is_ascii_digit c) (λ c. false) 128 c refl a in
           both_ways _ never (and_from (is_ascii_alphabetic c) (is_ascii_digit c) (sym (is_xid_start-ascii c a) ∙ h) d))
       | inr a ↦ range_past 48 57 c (omega arith) a
     ]
@@ -41,7 +32,7 @@ no_part b [] s f = refl
 no_part b (c ∷ cs) (inl e, u) f = absurd (cc)
 no_part b (c ∷ cs) (inr w, u) f =
     let start : is_xid_start c ≡ true = ap (λ z. z || is_xid_start c) (sym u)
-        ∙ (and_parts (eqb c 95 || is_xid_start c) (list_all is_xid_continue cs) w).0 in
+    ∙ (and_parts (eqb c 95 || is_xid_start c) (list_all is_xid_continue cs) w).0 in
     or_from (is_digit b c) (is_underscore c) (digit b (start_no_digit c start) f) u
   where
     digit : (b : Base) → is_ascii_digit c ≡ false → AllowsSuffix b (c ∷ cs) → is_digit b c ≡ false
@@ -67,7 +58,7 @@ suffix_no_part [] s = refl
 suffix_no_part (c ∷ cs) (inl e, u) = absurd (cc)
 suffix_no_part (c ∷ cs) (inr w, u) =
     let start : is_xid_start c ≡ true = ap (λ z. z || is_xid_start c) (sym u)
-        ∙ (and_parts (eqb c 95 || is_xid_start c) (list_all is_xid_continue cs) w).0 in
+    ∙ (and_parts (eqb c 95 || is_xid_start c) (list_all is_xid_continue cs) w).0 in
     or_from (is_digit Decimal c) (is_underscore c) (low_digit 10 c (omega arith) (start_no_digit c start)) u
 
 -- ---- integers
@@ -114,7 +105,7 @@ strict_int t x v s =
       | inl f ↦
           let text : t ≡ s.row ++ x = s.text ∙ append_assoc s.prefix s.row x ∙ ap (λ z. z ++ (s.row ++ x)) f.0 in
           int_at Decimal t x v s f.1 f.0 (passes_on is_ascii_digit s.row x f.2.0, ap begins_base (sym text) ∙ f.3)
-              (no_exponent_suffix x s.no_exponent)
+          (no_exponent_suffix x s.no_exponent)
       | inr f ↦ elim f [
         | inl g ↦ int_at Binary t x v s g.1 g.0 tt tt
         | inr g ↦ elim g [
@@ -236,8 +227,8 @@ int_without k t x m f r =
     ∙ and_from _ _ (f.no_prefix r.base)
     (list_all-append test r.digits x
     ∙ and_from _ _ (all_weaker (is_row_part (is_digit r.base)) test
-        (λ c h. not_from_false (eqb c k) (apart (is_row_part (is_digit r.base)) c k h (f.no_digit r.base))) r.digits
-        r.each)
+    (λ c h. not_from_false (eqb c k) (apart (is_row_part (is_digit r.base)) c k h (f.no_digit r.base))) r.digits
+    r.each)
     (suffix_without k x f r.is_suffix))
 
 pub foreign_inside : (k : ℕ) (t a b : List ℕ) → eqb k k ≡ true → t ≡ a ++ (k ∷ b) → list_all (λ c. not (eqb c k)) t
@@ -245,7 +236,7 @@ pub foreign_inside : (k : ℕ) (t a b : List ℕ) → eqb k k ≡ true → t ≡
 foreign_inside k t a b same e h =
     let test : ℕ → Bool = λ c. not (eqb c k) in
     let p = and_parts (list_all test a) (list_all test (k ∷ b))
-        (sym (list_all-append test a (k ∷ b)) ∙ ap (list_all test) (sym e) ∙ h) in
+    (sym (list_all-append test a (k ∷ b)) ∙ ap (list_all test) (sym e) ∙ h) in
     both_ways (eqb k k) (not-true (eqb k k) (and_parts (test k) (list_all test b) p.1).0) same
 
 pub none_around : (k : ℕ) (t a b : List ℕ) → IsForeign k → eqb k k ≡ true → t ≡ a ++ (k ∷ b)
@@ -263,7 +254,7 @@ same_run test (c ∷ a) (d ∷ b) r s ha hb hr hs e =
     let head : c ≡ d = cc in
     let tail : a ++ r ≡ b ++ s = cc in
     let p = same_run test a b r s (and_parts (test c) (list_all test a) ha).1
-        (and_parts (test d) (list_all test b) hb).1 hr hs tail in
+    (and_parts (test d) (list_all test b) hb).1 hr hs tail in
     (let e = p.0 in cc, p.1)
 
 pub begins_front : (p t : List ℕ) → begins p (p ++ t) ≡ true
@@ -300,15 +291,10 @@ none_at_base : (b : Base) (t d row x digits y : List ℕ) (letter : ℕ) → b �
     → ⊥
 none_at_base Decimal t d row x digits y letter decimal each is_letter run some sx whole e each_digit sy of text =
     let p = same_run (is_row_part (is_digit Decimal)) d digits (letter ∷ (row ++ x)) y each each_digit
-        (letter_no_part letter is_letter) (no_part Decimal y sy of) (sym e ∙ text) in
-    of (record { letter = letter; run = row; rest = x; is_letter = is_letter; each = run; some = some; whole = whole;
-        is_rest = sx.0; text_is = sym p.1 })
-none_at_base Binary t d row x digits y letter decimal each is_letter run some sx whole e each_digit sy of text = absurd
+    (letter_no_part letter is_letter) (no_part Decimal y sy of) (sym e ∙ text) in
+    of (record { letter = letter; run = row; rest = x; is_letter = is_letter; each = run; some = some; whole = whole; is_rest = sx.0; text_is = sym p.1 })
+none_at_base kind t d row x digits y letter decimal each is_letter run some sx whole e each_digit sy of text = absurd
     (cc)
-none_at_base Octal t d row x digits y letter decimal each is_letter run some sx whole e each_digit sy of text = absurd
-    (cc)
-none_at_base Hexadecimal t d row x digits y letter decimal each is_letter run some sx whole e each_digit sy of text =
-    absurd (cc)
 
 none_at_exponent : (t d row x : List ℕ) (letter : ℕ) → IsDecimalText t → list_all (is_row_part (is_digit Decimal)) d
     ≡ true → is_exponent_letter letter ≡ true → list_all (is_row_part (is_digit Decimal)) row ≡ true
@@ -317,7 +303,7 @@ none_at_exponent : (t d row x : List ℕ) (letter : ℕ) → IsDecimalText t →
 none_at_exponent t d row x letter decimal each is_letter run some sx whole e front s m y r0 =
     let r = (no_sign t y s m front r0).0 in
     none_at_base r.base t d row x r.digits y letter (other_base r.base t (r.digits ++ y) decimal r.text_is) each
-        is_letter run some sx whole e r.each r.is_suffix r.is_suffix_of r.text_is
+    is_letter run some sx whole e r.each r.is_suffix r.is_suffix_of r.text_is
 
 -- ---- floats
 
@@ -374,8 +360,7 @@ pub record IsPower (e : List ℕ) : Type 0 where
   pub text_is : e ≡ letter ∷ (sign ++ row)
 
 power_of : (e : List ℕ) → IsStrictExponent e → IsPower e
-power_of e s = record { letter = s.letter; sign = s.sign; row = s.row; is_letter = s.is_letter; is_sign = s.is_sign;
-    each = digits_part s.row s.each; some = s.some; text_is = s.text }
+power_of e s = record { letter = s.letter; sign = s.sign; row = s.row; is_letter = s.is_letter; is_sign = s.is_sign; each = digits_part s.row s.each; some = s.some; text_is = s.text }
 
 power_sign : (sign : List ℕ) → ((sign ≡ []) ⊎ ((sign ≡ 43 ∷ []) ⊎ (sign ≡ 45 ∷ []))) → is_power_sign sign ≡ true
 power_sign sign (inl e) = ap is_power_sign e
@@ -391,11 +376,11 @@ whole_float t x d e v s is_d p h =
     let numeral : s.numeral ≡ d ++ (p.letter ∷ (p.sign ++ p.row)) = h ∙ ap (λ z. d ++ z) p.text_is in
     let text : t ≡ (d ++ (p.letter ∷ (p.sign ++ p.row))) ++ x = s.text ∙ ap (λ z. z ++ x) numeral in
     let inside : t ≡ d ++ (p.letter ∷ ((p.sign ++ p.row) ++ x)) = text
-        ∙ append_assoc d (p.letter ∷ (p.sign ++ p.row)) x in
+    ∙ append_assoc d (p.letter ∷ (p.sign ++ p.row)) x in
     let front = front_of t d _ inside is_d.0 in
     let suffix = suffix_of_strict x s.suffix in
     let signed : (k : ℕ) → p.sign ≡ k ∷ [] → t ≡ (d ++ (p.letter ∷ [])) ++ (k ∷ (p.row ++ x)) = λ k q. inside
-        ∙ ap (λ z. d ++ (p.letter ∷ ((z ++ p.row) ++ x))) q ∙ sym (append_assoc d (p.letter ∷ []) (k ∷ (p.row ++ x))) in
+    ∙ ap (λ z. d ++ (p.letter ∷ ((z ++ p.row) ++ x))) q ∙ sym (append_assoc d (p.letter ∷ []) (k ∷ (p.row ++ x))) in
     record {
       whole = d;
       fraction = NoFraction;
@@ -421,10 +406,10 @@ fraction_float : (t x d f e : List ℕ) (v : Contents) (s : StrictFloat t v x) �
     → s.numeral ≡ (d ++ (46 ∷ f)) ++ e → IsFloat t v x
 fraction_float t x d f e v s is_d is_f p h =
     let numeral : s.numeral ≡ d ++ ((46 ∷ f) ++ (p.letter ∷ (p.sign ++ p.row))) = h ∙ append_assoc d (46 ∷ f) e
-        ∙ ap (λ z. d ++ ((46 ∷ f) ++ z)) p.text_is in
+    ∙ ap (λ z. d ++ ((46 ∷ f) ++ z)) p.text_is in
     let text : t ≡ (d ++ ((46 ∷ f) ++ (p.letter ∷ (p.sign ++ p.row)))) ++ x = s.text ∙ ap (λ z. z ++ x) numeral in
     let inside : t ≡ d ++ (46 ∷ ((f ++ (p.letter ∷ (p.sign ++ p.row))) ++ x)) = text
-        ∙ append_assoc d ((46 ∷ f) ++ (p.letter ∷ (p.sign ++ p.row))) x in
+    ∙ append_assoc d ((46 ∷ f) ++ (p.letter ∷ (p.sign ++ p.row))) x in
     record {
       whole = d;
       fraction = Dot f;
@@ -489,8 +474,7 @@ IsWithin t = (sign : Sign) (magnitude : ℕ) (suffix : List ℕ) → IntReads t 
 pub int_strict_reads : (t x : List ℕ) (v : Contents) → StrictInt t v x → IsWithin t → ReadsInt t v x
 int_strict_reads t x v s within =
     let i = strict_int t x v s in
-    record { sign = NoSign; magnitude = i.magnitude; reads = i.reads; within = within NoSign i.magnitude x i.reads;
-        contents_is = i.contents_is ∙ ap Digits (dec_is_decimal i.magnitude (within NoSign i.magnitude x i.reads)) }
+    record { sign = NoSign; magnitude = i.magnitude; reads = i.reads; within = within NoSign i.magnitude x i.reads; contents_is = i.contents_is ∙ ap Digits (dec_is_decimal i.magnitude (within NoSign i.magnitude x i.reads)) }
 
 pub int_strict_minus : (t ds x : List ℕ) → StrictInt t (Digits ds) x → IsWithin t
     → ReadsInt (45 ∷ t) (Digits (45 ∷ ds)) x
@@ -498,9 +482,7 @@ int_strict_minus t ds x s within =
     let i = strict_int t x (Digits ds) s in
     let e : Digits ds ≡ Digits (dec i.magnitude) = i.contents_is in
     let same : ds ≡ dec i.magnitude = cc in
-    record { sign = Minus; magnitude = i.magnitude; reads = minus_int t x i.magnitude i.reads; within = within NoSign
-        i.magnitude x i.reads; contents_is = ap (λ z. Digits (45 ∷ z))
-        (same ∙ dec_is_decimal i.magnitude (within NoSign i.magnitude x i.reads)) }
+    record { sign = Minus; magnitude = i.magnitude; reads = minus_int t x i.magnitude i.reads; within = within NoSign i.magnitude x i.reads; contents_is = ap (λ z. Digits (45 ∷ z)) (same ∙ dec_is_decimal i.magnitude (within NoSign i.magnitude x i.reads)) }
 
 pub float_strict_reads : (t x : List ℕ) (v : Contents) → StrictFloat t v x → ReadsFloat t v x
 float_strict_reads t x v s =
@@ -511,6 +493,6 @@ pub float_strict_minus : (t ds x : List ℕ) → StrictFloat t (Digits ds) x →
 float_strict_minus t ds x s =
     let f = strict_float t x (Digits ds) s in
     let e : Digits ds ≡ Digits (float_digits (f.whole ++ (fraction_text f.fraction ++ exponent_text f.exponent))) =
-        f.contents_is in
+    f.contents_is in
     let same : ds ≡ float_digits (f.whole ++ (fraction_text f.fraction ++ exponent_text f.exponent)) = cc in
     subst (λ z. ReadsFloat (45 ∷ t) (Digits (45 ∷ z)) x) (sym same) (signed_float Minus t x (Digits ds) f)

@@ -1,9 +1,5 @@
 -- A strict quoted literal reads as the lenient reading says.
-use Rattle.rl_tokens.proofs.Common.{◌≡◌, ℕ, zero, suc, ◌+◌, ◌*◌, ◌^◌, ◌<◌, ◌≤◌, ◌||◌, ◌&&◌, Bool, true, false, not, eqb,
-    List, [], ◌∷◌, ◌++◌, length, map, replicate, refl, sym, ap, subst, ◌∙◌, ◌⊎◌, inl, inr, arith, append_assoc,
-    append-nil, IsFalse, ⊤, nat_lt, digit_value, is_ascii_hexdigit, all_scalars, scalar, list_all, flat_map,
-    AllByRecursion, encode_ascii, list_all-append, eqb-true, and_parts, and_from, or_parts, or_cases, or_from, or_left,
-    or_right, ltb-true, lt-ltb, not-true, not_from_false}
+use Rattle.rl_tokens.proofs.Common.{◌≡◌, ℕ, zero, suc, ◌+◌, ◌*◌, ◌^◌, ◌<◌, ◌≤◌, ◌||◌, ◌&&◌, Bool, true, false, not, eqb, List, [], ◌∷◌, ◌++◌, length, map, replicate, refl, sym, ap, subst, ◌∙◌, ◌⊎◌, inl, inr, arith, append_assoc, append-nil, IsFalse, ⊤, nat_lt, digit_value, is_ascii_hexdigit, all_scalars, scalar, list_all, flat_map, AllByRecursion, encode_ascii, list_all-append, eqb-true, and_parts, and_from, or_parts, or_cases, or_from, or_left, or_right, ltb-true, lt-ltb, not-true, not_from_false}
 use Rattle.std.specs.Prelude.{encode_utf8_all, nat_le}
 use Rattle.std.specs.Char.{IsScalar}
 use Rattle.std.proofs.lemmas.List.Elements.{filter-append}
@@ -11,15 +7,9 @@ use Rattle.std.proofs.lemmas.Bool.{leb-true}
 use Rattle.rl_tokens.specs.declared.kind.Kind.{Kind}
 use Rattle.rl_tokens.specs.declared.kind.Kind.TheVariants.{Str, ByteStr, CStr, Byte, Char, Int, Float, Bool as BoolKind}
 use Rattle.rl_tokens.specs.Texts.{first_passes, is_underscore}
-use Rattle.rl_tokens.specs.Quoted.{QuotedUnit, Plain, Named, Hex, Unicode, Continuation, LowerN, LowerR, LowerT,
-    Backslash, Apostrophe, Quote, Zero, unit_text, unit_value, place_value, without_underscores, unicode_value,
-    content_of, hex_value, is_hex_digit, is_blank, is_string, is_single, is_raw, allows_code, IsUnit, texts, values,
-    EndsBefore, ContinuationsEnd, opener, raw_opener, Cooked, Raw, Single}
+use Rattle.rl_tokens.specs.Quoted.{QuotedUnit, Plain, Named, Hex, Unicode, Continuation, LowerN, LowerR, LowerT, Backslash, Apostrophe, Quote, Zero, unit_text, unit_value, place_value, without_underscores, unicode_value, content_of, hex_value, is_hex_digit, is_blank, is_string, is_single, is_raw, allows_code, IsUnit, texts, values, EndsBefore, ContinuationsEnd, opener, raw_opener, Cooked, Raw, Single}
 use Rattle.rl_tokens.specs.Reading.{Contents, Reads}
-use Rattle.rl_tokens.specs.Strict.{StrictUnit, Itself, QuoteEscape, PlainEscape, AsciiEscape, ByteEscape, UnicodeEscape,
-    LineBreak, spaced_digit, strict_text, spelled_number, strict_contents, is_plain_letter, is_octal, is_dropped_blank,
-    is_unicode_escape, is_bare_character, is_bare_in_string, is_strict_unit, BlanksEnd, strict_opener, strict_closer,
-    strict_content_of, strict_quoted_contents, StrictCooked, StrictRaw, strict_raw_opener, IsStrictSuffix}
+use Rattle.rl_tokens.specs.Strict.{StrictUnit, Itself, QuoteEscape, PlainEscape, AsciiEscape, ByteEscape, UnicodeEscape, LineBreak, spaced_digit, strict_text, spelled_number, strict_contents, is_plain_letter, is_octal, is_dropped_blank, is_unicode_escape, is_bare_character, is_bare_in_string, is_strict_unit, BlanksEnd, strict_opener, strict_closer, strict_content_of, strict_quoted_contents, StrictCooked, StrictRaw, strict_raw_opener, IsStrictSuffix}
 use Rattle.rl_tokens.proofs.Basics.{apart, all_weaker, hex_is_sixteen, word_without}
 
 -- what may follow: no blank at all where a line break's blanks end
@@ -43,8 +33,7 @@ bare_not_backslash c h = not_from_false (eqb c 92) (apart is_bare_character c 92
 
 itself : (k : Kind) (c : ℕ) → is_strict_unit k (Itself c) ≡ true → Stands k (Itself c)
 itself Str c h = record { unit = Plain c; is_unit = h; text_is = refl; value_is = refl; ends_before = λ t f. tt }
-itself Char c h = record { unit = Plain c; is_unit = bare_not_backslash c h; text_is = refl; value_is = refl;
-    ends_before = λ t f. tt }
+itself Char c h = record { unit = Plain c; is_unit = bare_not_backslash c h; text_is = refl; value_is = refl; ends_before = λ t f. tt }
 itself ByteStr c h =
     let p = and_parts (nat_lt c 128) (is_bare_in_string c) h in
     record { unit = Plain c; is_unit = h; text_is = refl; value_is = ascii_alone c p.0; ends_before = λ t f. tt }
@@ -55,7 +44,7 @@ itself CStr c h =
     let p = and_parts (is_bare_in_string c) (not (eqb c 0)) h in
     let a = or_parts (eqb c 34 || eqb c 92) (eqb c 13) (not-true _ p.0) in
     let none : ((eqb c 34 || eqb c 92 || eqb c 13) || eqb c 0)
-        ≡ false = or_from _ _ (not-true _ p.0) (not-true _ p.1) in
+    ≡ false = or_from _ _ (not-true _ p.0) (not-true _ p.1) in
     record { unit = Plain c; is_unit = not_from_false _ none; text_is = refl; value_is = refl; ends_before = λ t f. tt }
 itself kind c h = absurd (cc)
 
@@ -67,10 +56,8 @@ quote_escape : (k : Kind) (c : ℕ) → is_strict_unit k (QuoteEscape c) ≡ tru
 quote_escape k c h =
     let At : ℕ → Type 0 = λ x. Stands k (QuoteEscape x) in
     elim (or_cases (eqb c 39) (eqb c 34) h) [
-      | inl a ↦ subst At (sym (eqb-true c 39 a)) (record { unit = Named Apostrophe; is_unit = holds_other k 39 refl;
-          text_is = refl; value_is = refl; ends_before = λ t f. tt })
-      | inr a ↦ subst At (sym (eqb-true c 34 a)) (record { unit = Named Quote; is_unit = holds_other k 34 refl; text_is
-          = refl; value_is = refl; ends_before = λ t f. tt })
+      | inl a ↦ subst At (sym (eqb-true c 39 a)) (record { unit = Named Apostrophe; is_unit = holds_other k 39 refl; text_is = refl; value_is = refl; ends_before = λ t f. tt })
+      | inr a ↦ subst At (sym (eqb-true c 34 a)) (record { unit = Named Quote; is_unit = holds_other k 34 refl; text_is = refl; value_is = refl; ends_before = λ t f. tt })
     ]
 
 plain_letters : (P : ℕ → Type 0) (c : ℕ) → is_plain_letter c ≡ true → P 110 → P 114 → P 116 → P 92 → P 48 → P c
@@ -104,16 +91,11 @@ plain_escape : (k : Kind) (c : ℕ) → is_strict_unit k (PlainEscape c) ≡ tru
 plain_escape k c h =
     let At : ℕ → Type 0 = λ x. is_strict_unit k (PlainEscape x) ≡ true → Stands k (PlainEscape x) in
     plain_letters At c (is_letter k c h)
-    (λ h. record { unit = Named LowerN; is_unit = holds_other k 10 refl; text_is = refl; value_is = refl; ends_before =
-        λ t f. tt })
-    (λ h. record { unit = Named LowerR; is_unit = holds_other k 13 refl; text_is = refl; value_is = refl; ends_before =
-        λ t f. tt })
-    (λ h. record { unit = Named LowerT; is_unit = holds_other k 9 refl; text_is = refl; value_is = refl; ends_before = λ
-        t f. tt })
-    (λ h. record { unit = Named Backslash; is_unit = holds_other k 92 refl; text_is = refl; value_is = refl; ends_before
-        = λ t f. tt })
-    (λ h. record { unit = Named Zero; is_unit = zero_held k h; text_is = refl; value_is = refl; ends_before = λ t f. tt
-        })
+    (λ h. record { unit = Named LowerN; is_unit = holds_other k 10 refl; text_is = refl; value_is = refl; ends_before = λ t f. tt })
+    (λ h. record { unit = Named LowerR; is_unit = holds_other k 13 refl; text_is = refl; value_is = refl; ends_before = λ t f. tt })
+    (λ h. record { unit = Named LowerT; is_unit = holds_other k 9 refl; text_is = refl; value_is = refl; ends_before = λ t f. tt })
+    (λ h. record { unit = Named Backslash; is_unit = holds_other k 92 refl; text_is = refl; value_is = refl; ends_before = λ t f. tt })
+    (λ h. record { unit = Named Zero; is_unit = zero_held k h; text_is = refl; value_is = refl; ends_before = λ t f. tt })
     h
 
 pub hex_digit : (c : ℕ) → is_ascii_hexdigit c ≡ true → is_hex_digit c ≡ true
@@ -133,28 +115,23 @@ ascii_escape : (k : Kind) (high low : ℕ) → is_strict_unit k (AsciiEscape hig
     → Stands k (AsciiEscape high low)
 ascii_escape Str high low h =
     let p = and_parts (is_octal high) (is_ascii_hexdigit low) h in
-    record { unit = Hex high low; is_unit = (octal_hex high p.0, hex_digit low p.1, ascii_value high low p.0 p.1);
-        text_is = refl; value_is = refl; ends_before = λ t f. tt }
+    record { unit = Hex high low; is_unit = (octal_hex high p.0, hex_digit low p.1, ascii_value high low p.0 p.1); text_is = refl; value_is = refl; ends_before = λ t f. tt }
 ascii_escape Char high low h =
     let p = and_parts (is_octal high) (is_ascii_hexdigit low) h in
-    record { unit = Hex high low; is_unit = (octal_hex high p.0, hex_digit low p.1, ascii_value high low p.0 p.1);
-        text_is = refl; value_is = refl; ends_before = λ t f. tt }
+    record { unit = Hex high low; is_unit = (octal_hex high p.0, hex_digit low p.1, ascii_value high low p.0 p.1); text_is = refl; value_is = refl; ends_before = λ t f. tt }
 ascii_escape kind high low h = absurd (cc)
 
 byte_escape : (k : Kind) (high low : ℕ) → is_strict_unit k (ByteEscape high low) ≡ true → Stands k (ByteEscape high low)
 byte_escape ByteStr high low h =
     let p = and_parts (is_ascii_hexdigit high) (is_ascii_hexdigit low) h in
-    record { unit = Hex high low; is_unit = (hex_digit high p.0, hex_digit low p.1, refl); text_is = refl; value_is =
-        refl; ends_before = λ t f. tt }
+    record { unit = Hex high low; is_unit = (hex_digit high p.0, hex_digit low p.1, refl); text_is = refl; value_is = refl; ends_before = λ t f. tt }
 byte_escape Byte high low h =
     let p = and_parts (is_ascii_hexdigit high) (is_ascii_hexdigit low) h in
-    record { unit = Hex high low; is_unit = (hex_digit high p.0, hex_digit low p.1, refl); text_is = refl; value_is =
-        refl; ends_before = λ t f. tt }
+    record { unit = Hex high low; is_unit = (hex_digit high p.0, hex_digit low p.1, refl); text_is = refl; value_is = refl; ends_before = λ t f. tt }
 byte_escape CStr high low h =
     let q = and_parts (is_ascii_hexdigit high && is_ascii_hexdigit low) (not (eqb (hex_value high low) 0)) h in
     let p = and_parts (is_ascii_hexdigit high) (is_ascii_hexdigit low) q.0 in
-    record { unit = Hex high low; is_unit = (hex_digit high p.0, hex_digit low p.1, and_from _ _ q.1 refl); text_is =
-        refl; value_is = refl; ends_before = λ t f. tt }
+    record { unit = Hex high low; is_unit = (hex_digit high p.0, hex_digit low p.1, and_from _ _ q.1 refl); text_is = refl; value_is = refl; ends_before = λ t f. tt }
 byte_escape kind high low h = absurd (cc)
 
 abbrev pub hex_first : ℕ × ℕ → Bool
@@ -172,7 +149,7 @@ digits_between (d ∷ ds) h =
     let test : ℕ → Bool = λ c. is_underscore c || is_hex_digit c in
     and_from (test d.0) _ (or_right (is_underscore d.0) (is_hex_digit d.0) (hex_digit d.0 p.0))
     (list_all-append test (replicate d.1 95) (flat_map spaced_digit ds)
-        ∙ and_from _ _ (underscores_between d.1) (digits_between ds p.1))
+    ∙ and_from _ _ (underscores_between d.1) (digits_between ds p.1))
 
 underscores_dropped : (n : ℕ) → without_underscores (replicate n 95) ≡ []
 underscores_dropped zero = refl
@@ -191,7 +168,7 @@ bare_digits (d ∷ ds) h =
     let rest = flat_map spaced_digit ds in
     digit_stays d.0 (replicate d.1 95 ++ rest) p.0
     ∙ ap (λ z. d.0 ∷ z) (filter-append test (replicate d.1 95) rest
-        ∙ ap (λ z. z ++ without_underscores rest) (underscores_dropped d.1) ∙ bare_digits ds p.1)
+    ∙ ap (λ z. z ++ without_underscores rest) (underscores_dropped d.1) ∙ bare_digits ds p.1)
 
 pub digits_count : (ds : List (ℕ × ℕ)) → length (map (λ d. d.0) ds) ≡ length ds
 digits_count [] = refl
@@ -219,7 +196,7 @@ unicode_facts d ds h =
     let m = and_parts (scalar v) true p.1 in
     let row = bare_digits (d ∷ ds) q.1 in
     let same : unicode_value d.0 (replicate d.1 95 ++ flat_map spaced_digit ds) ≡ v = ap (place_value 16) row
-        ∙ sym (same_number (map (λ d. d.0) (d ∷ ds))) in
+    ∙ sym (same_number (map (λ d. d.0) (d ∷ ds))) in
     let few : length (d ∷ ds) ≤ 6 = leb-true (length (d ∷ ds)) 6 r.1 in
     let Few : ℕ → Type 0 = λ n. n ≤ 6 in
     let test : ℕ → Bool = λ c. is_underscore c || is_hex_digit c in
@@ -237,35 +214,26 @@ unicode_escape : (k : Kind) (digits : List (ℕ × ℕ)) → is_strict_unit k (U
 unicode_escape Str [] h = absurd (cc)
 unicode_escape Str (d ∷ ds) h =
     let f = unicode_facts d ds h in
-    record { unit = Unicode d.0 (replicate d.1 95 ++ flat_map spaced_digit ds); is_unit =
-        (refl, f.first, f.more, f.few, f.is_scalar, refl); text_is = refl; value_is = ap (λ v. v ∷ []) f.same;
-        ends_before = λ t f. tt }
+    record { unit = Unicode d.0 (replicate d.1 95 ++ flat_map spaced_digit ds); is_unit = (refl, f.first, f.more, f.few, f.is_scalar, refl); text_is = refl; value_is = ap (λ v. v ∷ []) f.same; ends_before = λ t f. tt }
 unicode_escape Char [] h = absurd (cc)
 unicode_escape Char (d ∷ ds) h =
     let f = unicode_facts d ds h in
-    record { unit = Unicode d.0 (replicate d.1 95 ++ flat_map spaced_digit ds); is_unit =
-        (refl, f.first, f.more, f.few, f.is_scalar, refl); text_is = refl; value_is = ap (λ v. v ∷ []) f.same;
-        ends_before = λ t f. tt }
+    record { unit = Unicode d.0 (replicate d.1 95 ++ flat_map spaced_digit ds); is_unit = (refl, f.first, f.more, f.few, f.is_scalar, refl); text_is = refl; value_is = ap (λ v. v ∷ []) f.same; ends_before = λ t f. tt }
 unicode_escape CStr [] h = absurd (cc)
 unicode_escape CStr (d ∷ ds) h =
     let v = spelled_number 16 (map (λ d. d.0) (d ∷ ds)) in
     let p = and_parts (is_unicode_escape (d ∷ ds)) (not (eqb v 0)) h in
     let f = unicode_facts d ds p.0 in
-    record { unit = Unicode d.0 (replicate d.1 95 ++ flat_map spaced_digit ds); is_unit =
-        (refl, f.first, f.more, f.few, f.is_scalar, ap (λ n. not (eqb n 0)) f.same ∙ p.1); text_is = refl; value_is = ap
-        (λ v. encode_utf8_all (v ∷ [])) f.same; ends_before = λ t f. tt }
+    record { unit = Unicode d.0 (replicate d.1 95 ++ flat_map spaced_digit ds); is_unit = (refl, f.first, f.more, f.few, f.is_scalar, ap (λ n. not (eqb n 0)) f.same ∙ p.1); text_is = refl; value_is = ap (λ v. encode_utf8_all (v ∷ [])) f.same; ends_before = λ t f. tt }
 unicode_escape kind digits h = absurd (cc)
 
 dropped_blank : (blanks : List ℕ) → list_all is_dropped_blank blanks ≡ true → list_all is_blank blanks ≡ true
 dropped_blank = all_weaker is_dropped_blank is_blank (λ c h. or_left (is_dropped_blank c) (eqb c 13) h)
 
 line_break : (k : Kind) (blanks : List ℕ) → is_strict_unit k (LineBreak blanks) ≡ true → Stands k (LineBreak blanks)
-line_break Str blanks h = record { unit = Continuation 10 blanks; is_unit = (refl, refl, dropped_blank blanks h);
-    text_is = refl; value_is = refl; ends_before = λ t f. f }
-line_break ByteStr blanks h = record { unit = Continuation 10 blanks; is_unit = (refl, refl, dropped_blank blanks h);
-    text_is = refl; value_is = refl; ends_before = λ t f. f }
-line_break CStr blanks h = record { unit = Continuation 10 blanks; is_unit = (refl, refl, dropped_blank blanks h);
-    text_is = refl; value_is = refl; ends_before = λ t f. f }
+line_break Str blanks h = record { unit = Continuation 10 blanks; is_unit = (refl, refl, dropped_blank blanks h); text_is = refl; value_is = refl; ends_before = λ t f. f }
+line_break ByteStr blanks h = record { unit = Continuation 10 blanks; is_unit = (refl, refl, dropped_blank blanks h); text_is = refl; value_is = refl; ends_before = λ t f. f }
+line_break CStr blanks h = record { unit = Continuation 10 blanks; is_unit = (refl, refl, dropped_blank blanks h); text_is = refl; value_is = refl; ends_before = λ t f. f }
 line_break kind blanks h = absurd (cc)
 
 pub stands : (k : Kind) (s : StrictUnit) → is_strict_unit k s ≡ true → Stands k s
@@ -370,8 +338,7 @@ pub cooked_reads : (k : Kind) (t x : List ℕ) (v : Contents) (s : StrictCooked 
 cooked_reads k t x v s string o e =
     let r = stand_row k s.units s.each s.blanks_end in (
       values k r.units,
-      record { units = r.units; string = string; each = r.each; ends = r.ends; text_is = cooked_text k s.units t x r o e
-          s.text; value_is = refl },
+      record { units = r.units; string = string; each = r.each; ends = r.ends; text_is = cooked_text k s.units t x r o e s.text; value_is = refl },
       s.contents ∙ ap (strict_quoted_contents k) (sym r.value_is),
     )
 
@@ -389,10 +356,10 @@ single_reads k t x v s single one o e =
     let q = subst At p.1 s.each in
     let u = stands k p.0 (and_parts (is_strict_unit k p.0) true q).0 in
     let text : flat_map strict_text s.units ≡ unit_text u.unit = ap (flat_map strict_text) p.1
-        ∙ append-nil (strict_text p.0) ∙ sym u.text_is in
+    ∙ append-nil (strict_text p.0) ∙ sym u.text_is in
     let value : flat_map (strict_contents (strict_content_of k)) s.units
-        ≡ unit_value k u.unit = ap (flat_map (strict_contents (strict_content_of k))) p.1
-        ∙ append-nil (strict_contents (strict_content_of k) p.0) ∙ sym u.value_is in (
+    ≡ unit_value k u.unit = ap (flat_map (strict_contents (strict_content_of k))) p.1
+    ∙ append-nil (strict_contents (strict_content_of k) p.0) ∙ sym u.value_is in (
       unit_value k u.unit,
       record {
         unit = u.unit;

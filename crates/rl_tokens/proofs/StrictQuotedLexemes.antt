@@ -1,18 +1,11 @@
 -- A strict quoted literal is one lexeme before what may follow a literal.
-use Rattle.rl_tokens.proofs.Common.{◌≡◌, ◌≢◌, ℕ, ◌⊎◌, inl, inr, zero, suc, Bool, true, false, not, ◌&&◌, ◌||◌, ◌==◌,
-    List, [], ◌∷◌, ◌++◌, length, replicate, refl, sym, ◌∙◌, ap, subst, append-nil, drop, nat_lt, if◌then◌else◌,
-    list_all, flat_map, is_ascii_hexdigit, all_scalars, and_parts, and_from, or_from, not_from_false, list_all-append}
+use Rattle.rl_tokens.proofs.Common.{◌≡◌, ◌≢◌, ℕ, ◌⊎◌, inl, inr, zero, suc, Bool, true, false, not, ◌&&◌, ◌||◌, ◌==◌, List, [], ◌∷◌, ◌++◌, length, replicate, refl, sym, ◌∙◌, ap, subst, append-nil, drop, nat_lt, if◌then◌else◌, list_all, flat_map, is_ascii_hexdigit, all_scalars, and_parts, and_from, or_from, not_from_false, list_all-append}
 use Rattle.std.specs.Prelude.{nat_le}
 use Rattle.rl_tokens.specs.declared.kind.Kind.{Kind}
 use Rattle.rl_tokens.specs.declared.kind.Kind.TheVariants.{Str, ByteStr, CStr, Byte, Char, Int, Float, Bool as BoolKind}
-use Rattle.rl_tokens.specs.Lexemes.{LiteralPrefix, NoPrefix, BytePrefix, CPrefix, prefix_text, BodyPart, PlainPart,
-    EscapedPart, body_text, IsBody, CharacterBody, OneCharacter, EscapedCharacter, character_body_text, IsCharacterBody,
-    begins_hashes, IsRawBody, QuotedLexeme, RawLexeme, CharacterLexeme}
+use Rattle.rl_tokens.specs.Lexemes.{LiteralPrefix, NoPrefix, BytePrefix, CPrefix, prefix_text, BodyPart, PlainPart, EscapedPart, body_text, IsBody, CharacterBody, OneCharacter, EscapedCharacter, character_body_text, IsCharacterBody, begins_hashes, IsRawBody, QuotedLexeme, RawLexeme, CharacterLexeme}
 use Rattle.rl_tokens.specs.Reading.{Contents}
-use Rattle.rl_tokens.specs.Strict.{StrictUnit, Itself, QuoteEscape, PlainEscape, AsciiEscape, ByteEscape, UnicodeEscape,
-    LineBreak, spaced_digit, spaced_value, strict_text, spelled_number, is_octal, is_dropped_blank, is_unicode_escape,
-    is_bare_character, is_bare_in_string, is_strict_unit, strict_opener, strict_closer, HasUnits, StrictCooked,
-    StrictRaw}
+use Rattle.rl_tokens.specs.Strict.{StrictUnit, Itself, QuoteEscape, PlainEscape, AsciiEscape, ByteEscape, UnicodeEscape, LineBreak, spaced_digit, spaced_value, strict_text, spelled_number, is_octal, is_dropped_blank, is_unicode_escape, is_bare_character, is_bare_in_string, is_strict_unit, strict_opener, strict_closer, HasUnits, StrictCooked, StrictRaw}
 use Rattle.rl_tokens.proofs.HashLemmas.{hashes_split}
 use Rattle.rl_tokens.proofs.Comments.{false_unless}
 use Rattle.rl_tokens.proofs.Pieces.{is_equal}
@@ -72,7 +65,7 @@ digits_free a b (d ∷ ds) o h =
     let p = and_parts (hex_first d) (list_all hex_first ds) h in
     and_from (free a b d.0) _ (hex_free a b o d.0 p.0)
     (list_all-append (free a b) (replicate d.1 95) (flat_map spaced_digit ds)
-        ∙ and_from _ _ (underscores_free a b d.1 o) (digits_free a b ds o p.1))
+    ∙ and_from _ _ (underscores_free a b d.1 o) (digits_free a b ds o p.1))
 
 unicode_digits : (ds : List (ℕ × ℕ)) → is_unicode_escape ds ≡ true → list_all hex_first ds ≡ true
 unicode_digits ds h =
@@ -87,23 +80,21 @@ spaced_escape a b ds o h = record {
   text = refl;
   each = and_from (free a b 123) _ o.open_brace
       (list_all-append (free a b) (flat_map spaced_digit ds) (125 ∷ [])
-          ∙ and_from _ _ (digits_free a b ds o (unicode_digits ds h))
-          (and_from (free a b 125) true o.close_brace refl));
+      ∙ and_from _ _ (digits_free a b ds o (unicode_digits ds h))
+      (and_from (free a b 125) true o.close_brace refl));
 }
 
 octal_escape : (a b high low : ℕ) → Outside a b → (is_octal high && is_ascii_hexdigit low) ≡ true
     → Escape a b (AsciiEscape high low)
 octal_escape a b high low o h =
     let p = and_parts (is_octal high) (is_ascii_hexdigit low) h in
-    record { first = 120; more = high ∷ low ∷ []; text = refl; each = two_free a b high low (octal_free a b o high p.0)
-        (hex_free a b o low p.1) }
+    record { first = 120; more = high ∷ low ∷ []; text = refl; each = two_free a b high low (octal_free a b o high p.0) (hex_free a b o low p.1) }
 
 hex_escape : (a b high low : ℕ) → Outside a b → (is_ascii_hexdigit high && is_ascii_hexdigit low) ≡ true
     → Escape a b (ByteEscape high low)
 hex_escape a b high low o h =
     let p = and_parts (is_ascii_hexdigit high) (is_ascii_hexdigit low) h in
-    record { first = 120; more = high ∷ low ∷ []; text = refl; each = two_free a b high low (hex_free a b o high p.0)
-        (hex_free a b o low p.1) }
+    record { first = 120; more = high ∷ low ∷ []; text = refl; each = two_free a b high low (hex_free a b o high p.0) (hex_free a b o low p.1) }
 
 ascii_of : (a b : ℕ) (k : Kind) (high low : ℕ) → Outside a b → is_strict_unit k (AsciiEscape high low) ≡ true
     → Escape a b (AsciiEscape high low)
@@ -154,18 +145,13 @@ blanks_free : (blanks : List ℕ) → list_all is_dropped_blank blanks ≡ true 
 blanks_free = all_weaker is_dropped_blank (free 34 92) (free_from is_dropped_blank 34 92 refl refl)
 
 string_kind : StringKind Str
-string_kind = record { bare = free_from is_bare_in_string 34 92 refl refl; line = blanks_free; before = NoPrefix;
-    opens_is = refl; ends_is = refl }
+string_kind = record { bare = free_from is_bare_in_string 34 92 refl refl; line = blanks_free; before = NoPrefix; opens_is = refl; ends_is = refl }
 
 byte_string_kind : StringKind ByteStr
-byte_string_kind = record { bare = λ c h. free_from is_bare_in_string 34 92 refl refl c
-    (and_parts (nat_lt c 128) (is_bare_in_string c) h).1; line = blanks_free; before = BytePrefix; opens_is = refl;
-    ends_is = refl }
+byte_string_kind = record { bare = λ c h. free_from is_bare_in_string 34 92 refl refl c (and_parts (nat_lt c 128) (is_bare_in_string c) h).1; line = blanks_free; before = BytePrefix; opens_is = refl; ends_is = refl }
 
 c_string_kind : StringKind CStr
-c_string_kind = record { bare = λ c h. free_from is_bare_in_string 34 92 refl refl c
-    (and_parts (is_bare_in_string c) (not (c == 0)) h).0; line = blanks_free; before = CPrefix; opens_is = refl; ends_is
-    = refl }
+c_string_kind = record { bare = λ c h. free_from is_bare_in_string 34 92 refl refl c (and_parts (is_bare_in_string c) (not (c == 0)) h).0; line = blanks_free; before = CPrefix; opens_is = refl; ends_is = refl }
 
 abbrev plain_parts : List ℕ → List BodyPart
 plain_parts [] = []
@@ -239,12 +225,10 @@ record SingleKind (k : Kind) : Type 0 where
   pub one : (us : List StrictUnit) → HasUnits k us → length us ≡ 1
 
 character_kind : SingleKind Char
-character_kind = record { bare = bare_not_backslash; line = λ blanks h. absurd (cc); is_byte = false; opens_is = refl;
-    ends_is = refl; one = λ us h. h }
+character_kind = record { bare = bare_not_backslash; line = λ blanks h. absurd (cc); is_byte = false; opens_is = refl; ends_is = refl; one = λ us h. h }
 
 byte_kind : SingleKind Byte
-byte_kind = record { bare = λ c h. bare_not_backslash c (and_parts (nat_lt c 128) (is_bare_character c) h).1; line = λ
-    blanks h. absurd (cc); is_byte = true; opens_is = refl; ends_is = refl; one = λ us h. h }
+byte_kind = record { bare = λ c h. bare_not_backslash c (and_parts (nat_lt c 128) (is_bare_character c) h).1; line = λ blanks h. absurd (cc); is_byte = true; opens_is = refl; ends_is = refl; one = λ us h. h }
 
 -- what stands between the quotes
 record Between (s : StrictUnit) : Type 0 where
@@ -253,8 +237,7 @@ record Between (s : StrictUnit) : Type 0 where
   pub is_within : IsCharacterBody inside
 
 within_of : (k : Kind) (s : StrictUnit) → SingleKind k → OneOrEscape 39 10 k s → Between s
-within_of k s f (inl (c, same, is)) = record { inside = OneCharacter c; text = ap strict_text same; is_within = f.bare c
-    is }
+within_of k s f (inl (c, same, is)) = record { inside = OneCharacter c; text = ap strict_text same; is_within = f.bare c is }
 within_of k s f (inr e) = record { inside = EscapedCharacter e.first e.more; text = e.text; is_within = e.each }
 
 single_text : (b : Bool) (w x : List ℕ) → ((if b then 98 ∷ [] else []) ++ (39 ∷ w)) ++ (39 ∷ x)
@@ -267,11 +250,11 @@ single_lexed : (k : Kind) (t x : List ℕ) (v : Contents) → SingleKind k → S
 single_lexed k t x v f s =
     let (u, one) = one_unit s.units (f.one s.units s.count) in
     let each : list_all (is_strict_unit k) (u ∷ []) ≡ true = subst
-        (λ (us : List StrictUnit). list_all (is_strict_unit k) us ≡ true) one s.each in
+    (λ (us : List StrictUnit). list_all (is_strict_unit k) us ≡ true) one s.each in
     let w = within_of k u f (one_or_escape 39 10 k u apostrophe_outside f.line
-        (and_parts (is_strict_unit k u) true each).0) in
+    (and_parts (is_strict_unit k u) true each).0) in
     let text : flat_map strict_text s.units ≡ character_body_text w.inside = ap (flat_map strict_text) one
-        ∙ append-nil (strict_text u) ∙ w.text in
+    ∙ append-nil (strict_text u) ∙ w.text in
     record {
       lexeme = CharacterLexeme f.is_byte w.inside x;
       is_lexeme = λ after ends. (w.is_within, strict_suffix_lexed x after s.suffix ends);
@@ -279,7 +262,7 @@ single_lexed k t x v f s =
       text_is = s.text ∙ between (strict_opener k) (flat_map strict_text s.units) (strict_closer k) x
           ∙ ap (λ z. z ++ (flat_map strict_text s.units ++ (strict_closer k ++ x))) f.opens_is
           ∙ ap (λ z. ((if f.is_byte then 98 ∷ [] else []) ++ (39 ∷ [])) ++ (flat_map strict_text s.units ++ (z ++ x)))
-              f.ends_is
+          f.ends_is
           ∙ ap (λ z. ((if f.is_byte then 98 ∷ [] else []) ++ (39 ∷ [])) ++ (z ++ (39 ∷ x))) text
           ∙ sym (single_text f.is_byte (character_body_text w.inside) x);
     }

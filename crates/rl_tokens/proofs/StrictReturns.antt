@@ -1,14 +1,9 @@
 -- A strict text holds no CR.
-use Rattle.rl_tokens.proofs.Common.{◌≡◌, ℕ, zero, suc, ◌||◌, ◌&&◌, Bool, true, false, not, eqb, List, [], ◌∷◌, ◌++◌,
-    replicate, refl, ap, ◌∙◌, ◌⊎◌, inl, inr, arith, nat_lt, codes, if◌then◌else◌, digit_value, is_ascii_digit,
-    is_ascii_hexdigit, all_scalars, list_all, flat_map, list_all-append, and_parts, and_from, not_from_false}
+use Rattle.rl_tokens.proofs.Common.{◌≡◌, ℕ, zero, suc, ◌||◌, ◌&&◌, Bool, true, false, not, eqb, List, [], ◌∷◌, ◌++◌, replicate, refl, ap, ◌∙◌, ◌⊎◌, inl, inr, arith, nat_lt, codes, if◌then◌else◌, digit_value, is_ascii_digit, is_ascii_hexdigit, all_scalars, list_all, flat_map, list_all-append, and_parts, and_from, not_from_false}
 use Rattle.rl_tokens.specs.declared.kind.Kind.{Kind}
 use Rattle.rl_tokens.specs.declared.kind.Kind.TheVariants.{Str, ByteStr, CStr, Byte, Char, Int, Float, Bool as BoolKind}
 use Rattle.rl_tokens.specs.Reading.{Contents}
-use Rattle.rl_tokens.specs.Strict.{Strict, IsStrictSuffix, StrictUnit, Itself, QuoteEscape, PlainEscape, AsciiEscape,
-    ByteEscape, UnicodeEscape, LineBreak, spaced_digit, strict_text, spelled_number, is_plain_letter, is_octal,
-    is_dropped_blank, is_unicode_escape, spaced_value, is_strict_unit, strict_opener, strict_closer, StrictCooked,
-    StrictRaw, strict_raw_opener, is_row, IsDigits, StrictInt, IsStrictExponent, StrictFloat}
+use Rattle.rl_tokens.specs.Strict.{Strict, IsStrictSuffix, StrictUnit, Itself, QuoteEscape, PlainEscape, AsciiEscape, ByteEscape, UnicodeEscape, LineBreak, spaced_digit, strict_text, spelled_number, is_plain_letter, is_octal, is_dropped_blank, is_unicode_escape, spaced_value, is_strict_unit, strict_opener, strict_closer, StrictCooked, StrictRaw, strict_raw_opener, is_row, IsDigits, StrictInt, IsStrictExponent, StrictFloat}
 use Rattle.rl_tokens.proofs.Basics.{apart, all_weaker, word_without}
 use Rattle.rl_tokens.proofs.StrictQuoted.{not_return}
 
@@ -160,9 +155,9 @@ in_raw t k v x s =
     let marked = join (strict_raw_opener k) hashes (raw_opening k) (repeated s.hashes 35 refl) in
     let opened = join (strict_raw_opener k ++ hashes) (34 ∷ s.inside) marked s.no_carriage_return in
     let closed = join (strict_raw_opener k ++ hashes ++ 34 ∷ s.inside) (34 ∷ hashes) opened (repeated s.hashes 35 refl)
-        in
+    in
     ap no_return_in s.text ∙ join (strict_raw_opener k ++ hashes ++ 34 ∷ s.inside ++ 34 ∷ hashes) x closed
-        (in_suffix x s.suffix)
+    (in_suffix x s.suffix)
 
 in_quoted : (t : List ℕ) (k : Kind) (v : Contents) (x : List ℕ) → (StrictCooked t k v x ⊎ StrictRaw t k v x)
     → no_return_in t ≡ true
@@ -178,7 +173,7 @@ int_at p r x base front none each end = join (p ++ r) x (join p r front
 in_int : (t x : List ℕ) (v : Contents) → StrictInt t v x → no_return_in t ≡ true
 in_int t x v s =
     let from : no_return_in s.prefix ≡ true → is_row (λ c. nat_lt (digit_value c) s.base) 13 ≡ false → no_return_in t
-        ≡ true =
+    ≡ true =
     λ f n. ap no_return_in s.text ∙ int_at s.prefix s.row x s.base f n s.each (in_suffix x s.suffix.0) in
     elim s.is_front [
       | inl f ↦ from (ap no_return_in f.0) (ap (λ n. is_row (λ c. nat_lt (digit_value c) n) 13) f.1)
@@ -203,7 +198,7 @@ in_exponent : (e : List ℕ) → IsStrictExponent e → no_return_in e ≡ true
 in_exponent e s =
     ap no_return_in s.text
     ∙ join (s.letter ∷ s.sign) s.row (before s.letter s.sign (apart (λ c. eqb c 101 || eqb c 69) s.letter 13 s.is_letter
-        refl) (in_sign s.sign s.is_sign))
+    refl) (in_sign s.sign s.is_sign))
     (row_of (is_row is_ascii_digit) s.row refl s.each)
 
 pointed : (d f : List ℕ) → IsDigits d → IsDigits f → no_return_in (d ++ 46 ∷ f) ≡ true
@@ -212,7 +207,7 @@ pointed d f p q = join d (46 ∷ f) (in_digits d p) (in_digits f q)
 in_float : (t x : List ℕ) (v : Contents) → StrictFloat t v x → no_return_in t ≡ true
 in_float t x v s =
     let from : no_return_in s.numeral ≡ true → no_return_in t ≡ true = λ h. ap no_return_in s.text
-        ∙ join s.numeral x h (in_suffix x s.suffix.0) in
+    ∙ join s.numeral x h (in_suffix x s.suffix.0) in
     elim s.form [
       | inl a ↦ from (ap no_return_in a.2 ∙ join a.0 (46 ∷ []) (in_digits a.0 a.1) refl)
       | inr b ↦ elim b [

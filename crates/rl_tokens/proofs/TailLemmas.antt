@@ -1,7 +1,5 @@
 -- What is after the rest of a text is after the text.
-use Rattle.rl_tokens.proofs.Common.{◌≡◌, ℕ, ◌-◌, ◌<◌, List, [], ◌++◌, length, take, drop, refl, sym, ap, subst, ◌∙◌,
-    arith, append_assoc, length-append, Option, Some, None, take-append_seam, IsCharBoundary, chars, IsUtf8,
-    chars-append, IfSome, IfNone, option_map}
+use Rattle.rl_tokens.proofs.Common.{◌≡◌, ℕ, ◌-◌, ◌<◌, List, [], ◌++◌, length, take, drop, refl, sym, ap, subst, ◌∙◌, arith, append_assoc, length-append, Option, Some, None, take-append_seam, IsCharBoundary, chars, IsUtf8, chars-append, IfSome, IfNone, option_map}
 use Rattle.std.proofs.Math.Seq.{drop-append_seam}
 use Rattle.std.proofs.lemmas.Str.{IsCharBoundary-at_seam}
 use Rattle.rl_tokens.specs.Texts.{IsTail}
@@ -47,7 +45,7 @@ cut_join bs ys b =
     let f : List ℕ → List ℕ = λ z. take (length bs - length ys) z in
     let g : ℕ → List ℕ = λ n. take n (xs ++ ys) in
     let taken : take (length bs - length ys) bs ≡ xs = ap f b.text_is ∙ ap g (sym (front_len bs xs ys b.text_is))
-        ∙ take-append_seam xs ys in
+    ∙ take-append_seam xs ys in
     b.text_is ∙ ap (λ z. z ++ ys) (sym taken)
 
 -- what stands from there on

@@ -8,9 +8,7 @@ use Rattle.rl_tokens.specs.declared.token.Group.{Group, fold_out-Group}
 use Rattle.rl_tokens.specs.declared.token.TokenStream.{TokenStream, fold-TokenStream, fold_out-TokenStream}
 use Rattle.rl_tokens.specs.Puncts.{Mark}
 use Rattle.rl_tokens.specs.Texts.{SpannedText}
-use Rattle.rl_tokens.specs.Trees.{Tree, GroupTree, PunctTree, LiteralTree, IdentTree, trees_of, MoreTrees, GroupParts,
-    delimiter_of, stream_of, group_span, inside_of, tree_step, group_step, stream_step, tree_view, stream_view,
-    respanned, all_respanned, relocated, all_relocated, looked_up, group_tree}
+use Rattle.rl_tokens.specs.Trees.{Tree, GroupTree, PunctTree, LiteralTree, IdentTree, trees_of, MoreTrees, GroupParts, delimiter_of, stream_of, group_span, inside_of, tree_step, group_step, stream_step, tree_view, stream_view, respanned, all_respanned, relocated, all_relocated, looked_up, group_tree}
 
 abbrev stream_fold : {A : Type 0} → TokenStream A → List Tree
 stream_fold {A} = fold-TokenStream A Tree GroupParts (List Tree) tree_step group_step stream_step
@@ -25,7 +23,7 @@ tree_view-group {A} g =
     ap tree_view (sym (tree.rolls-Group g))
     ∙ fold-roll-TokenTree A Tree GroupParts (List Tree) tree_step group_step stream_step (layer.Group g)
     ∙ ap (λ (p : GroupParts). GroupTree p.delimiter (inside_of p.inside) p.span)
-        (fold_out-Group A Tree GroupParts (List Tree) tree_step group_step stream_step g)
+    (fold_out-Group A Tree GroupParts (List Tree) tree_step group_step stream_step g)
     ∙ ap (λ (ts : List Tree). GroupTree (delimiter_of g) (inside_of ts) (group_span g)) (stream_fold-view (stream_of g))
 
 pub tree_view-punct : (A : Type 0) (p : Mark) → tree_view {A = A} (tree.Punct p) ≡ PunctTree p
@@ -60,7 +58,7 @@ respanned_group span g h d s i =
     let a = tree_view-group g in
     let b = tree_view-group h in
     let k : respanned span (tree_view (tree.Group g)) ≡ respanned span
-        (GroupTree (delimiter_of g) (inside_of (stream_view (stream_of g))) (group_span g)) = ap (respanned span) a in
+    (GroupTree (delimiter_of g) (inside_of (stream_view (stream_of g))) (group_span g)) = ap (respanned span) a in
     b
     ∙ ap (λ x. GroupTree x (inside_of (stream_view (stream_of h))) (group_span h)) d
     ∙ ap (λ x. GroupTree (delimiter_of g) (inside_of x) (group_span h)) i

@@ -48,6 +48,5 @@ pub rejects_left : {T A : Type 0} (runs : List Tree → Span → Result T (Error
     (a b left : List Tree) (s t u at : Span) (x : T) (e : Error A) → a ≡ b → s ≡ t → u ≡ s → runs a s (Ok x) left
     → left ≢ [] → at ≡ first_span left u → e ≡ record { span = at; kind = Unexpected } → RejectsParse runs b t e
 rejects_left runs a b left s t u at x e p q r ran some place is = record {
-  why = inr (record { value = x; rest = left; ran = run_moved runs a b s t (Ok x) left left p q refl ran; some = some;
-      error = cc });
+  why = inr (record { value = x; rest = left; ran = run_moved runs a b s t (Ok x) left left p q refl ran; some = some; error = cc });
 }

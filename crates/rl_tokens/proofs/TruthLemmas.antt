@@ -1,7 +1,5 @@
 -- The words of truth values are identifiers.
-use Rattle.rl_tokens.proofs.Common.{◌≡◌, ℕ, ◌<◌, ◌||◌, ◌&&◌, Bool, true, false, eqb, ltb, List, [], ◌∷◌, refl, ap, ◌∙◌,
-    arith, codes, is_ascii_alphabetic, is_ascii_alphanumeric, list_all, chars, and_from, and_parts, or_right, ltb-true,
-    is_xid_start, is_xid_continue, is_xid_continue-ascii, is_xid_start-ascii}
+use Rattle.rl_tokens.proofs.Common.{◌≡◌, ℕ, ◌<◌, ◌||◌, ◌&&◌, Bool, true, false, eqb, ltb, List, [], ◌∷◌, refl, ap, ◌∙◌, arith, codes, is_ascii_alphabetic, is_ascii_alphanumeric, list_all, chars, and_from, and_parts, or_right, ltb-true, is_xid_start, is_xid_continue, is_xid_continue-ascii, is_xid_start-ascii}
 use Rattle.rl_tokens.specs.Texts.{xid_ok}
 use Rattle.rl_tokens.specs.declared.kind.Kind.TheVariants.{Bool as BoolKind}
 use Rattle.rl_tokens.specs.Reading.{Truth, truth_text}
@@ -19,13 +17,13 @@ letters_continue (c ∷ cs) h =
     let p = and_parts (ltb c 128 && is_word_letter c) (are_word_letters cs) h in
     let q = and_parts (ltb c 128) (is_word_letter c) p.0 in
     and_from (is_xid_continue c) (list_all is_xid_continue cs) (is_xid_continue-ascii c (ltb-true c 128 q.0) ∙ q.1)
-        (letters_continue cs p.1)
+    (letters_continue cs p.1)
 
 ascii_word : (c : ℕ) (cs : List ℕ) → c < 128 → is_ascii_alphabetic c ≡ true → are_word_letters cs ≡ true
     → xid_ok (c ∷ cs) ≡ true
 ascii_word c cs small letter rest =
     and_from (eqb c 95 || is_xid_start c) (list_all is_xid_continue cs)
-        (or_right (eqb c 95) (is_xid_start c) (is_xid_start-ascii c small ∙ letter)) (letters_continue cs rest)
+    (or_right (eqb c 95) (is_xid_start c) (is_xid_start-ascii c small ∙ letter)) (letters_continue cs rest)
 
 -- so `true` and `false` are
 word_of : (b : Bool) → xid_ok (truth_text b) ≡ true

@@ -1,9 +1,5 @@
 -- In front of the first byte at which a literal or a comment may begin stands none.
-use Rattle.rl_tokens.proofs.Common.{◌≡◌, ℕ, zero, suc, ◌+◌, ◌-◌, ◌<◌, ◌≤◌, Bool, true, false, not, ◌&&◌, ◌||◌, ◌==◌,
-    nat_le, cond, List, [], ◌∷◌, ◌++◌, Some, None, length, take, drop, get_or, refl, sym, ap, subst, ◌∙◌, arith,
-    agree_below_at, and_from, and_parts, nat_tests, take-append-drop, prefix_len-le-length, IsCharBoundary-start,
-    IsCharBoundary-after_ascii, IsUtf8-take, chars-append, chars-IsAscii, is_ascii_alphabetic, is_ascii_digit, list_all,
-    prefix_len, chars, IsAscii, IsCharBoundary, IsUtf8}
+use Rattle.rl_tokens.proofs.Common.{◌≡◌, ℕ, zero, suc, ◌+◌, ◌-◌, ◌<◌, ◌≤◌, Bool, true, false, not, ◌&&◌, ◌||◌, ◌==◌, nat_le, cond, List, [], ◌∷◌, ◌++◌, Some, None, length, take, drop, get_or, refl, sym, ap, subst, ◌∙◌, arith, agree_below_at, and_from, and_parts, nat_tests, take-append-drop, prefix_len-le-length, IsCharBoundary-start, IsCharBoundary-after_ascii, IsUtf8-take, chars-append, chars-IsAscii, is_ascii_alphabetic, is_ascii_digit, list_all, prefix_len, chars, IsAscii, IsCharBoundary, IsUtf8}
 use Rattle.rl_tokens.proofs.UnlikelyLanes.{with_before-length}
 use Rattle.rl_tokens.proofs.LexemeRows.{not_true}
 use Rattle.rl_tokens.specs.Texts.{is_among, is_white}
@@ -12,12 +8,10 @@ use Rattle.rl_tokens.specs.Lexemes.{IdentifierForm, DelimiterForm, MarkForm, del
 use Rattle.rl_tokens.specs.Reading.{truth_text}
 use Rattle.rl_tokens.specs.Classes.{after_run}
 use Rattle.rl_tokens.specs.Sources.{PlainKind, StrayKind, SourceBefore, IsLiteralText, source_text}
-use Rattle.rl_tokens.specs.Mirrors.LexemeAt.{StrayHead, begins_word, is_prefix_letter, is_mark_alone, mark_form,
-    head_class, lexeme_at, begins_raw_after}
+use Rattle.rl_tokens.specs.Mirrors.LexemeAt.{StrayHead, begins_word, is_prefix_letter, is_mark_alone, mark_form, head_class, lexeme_at, begins_raw_after}
 use Rattle.rl_tokens.specs.Mirrors.SourceAt.{any_at, opens, or_stray, other_at}
 use Rattle.rl_tokens.specs.Mirrors.RunsAt.{is_word_byte}
-use Rattle.rl_tokens.specs.Mirrors.LiteralsAt.{HoldsNoLiteral, is_likely_mark, is_likely_head, begins_none, with_before,
-    unlikely_len, last_of, byte_before, past_word}
+use Rattle.rl_tokens.specs.Mirrors.LiteralsAt.{HoldsNoLiteral, is_likely_mark, is_likely_head, begins_none, with_before, unlikely_len, last_of, byte_before, past_word}
 use Rattle.rl_tokens.proofs.AsciiRuns.{held_agrees}
 use Rattle.rl_tokens.proofs.LexemeAnswers.{no_lexeme}
 use Rattle.rl_tokens.proofs.LexemeFronts.{at_class, stray_class, start_ascii}
@@ -76,16 +70,16 @@ reach_word : (c : ℕ) (u r : List ℕ) → c < 128 → word_here c ≡ true →
     → Reaches (c ∷ u) r
 reach_word c u r low here more =
     let facts = and_parts (not (is_prefix_letter c) && ((c == 95 || is_ascii_alphabetic c) && not (is_white c)))
-        (not (c == 47) && (not (is_white c) && (not (c == 116) && not (c == 102)))) (word_table c low here) in
+    (not (c == 47) && (not (is_white c) && (not (c == 116) && not (c == 102)))) (word_table c low here) in
     let slash = and_parts (not (c == 47)) (not (is_white c) && (not (c == 116) && not (c == 102))) facts.1 in
     let white = and_parts (not (is_white c)) (not (c == 116) && not (c == 102)) slash.1 in
     let truth = and_parts (not (c == 116)) (not (c == 102)) white.1 in
     let begins : begins_word c ≡ true = ap (λ b. not (is_prefix_letter c) && b) (start_ascii c low) ∙ facts.0 in
     let token = plain_before (c ∷ u) (after_run is_continue u) IdentifierForm
-        (word_found (c ∷ u) u (after_run is_continue u) c refl begins refl) in
+    (word_found (c ∷ u) u (after_run is_continue u) c refl begins refl) in
     reach_token c u (after_run is_continue u) r (PlainKind IdentifierForm) (not_true (c == 47) slash.0)
-        (not_true (is_white c) white.0) token (word_no_literal c u (after_run is_continue u) token
-        (not_true (c == 116) truth.0) (not_true (c == 102) truth.1)) more
+    (not_true (is_white c) white.0) token (word_no_literal c u (after_run is_continue u) token
+    (not_true (c == 116) truth.0) (not_true (c == 102) truth.1)) more
 
 -- of a mark's form
 mark_no_literal : (d : Bool) (c : ℕ) (text : List ℕ) → IsLiteralText (PlainKind (cond d (DelimiterForm c) (MarkForm c)))
@@ -98,7 +92,7 @@ reach_mark : (c : ℕ) (u r : List ℕ) → (c == 47) ≡ false → is_white c �
 reach_mark c u r slash white mark more =
     let token = plain_before (c ∷ u) u (mark_form c) (mark_found (c ∷ u) u c (mark_form c) refl mark refl) in
     reach_token c u u r (PlainKind (mark_form c)) slash white token
-        (mark_no_literal (is_among delimiters c) c (source_text token.token)) more
+    (mark_no_literal (is_among delimiters c) c (source_text token.token)) more
 
 no_raw : (u : List ℕ) → begins_raw_after u false ≡ false
 no_raw [] = refl
@@ -108,32 +102,41 @@ reach_stray : (c : ℕ) (u r : List ℕ) → c < 128 → stray_here c ≡ true �
     → Reaches (c ∷ u) r
 reach_stray c u r low here white more =
     let facts = and_parts (none_of c) ((not (is_ascii_digit c) && not (is_among delimiters c))
-        && (not (is_among marks c) && not ((c == 95 || is_ascii_alphabetic c) && not (is_white c))))
-        (stray_table c low here) in
+    && (not (is_among marks c) && not ((c == 95 || is_ascii_alphabetic c) && not (is_white c))))
+    (stray_table c low here) in
     let a = and_parts (not (c == 47)) (not (c == 39) && (not (c == 34)
-        && (not (c == 98) && (not (c == 99) && not (c == 114))))) facts.0 in
+    && (not (c == 98) && (not (c == 99) && not (c == 114))))) facts.0 in
     let b = and_parts (not (c == 39)) (not (c == 34) && (not (c == 98) && (not (c == 99) && not (c == 114)))) a.1 in
     let d = and_parts (not (c == 34)) (not (c == 98) && (not (c == 99) && not (c == 114))) b.1 in
     let e = and_parts (not (c == 98)) (not (c == 99) && not (c == 114)) d.1 in
     let f = and_parts (not (c == 99)) (not (c == 114)) e.1 in
     let g = and_parts (not (is_ascii_digit c) && not (is_among delimiters c))
-        (not (is_among marks c) && not ((c == 95 || is_ascii_alphabetic c) && not (is_white c))) facts.1 in
+    (not (is_among marks c) && not ((c == 95 || is_ascii_alphabetic c) && not (is_white c))) facts.1 in
     let h = and_parts (not (is_ascii_digit c)) (not (is_among delimiters c)) g.0 in
     let i = and_parts (not (is_among marks c)) (not ((c == 95 || is_ascii_alphabetic c) && not (is_white c))) g.1 in
     let start = start_ascii c low ∙ not_true ((c == 95 || is_ascii_alphabetic c) && not (is_white c)) i.1 in
     let head : head_class c ≡ StrayHead =
     stray_class c start (not_true (is_among delimiters c) h.1) (not_true (c == 47) a.0)
-        (not_true (is_among marks c) i.0) (not_true (is_ascii_digit c) h.0) (not_true (c == 34) d.0)
-        (not_true (c == 39) b.0) in
+    (not_true (is_among marks c) i.0) (not_true (is_ascii_digit c) h.0) (not_true (c == 34) d.0)
+    (not_true (c == 39) b.0) in
     let none : lexeme_at (c ∷ u) ≡ None = at_class c u StrayHead head in
     let other : other_at (c ∷ u) ≡ None = rw (not_true (c == 47) a.0, not_true (c == 39) b.0, not_true (c == 114) f.1)
-        refl in
-    let shut : opens (c ∷ u) ≡ false = rw (opens, not_true (c == 47) a.0, not_true (c == 34) d.0, not_true (c == 98)
-        e.0, not_true (c == 99) f.0, not_true (c == 114) f.1, not_true (c == 39) b.0, no_raw u) refl in
+    refl in
+    let shut : opens (c ∷ u) ≡ false = rw (
+      opens,
+      not_true (c == 47) a.0,
+      not_true (c == 34) d.0,
+      not_true (c == 98)
+          e.0,
+      not_true (c == 99) f.0,
+      not_true (c == 114) f.1,
+      not_true (c == 39) b.0,
+      no_raw u,
+    ) refl in
     let any : any_at (c ∷ u) ≡ Some (StrayKind, u) = ap (λ o. or_stray o (c ∷ u)) other
-        ∙ ap (λ b. cond b None (Some (StrayKind, u))) shut in
+    ∙ ap (λ b. cond b None (Some (StrayKind, u))) shut in
     reach_token c u u r StrayKind (not_true (c == 47) a.0) white
-        (any_found (c ∷ u) (StrayKind, u) (no_lexeme (c ∷ u) none) any) (λ is. is) more
+    (any_found (c ∷ u) (StrayKind, u) (no_lexeme (c ∷ u) none) any) (λ is. is) more
 
 -- ---- fronts of ASCII
 
@@ -240,7 +243,7 @@ shorter_front p (suc n) (suc m) [] h all = refl
 shorter_front p (suc n) (suc m) (b ∷ bs) h all =
     let parts = and_parts (begins_none (p, b)) (list_all begins_none (with_before b (take m bs))) all in
     and_from (begins_none (p, b)) (list_all begins_none (with_before b (take n bs))) parts.0
-        (shorter_front b n m bs (omega arith) parts.1)
+    (shorter_front b n m bs (omega arith) parts.1)
 
 front_up_to : (n : ℕ) (bs : List ℕ) → n ≤ unlikely_len bs → list_all begins_none (with_before 0 (take n bs)) ≡ true
 front_up_to n bs h = shorter_front 0 n (unlikely_len bs) bs h (front_unlikely 0 bs)
@@ -287,9 +290,9 @@ unlikely-reaches bs rest n r u e cut skipped =
     let whole : chars bs ≡ front ++ chars rest =
     ap chars (sym (take-append-drop n bs)) ∙ chars-append front (drop n bs) (IsUtf8-take bs n u at)
     ∙ ap (λ z. z ++ chars (drop n bs)) (chars-IsAscii front (front_ascii 0 front all))
-        ∙ ap (λ z. front ++ chars z) (sym cut) in
+    ∙ ap (λ z. front ++ chars z) (sym cut) in
     subst (λ (z : List ℕ). Reaches z r) (sym whole) (reach_front 0 front (chars rest) r all
-        (reach_end (past_word (last_of 0 front) (chars rest)) r skipped))
+    (reach_end (past_word (last_of 0 front) (chars rest)) r skipped))
 
 -- The same for what is left, in the words of the contract: after the byte before the place.
 pub unlikely-holds : (bs rest past next : List ℕ) (n before : ℕ) → IsUtf8 bs → n ≤ unlikely_len bs → rest ≡ drop n bs
@@ -297,7 +300,7 @@ pub unlikely-holds : (bs rest past next : List ℕ) (n before : ℕ) → IsUtf8 
     → HoldsNoLiteral (chars bs) next
 unlikely-holds bs rest past next n before u e cut is word skipped =
     let reaches = unlikely-reaches bs rest n next u e cut (subst (λ (z : List ℕ). Skipped z next)
-        (word ∙ ap (λ b. past_word b (chars rest)) is) skipped) in
+    (word ∙ ap (λ b. past_word b (chars rest)) is) skipped) in
     holds_skipped (chars bs) reaches.start next reaches.skipped reaches.holds
 
 pub byte_before-start : (bs : List ℕ) (n : ℕ) → n ≡ 0 → 0 ≡ byte_before bs n

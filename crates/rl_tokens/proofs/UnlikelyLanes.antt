@@ -1,7 +1,5 @@
 -- From the lanes of sixteen bytes to those at which a literal or a comment may begin.
-use Rattle.rl_tokens.proofs.Common.{◌≡◌, ℕ, zero, suc, ◌+◌, ◌-◌, ◌*◌, ◌^◌, ◌<◌, ◌≤◌, ◌==◌, nat_le, ◌||◌, ◌&&◌, Bool,
-    true, false, not, cond, List, [], ◌∷◌, map, length, take, drop, refl, sym, ap, ap₂, ◌∙◌, arith, agree_below_at,
-    nat_tests, map-map, prefix_len, bit_or, chunk, mask_l}
+use Rattle.rl_tokens.proofs.Common.{◌≡◌, ℕ, zero, suc, ◌+◌, ◌-◌, ◌*◌, ◌^◌, ◌<◌, ◌≤◌, ◌==◌, nat_le, ◌||◌, ◌&&◌, Bool, true, false, not, cond, List, [], ◌∷◌, map, length, take, drop, refl, sym, ap, ap₂, ◌∙◌, arith, agree_below_at, nat_tests, map-map, prefix_len, bit_or, chunk, mask_l}
 use lib.Bits.{bit_and, and_block, or_block}
 use Rattle.rl_tokens.specs.Mirrors.LexemeAt.{has_bit}
 use Rattle.rl_tokens.specs.Mirrors.RunsAt.{is_word_byte}
@@ -63,10 +61,10 @@ and_more a b x y =
     let q : cond b 1 0 + 2 * y ≡ y * 2 ^ 1 + cond b 1 0 = omega arith in
     let low = both_bits a b in
     let all : bit_and (x * 2 ^ 1 + cond a 1 0) (y * 2 ^ 1 + cond b 1 0)
-        ≡ bit_and x y * 2 ^ 1 + bit_and (cond a 1 0) (cond b 1 0) = and_block 1 x y (cond a 1 0) (cond b 1 0)
-        (bit_small a) (bit_small b) in
+    ≡ bit_and x y * 2 ^ 1 + bit_and (cond a 1 0) (cond b 1 0) = and_block 1 x y (cond a 1 0) (cond b 1 0)
+    (bit_small a) (bit_small b) in
     ap₂ bit_and p q ∙ all ∙ (let e : bit_and x y * 2 ^ 1 + bit_and (cond a 1 0) (cond b 1 0)
-        ≡ cond (a && b) 1 0 + 2 * bit_and x y = omega (arith, low) in e)
+    ≡ cond (a && b) 1 0 + 2 * bit_and x y = omega (arith, low) in e)
 
 or_more : (a b : Bool) (x y : ℕ) → bit_or (cond a 1 0 + 2 * x) (cond b 1 0 + 2 * y) ≡ cond (a || b) 1 0 + 2 * bit_or x y
 or_more a b x y =
@@ -74,10 +72,10 @@ or_more a b x y =
     let q : cond b 1 0 + 2 * y ≡ y * 2 ^ 1 + cond b 1 0 = omega arith in
     let low = either_bit a b in
     let all : bit_or (x * 2 ^ 1 + cond a 1 0) (y * 2 ^ 1 + cond b 1 0)
-        ≡ bit_or x y * 2 ^ 1 + bit_or (cond a 1 0) (cond b 1 0) = or_block 1 x y (cond a 1 0) (cond b 1 0) (bit_small a)
-        (bit_small b) in
+    ≡ bit_or x y * 2 ^ 1 + bit_or (cond a 1 0) (cond b 1 0) = or_block 1 x y (cond a 1 0) (cond b 1 0) (bit_small a)
+    (bit_small b) in
     ap₂ bit_or p q ∙ all ∙ (let e : bit_or x y * 2 ^ 1 + bit_or (cond a 1 0) (cond b 1 0)
-        ≡ cond (a || b) 1 0 + 2 * bit_or x y = omega (arith, low) in e)
+    ≡ cond (a || b) 1 0 + 2 * bit_or x y = omega (arith, low) in e)
 
 and_mask : {X : Type 0} (p q : X → Bool) (v : List X) → bit_and (mask_l (map p v)) (mask_l (map q v))
     ≡ mask_l (map (λ x. p x && q x) v)
@@ -100,16 +98,16 @@ likely_mask bs at m w h some room marks words heads =
     let place : suc (at - 1) ≡ at = omega arith in
     let second : chunk at 16 bs ≡ map (λ x. x.1) v = sym (seconds at 16 0 bs) in
     let first : chunk (at - 1) 16 bs ≡ map (λ x. x.0) v = sym (firsts (at - 1) 16 0 bs (omega (arith, room, place)))
-        ∙ ap (λ i. map (λ x. x.0) (chunk i 16 (with_before 0 bs))) place in
+    ∙ ap (λ i. map (λ x. x.0) (chunk i 16 (with_before 0 bs))) place in
     let m_is : m ≡ mask_l (map (λ x. is_likely_mark x.1) v) = marks ∙ ap (λ l. mask_l (map is_likely_mark l)) second
-        ∙ ap mask_l (map-map is_likely_mark (λ x. x.1) v) in
+    ∙ ap mask_l (map-map is_likely_mark (λ x. x.1) v) in
     let w_is : w ≡ mask_l (map (λ x. not (is_word_byte x.0)) v) = words
-        ∙ ap (λ l. mask_l (map (λ x. not (is_word_byte x)) l)) first
-        ∙ ap mask_l (map-map (λ x. not (is_word_byte x)) (λ x. x.0) v) in
+    ∙ ap (λ l. mask_l (map (λ x. not (is_word_byte x)) l)) first
+    ∙ ap mask_l (map-map (λ x. not (is_word_byte x)) (λ x. x.0) v) in
     let h_is : h ≡ mask_l (map (λ x. is_likely_head x.1) v) = heads ∙ ap (λ l. mask_l (map is_likely_head l)) second
-        ∙ ap mask_l (map-map is_likely_head (λ x. x.1) v) in
+    ∙ ap mask_l (map-map is_likely_head (λ x. x.1) v) in
     let both : bit_and w h ≡ mask_l (map (λ x. not (is_word_byte x.0) && is_likely_head x.1) v) = ap₂ bit_and w_is h_is
-        ∙ and_mask (λ x. not (is_word_byte x.0)) (λ x. is_likely_head x.1) v in
+    ∙ and_mask (λ x. not (is_word_byte x.0)) (λ x. is_likely_head x.1) v in
     ap₂ bit_or m_is both ∙ or_mask (λ x. is_likely_mark x.1) (λ x. not (is_word_byte x.0) && is_likely_head x.1) v
 
 -- ---- the first byte
@@ -130,7 +128,7 @@ pub likely_ascii : (c : ℕ) → 64 ≤ c → c < 128 → has_bit 56298259517276
 likely_ascii c h low =
     let e : 64 + (c - 64) ≡ c = omega arith in
     agree_below_at (has_bit 5629825951727616) (λ k. is_likely_mark (64 + k) || is_likely_head (64 + k)) 64 (c - 64) refl
-        (omega arith) ∙ ap (λ k. is_likely_mark k || is_likely_head k) e
+    (omega arith) ∙ ap (λ k. is_likely_mark k || is_likely_head k) e
 
 past : (c : ℕ) → 128 ≤ c → nat_le 128 c ≡ true
 past c h = grind (arith, nat_tests)

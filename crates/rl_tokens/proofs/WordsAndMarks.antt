@@ -1,17 +1,11 @@
 -- Words and marks that their first byte tells, or that and the next.
-use Rattle.rl_tokens.proofs.Common.{◌≡◌, ℕ, inl, lit<, Bool, true, false, not, ◌&&◌, ◌||◌, ◌==◌, cond, List, [], ◌∷◌,
-    Some, None, nat_le, ◌<◌, ◌≤◌, ◌+◌, ◌-◌, refl, sym, subst, ◌∙◌, ap, arith, or_parts, and_parts, agree_below,
-    agree_below_at, nat_tests, is_ascii, is_ascii_alphabetic, is_ascii_digit}
+use Rattle.rl_tokens.proofs.Common.{◌≡◌, ℕ, inl, lit<, Bool, true, false, not, ◌&&◌, ◌||◌, ◌==◌, cond, List, [], ◌∷◌, Some, None, nat_le, ◌<◌, ◌≤◌, ◌+◌, ◌-◌, refl, sym, subst, ◌∙◌, ap, arith, or_parts, and_parts, agree_below, agree_below_at, nat_tests, is_ascii, is_ascii_alphabetic, is_ascii_digit}
 use Rattle.rl_tokens.proofs.LexemeRows.{not_true}
 use Rattle.rl_tokens.specs.Texts.{first_passes, is_among, is_white}
-use Rattle.rl_tokens.specs.Lexemes.{delimiters, marks, LexemeForm, IdentifierForm, DelimiterForm, MarkForm, is_start,
-    is_continue}
+use Rattle.rl_tokens.specs.Lexemes.{delimiters, marks, LexemeForm, IdentifierForm, DelimiterForm, MarkForm, is_start, is_continue}
 use Rattle.rl_tokens.specs.Classes.{after_run}
-use Rattle.rl_tokens.specs.Mirrors.LexemeAt.{FormBefore, LetterBHead, LetterCHead, LetterRHead, OtherLetterHead,
-    StrayHead, is_prefix_letter, begins_word, goes_on_as_word, is_mark_alone, makes_comment, mark_form, has_bit,
-    start_class, lexeme_at, word_at}
-use Rattle.rl_tokens.proofs.LexemeFronts.{at_class, class_start, low_among, stray_class, front_delimiter, front_mark,
-    front_slash, start_ascii, class98, class99, class114}
+use Rattle.rl_tokens.specs.Mirrors.LexemeAt.{FormBefore, LetterBHead, LetterCHead, LetterRHead, OtherLetterHead, StrayHead, is_prefix_letter, begins_word, goes_on_as_word, is_mark_alone, makes_comment, mark_form, has_bit, start_class, lexeme_at, word_at}
+use Rattle.rl_tokens.proofs.LexemeFronts.{at_class, class_start, low_among, stray_class, front_delimiter, front_mark, front_slash, start_ascii, class98, class99, class114}
 use Rattle.rl_tokens.proofs.LexemeAnswers.{form_before}
 use Rattle.rl_tokens.proofs.Comments.{false_unless}
 use Rattle.rl_tokens.proofs.Pieces.{is_equal}
@@ -44,7 +38,7 @@ pub high_words : (c : ℕ) → 64 ≤ c → c < 128 → has_bit 5753347945487400
 high_words c h low is =
     ap (λ b. not (is_prefix_letter c) && b) (start_ascii c low)
     ∙ sym (high_set 575334794548740094 (λ k. not (is_prefix_letter k)
-        && ((k == 95 || is_ascii_alphabetic k) && not (is_white k))) refl c h low)
+    && ((k == 95 || is_ascii_alphabetic k) && not (is_white k))) refl c h low)
     ∙ is
 
 -- ---- words
@@ -66,7 +60,7 @@ pub word_found : (s t r : List ℕ) (c : ℕ) → s ≡ c ∷ t → begins_word 
 word_found s t r c e is run =
     let parts = and_parts (not (is_prefix_letter c)) (is_start c) is in
     word_here s t r c e (at_class c t OtherLetterHead (class_start c parts.1
-        ∙ other_letter (c == 98) (c == 99) (c == 114) parts.0)) run
+    ∙ other_letter (c == 98) (c == 99) (c == 114) parts.0)) run
 
 -- ---- a letter that may begin a literal, where none follows
 
@@ -80,8 +74,11 @@ by_letter b d r c [] eb ed er is h = absurd (cc)
 by_letter true d r c (x ∷ u) eb ed er is h =
     let parts = and_parts (nat_le 64 x) (not (x == 114)) h in
     subst (λ (k : ℕ). lexeme_at (k ∷ x ∷ u) ≡ word_at (x ∷ u)) (sym (is_equal c 98 eb))
-    (at_class 98 (x ∷ u) LetterBHead class98 ∙ rw (other_than x 34 (lit< tt) parts.0, other_than x 39 (lit< tt) parts.0,
-        not_true (x == 114) parts.1) refl)
+    (at_class 98 (x ∷ u) LetterBHead class98 ∙ rw (
+      other_than x 34 (lit< tt) parts.0,
+      other_than x 39 (lit< tt) parts.0,
+      not_true (x == 114) parts.1,
+    ) refl)
 by_letter false true r c (x ∷ u) eb ed er is h =
     let parts = and_parts (nat_le 64 x) (not (x == 114)) h in
     subst (λ (k : ℕ). lexeme_at (k ∷ x ∷ u) ≡ word_at (x ∷ u)) (sym (is_equal c 99 ed))
@@ -89,8 +86,11 @@ by_letter false true r c (x ∷ u) eb ed er is h =
 by_letter false false true c (x ∷ u) eb ed er is h =
     let parts = and_parts (nat_le 64 x) (not (x == 114)) h in
     subst (λ (k : ℕ). lexeme_at (k ∷ x ∷ u) ≡ word_at (x ∷ u)) (sym (is_equal c 114 er))
-    (at_class 114 (x ∷ u) LetterRHead class114 ∙ rw (other_than x 35 (lit< tt) parts.0, other_than x 34 (lit< tt)
-        parts.0) refl)
+    (at_class 114 (x ∷ u) LetterRHead class114 ∙ rw (
+      other_than x 35 (lit< tt) parts.0,
+      other_than x 34 (lit< tt)
+          parts.0,
+    ) refl)
 by_letter false false false c (x ∷ u) eb ed er is h = absurd (cc)
 
 pub prefix_word_found : (s t r : List ℕ) (c : ℕ) → s ≡ c ∷ t → is_prefix_letter c ≡ true
@@ -133,14 +133,18 @@ not_low c k low is = grind (arith, nat_tests)
 pub wide_word : (s t r : List ℕ) (c : ℕ) → s ≡ c ∷ t → is_ascii c ≡ false → is_start c ≡ true → r
     ≡ after_run is_continue t → Some (IdentifierForm, r) ≡ lexeme_at s
 wide_word s t r c e wide start run =
-    let letter : start_class c ≡ OtherLetterHead = rw (not_low c 98 (lit< tt) wide, not_low c 99 (lit< tt) wide, not_low
-        c 114 (lit< tt) wide) refl in
+    let letter : start_class c ≡ OtherLetterHead = rw (
+      not_low c 98 (lit< tt) wide,
+      not_low c 99 (lit< tt) wide,
+      not_low
+          c 114 (lit< tt) wide,
+    ) refl in
     ap (λ x. Some (IdentifierForm, x)) run ∙ sym (ap lexeme_at e
-        ∙ at_class c t OtherLetterHead (class_start c start ∙ letter))
+    ∙ at_class c t OtherLetterHead (class_start c start ∙ letter))
 
 pub wide_stray : (s t : List ℕ) (c : ℕ) → s ≡ c ∷ t → is_ascii c ≡ false → is_start c ≡ false → lexeme_at s ≡ None
 wide_stray s t c e wide start =
     let high : 128 ≤ c = grind (arith, nat_tests) in
     let digit : is_ascii_digit c ≡ false = grind (arith, nat_tests) in
     stray_first s t c e start (wide_marks c high) (not_low c 47 (lit< tt) wide) digit (not_low c 34 (lit< tt) wide)
-        (not_low c 39 (lit< tt) wide)
+    (not_low c 39 (lit< tt) wide)

@@ -1,7 +1,5 @@
 -- What a writer has written so far, from its opener on.
-use Rattle.rl_tokens.proofs.Common.{◌≡◌, ◌<◌, ℕ, zero, suc, arith, List, [], ◌∷◌, ◌++◌, map, length, take, refl, sym,
-    ap, subst, ◌≤◌, ◌∙◌, append_assoc, append-nil, encode_utf8, chars, IsAscii, IsUtf8, take-append_seam,
-    encodes-append, encodes-chars, chars_from_encodes, chars_past_char, chars-nil, IsUtf8-nil}
+use Rattle.rl_tokens.proofs.Common.{◌≡◌, ◌<◌, ℕ, zero, suc, arith, List, [], ◌∷◌, ◌++◌, map, length, take, refl, sym, ap, subst, ◌≤◌, ◌∙◌, append_assoc, append-nil, encode_utf8, chars, IsAscii, IsUtf8, take-append_seam, encodes-append, encodes-chars, chars_from_encodes, chars_past_char, chars-nil, IsUtf8-nil}
 use Rattle.std.proofs.Common.{length-take}
 use Rattle.std.specs.Prelude.{encode_utf8_all}
 use Rattle.std.specs.String.Boundary.{IsSplitPoint}
@@ -51,10 +49,10 @@ pub begun_more : (k : Kind) (a b xs : List ℕ) (c : ℕ) → a ≡ begun k xs �
 begun_more k a b xs c e h =
     let inner = texts (map (written_unit k) xs) in
     let all : (opener k ++ inner) ++ unit_text (written_unit k c) ≡ opener k
-        ++ texts (map (written_unit k) (xs ++ (c ∷ []))) = append_assoc (opener k) inner (unit_text (written_unit k c))
-        ∙ ap (λ z. opener k ++ z) (sym (texts_more k xs c)) in
+    ++ texts (map (written_unit k) (xs ++ (c ∷ []))) = append_assoc (opener k) inner (unit_text (written_unit k c))
+    ∙ ap (λ z. opener k ++ z) (sym (texts_more k xs c)) in
     h ∙ ap (λ z. z ++ encode_utf8_all (unit_text (written_unit k c))) e
-        ∙ sym (encodes-append (opener k ++ inner) (unit_text (written_unit k c))) ∙ ap encode_utf8_all all
+    ∙ sym (encodes-append (opener k ++ inner) (unit_text (written_unit k c))) ∙ ap encode_utf8_all all
 
 -- the same where something stands before
 pub begun_more_after : (k : Kind) (p a b xs : List ℕ) (c : ℕ) → a ≡ p ++ begun k xs → b ≡ a
@@ -62,7 +60,7 @@ pub begun_more_after : (k : Kind) (p a b xs : List ℕ) (c : ℕ) → a ≡ p ++
 begun_more_after k p a b xs c e h =
     let one = encode_utf8_all (unit_text (written_unit k c)) in
     h ∙ ap (λ z. z ++ one) e ∙ append_assoc p (begun k xs) one
-        ∙ ap (λ z. p ++ z) (begun_more k (begun k xs) (begun k xs ++ one) xs c refl refl)
+    ∙ ap (λ z. p ++ z) (begun_more k (begun k xs) (begun k xs ++ one) xs c refl refl)
 
 -- what stood before is still in front
 pub begun_front : (k : Kind) (p a b xs : List ℕ) → a ≡ p ++ begun k xs → b ≡ a → take (length p) b ≡ p
@@ -84,7 +82,7 @@ begun_whole_after k p a b xs ys e h same u v =
     ∙ encodes-append (opener k ++ inner) (closer k ∷ [])
     ∙ ap (λ z. encode_utf8_all (opener k ++ inner) ++ z) one in
     appended p b (written_text k xs) u v (h ∙ ap (λ z. z ++ encode_utf8 (closer k)) e
-        ∙ append_assoc p (begun k xs) (encode_utf8 (closer k)) ∙ ap (λ z. p ++ z) (sym all))
+    ∙ append_assoc p (begun k xs) (encode_utf8 (closer k)) ∙ ap (λ z. p ++ z) (sym all))
     ∙ ap (λ z. chars p ++ written_text k z) same
 
 -- the closer after all of them

@@ -1,29 +1,23 @@
 -- What is written is strict, and reads as the value.
-use Rattle.rl_tokens.proofs.Common.{◌≡◌, ℕ, suc, ◌+◌, ◌*◌, ◌^◌, ◌/◌, ◌%◌, ◌<◌, ◌||◌, ◌&&◌, Bool, true, false, not, eqb,
-    List, [], ◌∷◌, ◌++◌, length, map, refl, sym, ap, subst, ◌∙◌, inl, inr, arith, append_assoc, append-nil, nat_lt,
-    digit_value, is_ascii_hexdigit, list_all, flat_map, encode_ascii, eqb-true, both_ways, and_parts, and_from,
-    or_parts, or_cases, or_from, cases_Bool, ltb-true, ltb-false, lt-ltb, not-true, not_from_false, agree_below_at}
+use Rattle.rl_tokens.proofs.Common.{◌≡◌, ℕ, suc, ◌+◌, ◌*◌, ◌^◌, ◌/◌, ◌%◌, ◌<◌, ◌||◌, ◌&&◌, Bool, true, false, not, eqb, List, [], ◌∷◌, ◌++◌, length, map, refl, sym, ap, subst, ◌∙◌, inl, inr, arith, append_assoc, append-nil, nat_lt, digit_value, is_ascii_hexdigit, list_all, flat_map, encode_ascii, eqb-true, both_ways, and_parts, and_from, or_parts, or_cases, or_from, cases_Bool, ltb-true, ltb-false, lt-ltb, not-true, not_from_false, agree_below_at}
 use Rattle.std.proofs.lemmas.Nat.{div-add-mod'}
 use Rattle.std.proofs.lemmas.Bool.{eqb-false}
 use Rattle.rl_tokens.specs.declared.kind.Kind.{Kind}
 use Rattle.rl_tokens.specs.declared.kind.Kind.TheVariants.{Str, ByteStr, CStr, Byte, Char, Int, Float, Bool as BoolKind}
-use Rattle.rl_tokens.specs.Quoted.{QuotedUnit, Plain, Named, Hex, LowerN, LowerR, LowerT, Backslash, Zero, unit_text,
-    texts, opener, hex_value}
+use Rattle.rl_tokens.specs.Quoted.{QuotedUnit, Plain, Named, Hex, LowerN, LowerR, LowerT, Backslash, Zero, unit_text, texts, opener, hex_value}
 use Rattle.rl_tokens.specs.Reading.{Reads, quoted_contents}
 use Rattle.rl_tokens.specs.Written.{upper_digit, closer, own_quote, is_written_as_number, written_unit, written_text}
-use Rattle.rl_tokens.specs.Strict.{StrictUnit, Itself, QuoteEscape, PlainEscape, AsciiEscape, ByteEscape, strict_text,
-    strict_contents, is_octal, is_bare_character, is_bare_in_string, is_strict_unit, BlanksEnd, strict_opener,
-    strict_closer, strict_content_of, strict_quoted_contents, HasUnits, StrictCooked, Strict}
+use Rattle.rl_tokens.specs.Strict.{StrictUnit, Itself, QuoteEscape, PlainEscape, AsciiEscape, ByteEscape, strict_text, strict_contents, is_octal, is_bare_character, is_bare_in_string, is_strict_unit, BlanksEnd, strict_opener, strict_closer, strict_content_of, strict_quoted_contents, HasUnits, StrictCooked, Strict}
 use Rattle.rl_tokens.specs.Agreeing.{IsQuotedValue}
 use Rattle.rl_tokens.proofs.Agreeing.{strict_reads}
 
 -- what holds of each way to write a character holds of the one that is taken
 written_by : (k : Kind) (P : QuotedUnit → Type 0) (c : ℕ) →
     (c ≡ 0 → P (Named Zero)) → (c ≡ 9 → P (Named LowerT)) → (c ≡ 10 → P (Named LowerN)) → (c ≡ 13 → P (Named LowerR))
-        → (c ≡ 92 → P (Named Backslash)) → (c ≡ closer k → P (own_quote k)) →
+    → (c ≡ 92 → P (Named Backslash)) → (c ≡ closer k → P (own_quote k)) →
     (eqb c 0 ≡ false → is_written_as_number k c ≡ true → P (Hex (upper_digit (c / 16)) (upper_digit (c % 16)))) →
     (eqb c 0 ≡ false → eqb c 9 ≡ false → eqb c 10 ≡ false → eqb c 13 ≡ false → eqb c 92 ≡ false → eqb c (closer k)
-        ≡ false → is_written_as_number k c ≡ false → P (Plain c)) →
+    ≡ false → is_written_as_number k c ≡ false → P (Plain c)) →
     P (written_unit k c)
 unfolding written_unit
 written_by k P c zero_is tab lf cr backslash quote hex plain =
@@ -59,8 +53,8 @@ pub record Upper (d : ℕ) : Type 0 where
 upper : (d : ℕ) → d < 16 → Upper d
 upper d h =
     let both : (eqb (digit_value (upper_digit d)) d && is_ascii_hexdigit (upper_digit d))
-        ≡ true = agree_below_at (λ d. eqb (digit_value (upper_digit d)) d && is_ascii_hexdigit (upper_digit d))
-        (λ d. true) 16 d refl h in
+    ≡ true = agree_below_at (λ d. eqb (digit_value (upper_digit d)) d && is_ascii_hexdigit (upper_digit d))
+    (λ d. true) 16 d refl h in
     let p = and_parts _ _ both in
     record { value_is = eqb-true _ d p.0; is_hex = p.1 }
 
@@ -128,78 +122,65 @@ ascii_hex k c h allowed =
     let low_high : c / 16 < 8 = omega arith in
     let Eight : ℕ → Type 0 = λ n. n < 8 in
     let octal = lt-ltb (digit_value (upper_digit (c / 16))) 8 (subst Eight (sym d.high_value) low_high) in
-    record { unit = AsciiEscape (upper_digit (c / 16)) (upper_digit (c % 16)); is_unit = allowed _ _ octal d.low_hex;
-        text_is = refl; value_is = ap (λ z. z ∷ []) d.value_is; goes_on = λ us b. b }
+    record { unit = AsciiEscape (upper_digit (c / 16)) (upper_digit (c % 16)); is_unit = allowed _ _ octal d.low_hex; text_is = refl; value_is = ap (λ z. z ∷ []) d.value_is; goes_on = λ us b. b }
 
 byte_hex : (k : Kind) (c : ℕ) → c < 256 → ((high low : ℕ) → is_ascii_hexdigit high ≡ true → is_ascii_hexdigit low ≡ true
     → hex_value high low ≡ c → is_strict_unit k (ByteEscape high low) ≡ true)
     → Fine k c (Hex (upper_digit (c / 16)) (upper_digit (c % 16)))
 byte_hex k c h allowed =
     let d = two_digits c h in
-    record { unit = ByteEscape (upper_digit (c / 16)) (upper_digit (c % 16)); is_unit = allowed _ _ d.high_hex d.low_hex
-        d.value_is; text_is = refl; value_is = ap (λ z. z ∷ []) d.value_is; goes_on = λ us b. b }
+    record { unit = ByteEscape (upper_digit (c / 16)) (upper_digit (c % 16)); is_unit = allowed _ _ d.high_hex d.low_hex d.value_is; text_is = refl; value_is = ap (λ z. z ∷ []) d.value_is; goes_on = λ us b. b }
 
 named : (k : Kind) (c letter value : ℕ) (u : QuotedUnit) → c ≡ value → is_strict_unit k (PlainEscape letter) ≡ true
     → unit_text u ≡ 92 ∷ letter ∷ [] → strict_contents (strict_content_of k) (PlainEscape letter) ≡ value ∷ []
     → Fine k c u
-named k c letter value u e allowed text contents = record { unit = PlainEscape letter; is_unit = allowed; text_is =
-    text; value_is = contents ∙ one_of c value e; goes_on = λ us b. b }
+named k c letter value u e allowed text contents = record { unit = PlainEscape letter; is_unit = allowed; text_is = text; value_is = contents ∙ one_of c value e; goes_on = λ us b. b }
 
 str_fine : (c : ℕ) → Fine Str c (written_unit Str c)
 str_fine c = written_by Str (Fine Str c) c
     (λ e. named Str c 48 0 _ e refl refl refl) (λ e. named Str c 116 9 _ e refl refl refl)
-        (λ e. named Str c 110 10 _ e refl refl refl) (λ e. named Str c 114 13 _ e refl refl refl)
-        (λ e. named Str c 92 92 _ e refl refl refl)
-    (λ e. record { unit = QuoteEscape 34; is_unit = refl; text_is = refl; value_is = one_of c 34 e; goes_on = λ us b. b
-        })
+    (λ e. named Str c 110 10 _ e refl refl refl) (λ e. named Str c 114 13 _ e refl refl refl)
+    (λ e. named Str c 92 92 _ e refl refl refl)
+    (λ e. record { unit = QuoteEscape 34; is_unit = refl; text_is = refl; value_is = one_of c 34 e; goes_on = λ us b. b })
     (λ z n. ascii_hex Str c (small_number c n) (λ high low a b. and_from _ _ a b))
-    (λ z t l r b q n. record { unit = Itself c; is_unit = bare_string c q b r; text_is = refl; value_is = refl; goes_on
-        = λ us b. b })
+    (λ z t l r b q n. record { unit = Itself c; is_unit = bare_string c q b r; text_is = refl; value_is = refl; goes_on = λ us b. b })
 
 char_fine : (c : ℕ) → Fine Char c (written_unit Char c)
 char_fine c = written_by Char (Fine Char c) c
     (λ e. named Char c 48 0 _ e refl refl refl) (λ e. named Char c 116 9 _ e refl refl refl)
-        (λ e. named Char c 110 10 _ e refl refl refl) (λ e. named Char c 114 13 _ e refl refl refl)
-        (λ e. named Char c 92 92 _ e refl refl refl)
-    (λ e. record { unit = QuoteEscape 39; is_unit = refl; text_is = refl; value_is = one_of c 39 e; goes_on = λ us b. b
-        })
+    (λ e. named Char c 110 10 _ e refl refl refl) (λ e. named Char c 114 13 _ e refl refl refl)
+    (λ e. named Char c 92 92 _ e refl refl refl)
+    (λ e. record { unit = QuoteEscape 39; is_unit = refl; text_is = refl; value_is = one_of c 39 e; goes_on = λ us b. b })
     (λ z n. ascii_hex Char c (small_number c n) (λ high low a b. and_from _ _ a b))
-    (λ z t l r b q n. record { unit = Itself c; is_unit = bare_character c q b l r t; text_is = refl; value_is = refl;
-        goes_on = λ us b. b })
+    (λ z t l r b q n. record { unit = Itself c; is_unit = bare_character c q b l r t; text_is = refl; value_is = refl; goes_on = λ us b. b })
 
 byte_str_fine : (c : ℕ) → c < 256 → Fine ByteStr c (written_unit ByteStr c)
 byte_str_fine c h = written_by ByteStr (Fine ByteStr c) c
     (λ e. named ByteStr c 48 0 _ e refl refl refl) (λ e. named ByteStr c 116 9 _ e refl refl refl)
-        (λ e. named ByteStr c 110 10 _ e refl refl refl) (λ e. named ByteStr c 114 13 _ e refl refl refl)
-        (λ e. named ByteStr c 92 92 _ e refl refl refl)
-    (λ e. record { unit = QuoteEscape 34; is_unit = refl; text_is = refl; value_is = one_of c 34 e; goes_on = λ us b. b
-        })
+    (λ e. named ByteStr c 110 10 _ e refl refl refl) (λ e. named ByteStr c 114 13 _ e refl refl refl)
+    (λ e. named ByteStr c 92 92 _ e refl refl refl)
+    (λ e. record { unit = QuoteEscape 34; is_unit = refl; text_is = refl; value_is = one_of c 34 e; goes_on = λ us b. b })
     (λ z n. byte_hex ByteStr c h (λ high low a b v. and_from _ _ a b))
-    (λ z t l r b q n. record { unit = Itself c; is_unit = and_from _ _ (lt-ltb c 128 (small_plain c n))
-        (bare_string c q b r); text_is = refl; value_is = refl; goes_on = λ us b. b })
+    (λ z t l r b q n. record { unit = Itself c; is_unit = and_from _ _ (lt-ltb c 128 (small_plain c n)) (bare_string c q b r); text_is = refl; value_is = refl; goes_on = λ us b. b })
 
 byte_fine : (c : ℕ) → c < 256 → Fine Byte c (written_unit Byte c)
 byte_fine c h = written_by Byte (Fine Byte c) c
     (λ e. named Byte c 48 0 _ e refl refl refl) (λ e. named Byte c 116 9 _ e refl refl refl)
-        (λ e. named Byte c 110 10 _ e refl refl refl) (λ e. named Byte c 114 13 _ e refl refl refl)
-        (λ e. named Byte c 92 92 _ e refl refl refl)
-    (λ e. record { unit = QuoteEscape 39; is_unit = refl; text_is = refl; value_is = one_of c 39 e; goes_on = λ us b. b
-        })
+    (λ e. named Byte c 110 10 _ e refl refl refl) (λ e. named Byte c 114 13 _ e refl refl refl)
+    (λ e. named Byte c 92 92 _ e refl refl refl)
+    (λ e. record { unit = QuoteEscape 39; is_unit = refl; text_is = refl; value_is = one_of c 39 e; goes_on = λ us b. b })
     (λ z n. byte_hex Byte c h (λ high low a b v. and_from _ _ a b))
-    (λ z t l r b q n. record { unit = Itself c; is_unit = and_from _ _ (lt-ltb c 128 (small_plain c n))
-        (bare_character c q b l r t); text_is = refl; value_is = refl; goes_on = λ us b. b })
+    (λ z t l r b q n. record { unit = Itself c; is_unit = and_from _ _ (lt-ltb c 128 (small_plain c n)) (bare_character c q b l r t); text_is = refl; value_is = refl; goes_on = λ us b. b })
 
 c_str_fine : (c : ℕ) → c < 256 → eqb c 0 ≡ false → Fine CStr c (written_unit CStr c)
 c_str_fine c h some = written_by CStr (Fine CStr c) c
     (λ e. absurd (eqb-false c 0 some e)) (λ e. named CStr c 116 9 _ e refl refl refl)
-        (λ e. named CStr c 110 10 _ e refl refl refl) (λ e. named CStr c 114 13 _ e refl refl refl)
-        (λ e. named CStr c 92 92 _ e refl refl refl)
-    (λ e. record { unit = QuoteEscape 34; is_unit = refl; text_is = refl; value_is = one_of c 34 e; goes_on = λ us b. b
-        })
+    (λ e. named CStr c 110 10 _ e refl refl refl) (λ e. named CStr c 114 13 _ e refl refl refl)
+    (λ e. named CStr c 92 92 _ e refl refl refl)
+    (λ e. record { unit = QuoteEscape 34; is_unit = refl; text_is = refl; value_is = one_of c 34 e; goes_on = λ us b. b })
     (λ z n. byte_hex CStr c h (λ high low a b v. and_from _ _ (and_from _ _ a b)
-        (ap (λ n. not (eqb n 0)) v ∙ not_from_false _ some)))
-    (λ z t l r b q n. record { unit = Itself c; is_unit = and_from _ _ (bare_string c q b r) (not_from_false _ some);
-        text_is = refl; value_is = ap (λ z. z ++ []) (encode_ascii c (small_plain c n)); goes_on = λ us b. b })
+    (ap (λ n. not (eqb n 0)) v ∙ not_from_false _ some)))
+    (λ z t l r b q n. record { unit = Itself c; is_unit = and_from _ _ (bare_string c q b r) (not_from_false _ some); text_is = refl; value_is = ap (λ z. z ++ []) (encode_ascii c (small_plain c n)); goes_on = λ us b. b })
 
 -- ---- a written value
 
@@ -224,8 +205,7 @@ fine_more k c v f r = record {
 
 fine_row : (k : Kind) (test : ℕ → Bool) (v : List ℕ) → ((c : ℕ) → test c ≡ true → Fine k c (written_unit k c))
     → list_all test v ≡ true → FineRow k v
-fine_row k test [] f h = record { units = []; each = refl; blanks_end = tt; text_is = refl; value_is = refl; count =
-    refl }
+fine_row k test [] f h = record { units = []; each = refl; blanks_end = tt; text_is = refl; value_is = refl; count = refl }
 fine_row k test (c ∷ v) f h =
     let p = and_parts (test c) (list_all test v) h in
     fine_more k c v (f c p.0) (fine_row k test v f p.1)

@@ -8,8 +8,7 @@ use Rattle.rl_tokens.specs.Quoted.{is_blank}
 use Rattle.rl_tokens.specs.Strict.{is_dropped_blank}
 use Rattle.rl_tokens.specs.Lexemes.{is_continue}
 use Rattle.rl_tokens.specs.declared.classes.CharClass.{CharClass}
-use Rattle.rl_tokens.specs.declared.classes.CharClass.TheVariants.{Continue, Numeral, Underscore, White, Hash, Blank,
-    StrictBlank, SuffixContinue, Unquoted, Ascii, NonNul}
+use Rattle.rl_tokens.specs.declared.classes.CharClass.TheVariants.{Continue, Numeral, Underscore, White, Hash, Blank, StrictBlank, SuffixContinue, Unquoted, Ascii, NonNul}
 
 abbrev pub is_hash : ℕ → Bool
 is_hash c = c == code "#"

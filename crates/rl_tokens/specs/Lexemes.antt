@@ -2,8 +2,7 @@
 -- character is its code. They are the tokens of the Rust Reference, chapters Tokens (sections
 -- Literals, Punctuation, Delimiters) and Identifiers. What stands in a literal isn't judged, and
 -- doc comments, lifetimes and raw identifiers are none of them.
-use Rattle.std.specs.Prelude.{◌≡◌, ℕ, ◌⊎◌, Bool, true, false, not, ◌&&◌, ◌||◌, ◌==◌, List, [], codes, ◌∷◌, ◌++◌, IsTrue,
-    ⊤, replicate, if◌then◌else◌}
+use Rattle.std.specs.Prelude.{◌≡◌, ℕ, ◌⊎◌, Bool, true, false, not, ◌&&◌, ◌||◌, ◌==◌, List, [], codes, ◌∷◌, ◌++◌, IsTrue, ⊤, replicate, if◌then◌else◌}
 use Rattle.std.proofs.Common.{suc, zero}
 use Rattle.std.specs.Char.{is_ascii_digit}
 use Rattle.std.specs.List.{list_all}

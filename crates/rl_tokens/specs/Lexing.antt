@@ -1,6 +1,5 @@
 -- How a whole text is cut into tokens, and the first error of a text that can't be.
-use Rattle.std.specs.Prelude.{◌≡◌, ◌≢◌, ◌⊎◌, ℕ, ◌+◌, Bool, false, not, ◌&&◌, ◌||◌, ◌==◌, nat_lt, List, [], ◌∷◌, ◌++◌,
-    length, map, IsTrue, IsFalse, codes, encode_utf8_all, Option, Some, None, option_and_then, if◌then◌else◌}
+use Rattle.std.specs.Prelude.{◌≡◌, ◌≢◌, ◌⊎◌, ℕ, ◌+◌, Bool, false, not, ◌&&◌, ◌||◌, ◌==◌, nat_lt, List, [], ◌∷◌, ◌++◌, length, map, IsTrue, IsFalse, codes, encode_utf8_all, Option, Some, None, option_and_then, if◌then◌else◌}
 use Prim.Native.Char.{code}
 use Rattle.rl_tokens.specs.Texts.{is_among, first_passes, begins, byte_len}
 use Rattle.rl_tokens.specs.Skipping.{Skipped}
@@ -8,11 +7,9 @@ use Rattle.rl_tokens.specs.declared.span.Span.{Span}
 use Rattle.rl_tokens.specs.declared.token.Delimiter.{Delimiter}
 use Rattle.rl_tokens.specs.declared.token.Delimiter.TheVariants.{Parenthesis, Brace, Bracket}
 use Rattle.rl_tokens.specs.declared.lex_error.LexKind.{LexKind}
-use Rattle.rl_tokens.specs.declared.lex_error.LexKind.TheVariants.{DocComment, UnclosedComment, UnclosedQuote, Lifetime,
-    RawIdentifier, StrayCharacter, UnmatchedClose, UnclosedGroup, TooDeep, Memory}
+use Rattle.rl_tokens.specs.declared.lex_error.LexKind.TheVariants.{DocComment, UnclosedComment, UnclosedQuote, Lifetime, RawIdentifier, StrayCharacter, UnmatchedClose, UnclosedGroup, TooDeep, Memory}
 use Rattle.rl_tokens.specs.Trees.{Tree, FlatToken, Opening, Closing, FlatIdent, FlatPunct, FlatLiteral, flat_trees}
-use Rattle.rl_tokens.specs.Lexemes.{Lexeme, lexeme_text, IsLexeme, LexemeBefore, LexemeForm, LiteralForm,
-    IdentifierForm, DelimiterForm, MarkForm, form_of, is_start, BeginsRaw, begins_prefixed_quote, begins_raw_identifier}
+use Rattle.rl_tokens.specs.Lexemes.{Lexeme, lexeme_text, IsLexeme, LexemeBefore, LexemeForm, LiteralForm, IdentifierForm, DelimiterForm, MarkForm, form_of, is_start, BeginsRaw, begins_prefixed_quote, begins_raw_identifier}
 
 -- A token that was cut, and the byte where it begins.
 pub record LexedToken : Type 0 where

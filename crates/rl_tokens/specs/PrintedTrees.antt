@@ -9,8 +9,7 @@ use Rattle.rl_tokens.specs.Lexemes.{Lexeme, lexeme_text, IsLexeme, LiteralForm, 
 use Rattle.rl_tokens.specs.Texts.{byte_len}
 use Rattle.rl_tokens.specs.Lexing.{Lexes}
 use Rattle.rl_tokens.specs.Reading.{truth_text}
-use Rattle.rl_tokens.specs.Printed.{Entry, Item, LiteralItem, MinusItem, Printed, WordItem, item_text, printed_text,
-    token_at}
+use Rattle.rl_tokens.specs.Printed.{Entry, Item, LiteralItem, MinusItem, Printed, WordItem, item_text, printed_text, token_at}
 
 -- the trees of an item that begins at this byte
 abbrev pub item_trees : ℕ → ℕ → Item → List Tree

@@ -1,8 +1,7 @@
 -- The quoted forms of the lenient reading: cooked strings, raw strings, single characters and
 -- bytes. They are those of `syn` 3.0.9, src/lit.rs, each named at its form. What the byte kinds
 -- take as plain characters is what rustc takes.
-use Rattle.std.specs.Prelude.{◌≡◌, ℕ, ◌+◌, ◌*◌, ◌^◌, ◌≤◌, Bool, true, false, not, ◌&&◌, ◌||◌, ◌==◌, nat_lt, List, [],
-    codes, ◌∷◌, ◌++◌, length, filter, replicate, IsTrue, IsFalse, ⊤, encode_utf8_all, if◌then◌else◌}
+use Rattle.std.specs.Prelude.{◌≡◌, ℕ, ◌+◌, ◌*◌, ◌^◌, ◌≤◌, Bool, true, false, not, ◌&&◌, ◌||◌, ◌==◌, nat_lt, List, [], codes, ◌∷◌, ◌++◌, length, filter, replicate, IsTrue, IsFalse, ⊤, encode_utf8_all, if◌then◌else◌}
 use Rattle.std.specs.Char.{IsScalar, digit_value}
 use Rattle.std.specs.List.{list_all, flat_map, AllByRecursion}
 use Prim.Native.Char.{code}

@@ -1,16 +1,14 @@
 -- The tokens of a whole source, and how it is cut into them: the lexemes, and beside them raw
 -- identifiers, lifetimes and doc comments. A byte order mark and an interpreter's line may stand
 -- before them.
-use Rattle.std.specs.Prelude.{◌≡◌, ◌⊎◌, ℕ, ◌+◌, Bool, false, not, ◌==◌, List, [], ◌∷◌, ◌++◌, length, map, IsTrue,
-    IsFalse, codes, encode_utf8_all, Option, MatchOption, ⊤, if◌then◌else◌}
+use Rattle.std.specs.Prelude.{◌≡◌, ◌⊎◌, ℕ, ◌+◌, Bool, false, not, ◌==◌, List, [], ◌∷◌, ◌++◌, length, map, IsTrue, IsFalse, codes, encode_utf8_all, Option, MatchOption, ⊤, if◌then◌else◌}
 use Prim.Native.Char.{code}
 use Rattle.std.specs.List.{AllByRecursion}
 use Rattle.std.specs.Str.{chars}
 use Rattle.rl_tokens.specs.Texts.{first_passes, begins, byte_len, IsTail}
 use Rattle.rl_tokens.specs.Trivia.{Inside, inside_text, IsInside, is_comment_line, is_comment_block}
 use Rattle.rl_tokens.specs.Skipping.{Skipped}
-use Rattle.rl_tokens.specs.Lexemes.{Lexeme, lexeme_text, IsLexeme, IsRow, LexemeForm, LiteralForm, IdentifierForm,
-    form_of, is_start, is_continue, begins_raw_identifier}
+use Rattle.rl_tokens.specs.Lexemes.{Lexeme, lexeme_text, IsLexeme, IsRow, LexemeForm, LiteralForm, IdentifierForm, form_of, is_start, is_continue, begins_raw_identifier}
 use Rattle.rl_tokens.specs.Lexing.{BeginsQuote, LexedToken, LexesUpTo}
 use Rattle.rl_tokens.specs.Cursors.{CursorState, form_view}
 use Rattle.rl_tokens.specs.Reading.{truth_text}

@@ -1,6 +1,5 @@
 -- How often elements stand in a list, one element after another.
-use Rattle.std.proofs.Common.{◌≡◌, ℕ, zero, suc, ◌+◌, Bool, true, false, cond, List, [], ◌∷◌, ◌++◌, Option, None, Some,
-    All, count_by, find, unwrap_or, refl, sym, ap, ◌∙◌, arith}
+use Rattle.std.proofs.Common.{◌≡◌, ℕ, zero, suc, ◌+◌, Bool, true, false, cond, List, [], ◌∷◌, ◌++◌, Option, None, Some, All, count_by, find, unwrap_or, refl, sym, ap, ◌∙◌, arith}
 use Rattle.std.proofs.lemmas.List.Elements.{All-nil, All-cons, All-weaker}
 use Rattle.std.proofs.lemmas.List.Folds.{find-append}
 use Rattle.std.proofs.lemmas.List.Sums.{sum_by_push, sum_by-cons}
@@ -33,7 +32,7 @@ times_more {K} eq laws xs y q = go (eq y q) refl
     go true e =
         let same : eq q ≡ eq y = λ i z. sym (laws.congr y q z e) i in
         let one : count_by (eq q) (xs ++ (y ∷ [])) ≡ count_by (eq y) xs + 1 = rw (laws.symm q y ∙ e) at grown
-            ∙ ap (λ (p : K → Bool). count_by p xs + 1) same in
+        ∙ ap (λ (p : K → Bool). count_by p xs + 1) same in
         ap some_times one ∙ some_times_more (count_by (eq y) xs)
     go false e = ap some_times (rw (laws.symm q y ∙ e) at grown ∙ omega arith)
 
@@ -74,7 +73,7 @@ firsts_more {K} eq laws xs y m n v old absent put h = go old absent put
     go None e p =
         let none : find (eq y) xs ≡ None = none_found (eq y) xs (none_counted (count_by (eq y) xs) e) in
         let here : find (eq y) (xs ++ (y ∷ [])) ≡ Some y = find-append (eq y) xs (y ∷ [])
-            ∙ rw (none, laws.refl y) refl in
+        ∙ rw (none, laws.refl y) refl in
         All-map-IsPermutation (λ e. e.0) (λ k. find (eq k) (xs ++ (y ∷ [])) ≡ Some k) ((y, v) ∷ m.entries) n.entries p
-            (All-cons (λ k. find (eq k) (xs ++ (y ∷ [])) ≡ Some k) y (keys m) here stay)
+        (All-cons (λ k. find (eq k) (xs ++ (y ∷ [])) ≡ Some k) y (keys m) here stay)
     go (Some w) e p = rw (p, keys-set_value (eq y) m.entries v) stay

@@ -17,5 +17,10 @@ pub faults_more : {A : Type 0} (ls : List (Lit A)) (l : Lit A) (spans : List Spa
     → ReportsLintError l true → AreErrors (ls ++ (l ∷ [])) (spans ++ (lit_span l ∷ []))
 faults_more [] l spans e t = inr ([], t, ap (λ z. z ++ (lit_span l ∷ [])) e, refl)
 faults_more (x ∷ xs) l spans (inl (u, h)) t = inl (u, faults_more xs l spans h t)
-faults_more (x ∷ xs) l spans (inr (rest, u, e, h)) t = inr (rest
-    ++ (lit_span l ∷ []), u, ap (λ z. z ++ (lit_span l ∷ [])) e, faults_more xs l rest h t)
+faults_more (x ∷ xs) l spans (inr (rest, u, e, h)) t = inr (
+  rest
+      ++ (lit_span l ∷ []),
+  u,
+  ap (λ z. z ++ (lit_span l ∷ [])) e,
+  faults_more xs l rest h t,
+)

@@ -9,6 +9,11 @@ pub lines_more : {A : Type 0} (ls : List (Lit A)) (l : Lit A) (old new : List �
     → PrintsLine l old new → AreLines (ls ++ (l ∷ [])) new
 lines_more [] l old new e (anew, is, p) = (anew, [], is, p ∙ ap (λ z. z ++ (text_of anew ++ (10 ∷ []))) e, refl)
 lines_more (x ∷ xs) l old new (first, rest, is, e, h) (anew, as_well, p) =
-    let line = text_of anew ++ (10 ∷ []) in
-    (first, rest ++ line, is, p ∙ (ap (λ z. z ++ line) e ∙ append_assoc (text_of first) (10 ∷ rest) line), lines_more xs
-        l rest (rest ++ line) h (anew, as_well, refl))
+    let line = text_of anew ++ (10 ∷ []) in (
+      first,
+      rest ++ line,
+      is,
+      p ∙ (ap (λ z. z ++ line) e ∙ append_assoc (text_of first) (10 ∷ rest) line),
+      lines_more xs
+          l rest (rest ++ line) h (anew, as_well, refl),
+    )

@@ -1,7 +1,6 @@
 -- The texts of literals that were read once read as the same, whatever stands between them.
 use Rattle.rl_grammar.proofs.Names.{HasReading, SpannedText, byte_len}
-use Rattle.rl_tokens.proofs.Common.{AllByRecursion, List, Result, [], ap, chars, drop, encode_utf8_all, refl, subst,
-    sym, ℕ, ◌++◌, ◌+◌, ◌∙◌, ◌∷◌, ◌≡◌, ◌≢◌}
+use Rattle.rl_tokens.proofs.Common.{AllByRecursion, List, Result, [], ap, chars, drop, encode_utf8_all, refl, subst, sym, ℕ, ◌++◌, ◌+◌, ◌∙◌, ◌∷◌, ◌≡◌, ◌≢◌}
 use Rattle.std.specs.Prelude.{Vec}
 use Rattle.std.proofs.lemmas.Str.{scalars-chars}
 use Rattle.rl_tokens.specs.declared.error.Error.{Error}
@@ -35,10 +34,10 @@ moved_lit : {A : Type 0} (token other : SpannedText) (lit : Lit A) → SpellsWor
     → IsReadFrom token lit → MovedLit other lit
 moved_lit {A} token other lit words same (is, r) =
     let (moved, read, kind_is) = read_lit A other (kind_of lit) words
-        (subst (λ (x : List ℕ). IsReadAs (kind_of lit) (chars x)) (sym same) r) in
+    (subst (λ (x : List ℕ). IsReadAs (kind_of lit) (chars x)) (sym same) r) in
     let text_is : other.text ≡ (token_of lit).text = same ∙ ap (λ (t : SpannedText). t.text) (sym is) in
     let there : other ≡ record (token_of lit) { span = other.span } = ap
-        (λ (x : List ℕ). let t : SpannedText = record { text = x; span = other.span } in t) text_is in
+    (λ (x : List ℕ). let t : SpannedText = record { text = x; span = other.span } in t) text_is in
     (moved, read, record { kind = kind_is; token = read.0 ∙ there })
 
 -- The literal is that of an item, as it was cut.
@@ -89,8 +88,11 @@ front_cut trees lit rest cut h = go trees cut h.front
       record {
         item = MinusItem text;
         is_cut = is;
-        front = (subst (λ (t : List ℕ). HasReading (45 ∷ t)) of.characters reads, ap chars (sym of.bytes)
-            ∙ of.characters);
+        front = (
+          subst (λ (t : List ℕ). HasReading (45 ∷ t)) of.characters reads,
+          ap chars (sym of.bytes)
+              ∙ of.characters,
+        );
         token = h.token;
         read = h.read;
         bytes = ap (λ (t : SpannedText). t.text) e ∙ ap (λ b. 45 ∷ b) of.bytes ∙ sym (minus_bytes text);
@@ -145,8 +147,8 @@ unfolding entries_of
 items_text [] cuts last = refl
 items_text (s ∷ ss) (c, cuts) last =
     ap (λ t. s.gap ++ (lit_text s.lit ++ t)) (items_text ss cuts last)
-        ∙ ap (λ t. s.gap ++ (t ++ printed_text (entries_of ss cuts) last))
-        (lit_text_is c.token s.lit c.read ∙ c.characters)
+    ∙ ap (λ t. s.gap ++ (t ++ printed_text (entries_of ss cuts) last))
+    (lit_text_is c.token s.lit c.read ∙ c.characters)
 
 abbrev MovedLits : {A : Type 0} → (file at : ℕ) → List Entry → List (Lit A) → Type 0
 MovedLits {A} file at entries list = (lits : List (Lit A)) × AreReadAt file at entries lits × SameButSpans list lits
@@ -158,7 +160,7 @@ items_moved file at [] cuts = ([], refl, refl)
 items_moved file at (s ∷ ss) (c, cuts) =
     let token = token_at file (at + byte_len s.gap) (item_text c.item) in
     let (lit, read, there) = moved_lit c.token token s.lit (spells_words (item_text c.item)
-        (sym (ap chars c.bytes) ∙ c.characters)) (sym c.bytes) c.read in
+    (sym (ap chars c.bytes) ∙ c.characters)) (sym c.bytes) c.read in
     let (lits, are, moved) = items_moved file (at + byte_len s.gap + byte_len (item_text c.item)) ss cuts in
     (lit ∷ lits, (read, are), ((token.span, there), moved))
 
@@ -170,7 +172,7 @@ pub again_read : {A B : Type 0} (text : List ℕ) (file : ℕ) (r : Result (Vec 
 again_read text file r exactly spaced last again =
     let read = again.are_read in
     let cuts = leads_cut read.trees (lits_of spaced) (lexed_trees (chars again.source) again.file read.trees
-        (scalars-chars again.source again.is_text) read.lexes) read.leads in
+    (scalars-chars again.source again.is_text) read.lexes) read.leads in
     let entries = entries_of spaced cuts in
     let reprinted : Reprinted (chars text) entries last = record {
       items = items_cut spaced cuts again.gaps;

@@ -1,6 +1,5 @@
 -- Where the trees of a text go on after the literals at its front.
-use Rattle.std.proofs.Common.{arith, ◌≡◌, ◌<◌, ℕ, ◌+◌, suc, List, [], ◌∷◌, ◌++◌, length, get_or, drop, drop-cons,
-    add-one, map, Option, Some, None, refl, sym, ◌∙◌, ap, subst}
+use Rattle.std.proofs.Common.{arith, ◌≡◌, ◌<◌, ℕ, ◌+◌, suc, List, [], ◌∷◌, ◌++◌, length, get_or, drop, drop-cons, add-one, map, Option, Some, None, refl, sym, ◌∙◌, ap, subst}
 use Rattle.std.specs.Prelude.{IfSome, IfNone}
 use Rattle.std.specs.List.{AllByRecursion}
 use Rattle.rl_tokens.specs.Texts.{SpannedText}
@@ -62,4 +61,4 @@ pass_one {F = F} token_in old new (l ∷ ls) i rest front i_in some none leads =
     go None some none (after, is, more) = absurd (none is.token after is.front)
     go (Some f) some none (after, is, more) =
         subst (λ (ts : List Tree). ReadsLiterals ts (drop (suc i) (l ∷ ls)) rest)
-            (one_front old is.token (token_in f) after new is.front some).1 more
+        (one_front old is.token (token_in f) after new is.front some).1 more

@@ -1,7 +1,6 @@
 -- A literal more of a text without groups, and all of them.
 use Rattle.rl_grammar.proofs.Names.{HasNoReading, HasNoTruth, HasReading, SpannedText, truth_text}
-use Rattle.rl_tokens.proofs.Common.{AllByRecursion, Bool, List, None, Option, Some, [], ap, append_assoc, arith, chars,
-    if◌then◌else◌, inr, length, map-append, nat_tests, refl, subst, sym, true, ℕ, ◌++◌, ◌==◌, ◌∙◌, ◌∷◌, ◌≡◌, ◌≢◌, ◌⊎◌}
+use Rattle.rl_tokens.proofs.Common.{AllByRecursion, Bool, List, None, Option, Some, [], ap, append_assoc, arith, chars, if◌then◌else◌, inr, length, map-append, nat_tests, refl, subst, sym, true, ℕ, ◌++◌, ◌==◌, ◌∙◌, ◌∷◌, ◌≡◌, ◌≢◌, ◌⊎◌}
 use Rattle.std.proofs.lemmas.List.{nil_from_length}
 use Rattle.std.specs.Prelude.{min, max, IfNone, IfSome, OnSome}
 use Rattle.rl_tokens.specs.declared.span.Span.{Span}
@@ -61,7 +60,7 @@ tree_more file old new l form tree done t form_is none flat_is no_group c =
           map-append (flat_token file) c.cuts (w ∷ [])
           ∙ ap (λ z. z ++ flat_token file w ∷ []) c.flat_is
           ∙ ap (λ z. flat_trees done ++ z ∷ []) (flat_borrowed file l w t.is_cut
-              ∙ ap (λ f. flat_form f l.text.now (span_at file l)) form_is)
+          ∙ ap (λ f. flat_form f l.text.now (span_at file l)) form_is)
           ∙ ap (λ z. flat_trees done ++ z) (sym flat_is)
           ∙ sym (flat_trees-append done (tree ∷ []));
       no_groups = all_more IsNoGroup done tree c.no_groups no_group;
@@ -86,11 +85,10 @@ truth_next {A} file old new l lit b t form_is word_is lit_is =
     let tree : Tree = IdentTree (token_at file l) in
     let word : Lit A = BoolLit (record { value = b; span = span_at file l }) in
     let read : IsReadFrom (token_at file l) word = read_truth (token_at file l) b (span_at file l) word_is refl in
-        record {
+    record {
       trees = tree ∷ [];
       cuts = λ done c. tree_more file old new l IdentifierForm tree done t form_is refl refl tt c;
-      front = λ following. record { token = token_at file l; front = (read.1, refl, refl); read = subst
-          (λ (x : Lit A). IsReadFrom (token_at file l) x) (sym lit_is) read };
+      front = λ following. record { token = token_at file l; front = (read.1, refl, refl); read = subst (λ (x : Lit A). IsReadFrom (token_at file l) x) (sym lit_is) read };
       same = t.same;
     }
 
@@ -105,17 +103,17 @@ negative_next file old between new m l lit span t u m_is l_is span_is together r
     let number : Tree = LiteralTree (token_at file l) in
     let Into : List ℕ → List Tree → Type 0 = λ text trees. LexesTreesUpTo (chars text) file trees (chars new.rest) in
     let From : List ℕ → List Tree → Type 0 = λ text trees. LexesTreesUpTo (chars text) file trees (chars between.rest)
-        in
+    in
     record {
       trees = minus ∷ number ∷ [];
       cuts = λ done c.
           let first : From old.text (done ++ minus ∷ []) = tree_more file old between m (MarkForm 45) minus done t m_is
-              refl refl tt c in
+          refl refl tt c in
           let second : Into between.text ((done ++ minus ∷ []) ++ number ∷ []) = tree_more file between new l
-              LiteralForm number (done ++ minus ∷ []) u l_is refl refl tt
-              (subst (λ (x : List ℕ). From x (done ++ minus ∷ [])) (sym t.same) first) in
+          LiteralForm number (done ++ minus ∷ []) u l_is refl refl tt
+          (subst (λ (x : List ℕ). From x (done ++ minus ∷ [])) (sym t.same) first) in
           subst (λ (trees : List Tree). Into old.text trees) (append_assoc done (minus ∷ []) (number ∷ []))
-              (subst (λ (x : List ℕ). Into x ((done ++ minus ∷ []) ++ number ∷ [])) t.same second);
+          (subst (λ (x : List ℕ). Into x ((done ++ minus ∷ []) ++ number ∷ [])) t.same second);
       front = λ following. record {
         token = joined mark (token_at file l);
         front = (refl, together, refl, refl);
@@ -184,7 +182,7 @@ pub read_start : {A : Type 0} (text : List ℕ) (file : ℕ) (rest : List ℕ) (
     → Skipped (chars text) (chars rest) → AreReadUpTo (chars text) file list (chars rest)
 read_start {A} text file rest list none skips =
     subst (λ (ls : List (Lit A)). AreReadUpTo (chars text) file ls (chars rest)) (sym none)
-        (read_none (chars text) file (chars rest) skips)
+    (read_none (chars text) file (chars rest) skips)
 
 -- one literal more
 pub read_more : {A : Type 0} (text : List ℕ) (file : ℕ) (old new : CursorState) (list longer : List (Lit A)) → old.text
@@ -194,7 +192,7 @@ read_more text file old new list longer same read added =
     let lit = added.lit in
     let next = added.next in
     let Goes : List ℕ → Type 0 = λ t. (done : List Tree) → LexesTreesUpTo (chars t) file done (chars old.rest)
-        → LexesTreesUpTo (chars t) file (done ++ next.trees) (chars new.rest) in
+    → LexesTreesUpTo (chars t) file (done ++ next.trees) (chars new.rest) in
     let goes : Goes text = subst Goes same next.cuts in
     subst (λ ls. AreReadUpTo (chars text) file ls (chars new.rest)) (sym added.longer_is)
     (record {
@@ -202,9 +200,9 @@ read_more text file old new list longer same read added =
       cuts = goes read.trees read.cuts;
       leads = λ following.
           subst (λ (ts : List Tree). ReadsLiterals ts (list ++ lit ∷ []) following)
-              (sym (append_assoc read.trees next.trees following))
+          (sym (append_assoc read.trees next.trees following))
           (leads_step (read.trees ++ (next.trees ++ following)) list (next.trees ++ following) lit following
-              (read.leads (next.trees ++ following)) (next.front following));
+          (read.leads (next.trees ++ following)) (next.front following));
     })
 
 -- all is read

@@ -35,8 +35,11 @@ pub lit_memory : {A : Type 0} (trees copy rest : List Tree) (token : SpannedText
     ≡ trees → IsFront copy token rest → e ≡ memory_at at → at ≡ first_span trees scope
     → RunsLit trees scope (Err e) trees
 lit_memory trees copy rest token scope at e same front is place =
-    inl ((token, rest, front_here trees copy rest token same front), record
-        { error = is ∙ ap memory_at place; stays = refl })
+    inl (
+      (token, rest, front_here trees copy rest token same front),
+      record
+          { error = is ∙ ap memory_at place; stays = refl },
+    )
 
 -- ---- a truth value
 

@@ -1,12 +1,10 @@
 -- What a number struct holds.
 use Rattle.rl_grammar.proofs.Names.{Byte, ByteStr, CStr, Char, Float, HasSuffix, Int, Kind, Reads, SpannedText, Str}
-use Rattle.rl_tokens.proofs.Common.{Err, IsUtf8, List, Ok, Result, append_cancel_right, arith, chars, inl, inr, refl,
-    subst, sym, take, take-append-drop, true, ℕ, ◌++◌, ◌∙◌, ◌≡◌, ◌≢◌, ◌⊎◌}
+use Rattle.rl_tokens.proofs.Common.{Err, IsUtf8, List, Ok, Result, append_cancel_right, arith, chars, inl, inr, refl, subst, sym, take, take-append-drop, true, ℕ, ◌++◌, ◌∙◌, ◌≡◌, ◌≢◌, ◌⊎◌}
 use Rattle.std.specs.Prelude.{IfErr}
 use Rattle.rl_tokens.specs.declared.kind.Kind.TheVariants.{Bool}
 use Rattle.rl_tokens.specs.declared.error.ErrorKind.{ErrorKind}
-use Rattle.rl_tokens.specs.declared.error.ErrorKind.TheVariants.{Expected, EndOfInput, Unexpected, Lex, Suffix,
-    NotInteger, TooLarge, NotFloat, Repeated, Number, Memory}
+use Rattle.rl_tokens.specs.declared.error.ErrorKind.TheVariants.{Expected, EndOfInput, Unexpected, Lex, Suffix, NotInteger, TooLarge, NotFloat, Repeated, Number, Memory}
 use Rattle.rl_tokens.specs.declared.error.Error.{Error}
 use Rattle.rl_tokens.specs.declared.kept.Kept.{Kept}
 use Rattle.rl_tokens.specs.declared.span.Span.{Span}
@@ -126,7 +124,7 @@ no_number_plain Int text NotInteger none p = none p.reads.sign p.reads.magnitude
 no_number_plain Int text TooLarge past p =
     let r = p.reads in
     let one = int_once (chars text) past.suffix p.suffix past.sign r.sign past.magnitude r.magnitude past.reads r.reads
-        in
+    in
     let above = past.past in
     let within = r.within in
     absurd (omega (arith, one.1))

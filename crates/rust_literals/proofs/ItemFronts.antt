@@ -1,7 +1,6 @@
 -- The trees of an item begin with it as one literal.
 use Rattle.rl_grammar.proofs.Names.{HasReading, ReadsAs, SpannedText, byte_len, truth_text}
-use Rattle.rl_tokens.proofs.Common.{AllByRecursion, Bool, List, [], ap, arith, chars, encode_utf8_all, false,
-    if◌then◌else◌, length, lit<, nat_tests, refl, subst, suc, sym, true, ℕ, ⊤, ◌++◌, ◌+◌, ◌==◌, ◌∙◌, ◌∷◌, ◌≡◌}
+use Rattle.rl_tokens.proofs.Common.{AllByRecursion, Bool, List, [], ap, arith, chars, encode_utf8_all, false, if◌then◌else◌, length, lit<, nat_tests, refl, subst, suc, sym, true, ℕ, ⊤, ◌++◌, ◌+◌, ◌==◌, ◌∙◌, ◌∷◌, ◌≡◌}
 use Rattle.std.proofs.Common.{min, max}
 use Rattle.std.proofs.lemmas.Str.{chars-encodes}
 use Rattle.rl_tokens.specs.declared.span.Span.{Span}
@@ -51,7 +50,7 @@ joined_at file at n =
     let lo : min at (at + 1) ≡ at = omega arith in
     let hi : max (at + 1) (at + 1 + n) ≡ at + suc n = omega arith in
     one_file file (record { file = file; lo = min at (at + 1); hi = max (at + 1) (at + 1 + n) })
-        (record { file = file; lo = at; hi = at + 1 })
+    (record { file = file; lo = at; hi = at + 1 })
     ∙ ap (λ x. let s : Span = record { file = file; lo = x; hi = max (at + 1) (at + 1 + n) } in s) lo
     ∙ ap (λ x. let s : Span = record { file = file; lo = at; hi = x } in s) hi
 
@@ -60,9 +59,9 @@ pub minus_joined : (file at : ℕ) (text : List ℕ) → joined (record
     ≡ token_at file at (45 ∷ text)
 minus_joined file at text =
     ap (λ s. let t : SpannedText = record { text = 45 ∷ encode_utf8_all text; span = s } in t)
-        (joined_at file at (byte_len text))
+    (joined_at file at (byte_len text))
     ∙ ap (λ bs. let t : SpannedText = record { text = bs; span = record { file = file; lo = at; hi = at + length bs } }
-        in t) (sym (minus_bytes text))
+    in t) (sym (minus_bytes text))
 
 item_front : (file at : ℕ) (item : Item) (rest : List Tree) → IsFrontItem item
     → IsFront (item_trees file at item ++ rest) (token_at file at (item_text item)) rest
@@ -77,7 +76,7 @@ AreReadAt file at [] lits = lits ≡ []
 AreReadAt file at (e ∷ es) [] = ⊥
 AreReadAt file at (e ∷ es) (l ∷ ls) =
     IsReadFrom (token_at file (at + byte_len e.gap) (item_text e.item)) l
-        × AreReadAt file (at + byte_len e.gap + byte_len (item_text e.item)) es ls
+    × AreReadAt file (at + byte_len e.gap + byte_len (item_text e.item)) es ls
 
 -- The trees of entries are these literals.
 pub items_lead : {A : Type 0} (file at : ℕ) (entries : List Entry) (lits : List (Lit A))

@@ -1,6 +1,5 @@
 -- What an iterator over the literals of a text returns.
-use Rattle.rl_tokens.proofs.Common.{List, None, Ok, Option, Some, [], ap, append_assoc, arith, chars, chars-nil, length,
-    length-append, refl, subst, sym, ℕ, ◌++◌, ◌+◌, ◌<◌, ◌^◌, ◌∙◌, ◌∷◌, ◌≡◌}
+use Rattle.rl_tokens.proofs.Common.{List, None, Ok, Option, Some, [], ap, append_assoc, arith, chars, chars-nil, length, length-append, refl, subst, sym, ℕ, ◌++◌, ◌+◌, ◌<◌, ◌^◌, ◌∙◌, ◌∷◌, ◌≡◌}
 use Rattle.std.proofs.lemmas.List.{append-nil, nil_from_length}
 use Rattle.std.specs.Option.{option_to_list, OnSome}
 use Rattle.std.specs.Vec.Iter.{into_iter_items, into_iter_len, into_iter_steps}
@@ -34,16 +33,21 @@ pub waiting_next : {A : Type 0} (text : List ℕ) (file : ℕ) (taken : List (Li
     ++ into_iter_items is → ReturnsNext text file taken (Ok first) new
 waiting_next text file taken new was is (Some lit) read len (items, shorter) t f s w none =
     let parts : taken ++ into_iter_items was ≡ (taken ++ lit ∷ []) ++ into_iter_items is = ap (λ l. taken ++ l) items
-        ∙ sym (append_assoc taken (lit ∷ []) (into_iter_items is)) in
+    ∙ sym (append_assoc taken (lit ∷ []) (into_iter_items is)) in
     let n : into_iter_len is ≡ length (into_iter_items is) = omega (arith, shorter, len, ap length items) in
     placed text file (taken ++ lit ∷ []) new (Some is) t f s w (subst (AreRead (chars text) file) parts read, n)
 waiting_next text file taken new was is None read len (before, after) t f s w none =
     let nothing : into_iter_items was ≡ [] = nil_from_length (into_iter_items was) (sym len ∙ before) in
     let nothing_left : into_iter_items is ≡ [] = sym none ∙ nothing in
     let whole : AreRead (chars text) file taken = subst (AreRead (chars text) file)
-        (ap (λ l. taken ++ l) nothing ∙ append-nil taken) read in
-    (whole, placed text file taken new (Some is) t f s w (subst (AreRead (chars text) file)
-        (sym (ap (λ l. taken ++ l) nothing_left ∙ append-nil taken)) whole, after ∙ sym (ap length nothing_left)))
+    (ap (λ l. taken ++ l) nothing ∙ append-nil taken) read in (
+      whole,
+      placed text file taken new (Some is) t f s w (
+        subst (AreRead (chars text) file)
+            (sym (ap (λ l. taken ++ l) nothing_left ∙ append-nil taken)) whole,
+        after ∙ sym (ap length nothing_left),
+      ),
+    )
 
 -- the literals after those that the tokens gave
 pub waiting_first : {A : Type 0} (text : List ℕ) (file : ℕ) (taken more : List (Lit A)) (old new : Literals A)
@@ -54,10 +58,10 @@ pub waiting_first : {A : Type 0} (text : List ℕ) (file : ℕ) (taken more : Li
     → ReturnsNext text file taken (Ok first) new
 waiting_first text file taken more old new was is first h read items len steps t f s w none =
     let here : AreRead (chars text) file (taken ++ more) = subst (λ k. AreRead (chars text) k (taken ++ more)) h.file_is
-        (subst (λ u. AreRead (chars u) old.file (taken ++ more)) h.text_is read) in
+    (subst (λ u. AreRead (chars u) old.file (taken ++ more)) h.text_is read) in
     waiting_next text file taken new was is first (subst (λ l. AreRead (chars text) file (taken ++ l)) (sym items) here)
-        (len ∙ ap length (sym items)) steps (ap (λ x. x.now) t ∙ h.text_is) (f ∙ h.file_is)
-        (ap (λ (x : CursorState). x.text) s ∙ h.same) w none
+    (len ∙ ap length (sym items)) steps (ap (λ x. x.now) t ∙ h.text_is) (f ∙ h.file_is)
+    (ap (λ (x : CursorState). x.text) s ∙ h.same) w none
 
 -- where none waits, those that were returned are the first of the text
 pub are_first : {A : Type 0} (text : List ℕ) (file : ℕ) (taken : List (Lit A)) (old : Literals A) → old.waiting ≡ None
@@ -65,9 +69,9 @@ pub are_first : {A : Type 0} (text : List ℕ) (file : ℕ) (taken : List (Lit A
 are_first text file taken old none h =
     let p = subst (GoesOnAfter (chars text) file taken old.count (chars old.tokens.rest)) none h.goes_on in
     let first : AreFirst (chars text) file old.count taken = record
-        { begun = record { rest = chars old.tokens.rest; read = p.0 }; count_is = p.1 } in
+    { begun = record { rest = chars old.tokens.rest; read = p.0 }; count_is = p.1 } in
     subst (λ u. AreFirst (chars u) old.file old.count taken) (sym h.text_is)
-        (subst (λ k. AreFirst (chars text) k old.count taken) (sym h.file_is) first)
+    (subst (λ k. AreFirst (chars text) k old.count taken) (sym h.file_is) first)
 
 -- no token is left
 pub none_left : {A : Type 0} (text : List ℕ) (file : ℕ) (taken : List (Lit A)) (old : Literals A) → old.waiting ≡ None
@@ -84,15 +88,15 @@ pub cut_next : {A : Type 0} (text : List ℕ) (file : ℕ) (taken : List (Lit A)
 cut_next text file taken old new lit ahead none h next t f s n w =
     let p = subst (GoesOnAfter (chars text) file taken old.count (chars old.tokens.rest)) none h.goes_on in
     let reads : ReadsNext file old.tokens lit ahead = subst (λ (k : ℕ). ReadsNext k old.tokens lit ahead) h.file_is next
-        in
+    in
     let longer : AreReadUpTo (chars text) file (taken ++ lit ∷ []) (chars ahead.rest) =
-        read_more text file old.tokens ahead taken (taken ++ lit ∷ []) h.same p.0
-            (record { lit = lit; next = reads; longer_is = refl }) in
+    read_more text file old.tokens ahead taken (taken ++ lit ∷ []) h.same p.0
+    (record { lit = lit; next = reads; longer_is = refl }) in
     let upto : AreReadUpTo (chars text) file (taken ++ lit ∷ []) (chars new.tokens.rest) = subst
-        (λ (x : CursorState). AreReadUpTo (chars text) file (taken ++ lit ∷ []) (chars x.rest)) (sym s) longer in
+    (λ (x : CursorState). AreReadUpTo (chars text) file (taken ++ lit ∷ []) (chars x.rest)) (sym s) longer in
     let count : length (taken ++ lit ∷ []) ≡ new.count = length-append taken (lit ∷ []) ∙ ap (λ k. k + 1) p.1 ∙ sym n in
     placed text file (taken ++ lit ∷ []) new None (ap (λ x. x.now) t ∙ h.text_is) (f ∙ h.file_is)
-        (ap (λ (x : CursorState). x.text) s ∙ next.same ∙ h.same) (w ∙ none) (upto, count)
+    (ap (λ (x : CursorState). x.text) s ∙ next.same ∙ h.same) (w ∙ none) (upto, count)
 
 -- what is left after a literal
 pub waiting_lower : {A : Type 0} (old : Literals A) (is : IntoIter (Lit A) A) (first : Option (Lit A)) → old.waiting

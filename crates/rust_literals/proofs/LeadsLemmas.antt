@@ -40,7 +40,7 @@ one_list_of trees (x ∷ xs) [] (m, f, h) k = absurd (empty_front x m (subst (λ
 one_list_of trees (x ∷ xs) (y ∷ ys) (m, f, h) (n, e, k) =
     let one = one_lit_front trees x y m n f e in
     ap (λ z. z ∷ xs) one.0 ∙ ap (λ zs. y ∷ zs) (one_list_of m xs ys h
-        (subst (λ (t : List Tree). ReadsLiterals t ys []) (sym one.1) k))
+    (subst (λ (t : List Tree). ReadsLiterals t ys []) (sym one.1) k))
 
 -- trees that literals use up lead nowhere else
 pub never_stops : {A : Type 0} (trees : List Tree) (xs ys : List (Lit A)) (rest : List Tree) → ReadsLiterals trees xs []

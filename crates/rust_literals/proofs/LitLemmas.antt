@@ -1,13 +1,10 @@
 -- Literals by their kind and token.
-use Rattle.rl_grammar.proofs.Names.{HasReading, HasSuffix, Kind, Reads, ReadsAs, SpannedText, Truth, first_passes,
-    truth_text}
-use Rattle.std.proofs.Common.{◌≡◌, ℕ, ◌==◌, Bool as Truths, true, false, List, [], ◌∷◌, Option, Some, None, refl, sym,
-    ◌∙◌, ap, subst}
+use Rattle.rl_grammar.proofs.Names.{HasReading, HasSuffix, Kind, Reads, ReadsAs, SpannedText, Truth, first_passes, truth_text}
+use Rattle.std.proofs.Common.{◌≡◌, ℕ, ◌==◌, Bool as Truths, true, false, List, [], ◌∷◌, Option, Some, None, refl, sym, ◌∙◌, ap, subst}
 use Rattle.std.specs.Prelude.{Result, Ok, Err, IfSome, OnOk, OnErr}
 use Rattle.std.proofs.lemmas.Option.{MatchOption-at_some}
 use Rattle.std.specs.Str.{chars}
-use Rattle.rl_tokens.specs.declared.kind.Kind.TheVariants.{Str as StrKind, ByteStr as ByteStrKind, CStr as CStrKind,
-    Byte as ByteKind, Char as CharKind, Int as IntKind, Float as FloatKind, Bool as BoolKind}
+use Rattle.rl_tokens.specs.declared.kind.Kind.TheVariants.{Str as StrKind, ByteStr as ByteStrKind, CStr as CStrKind, Byte as ByteKind, Char as CharKind, Int as IntKind, Float as FloatKind, Bool as BoolKind}
 use Rattle.rl_tokens.specs.declared.span.Span.{Span}
 use Rattle.rl_tokens.proofs.OneReading.{one_reading}
 use Rattle.rl_grammar.specs.declared.found.Found.{Found}
@@ -88,8 +85,8 @@ read_lit A token (Some IntKind) w r = (Int token, (refl, r), refl)
 read_lit A token (Some FloatKind) w r = (Float token, (refl, r), refl)
 read_lit A token (Some BoolKind) w (v, x, r) =
     let is : record { text = truth_text r.truth; span = token.span }
-        ≡ token = ap (λ z. let t : SpannedText = record { text = z; span = token.span } in t)
-        (sym (w r.truth r.text_is)) in
+    ≡ token = ap (λ z. let t : SpannedText = record { text = z; span = token.span } in t)
+    (sym (w r.truth r.text_is)) in
     (Bool (record { value = r.truth; span = token.span }), (is, (v, x, r)), refl)
 read_lit A token None w n = (Verbatim token, (refl, n), refl)
 
@@ -104,8 +101,8 @@ pub read_truth : (token : SpannedText) (b : Truths) (span : Span) → token.text
     → (record { text = truth_text b; span = span } ≡ token) × ReadsAs BoolKind (chars token.text)
 read_truth token b span e s =
     let is : record { text = truth_text b; span = span } ≡ token = ap
-        (λ z. let t : SpannedText = record { text = z; span = span } in t) (sym e)
-        ∙ ap (λ z. let t : SpannedText = record { text = token.text; span = z } in t) s in
+    (λ z. let t : SpannedText = record { text = z; span = span } in t) (sym e)
+    ∙ ap (λ z. let t : SpannedText = record { text = token.text; span = z } in t) s in
     (is, (Truth b, [], truth_reads token.text b e))
 
 -- ---- by the kind

@@ -58,8 +58,12 @@ truth_wants trees scope e rest p is = absurd (word_is_not_memory trees _ e.kind 
 pub truth_tells : {A : Type 0} → PeekReports (RunsTruth {A = A}) (HasFrontOf BoolKind)
 truth_tells = record {
   finds = truth_finds;
-  only = λ trees scope literal rest runs. (runs.token, rest, front_of _ _ _ _ runs.front
-      (Truth literal.value, [], runs.reads));
+  only = λ trees scope literal rest runs. (
+    runs.token,
+    rest,
+    front_of _ _ _ _ runs.front
+        (Truth literal.value, [], runs.reads),
+  );
   wants = truth_wants;
 }
 

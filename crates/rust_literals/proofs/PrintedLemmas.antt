@@ -1,15 +1,13 @@
 -- A print of strict literals is read as the readings of its items.
 use Rattle.rl_grammar.proofs.Names.{HasReading, Reads, ReadsAs, byte_len, truth_text}
-use Rattle.rl_tokens.proofs.Common.{AllByRecursion, Err, IsUtf8, List, Ok, Result, Some, [], ap, chars, encode_utf8_all,
-    refl, subst, sym, true, ℕ, ◌++◌, ◌+◌, ◌∙◌, ◌∷◌, ◌≡◌}
+use Rattle.rl_tokens.proofs.Common.{AllByRecursion, Err, IsUtf8, List, Ok, Result, Some, [], ap, chars, encode_utf8_all, refl, subst, sym, true, ℕ, ◌++◌, ◌+◌, ◌∙◌, ◌∷◌, ◌≡◌}
 use Rattle.std.specs.Prelude.{Vec}
 use Rattle.std.proofs.Math.Utf8.{scalars}
 use Rattle.std.proofs.lemmas.Str.{chars-encodes, scalars-chars}
 use Rattle.rl_tokens.specs.declared.kind.Kind.TheVariants.{Bool as BoolKind}
 use Rattle.rl_tokens.specs.declared.error.Error.{Error}
 use Rattle.rl_tokens.specs.Trivia.{IsTrivia}
-use Rattle.rl_tokens.specs.Printed.{Item, WordItem, LiteralItem, MinusItem, item_text, Entry, printed_text, token_at,
-    IsStrictItem, Printed}
+use Rattle.rl_tokens.specs.Printed.{Item, WordItem, LiteralItem, MinusItem, item_text, Entry, printed_text, token_at, IsStrictItem, Printed}
 use Rattle.rl_tokens.specs.PrintedTrees.{printed_trees}
 use Rattle.rl_tokens.proofs.CutTrees.{scalars_parts}
 use Rattle.rl_tokens.proofs.PrintedLaws.{printed_lexes}
@@ -42,7 +40,7 @@ item_lit A file at item is h =
     let same : chars (encode_utf8_all (item_text item)) ≡ item_text item = chars-encodes (item_text item) h in
     let (kind, reads) = item_reads item is in
     let (lit, read, kind_is) = read_lit A (token_at file at (item_text item)) (Some kind)
-        (spells_words (item_text item) same) (subst (λ (x : List ℕ). ReadsAs kind x) (sym same) reads) in (
+    (spells_words (item_text item) same) (subst (λ (x : List ℕ). ReadsAs kind x) (sym same) reads) in (
       lit,
       record {
         read = read;
@@ -74,8 +72,11 @@ items_read_at : {A : Type 0} (file at : ℕ) (entries : List Entry) (lits : List
     → AreReadAt file at entries lits
 items_read_at file at [] lits are = are
 items_read_at file at (e ∷ es) [] are = are
-items_read_at file at (e ∷ es) (l ∷ ls) (read, are) = (read.read, items_read_at file
-    (at + byte_len e.gap + byte_len (item_text e.item)) es ls are)
+items_read_at file at (e ∷ es) (l ∷ ls) (read, are) = (
+  read.read,
+  items_read_at file
+      (at + byte_len e.gap + byte_len (item_text e.item)) es ls are,
+)
 
 -- A list of literals holds, and is the answer or an allocation failed.
 pub holds_exactly : {A B : Type 0} (holds : List (Lit A) → Type 0) (list : List (Lit A))
@@ -91,7 +92,7 @@ pub printed_read : {A B : Type 0} (text : List ℕ) (file : ℕ) (r : Result (Ve
     → HoldsOrMemory (AreItems file 0 entries) r
 printed_read {A} text file r utf8 exactly entries last printed =
     let (lits, are, fronts) = item_lits A file 0 entries last printed.items
-        (ap scalars (sym printed.text) ∙ scalars-chars text utf8) in
+    (ap scalars (sym printed.text) ∙ scalars-chars text utf8) in
     let read : AreRead (chars text) file lits = record {
       trees = printed_trees file 0 entries;
       lexes = printed_lexes (chars text) entries last file printed;

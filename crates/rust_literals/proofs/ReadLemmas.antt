@@ -5,8 +5,7 @@ use Rattle.rl_tokens.specs.declared.span.Span.{Span}
 use Rattle.rl_tokens.specs.declared.error.Error.{Error}
 use Rattle.rl_tokens.specs.declared.error.ErrorKind.TheVariants.{Memory as MemoryError}
 use Rattle.rl_tokens.specs.declared.lex_error.LexKind.{LexKind}
-use Rattle.rl_tokens.specs.declared.lex_error.LexKind.TheVariants.{DocComment, UnclosedComment, UnclosedQuote, Lifetime,
-    RawIdentifier, StrayCharacter, UnmatchedClose, UnclosedGroup, TooDeep, Memory}
+use Rattle.rl_tokens.specs.declared.lex_error.LexKind.TheVariants.{DocComment, UnclosedComment, UnclosedQuote, Lifetime, RawIdentifier, StrayCharacter, UnmatchedClose, UnclosedGroup, TooDeep, Memory}
 use Rattle.rl_tokens.specs.Errors.{lex_rejection}
 use Rattle.rl_tokens.specs.Trees.{Tree}
 use Rattle.rl_tokens.specs.Lexing.{Lexes, Rejects, NeverBoth}
@@ -79,7 +78,7 @@ text_exactly text file end (Err x) read (inl uncut) list a = lex_memory text fil
     never_both a.lexes uncut.error uncut.rejected
 text_exactly {A = A} text file end (Err x) read (inr trees) list a =
     let leads : ReadsLiterals trees.trees list [] = subst (λ (t : List Tree). ReadsLiterals t list [])
-        (one_list text file a.trees trees.trees a.lexes trees.lexes) a.leads in
+    (one_list text file a.trees trees.trees a.lexes trees.lexes) a.leads in
     go trees.rejected leads
   where
     go : RejectsNextLiteral trees.trees (at_span file end) x ⊎ LacksMemory trees.trees (at_span file end) x

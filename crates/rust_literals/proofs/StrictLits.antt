@@ -1,8 +1,6 @@
 -- The literal of a strict text is of the kind, contents and suffix that the text has.
-use Rattle.rl_grammar.proofs.Names.{Byte, ByteStr, CStr, Char, Contents, Digits, Float, HasReading, Int, IntReads,
-    IsPast, Kind, Minus, NoSign, Reads, Sign, SpannedText, Str, first_passes, limit, truth_text}
-use Rattle.rl_tokens.proofs.Common.{Bool, List, Result, Some, [], cases_lt, chars, false, inl, inr, is_ascii_digit,
-    refl, subst, sym, true, ℕ, ◌<◌, ◌==◌, ◌||◌, ◌∷◌, ◌≡◌, ◌≤◌, ◌⊎◌}
+use Rattle.rl_grammar.proofs.Names.{Byte, ByteStr, CStr, Char, Contents, Digits, Float, HasReading, Int, IntReads, IsPast, Kind, Minus, NoSign, Reads, Sign, SpannedText, Str, first_passes, limit, truth_text}
+use Rattle.rl_tokens.proofs.Common.{Bool, List, Result, Some, [], cases_lt, chars, false, inl, inr, is_ascii_digit, refl, subst, sym, true, ℕ, ◌<◌, ◌==◌, ◌||◌, ◌∷◌, ◌≡◌, ◌≤◌, ◌⊎◌}
 use Rattle.std.specs.Prelude.{IfOk}
 use Rattle.std.proofs.lemmas.Result.{IfOk-weaker}
 use Rattle.rl_tokens.specs.declared.kind.Kind.TheVariants.{Bool as BoolKind}
@@ -58,9 +56,9 @@ int_within t (kind, (contents, end, r)) sign magnitude suffix i = go (cases_lt l
     go (inr small) = small
     go (inl past) =
         let is_past : IsPast t = record { sign = sign; magnitude = magnitude; suffix = suffix; reads = i; past = past }
-            in
+        in
         absurd (only_number t (number_front t (int_front t suffix sign magnitude i)) (past_number t is_past) kind
-            contents end r)
+        contents end r)
 
 within_limit : (kind : Kind) (t : List ℕ) → HasReading t → IsWithinLimit kind t
 within_limit Int t reads = int_within t reads
@@ -79,7 +77,7 @@ int_behind_minus t contents suffix strict reads sign magnitude end i =
     let n = strict_int t suffix contents strict in
     let o = int_once t suffix end NoSign sign n.magnitude magnitude n.reads i in
     subst (λ (z : ℕ). z ≤ limit) o.1 (int_within (45 ∷ t) reads Minus n.magnitude suffix
-        (minus_int t suffix n.magnitude n.reads))
+    (minus_int t suffix n.magnitude n.reads))
 
 within_minus : (kind : Kind) (t : List ℕ) (contents : Contents) (suffix : List ℕ) → Strict t kind contents suffix
     → HasReading (45 ∷ t) → IsWithinLimit kind t
@@ -98,7 +96,7 @@ pub item_is : (item : Item) → IsStrictItem item → (kind : Kind) (contents : 
     → IsItemOf kind contents suffix item → Reads (item_text item) kind contents suffix
 item_is (WordItem truth) is kind contents suffix strict =
     strict_reads (truth_text truth) kind contents suffix strict
-        (within_limit kind (truth_text truth) (BoolKind, truth_reads (truth_text truth) truth refl))
+    (within_limit kind (truth_text truth) (BoolKind, truth_reads (truth_text truth) truth refl))
 item_is (LiteralItem text) (own, other, is, reads) kind contents suffix strict =
     strict_reads text kind contents suffix strict (within_limit kind text reads)
 item_is (MinusItem text) (own, number, is, reads) kind contents suffix (digits, is_number, strict, same) =

@@ -6,4 +6,4 @@ pub returns-clause-value : goal.returns-clause-value
 returns-clause-value c =
     let digits = chars (take c.numeral_into.result c.numeral_into.new.out) in
     subst (λ z. HasContents Float (chars z) (Digits digits)) c.from_utf8_unchecked-text.ensures
-        (c.numeral.ensures.digits digits c.numeral_into.ensures.digits)
+    (c.numeral.ensures.digits digits c.numeral_into.ensures.digits)

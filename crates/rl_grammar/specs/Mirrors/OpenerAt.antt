@@ -4,8 +4,7 @@ use Prim.Native.Char.{code}
 use Rattle.rl_tokens.specs.declared.kind.Kind.{Kind}
 use Rattle.rl_tokens.specs.declared.kind.Kind.TheVariants.{Str, ByteStr, CStr, Byte, Char}
 use Rattle.rl_grammar.specs.declared.quoted_forms.QuotedForm.{QuotedForm}
-use Rattle.rl_grammar.specs.declared.quoted_forms.QuotedForm.TheVariants.{Cooked as CookedForm, Raw as RawForm, Single
-    as SingleForm}
+use Rattle.rl_grammar.specs.declared.quoted_forms.QuotedForm.TheVariants.{Cooked as CookedForm, Raw as RawForm, Single as SingleForm}
 
 abbrev pub FoundOpener : Type 0
 FoundOpener = Option (QuotedForm × Kind × List ℕ)

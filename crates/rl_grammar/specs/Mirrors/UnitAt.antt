@@ -1,13 +1,11 @@
 -- A mirror of the code, for proofs alone: the unit at the front of a text between quotes, as a
 -- program on characters.
-use Rattle.std.specs.Prelude.{ℕ, ◌+◌, ◌*◌, ◌==◌, ◌||◌, ◌&&◌, Bool, not, List, [], ◌∷◌, Option, Some, None,
-    option_and_then, nat_lt, if◌then◌else◌, IsTrue, ⊤}
+use Rattle.std.specs.Prelude.{ℕ, ◌+◌, ◌*◌, ◌==◌, ◌||◌, ◌&&◌, Bool, not, List, [], ◌∷◌, Option, Some, None, option_and_then, nat_lt, if◌then◌else◌, IsTrue, ⊤}
 use Rattle.std.specs.Char.{digit_value}
 use Rattle.std.proofs.Math.Utf8.{scalar}
 use Prim.Native.Char.{code}
 use Rattle.rl_tokens.specs.declared.kind.Kind.{Kind}
-use Rattle.rl_tokens.specs.Quoted.{content_of, holds_characters, is_blank, is_line_end, is_string, is_plain,
-    allows_code, may_be_hex, has_unicode}
+use Rattle.rl_tokens.specs.Quoted.{content_of, holds_characters, is_blank, is_line_end, is_string, is_plain, allows_code, may_be_hex, has_unicode}
 use Rattle.rl_grammar.specs.declared.units.Piece.{Piece}
 use Rattle.rl_grammar.specs.declared.units.Piece.TheVariants.{Character, Byte, Nothing}
 

@@ -10,9 +10,7 @@ use Rattle.rl_tokens.specs.Texts.{first_passes}
 use Rattle.rl_tokens.specs.Quoted.{allows_code, has_unicode, holds_characters, is_string}
 use Rattle.rl_grammar.specs.Mirrors.UnitAt.{CodeDigits, code_digits_at}
 use Rattle.rl_grammar.specs.declared.flaws.FlawKind.{FlawKind}
-use Rattle.rl_grammar.specs.declared.flaws.FlawKind.TheVariants.{Unclosed, UnknownEscape, NoUnicode, NoHexDigit,
-    NoBrace, EmptyBraces, TooManyDigits, PastAscii, PastUnicode, Surrogate, Nul, NotAscii, LoneCr, MustEscape,
-    NoCharacter, TwoCharacters}
+use Rattle.rl_grammar.specs.declared.flaws.FlawKind.TheVariants.{Unclosed, UnknownEscape, NoUnicode, NoHexDigit, NoBrace, EmptyBraces, TooManyDigits, PastAscii, PastUnicode, Surrogate, Nul, NotAscii, LoneCr, MustEscape, NoCharacter, TwoCharacters}
 
 abbrev pub FoundFlaw : Type 0
 FoundFlaw = FlawKind × List ℕ

@@ -1,14 +1,12 @@
 -- A mirror of the code, for proofs alone: the lexeme at the front of a text as the code finds it,
 -- by the first characters: its form, and the rest after it.
-use Rattle.std.specs.Prelude.{◌≡◌, ℕ, Bool, false, not, ◌&&◌, ◌||◌, ◌==◌, List, [], ◌∷◌, ◌++◌, slice_index, drop, cond,
-    codes, ◌/◌, ◌^◌, nat_le, bit_and}
+use Rattle.std.specs.Prelude.{◌≡◌, ℕ, Bool, false, not, ◌&&◌, ◌||◌, ◌==◌, List, [], ◌∷◌, ◌++◌, slice_index, drop, cond, codes, ◌/◌, ◌^◌, nat_le, bit_and}
 use Rattle.std.proofs.Common.{suc, zero, Option, Some, None}
 use Rattle.std.specs.Char.{is_ascii_digit}
 use Rattle.std.specs.Option.{option_map}
 use Prim.Native.Char.{code}
 use Rattle.rl_tokens.specs.Texts.{is_underscore, is_among, first_passes, begins, is_row_part}
-use Rattle.rl_tokens.specs.Lexemes.{is_base_letter, delimiters, marks, begins_hashes, begins_dot, LexemeForm,
-    LiteralForm, IdentifierForm, DelimiterForm, MarkForm, form_of, Lexeme, lexeme_text, IsLexeme, is_start, is_continue}
+use Rattle.rl_tokens.specs.Lexemes.{is_base_letter, delimiters, marks, begins_hashes, begins_dot, LexemeForm, LiteralForm, IdentifierForm, DelimiterForm, MarkForm, form_of, Lexeme, lexeme_text, IsLexeme, is_start, is_continue}
 use Rattle.rl_tokens.specs.Lexing.{begins_lifetime}
 use Rattle.rl_tokens.specs.Puncts.{is_punct}
 use Rattle.rl_tokens.specs.Classes.{after_run, is_hash}

@@ -12,8 +12,7 @@ use Rattle.rl_tokens.specs.Lexemes.{is_start, is_continue, begins_raw_identifier
 use Rattle.rl_tokens.specs.Mirrors.LexemeAt.{begins_quote}
 use Rattle.rl_tokens.specs.Classes.{after_run}
 use Rattle.rl_tokens.specs.Mirrors.SkippedAt.{after_block}
-use Rattle.rl_tokens.specs.Sources.{is_in_line, is_apostrophe, SourceKind, RawIdentifierKind, LifetimeKind,
-    DocCommentKind, StrayKind}
+use Rattle.rl_tokens.specs.Sources.{is_in_line, is_apostrophe, SourceKind, RawIdentifierKind, LifetimeKind, DocCommentKind, StrayKind}
 
 -- what follows a doc comment, by what stands after its first slash
 abbrev pub after_doc : List ℕ → Option (List ℕ)

@@ -8,4 +8,4 @@ returns-clause-place c =
     let at = length borrowed - length c.rest.result.now in
     subst (λ z. IsCharBoundary z at) c.from_utf8_unchecked-text.ensures
     (subst (λ z. IsCharBoundary borrowed (length borrowed - length z)) (sym c.rest.ensures)
-        (cut_boundary borrowed c.new.result.rest c.new.ensures.following.following))
+    (cut_boundary borrowed c.new.result.rest c.new.ensures.following.following))

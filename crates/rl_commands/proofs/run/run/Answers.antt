@@ -9,11 +9,11 @@ returns-in-Err-clause-fault g c = refusal_fault c.args.command _ _ c.in_ok-bytes
 pub returns-clause-printed : goal.returns-clause-printed
 returns-clause-printed g c =
     on_ok_weaker c.write_whole.result (λ all. prints_known c.args.command _ _ _ c.in_ok-bytes.bytes.items
-        (string_bytes c.in-Ok.lines) c.in_ok-bytes.ensures.bytes c.in-Ok.ensures.utf8 c.in-Ok.ensures.lines
-        (IsUtf8-string_bytes c.in-Ok.lines) all) (rw c.as_bytes.ensures.value at c.write_whole.ensures.all)
+    (string_bytes c.in-Ok.lines) c.in_ok-bytes.ensures.bytes c.in-Ok.ensures.utf8 c.in-Ok.ensures.lines
+    (IsUtf8-string_bytes c.in-Ok.lines) all) (rw c.as_bytes.ensures.value at c.write_whole.ensures.all)
 
 pub returns-clause-fault : goal.returns-clause-fault
 returns-clause-fault g c =
     IfErr-weaker c.write_whole.result _ _ (begins_known c.args.command _ _ _ c.in_ok-bytes.bytes.items
-        (string_bytes c.in-Ok.lines) c.in_ok-bytes.ensures.bytes c.in-Ok.ensures.utf8 c.in-Ok.ensures.lines
-        (IsUtf8-string_bytes c.in-Ok.lines)) (rw c.as_bytes.ensures.value at c.write_whole.ensures.beginning)
+    (string_bytes c.in-Ok.lines) c.in_ok-bytes.ensures.bytes c.in-Ok.ensures.utf8 c.in-Ok.ensures.lines
+    (IsUtf8-string_bytes c.in-Ok.lines)) (rw c.as_bytes.ensures.value at c.write_whole.ensures.beginning)

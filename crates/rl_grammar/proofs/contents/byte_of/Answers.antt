@@ -9,7 +9,7 @@ pub overflow_cast-result : goal.overflow_cast-result
 overflow_cast-result c =
     let f = c.found_in.ensures in
     let small : c.found_in.result.unit < 256 = (unit_of Byte _ _ (f.kind Byte c.requires) refl f.found).byte refl in
-        omega arith
+    omega arith
 
 pub returns : goal.returns
 returns c =

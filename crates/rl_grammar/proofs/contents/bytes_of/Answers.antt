@@ -20,4 +20,4 @@ returns-clause-reads g c =
     let f = c.found_in-found.ensures in
     let has = bytes_body _ _ _ c.body_in.ensures.body f.kind f.found c.requires in
     IfOk-weaker c.bytes_of_body.result _ _ (λ b h. one_of_two _ _ _ f.kind c.requires (h _ has))
-        c.bytes_of_body.ensures.value
+    c.bytes_of_body.ensures.value

@@ -13,5 +13,4 @@ from_u32_unchecked-requires c =
 pub returns : goal.returns
 returns c =
     let f = c.found_in.ensures in
-    record { reads = subst (λ n. HasContents Char (chars c.args.text.now) (Characters (n ∷ [])))
-        (sym c.from_u32_unchecked.ensures) (unit_of Char _ _ (f.kind Char c.requires) refl f.found).reads }
+    record { reads = subst (λ n. HasContents Char (chars c.args.text.now) (Characters (n ∷ []))) (sym c.from_u32_unchecked.ensures) (unit_of Char _ _ (f.kind Char c.requires) refl f.found).reads }

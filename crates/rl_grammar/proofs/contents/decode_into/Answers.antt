@@ -22,7 +22,7 @@ returns-in_default-clause-decodes c =
     let following : IsUtf8 c.split_plain.result.1.now = search rules in
     let room : length c.args.text.now ≤ length l.out = omega (arith, l.invariant.len, c.requires.room) in
     let f = run_filled _ _ _ _ _ _ _ _ _ l.invariant.filled cut.cut cut.plain c.utf8.text run following room put.end
-        put.bytes in
+    put.bytes in
     let none : unit_at c.args.kind (chars c.split_plain.result.1.now) ≡ None = search rules in
     record { value = f.value; rest = _; row = f.row; stuck = none; bytes_are = f.bytes }
 
@@ -46,7 +46,7 @@ put_piece-at-requires c =
     let after : IsUtf8 c.in-Some.after.now = search rules in
     let room : length c.args.text.now ≤ length l.out = omega (arith, l.invariant.len, c.requires.room) in
     let f = run_filled _ _ _ _ _ _ _ _ _ l.invariant.filled cut.cut cut.plain c.utf8.text run following room put.end
-        put.bytes in
+    put.bytes in
     let more : length c.args.text.now ≤ length c.put_run-at.new.out = omega (arith, room, put.len) in
     let unit = c.in-Some.ensures in
     omega (arith, more, piece_room _ _ _ _ _ _ c.in-Some.piece f unit.value unit.piece c.utf8.text after more)
@@ -61,7 +61,7 @@ loop-piece-preserved c =
     let after : IsUtf8 c.in-Some.after.now = search rules in
     let room : length c.args.text.now ≤ length l.out = omega (arith, l.invariant.len, c.requires.room) in
     let f = run_filled _ _ _ _ _ _ _ _ _ l.invariant.filled cut.cut cut.plain c.utf8.text run following room put.end
-        put.bytes in
+    put.bytes in
     let more : length c.args.text.now ≤ length c.put_run-at.new.out = omega (arith, room, put.len) in
     let unit = c.in-Some.ensures in
     let last = c.put_piece-at.ensures in

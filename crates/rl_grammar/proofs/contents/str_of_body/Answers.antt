@@ -13,4 +13,4 @@ pub returns-clause-value : goal.returns-clause-value
 returns-clause-value g c = λ t has.
     let same : c.in_ok-value.value.items ≡ string_bytes c.from_utf8_unchecked.result = search rules in
     subst (λ z. HasContents Str t (Characters (chars z))) same
-        (str_of_has t _ _ _ has c.utf8.body (c.in_ok-value.ensures t has)).1
+    (str_of_has t _ _ _ has c.utf8.body (c.in_ok-value.ensures t has)).1

@@ -1,5 +1,4 @@
-use Rattle.rl_grammar.proofs.Names.{◌≡◌, ◌<◌, None, true, nat_lt, arith, ap, sym, refl, ◌∙◌, drop, get_or, ◌+◌,
-    nat_tests, IsCharBoundary-start, digit_value}
+use Rattle.rl_grammar.proofs.Names.{◌≡◌, ◌<◌, None, true, nat_lt, arith, ap, sym, refl, ◌∙◌, drop, get_or, ◌+◌, nat_tests, IsCharBoundary-start, digit_value}
 use Rattle.rl_grammar.specs.Mirrors.NumberAt.{row_from}
 use Rattle.rl_grammar.proofs.RowBytes.{digit_cuts, is_digit, row_goes}
 use Rattle.rl_grammar.proofs.digit_rows.digits_len.Goals as goal
@@ -17,7 +16,7 @@ loop-len-preserved c =
     let l = c.loop-len-test.true in
     let some : nat_lt 0 (i + 1) ≡ true = grind (arith, nat_tests) in
     let below : digit_value (get_or s i 0) < 10 = is_digit (get_or s i 0)
-        (sym c.is_ascii_digit.ensures.value ∙ c.if-is_ascii_digit.true) in
+    (sym c.is_ascii_digit.ensures.value ∙ c.if-is_ascii_digit.true) in
     record {
       boundary = digit_cuts 10 s i _ c.as_bytes-bytes.ensures.utf8 (omega arith) l refl below;
       same = ap (λ b. row_from 10 b None (drop (i + 1) s)) some

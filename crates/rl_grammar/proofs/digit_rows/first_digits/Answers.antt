@@ -1,5 +1,4 @@
-use Rattle.rl_grammar.proofs.Names.{common_steps, ◌≡◌, ◌<◌, ◌*◌, Some, true, nat_lt, arith, ap, sym, subst, refl, ◌∙◌,
-    drop, ◌+◌, nat_tests, IsCharBoundary-start}
+use Rattle.rl_grammar.proofs.Names.{common_steps, ◌≡◌, ◌<◌, ◌*◌, Some, true, nat_lt, arith, ap, sym, subst, refl, ◌∙◌, drop, ◌+◌, nat_tests, IsCharBoundary-start}
 use Rattle.rl_grammar.specs.Mirrors.NumberAt.{row_from}
 use Rattle.rl_grammar.proofs.RowBytes.{digit_cuts, row_goes}
 use Rattle.rl_grammar.proofs.TallyLemmas.{stays_small, append_small}
@@ -23,14 +22,14 @@ loop-end-preserved c =
     let below : d < r = c.if-digit-radix.false in
     let some : nat_lt 0 (i + 1) ≡ true = grind (arith, nat_tests) in
     let next : v * c.from.result + c.from-in-loop-end.result ≡ v * r + d = ap (λ n. v * n + c.from-in-loop-end.result)
-        c.from.ensures ∙ ap (λ n. v * r + n) c.from-in-loop-end.ensures in
+    c.from.ensures ∙ ap (λ n. v * r + n) c.from-in-loop-end.ensures in
     let small : v * r + d < 18446744073709551615 = stays_small v r d c.if-spelled-lt-MAY_GROW.true (omega arith) below
-        in
+    in
     record {
       boundary = digit_cuts r s i d c.as_bytes-bytes.ensures.utf8 (omega arith) l c.digit_value-digit.ensures below;
       same = ap (λ b. row_from r b (Some (v * c.from.result + c.from-in-loop-end.result)) (drop (i + 1) s)) some
           ∙ row_goes r (nat_lt 0 i) (Some v) (Some (v * c.from.result + c.from-in-loop-end.result)) s i d (omega arith)
-              l c.digit_value-digit.ensures below (ap Some next ∙ append_small v r d small)
+          l c.digit_value-digit.ensures below (ap Some next ∙ append_small v r d small)
           ∙ c.loop-end.invariant.same;
       small = subst (λ n. n < 18446744073709551615) (sym next) small;
     }

@@ -3,8 +3,7 @@ use Rattle.std.specs.Str.{chars}
 use Rattle.rl_grammar.specs.Mirrors.NumberAt.{row_from}
 use Rattle.rl_grammar.proofs.DigitRowLemmas.{row_start}
 use Rattle.rl_grammar.proofs.RowBytes.{digit_cuts, mark_cuts, row_mark, row_goes, row_stops, row_ends, row_read}
-use Rattle.rl_grammar.proofs.digit_rows.read_row_in.Goals.{then-digit-radix, else-digit-radix+else-byte-ne95,
-    else-loop-at-test, then-loop-at-test+else-digit-radix+then-byte-ne95}
+use Rattle.rl_grammar.proofs.digit_rows.read_row_in.Goals.{then-digit-radix, else-digit-radix+else-byte-ne95, else-loop-at-test, then-loop-at-test+else-digit-radix+then-byte-ne95}
 use Rattle.rl_grammar.proofs.digit_rows.read_row_in.Goals as goal
 
 pub loop-at-init : goal.loop-at-init
@@ -35,7 +34,7 @@ loop-at-preserved c =
         same = ap (λ b. row_from r b joined.tally (drop (i + 1) s)) w.has_digit-is
             ∙ ap (λ m. row_from r true m (drop (i + 1) s)) w.tally-is
             ∙ row_goes r some c.loop-at.tally _ s i _ (omega arith) l c.digit_value-digit.ensures w.if-digit-radix.true
-                w.append_digit-tally.ensures
+            w.append_digit-tally.ensures
             ∙ c.loop-at.invariant.same;
       }
       | else-digit-radix+else-byte-ne95 w ↦ record {
@@ -56,7 +55,7 @@ returns-clause-value c =
     let m = c.loop-at.tally in
     let rest = c.range_from.result.now in
     let read = row_read r some m (Some 0) c.args.text.now s rest i (omega arith) c.utf8.text c.range_from.utf8
-        c.as_bytes-bytes.ensures.value c.range_from.ensures.value c.loop-at.invariant.same in
+    c.as_bytes-bytes.ensures.value c.range_from.ensures.value c.loop-at.invariant.same in
     ap (λ n. (some, n, chars rest)) c.magnitude.ensures
     ∙ elim c.loop-at-test.branch [
       | else-loop-at-test w ↦ read (row_ends r some m s i w.loop-at-test.false)

@@ -1,13 +1,10 @@
-use Rattle.rl_grammar.proofs.Names.{◌≡◌, Bool, ℕ, Option, List, None, false, nat_lt, refl, arith, ap, sym, subst, ◌∙◌,
-    drop, get_or, ◌+◌, IsCharBoundary}
+use Rattle.rl_grammar.proofs.Names.{◌≡◌, Bool, ℕ, Option, List, None, false, nat_lt, refl, arith, ap, sym, subst, ◌∙◌, drop, get_or, ◌+◌, IsCharBoundary}
 use Rattle.std.specs.Str.{chars}
 use Rattle.rl_tokens.proofs.Rests.{tail_drop}
 use Rattle.rl_grammar.specs.Mirrors.NumberAt.{row_from}
 use Rattle.rl_grammar.proofs.DigitRowLemmas.{row_skipped}
-use Rattle.rl_grammar.proofs.RowBytes.{digit_cuts, mark_cuts, is_digit, no_digit, row_mark, row_goes, row_stops,
-    row_ends, row_read}
-use Rattle.rl_grammar.proofs.digit_rows.skip_row.Goals.{then-is_ascii_digit, else-is_ascii_digit+else-byte-ne95,
-    else-loop-at-test, then-loop-at-test+else-is_ascii_digit+then-byte-ne95}
+use Rattle.rl_grammar.proofs.RowBytes.{digit_cuts, mark_cuts, is_digit, no_digit, row_mark, row_goes, row_stops, row_ends, row_read}
+use Rattle.rl_grammar.proofs.digit_rows.skip_row.Goals.{then-is_ascii_digit, else-is_ascii_digit+else-byte-ne95, else-loop-at-test, then-loop-at-test+else-is_ascii_digit+then-byte-ne95}
 use Rattle.rl_grammar.proofs.digit_rows.skip_row.Goals as goal
 
 pub loop-at-init : goal.loop-at-init
@@ -52,7 +49,7 @@ returns c =
     let t = c.args.text.now in
     let rest = c.range_from.result.now in
     let read = row_read 10 some None None t s rest i (omega arith) c.utf8.text c.range_from.utf8
-        c.as_bytes-bytes.ensures.value c.range_from.ensures.value c.loop-at.invariant.same in
+    c.as_bytes-bytes.ensures.value c.range_from.ensures.value c.loop-at.invariant.same in
     let value : ◌≡◌ {A = Bool × Option ℕ × List ℕ} (some, None, chars rest) (row_from 10 false None (chars t)) =
     elim c.loop-at-test.branch [
       | else-loop-at-test w ↦ read (row_ends 10 some None s i w.loop-at-test.false)

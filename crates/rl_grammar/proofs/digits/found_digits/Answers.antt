@@ -12,7 +12,7 @@ returns-then-found g c =
     let f = c.args.found in
     let digits = plain_digits t f c.utf8.text c.if-found.true c.requires in
     IfOk-weaker c.from_str.result _ _ (λ s e. held f.kind _ (body_in t f.body) (string_bytes s) digits
-        (e ∙ c.body_in-body.ensures.body)) c.from_str.ensures.ok
+    (e ∙ c.body_in-body.ensures.body)) c.from_str.ensures.ok
 
 pub returns-in-Int : goal.returns-in-Int
 returns-in-Int g c = IfOk-weaker c.signed_decimal.result _ _ (λ s e. written_digits _ _ _ c.in-Int.is c.requires e)
@@ -24,4 +24,4 @@ returns-in_default g c =
     let f = c.args.found in
     let numeral = ap (λ z. float_digits (chars z)) c.body_in-body.ensures.body in
     IfOk-weaker c.plain_numeral.result _ _ (λ s e. numeral_digits t (string_bytes s) f c.utf8.text c.in_default.not-Int
-        c.requires (e ∙ numeral)) c.plain_numeral.ensures
+    c.requires (e ∙ numeral)) c.plain_numeral.ensures

@@ -17,5 +17,4 @@ pub unreachable-requires : goal.unreachable-requires
 unreachable-requires c = let (n, x, r) = is_float _ _ c.requires c.in_default.not-Int in c.in-None.ensures.none n x r
 
 pub returns-in-Some : goal.returns-in-Some
-returns-in-Some c = record { found = inr c.in-Some.ensures.found; kind = c.in-Some.ensures.found.kind
-    ∙ sym (float_kind _ _ c.requires c.in_default.not-Int) }
+returns-in-Some c = record { found = inr c.in-Some.ensures.found; kind = c.in-Some.ensures.found.kind ∙ sym (float_kind _ _ c.requires c.in_default.not-Int) }

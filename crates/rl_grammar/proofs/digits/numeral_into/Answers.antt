@@ -1,5 +1,4 @@
-use Rattle.rl_grammar.proofs.Names.{◌≡◌, ◌∙◌, ◌+◌, ◌∷◌, [], ◌++◌, length, ap, sym, append_assoc, append-nil, arith,
-    rules, encode_utf8, encode_utf8_all, float_digits}
+use Rattle.rl_grammar.proofs.Names.{◌≡◌, ◌∙◌, ◌+◌, ◌∷◌, [], ◌++◌, length, ap, sym, append_assoc, append-nil, arith, rules, encode_utf8, encode_utf8_all, float_digits}
 use Rattle.std.proofs.Common.{length-append}
 use Rattle.std.specs.Str.{chars}
 use Rattle.rl_grammar.proofs.DigitLemmas.{plain_more}
@@ -14,11 +13,15 @@ loop-c-preserved c =
     let d = c.put_digit-at.ensures in
     let first = c.in-Some.c in
     let long : length l.rest.now ≡ length (encode_utf8 first) + length c.in-Some.after.now = ap length s.bytes
-        ∙ length-append (encode_utf8 first) c.in-Some.after.now in
+    ∙ length-append (encode_utf8 first) c.in-Some.after.now in
     record {
       utf8 = search rules;
-      passed = (xs ++ (first ∷ []), cut ∙ ap (λ z. xs ++ z) s.chars
-          ∙ sym (append_assoc xs (first ∷ []) (chars c.in-Some.after.now)), plain_more _ _ xs first bytes d.bytes);
+      passed = (
+        xs ++ (first ∷ []),
+        cut ∙ ap (λ z. xs ++ z) s.chars
+            ∙ sym (append_assoc xs (first ∷ []) (chars c.in-Some.after.now)),
+        plain_more _ _ xs first bytes d.bytes,
+      );
       room = omega (arith, l.invariant.room, long, d.end);
       len = d.len ∙ l.invariant.len;
     }

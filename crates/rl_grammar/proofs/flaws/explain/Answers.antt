@@ -7,25 +7,31 @@ use Rattle.rl_grammar.proofs.flaws.explain.Goals as goal
 pub overflow_sub-lo : goal.overflow_sub-lo
 overflow_sub-lo c =
     let rest : IsUtf8 c.flaw_at-found.result.rest.now = search rules in
-    omega (arith, front_bytes c.args.text.now c.flaw_at-found.result.rest.now c.utf8.text rest
-        c.flaw_at-found.ensures.stops)
+    omega (
+      arith,
+      front_bytes c.args.text.now c.flaw_at-found.result.rest.now c.utf8.text rest
+          c.flaw_at-found.ensures.stops,
+    )
 
 pub overflow_sub-result : goal.overflow_sub-result
 overflow_sub-result c =
     let piece : IsUtf8 c.flaw_at-found.result.piece.now = search rules in
-    omega (arith, piece_bytes c.args.text.now c.flaw_at-found.result.piece.now c.flaw_at-found.result.rest.now
-        c.utf8.text piece c.flaw_at-found.ensures.stops c.flaw_at-found.ensures.piece)
+    omega (
+      arith,
+      piece_bytes c.args.text.now c.flaw_at-found.result.piece.now c.flaw_at-found.result.rest.now
+          c.utf8.text piece c.flaw_at-found.ensures.stops c.flaw_at-found.ensures.piece,
+    )
 
 pub returns-clause-some : goal.returns-clause-some
 returns-clause-some c =
     let rest : IsUtf8 c.flaw_at-found.result.rest.now = search rules in
     let piece : IsUtf8 c.flaw_at-found.result.piece.now = search rules in
     let whole = front_bytes c.args.text.now c.flaw_at-found.result.rest.now c.utf8.text rest
-        c.flaw_at-found.ensures.stops in
+    c.flaw_at-found.ensures.stops in
     let spoiled = piece_bytes c.args.text.now c.flaw_at-found.result.piece.now c.flaw_at-found.result.rest.now
-        c.utf8.text piece c.flaw_at-found.ensures.stops c.flaw_at-found.ensures.piece in
+    c.utf8.text piece c.flaw_at-found.ensures.stops c.flaw_at-found.ensures.piece in
     let cut = piece_front (chars c.args.text.now) (chars c.flaw_at-found.result.piece.now)
-        (chars c.flaw_at-found.result.rest.now) c.flaw_at-found.ensures.stops c.flaw_at-found.ensures.piece in
+    (chars c.flaw_at-found.result.rest.now) c.flaw_at-found.ensures.stops c.flaw_at-found.ensures.piece in
     record {
       unread = search rules;
       place = record {

@@ -10,4 +10,4 @@ returns-clause-found c =
     let f = c.in_ok-found.found in
     let h = c.in_ok-found.ensures in
     subst (λ body. IsFound (45 ∷ t) (Of f.kind body f.magnitude)) (sym c.up_to.ensures)
-        (negative_found t f c.utf8.text h.unsigned h.found h.number)
+    (negative_found t f c.utf8.text h.unsigned h.found h.number)

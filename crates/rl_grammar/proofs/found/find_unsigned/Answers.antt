@@ -11,7 +11,7 @@ pub returns-clause-none : goal.returns-clause-none
 returns-clause-none c =
     let t = chars c.args.text.now in
     none_then c.find_number.result (λ h. negative_no_reading t (negative_none t c.if-is_negative.ensures h))
-        c.find_number.ensures.none
+    c.find_number.ensures.none
 
 pub returns-clause-unsigned : goal.returns-clause-unsigned
 returns-clause-unsigned c = if_some c.find_number.result c.if-is_negative.ensures

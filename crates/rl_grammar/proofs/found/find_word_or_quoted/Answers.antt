@@ -9,4 +9,4 @@ pub returns-in_default-clause-none : goal.returns-in_default-clause-none
 returns-in_default-clause-none c =
     let t = chars c.args.text.now in
     none_then c.find_truth.result (no_reading t (no_front t (sym c.in_default.ensures)) (no_front_number t c.requires))
-        c.find_truth.ensures.none
+    c.find_truth.ensures.none

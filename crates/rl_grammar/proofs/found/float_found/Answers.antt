@@ -6,4 +6,4 @@ pub returns : goal.returns
 returns c =
     let body : IsUtf8 c.before-body.result.now = search rules in
     float_found _ _ _ _ _ _ _ c.up_to.ensures c.utf8.text body c.requires.reads.1 c.requires.following
-        c.before-body.ensures.cut refl c.is_plain_float.ensures
+    c.before-body.ensures.cut refl c.is_plain_float.ensures

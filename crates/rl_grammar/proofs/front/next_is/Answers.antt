@@ -9,7 +9,7 @@ pub returns-in-Some : goal.returns-in-Some
 returns-in-Some g c =
     let f : IsFront (trees_in c.args.input.now) (front_token c.in-Some.front) (trees_in c.take.new.input) =
     subst (λ ts. IsFront ts (front_token c.in-Some.front) (trees_in c.take.new.input)) c.fork-ahead.ensures.trees
-        c.in-Some.ensures.taken in (
+    c.in-Some.ensures.taken in (
       (λ h. (front_token c.in-Some.front, trees_in c.take.new.input, front_of _ _ _ _ f (c.is_of.ensures.0 h))),
       (λ h. c.is_of.ensures.1 (same_front c.args.kind (trees_in c.args.input.now) (front_token c.in-Some.front)
           (trees_in c.take.new.input) f h)),

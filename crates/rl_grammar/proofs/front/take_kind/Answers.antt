@@ -14,7 +14,7 @@ returns-in_default-find_as-clause-runs g c = let trees = trees_in c.args.input.n
     let rest = trees_in c.take.new.input in
     let token = front_token c.in-Some.front in
     let front : IsFront trees token rest = subst (λ ts. IsFront ts token rest) c.fork-ahead.ensures.trees
-        c.in-Some.ensures.taken in
+    c.in-Some.ensures.taken in
     let other = c.in_default-find_as.ensures.none in
     inr (record {
       rejection = c.error-error.ensures;
@@ -46,11 +46,11 @@ returns-in-Ok-clause-runs g c =
     let rest = trees_in c.take.new.input in
     let token = front_token c.in-Some.front in
     let front : IsFront trees token rest = subst (λ ts. IsFront ts token rest) c.fork-ahead.ensures.trees
-        c.in-Some.ensures.taken in
+    c.in-Some.ensures.taken in
     let found = c.in-Some-find_as.ensures in
     let reads = subst (λ k. ReadsAs k (chars token.text)) found.kind (found_reads _ _ found.found) in
     subst (λ (t : SpannedText). IsFrontOf c.args.kind trees t rest) (sym c.in-Ok.ensures.ok)
-        (front_of c.args.kind trees token rest front reads)
+    (front_of c.args.kind trees token rest front reads)
 
 pub returns-in-Ok-clause-found : goal.returns-in-Ok-clause-found
 returns-in-Ok-clause-found g c = subst (λ (t : SpannedText). IsFound t.text c.in-Some-find_as.found)
@@ -65,8 +65,11 @@ returns-in-Err-clause-runs g c =
     let rest = trees_in c.take.new.input in
     let token = front_token c.in-Some.front in
     let front : IsFront trees token rest = subst (λ ts. IsFront ts token rest) c.fork-ahead.ensures.trees
-        c.in-Some.ensures.taken in
+    c.in-Some.ensures.taken in
     let found = c.in-Some-find_as.ensures in
     let reads = subst (λ k. ReadsAs k (chars token.text)) found.kind (found_reads _ _ found.found) in
-    inl ((token, rest, front_of c.args.kind trees token rest front reads), record
-        { error = memory_moved _ _ _ _ _ c.new.ensures c.span.ensures c.in-Err.ensures.memory; stays = refl })
+    inl (
+      (token, rest, front_of c.args.kind trees token rest front reads),
+      record
+          { error = memory_moved _ _ _ _ _ c.new.ensures c.span.ensures c.in-Err.ensures.memory; stays = refl },
+    )

@@ -8,7 +8,7 @@ pub returns-clause-taken : goal.returns-clause-taken
 returns-clause-taken g c = let minus : c.in_ok-minus.minus.now.ch ≡ 45 = sym c.as_char.ensures.ch
     ∙ c.if-as_char-ne45.false in
     negative_front _ _ _ c.in_ok-minus.minus.now c.in_ok-number.number.now c.in_ok-found.found
-        (sym c.fork-ahead.ensures.trees ∙ c.in_ok-minus.ensures.taken) c.in_ok-number.ensures.taken minus
+    (sym c.fork-ahead.ensures.trees ∙ c.in_ok-minus.ensures.taken) c.in_ok-number.ensures.taken minus
     (rw c.text.ensures at c.in_ok-found.ensures.found)
 
 pub returns-in_err-minus-clause-none : goal.returns-in_err-minus-clause-none

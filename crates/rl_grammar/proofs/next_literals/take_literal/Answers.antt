@@ -12,8 +12,13 @@ returns-in_default-form c =
       shorter = tt;
       none = no_number c.args.tokens.now c.next.new.self c.in_ok-token.token c.in_ok-token.ensures.next
           (ap form_view c.in-Mark-eq45.is ∙ ap MarkForm minus)
-          (inr (number, c.next-in-Mark-eq45.new.self, c.in_ok-number-in-Mark-eq45.ensures.next, inl
-              (other_form number.form c.in_default-form.not-Literal)));
+          (inr (
+            number,
+            c.next-in-Mark-eq45.new.self,
+            c.in_ok-number-in-Mark-eq45.ensures.next,
+            inl
+                (other_form number.form c.in_default-form.not-Literal),
+          ));
     }
 
 pub returns-in_err-found-in-Mark-eq45-clause-none : goal.returns-in_err-found-in-Mark-eq45-clause-none
@@ -21,6 +26,10 @@ returns-in_err-found-in-Mark-eq45-clause-none c =
     let minus : c.in-Mark-eq45.field-0 ≡ 45 = search rules in
     if_none c.from_residual-in_err-found-in-Mark-eq45.result
     (no_number c.args.tokens.now c.next.new.self c.in_ok-token.token c.in_ok-token.ensures.next
-        (ap form_view c.in-Mark-eq45.is ∙ ap MarkForm minus)
-    (inr (c.in_ok-number-in-Mark-eq45.number, c.next-in-Mark-eq45.new.self, c.in_ok-number-in-Mark-eq45.ensures.next,
-        inr c.in_err-found-in-Mark-eq45.ensures.none)))
+    (ap form_view c.in-Mark-eq45.is ∙ ap MarkForm minus)
+    (inr (
+      c.in_ok-number-in-Mark-eq45.number,
+      c.next-in-Mark-eq45.new.self,
+      c.in_ok-number-in-Mark-eq45.ensures.next,
+      inr c.in_err-found-in-Mark-eq45.ensures.none,
+    )))

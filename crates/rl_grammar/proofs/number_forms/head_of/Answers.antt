@@ -6,4 +6,4 @@ pub returns-clause-head : goal.returns-clause-head
 returns-clause-head c =
     let row = c.read_row-row.ensures in
     head_read (chars c.args.unsigned.now) _ _ _ _ _ c.requires c.split_radix-radix.ensures.value row.has_digit
-        row.magnitude row.rest
+    row.magnitude row.rest

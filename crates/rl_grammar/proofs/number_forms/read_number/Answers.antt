@@ -28,13 +28,17 @@ returns-in_err-head_suffix-in-None-clause-none c =
 pub returns-in_ok-integer-in-Some-clause-reads : goal.returns-in_ok-integer-in-Some-clause-reads
 returns-in_ok-integer-in-Some-clause-reads c =
     let t = chars c.args.text.now in
-    let value = c.in-Some.ensures.value ∙ head_int t _ _ _ _ c.in_ok-head.ensures.head in
-    (is_within_at t _ _ _ _ value c.in_ok-integer-in-Some.was refl, rw c.in-Some.ensures.suffix
-        c.in_ok-head.ensures.following)
+    let value = c.in-Some.ensures.value ∙ head_int t _ _ _ _ c.in_ok-head.ensures.head in (
+      is_within_at t _ _ _ _ value c.in_ok-integer-in-Some.was refl,
+      rw c.in-Some.ensures.suffix
+          c.in_ok-head.ensures.following,
+    )
 
 pub returns-in_ok-head_suffix-in-None-clause-reads : goal.returns-in_ok-head_suffix-in-None-clause-reads
 returns-in_ok-head_suffix-in-None-clause-reads c =
     let t = chars c.args.text.now in
-    let none = no_int t (c.in-None.ensures.value ∙ head_int t _ _ _ _ c.in_ok-head.ensures.head) in
-    (float_sound t _ (sym c.in_ok-head_suffix-in-None.ensures.value), none,
-        c.in_ok-head_suffix-in-None.ensures.following)
+    let none = no_int t (c.in-None.ensures.value ∙ head_int t _ _ _ _ c.in_ok-head.ensures.head) in (
+      float_sound t _ (sym c.in_ok-head_suffix-in-None.ensures.value),
+      none,
+      c.in_ok-head_suffix-in-None.ensures.following,
+    )

@@ -10,9 +10,11 @@ returns-clause-reads c =
     let p = c.parts.ensures in
     let t = 45 ∷ chars c.args.text.now in
     let x = suffix_in c.args.text.now c.in_ok-found.found.body in
-    let (v, r) = negative_reads _ _ _ f.unsigned f.number f.found.reads in
-    (v, subst (λ (y : List ℕ). Reads t c.parts.result.kind v (chars y)) (sym p.suffix)
-        (subst (λ (k : Kind). Reads t k v (chars x)) (sym p.kind) r))
+    let (v, r) = negative_reads _ _ _ f.unsigned f.number f.found.reads in (
+      v,
+      subst (λ (y : List ℕ). Reads t c.parts.result.kind v (chars y)) (sym p.suffix)
+          (subst (λ (k : Kind). Reads t k v (chars x)) (sym p.kind) r),
+    )
 
 pub returns-clause-cut : goal.returns-clause-cut
 returns-clause-cut c =

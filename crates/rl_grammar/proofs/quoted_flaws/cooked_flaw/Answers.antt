@@ -10,8 +10,8 @@ returns c =
     let row = c.skip_units-piece.ensures.row.1 in
     let stuck = c.skip_units-piece.ensures.stuck in
     let flaw = cooked_flaw _ _ _ _ _ _ c.requires.string row stuck c.requires.none
-        (ap (λ k. found_flaw k (chars c.in_piece.result.rest.now)) c.in_piece.ensures.0
-        ∙ ap (λ z. found_flaw c.unit_flaw.result.kind (chars z)) c.in_piece.ensures.1 ∙ c.unit_flaw.ensures) in
+    (ap (λ k. found_flaw k (chars c.in_piece.result.rest.now)) c.in_piece.ensures.0
+    ∙ ap (λ z. found_flaw c.unit_flaw.result.kind (chars z)) c.in_piece.ensures.1 ∙ c.unit_flaw.ensures) in
     record {
       place = flaw.place;
       kind = flaw.has;

@@ -8,7 +8,7 @@ returns-then-closes c =
     let cut = c.split_raw.ensures in
     let (n, hashes) = c.requires.hashes in
     let given = reopened_flaw c.args.kind n _ _ _ _ hashes cut.cut cut.each _ _ c.in-Some.ensures.chars cut.stops
-        c.requires.string c.if-closes.ensures c.requires.none in
+    c.requires.string c.if-closes.ensures c.requires.none in
     record {
       kind = flaw_as _ _ _ _ _ _ c.make_flaw-then-closes.ensures.0
           (ap chars c.make_flaw-then-closes.ensures.1 ∙ c.skip_to_quote.ensures) given;
@@ -20,7 +20,7 @@ returns-else-closes c =
     let cut = c.split_raw.ensures in
     let (n, hashes) = c.requires.hashes in
     let given = spoiled_flaw c.args.kind n _ _ _ _ hashes cut.cut cut.each _ _ c.in-Some.ensures.chars cut.stops
-        c.if-closes.ensures in
+    c.if-closes.ensures in
     record {
       kind = flaw_as _ _ _ _ _ _ (c.make_flaw-else-closes.ensures.0 ∙ c.spoiled_flaw.ensures)
           (ap chars c.make_flaw-else-closes.ensures.1) given;

@@ -11,19 +11,22 @@ pub before-requires : goal.before-requires
 before-requires c = c.skip_hashes-rest.ensures.following
 
 pub opened_flaw-requires-clause-hashes : goal.opened_flaw-requires-clause-hashes
-opened_flaw-requires-clause-hashes c = (_, hashes_before _ _ _ c.skip_hashes-rest.ensures.rest
-    c.before-then-first-eq34.ensures.chars)
+opened_flaw-requires-clause-hashes c = (
+  _,
+  hashes_before _ _ _ c.skip_hashes-rest.ensures.rest
+      c.before-then-first-eq34.ensures.chars,
+)
 
 pub opened_flaw-requires-clause-none : goal.opened_flaw-requires-clause-none
 opened_flaw-requires-clause-none c =
     let same = opened_text _ _ _ _ _ c.before-then-first-eq34.ensures.chars c.in-Some.ensures.chars c.if-first-eq34.true
-        in
+    in
     subst (λ z. HasNoParts RawForm c.args.kind (raw_opener c.args.kind ++ z)) same c.requires.none
 
 pub returns-then-first-eq34 : goal.returns-then-first-eq34
 returns-then-first-eq34 c =
     let same = opened_text _ _ _ _ _ c.before-then-first-eq34.ensures.chars c.in-Some.ensures.chars c.if-first-eq34.true
-        in
+    in
     record {
       kind = subst (λ z. RawFlaw c.args.kind c.opened_flaw.result.kind z (chars c.opened_flaw.result.rest.now))
           (sym same) c.opened_flaw.ensures.kind;
@@ -41,7 +44,7 @@ returns-in_default c =
 pub returns-else-first-eq34 : goal.returns-else-first-eq34
 returns-else-first-eq34 c =
     let given = no_quote_flaw c.args.kind _ _ _ _ c.skip_hashes-rest.ensures.rest c.in-Some.ensures.chars
-        c.if-first-eq34.false in
+    c.if-first-eq34.false in
     record {
       kind = flaw_as _ _ _ _ _ _ c.make_flaw-else-first-eq34.ensures.0 (ap chars c.make_flaw-else-first-eq34.ensures.1)
           given;

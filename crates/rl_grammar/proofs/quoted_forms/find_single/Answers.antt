@@ -35,5 +35,5 @@ returns-clause-found c =
     let single = (front_sound _ _ c.requires).has in
     let parts = single_found _ _ _ _ _ single (sym c.in_ok-piece.ensures.value) at.body c.in_ok-suffix.ensures.some in
     quoted_found _ _ _ _ _ c.utf8.text (form_at _ _ _ _ _ _ _ c.requires parts at.suffix at.stands at.plain
-        (opener_lo SingleForm _ _ _ _ (λ e. cc) c.utf8.text c.utf8.inside c.requires at.lo)) c.piece_unit.ensures
-        c.quoted.ensures
+    (opener_lo SingleForm _ _ _ _ (λ e. cc) c.utf8.text c.utf8.inside c.requires at.lo)) c.piece_unit.ensures
+    c.quoted.ensures

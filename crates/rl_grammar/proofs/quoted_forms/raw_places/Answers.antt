@@ -29,13 +29,13 @@ pub returns-in_err-suffix-clause-none : goal.returns-in_err-suffix-clause-none
 returns-in_err-suffix-clause-none c =
     let b = c.in_ok-body.ensures.some in
     if_none _ (only_quoted _ _ _ _ c.requires (raw_other_hashes _ _ _ _ c.skip_hashes-rest.ensures.rest
-        c.before-hashes.ensures.chars _ _ _ c.in_ok-opened.ensures.some b.0 b.1 c.in_err-suffix.ensures.none))
+    c.before-hashes.ensures.chars _ _ _ c.in_ok-opened.ensures.some b.0 b.1 c.in_err-suffix.ensures.none))
 
 pub returns-then-not-holds_all-clause-none : goal.returns-then-not-holds_all-clause-none
 returns-then-not-holds_all-clause-none c =
     let b = c.in_ok-body.ensures.some in
     only_quoted _ _ _ _ c.requires (raw_not_held _ _ _ _ c.skip_hashes-rest.ensures.rest c.before-hashes.ensures.chars _
-        _ _ c.in_ok-opened.ensures.some b.0 b.1 (sym c.if-not-holds_all.ensures))
+    _ _ c.in_ok-opened.ensures.some b.0 b.1 (sym c.if-not-holds_all.ensures))
 
 pub range_from-closer-requires : goal.range_from-closer-requires
 range_from-closer-requires c =
@@ -49,7 +49,7 @@ pub places-requires-clause-opened : goal.places-requires-clause-opened
 places-requires-clause-opened c =
     let rest = c.skip_hashes-rest.ensures.following in
     tail_step _ _ _ (opened _ _ _ _ c.utf8.text c.utf8.inside c.requires)
-        (tail_step _ _ _ rest c.in_ok-opened.ensures.following)
+    (tail_step _ _ _ rest c.in_ok-opened.ensures.following)
 
 pub places-requires-clause-suffix : goal.places-requires-clause-suffix
 places-requires-clause-suffix c =
@@ -60,7 +60,7 @@ places-requires-clause-suffix c =
     let closer : IsUtf8 c.range_from-closer.result.now = search rules in
     let begins = closer_is _ _ _ _ opened body after c.in_ok-body.ensures.some.0 c.range_from-closer.ensures.value in
     tail_chars _ _ (34 ∷ chars c.before-hashes.result.now) closer suffix
-        (begins ∙ ap (λ z. 34 ∷ z) c.in_ok-suffix.ensures.some)
+    (begins ∙ ap (λ z. 34 ∷ z) c.in_ok-suffix.ensures.some)
 
 pub returns-clause-some : goal.returns-clause-some
 returns-clause-some c =
@@ -75,8 +75,8 @@ returns-clause-some c =
     let same = append_cancel_right _ _ _ (sym last ∙ b.0) in
     let held = ap (list_all (is_raw c.args.kind)) same ∙ sym c.if-not-holds_all.ensures in
     let (v, parts) = raw_found _ _ _ _ c.skip_hashes-rest.ensures.rest c.before-hashes.ensures.chars _ _ _
-        c.in_ok-opened.ensures.some last b.1 _ string c.in_ok-suffix.ensures.some held in
+    c.in_ok-opened.ensures.some last b.1 _ string c.in_ok-suffix.ensures.some held in
     let hashes = (opens _ _ _ _ c.skip_hashes-rest.ensures.rest c.before-hashes.ensures.chars v _ parts.0).0 in
     let lo = raw_lo _ _ _ _ _ _ parts.0.hashes _ c.utf8.text opened c.requires c.before-hashes.ensures.chars
-        c.in_ok-opened.ensures.some hashes at.lo in
+    c.in_ok-opened.ensures.some hashes at.lo in
     form_at _ _ _ _ _ _ _ c.requires parts at.suffix at.stands at.plain lo

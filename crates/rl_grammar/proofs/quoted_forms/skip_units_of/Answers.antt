@@ -9,5 +9,4 @@ loop-after-preserved c =
     let cut = c.split_plain.ensures in
     let (v, row) = c.loop-after.invariant.row in
     let unit = row_step _ _ v _ _ row (sym c.in-Some.ensures.value) in
-    record { utf8 = search rules; row = (_, row_run _ _ _ _ _ cut.plain
-        (subst (BeginsRow c.args.kind (chars c.args.text.now) _) cut.cut unit)) }
+    record { utf8 = search rules; row = (_, row_run _ _ _ _ _ cut.plain (subst (BeginsRow c.args.kind (chars c.args.text.now) _) cut.cut unit)) }

@@ -7,7 +7,7 @@ pub returns-in-Character : goal.returns-in-Character
 returns-in-Character c =
     let scalar : IsScalar c.in-Character.c = search rules in
     rw c.in-Character.is (character_unit _ _ _ c.requires.single scalar
-        (ap (piece_value c.args.kind) (sym c.in-Character.is) ∙ c.requires.one.1))
+    (ap (piece_value c.args.kind) (sym c.in-Character.is) ∙ c.requires.one.1))
 
 pub returns-in-Byte : goal.returns-in-Byte
 returns-in-Byte c =

@@ -18,6 +18,6 @@ pub returns-in_default : goal.returns-in_default
 returns-in_default c =
     c.len_before-in_default.ensures
     ∙ same_prefix _ (is_plain Str) c.args.bytes.now (λ x. in_run_other Str _ x bytes_no
-        ∙ c.ends_of_runs-in_default.ensures x)
+    ∙ c.ends_of_runs-in_default.ensures x)
     ∙ ap (λ k. prefix_len (is_plain k) c.args.bytes.now) (sym (other_string c.args.kind c.requires.string
-        c.requires.other c.in_default.not-CStr))
+    c.requires.other c.in_default.not-CStr))

@@ -1,5 +1,4 @@
-use Rattle.rl_tokens.proofs.Common.{[], ap, arith, chars, chars-nil, common_steps, string_bytes, subst, sym, take, ◌++◌,
-    ◌+◌, ◌∙◌, ◌∷◌, ◌≡◌}
+use Rattle.rl_tokens.proofs.Common.{[], ap, arith, chars, chars-nil, common_steps, string_bytes, subst, sym, take, ◌++◌, ◌+◌, ◌∙◌, ◌∷◌, ◌≡◌}
 use Rattle.rl_lines.specs.EntryLines.{IsLineOfEntry, AreLinesOfEntries}
 use Rattle.rl_lines.proofs.JoinLemmas.{joins_more}
 use Rattle.rl_lines.proofs.attributes.entry_lines.Goals as goal
@@ -13,5 +12,5 @@ loop-entry-preserved g c =
     let i = c.loop-entry.entry-index in
     let grown : take (i + 1) entries ≡ take i entries ++ (c.entry-item.result ∷ []) = grind (arith, common_steps) in
     subst (λ es. AreLinesOfEntries es (chars (string_bytes c.push_entry.new.out))) (sym grown)
-        (joins_more IsLineOfEntry (take i entries) c.entry-item.result (chars (string_bytes c.loop-entry.lines))
-        (chars (string_bytes c.push_entry.new.out)) c.loop-entry.invariant c.in_ok-push_entry.ensures)
+    (joins_more IsLineOfEntry (take i entries) c.entry-item.result (chars (string_bytes c.loop-entry.lines))
+    (chars (string_bytes c.push_entry.new.out)) c.loop-entry.invariant c.in_ok-push_entry.ensures)

@@ -16,8 +16,8 @@ pub loop-high-preserved : goal.loop-high-preserved
 loop-high-preserved g c =
     let grown : c.push.new.self.items ≡ c.loop-high.bytes.items ++ (c.in-Some-byte_of.byte ∷ []) = search rules in
     rw grown (front_grows c.args.digits.now c.loop-high.rest.now c.in-Some.following.now c.loop-high.bytes.items
-        c.in-Some.high c.in-Some.low c.in-Some-byte_of.byte c.loop-high.invariant c.in-Some.ensures.some
-        c.in-Some-byte_of.ensures.some.0 c.in-Some-byte_of.ensures.some.1)
+    c.in-Some.high c.in-Some.low c.in-Some-byte_of.byte c.loop-high.invariant c.in-Some.ensures.some
+    c.in-Some-byte_of.ensures.some.0 c.in-Some-byte_of.ensures.some.1)
 
 pub returns-then-is_empty : goal.returns-then-is_empty
 returns-then-is_empty g c = whole c.args.digits.now c.loop-high.rest.now c.loop-high.bytes.items c.loop-high.invariant

@@ -6,4 +6,4 @@ use Rattle.rl_lines.proofs.line.push_verbatim.Goals as goal
 pub returns : goal.returns
 returns g c =
     on_ok_weaker c.push_quoted.result (λ e. appends_is (verbatim_line (chars c.args.text.now)) _ _
-        (rw (no_chars, verbatim_chars) at e)) c.push_quoted.ensures
+    (rw (no_chars, verbatim_chars) at e)) c.push_quoted.ensures

@@ -13,6 +13,6 @@ loop-literal-preserved g c =
     let start = chars (string_bytes c.args.out.now) in
     let grown : take (i + 1) literals ≡ take i literals ++ (c.literal-item.result ∷ []) = grind (arith, common_steps) in
     subst (λ ls. Appends (AreLinesOfLits ls) start (chars (string_bytes c.push_literal.new.out))) (sym grown)
-        (appends_more IsLineOfLit (take i literals) c.literal-item.result start
-        (chars (string_bytes c.loop-literal.out)) (chars (string_bytes c.push_literal.new.out)) c.loop-literal.invariant
-        c.in_ok-push_literal.ensures)
+    (appends_more IsLineOfLit (take i literals) c.literal-item.result start
+    (chars (string_bytes c.loop-literal.out)) (chars (string_bytes c.push_literal.new.out)) c.loop-literal.invariant
+    c.in_ok-push_literal.ensures)

@@ -8,5 +8,5 @@ pub returns : goal.returns
 returns c =
     let word = c.args.label.now in
     found_word c.any.result _ word (cases_from_any _ _ _ (λ x. x ≡ word) (λ x. x ≢ word) c.any.ensures.ran
-        (YieldsList-from_str_split 44 c.args.list.now (lit< tt) c.split.ensures.text c.split.ensures.has_more
-        c.split.ensures.pattern) (λ x q k. search (rules, tests)) (λ x q k. search (rules, tests)))
+    (YieldsList-from_str_split 44 c.args.list.now (lit< tt) c.split.ensures.text c.split.ensures.has_more
+    c.split.ensures.pattern) (λ x q k. search (rules, tests)) (λ x q k. search (rules, tests)))

@@ -8,7 +8,12 @@ returns-then-by_line-clause-place c = (
   (
     chars c.args.rest.now,
     c.at.ensures.place,
-    omega (arith, c.requires.lo, char_len c.args.rest.now c.requires.text.following.is_text, char_len c.args.places.now
-        c.requires.text.is_text),
+    omega (
+      arith,
+      c.requires.lo,
+      char_len c.args.rest.now c.requires.text.following.is_text,
+      char_len c.args.places.now
+          c.requires.text.is_text,
+    ),
   ),
 )

@@ -3,12 +3,18 @@ use Rattle.rl_sources.proofs.ReasonLemmas.{flaw_within, flaw_fits, flaw_rest}
 use Rattle.rl_sources.proofs.reason.flaw_place.Goals as goal
 
 pub overflow_add-lo : goal.overflow_add-lo
-overflow_add-lo c = omega (arith, (flaw_fits c.args.token c.args.places.now c.args.rest.now c.args.flaw c.requires.rest
-    c.requires.flaw).0)
+overflow_add-lo c = omega (
+  arith,
+  (flaw_fits c.args.token c.args.places.now c.args.rest.now c.args.flaw c.requires.rest
+      c.requires.flaw).0,
+)
 
 pub overflow_add-hi : goal.overflow_add-hi
-overflow_add-hi c = omega (arith, (flaw_fits c.args.token c.args.places.now c.args.rest.now c.args.flaw c.requires.rest
-    c.requires.flaw).1)
+overflow_add-hi c = omega (
+  arith,
+  (flaw_fits c.args.token c.args.places.now c.args.rest.now c.args.flaw c.requires.rest
+      c.requires.flaw).1,
+)
 
 pub range_from-inside-requires : goal.range_from-inside-requires
 range_from-inside-requires c = λ _. (flaw_within c.args.token c.args.places.now c.args.rest.now c.args.flaw

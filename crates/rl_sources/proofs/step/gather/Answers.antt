@@ -1,8 +1,7 @@
 use Rattle.rl_tokens.proofs.Common.{List, ap, arith, chars, chars-nil, inl, inr, refl, string_bytes, subst, sym, ℕ, ◌∙◌}
 use Rattle.rl_tokens.specs.Cursors.{IsCursorState}
 use Rattle.rl_sources.specs.Steps.{Adds}
-use Rattle.rl_sources.proofs.ScanLemmas.{adds_literal, adds_none, adds_unshown, begins_rest, rest_boundary, rest_is,
-    stands_before, stands_on, stops}
+use Rattle.rl_sources.proofs.ScanLemmas.{adds_literal, adds_none, adds_unshown, begins_rest, rest_boundary, rest_is, stands_before, stands_on, stops}
 use Rattle.rl_sources.proofs.step.gather.Goals as goal
 
 pub loop-alloc-init : goal.loop-alloc-init
@@ -19,36 +18,36 @@ pub rest_at-rest-requires : goal.rest_at-rest-requires
 rest_at-rest-requires g c =
     let takes = rw c.in-Ok-Some.field-0-is at c.in-Ok-Some.ensures.literal in
     let stands = stands_before c.args.options c.loop-alloc.tokens takes.between c.loop-alloc.places
-        c.loop-alloc.invariant.stands takes.unshown in
+    c.loop-alloc.invariant.stands takes.unshown in
     rest_boundary takes.between.text c.loop-alloc.places takes.between.rest c.in-Ok-Some.token.lo stands.cursor
-        stands.text_is takes.takes.place
+    stands.text_is takes.takes.place
 
 pub push_literal_token-requires : goal.push_literal_token-requires
 push_literal_token-requires g c =
     let takes = rw c.in-Ok-Some.field-0-is at c.in-Ok-Some.ensures.literal in
     let stands = stands_before c.args.options c.loop-alloc.tokens takes.between c.loop-alloc.places
-        c.loop-alloc.invariant.stands takes.unshown in
+    c.loop-alloc.invariant.stands takes.unshown in
     begins_rest takes.between c.next_literal.new.tokens c.loop-alloc.places c.rest_at-rest.result.now c.in-Ok-Some.token
-        stands takes.takes (rest_is takes.between.text c.loop-alloc.places takes.between.rest c.rest_at-rest.result.now
-        c.in-Ok-Some.token.lo stands.cursor stands.text_is takes.takes.place c.rest_at-rest.ensures)
+    stands takes.takes (rest_is takes.between.text c.loop-alloc.places takes.between.rest c.rest_at-rest.result.now
+    c.in-Ok-Some.token.lo stands.cursor stands.text_is takes.takes.place c.rest_at-rest.ensures)
 
 pub rest_at-rest-requires-in-Err : goal.rest_at-rest-requires-in-Err
 rest_at-rest-requires-in-Err g c =
     let error = c.in-Err.ensures.error in
     let stands = stands_before c.args.options c.loop-alloc.tokens error.stop c.loop-alloc.places
-        c.loop-alloc.invariant.stands error.unshown in
+    c.loop-alloc.invariant.stands error.unshown in
     rest_boundary error.stop.text c.loop-alloc.places error.stop.rest c.in-Err.error.at stands.cursor stands.text_is
-        error.place
+    error.place
 
 pub place_of-place-requires-clause-text : goal.place_of-place-requires-clause-text
 place_of-place-requires-clause-text g c =
     let error = c.in-Err.ensures.error in
     let stands = stands_before c.args.options c.loop-alloc.tokens error.stop c.loop-alloc.places
-        c.loop-alloc.invariant.stands error.unshown in
+    c.loop-alloc.invariant.stands error.unshown in
     let same = rest_is error.stop.text c.loop-alloc.places error.stop.rest c.rest_at-rest-in-Err.result.now
-        c.in-Err.error.at stands.cursor stands.text_is error.place c.rest_at-rest-in-Err.ensures in
+    c.in-Err.error.at stands.cursor stands.text_is error.place c.rest_at-rest-in-Err.ensures in
     subst (IsCursorState c.loop-alloc.places) (sym same) (subst (λ (t : List ℕ). IsCursorState t error.stop.rest)
-        (sym stands.text_is) stands.cursor)
+    (sym stands.text_is) stands.cursor)
 
 pub loop-alloc-preserved : goal.loop-alloc-preserved
 loop-alloc-preserved g c =
@@ -71,19 +70,19 @@ pub returns-in-Ok-None : goal.returns-in-Ok-None
 returns-in-Ok-None g c =
     let ends = rw c.in-Ok-None.field-0-is at c.in-Ok-None.ensures.literal in
     let adds = adds_unshown c.args.options c.args.tokens.now.text (chars c.args.tokens.now.rest)
-        (chars (string_bytes c.loop-alloc.out)) c.loop-alloc.tokens ends.0 c.loop-alloc.invariant.text_is
-        c.loop-alloc.invariant.adds ends.1 in
+    (chars (string_bytes c.loop-alloc.out)) c.loop-alloc.tokens ends.0 c.loop-alloc.invariant.text_is
+    c.loop-alloc.invariant.adds ends.1 in
     subst (λ (r : List ℕ). Adds c.args.options (chars c.args.tokens.now.text) (chars c.args.tokens.now.rest) r
-        (chars (string_bytes c.loop-alloc.out))) (ap chars ends.2 ∙ chars-nil) adds
+    (chars (string_bytes c.loop-alloc.out))) (ap chars ends.2 ∙ chars-nil) adds
 
 pub returns-in-Err : goal.returns-in-Err
 returns-in-Err g c =
     let before = c.loop-alloc.invariant in
     let error = c.in-Err.ensures.error in
     stops c.args.options c.args.tokens.now.text error.stop c.loop-alloc.places _ _ c.in-Err.error
-        c.place_of-place.result
+    c.place_of-place.result
     (error.unshown.same ∙ before.text_is) (stands_before c.args.options c.loop-alloc.tokens error.stop
-        c.loop-alloc.places before.stands error.unshown)
+    c.loop-alloc.places before.stands error.unshown)
     (adds_unshown c.args.options c.args.tokens.now.text (chars c.args.tokens.now.rest)
-        (chars (string_bytes c.loop-alloc.out)) c.loop-alloc.tokens error.stop before.text_is before.adds error.unshown)
-        error.error error.place c.place_of-place.ensures.place
+    (chars (string_bytes c.loop-alloc.out)) c.loop-alloc.tokens error.stop before.text_is before.adds error.unshown)
+    error.error error.place c.place_of-place.ensures.place

@@ -7,16 +7,16 @@ pub returns-then-not-picks-clause-shown : goal.returns-then-not-picks-clause-sho
 returns-then-not-picks-clause-shown g c =
     let text = c.args.token.text.now in
     let is_label = found_label text c.label_of.result.now c.kind_of.result c.find-found.result c.find-found.ensures.none
-        c.find-found.ensures.found c.kind_of.ensures c.label_of.ensures in
+    c.find-found.ensures.found c.kind_of.ensures c.label_of.ensures in
     not_picked c.args.options (chars c.args.places.now) (chars text) _ c.args.token.lo c.args.token.hi
-        (chars (string_bytes c.args.out.now)) is_label (λ p. false≢true (c.if-not-picks.ensures.1 p))
+    (chars (string_bytes c.args.out.now)) is_label (λ p. false≢true (c.if-not-picks.ensures.1 p))
 
 pub returns-clause-shown : goal.returns-clause-shown
 returns-clause-shown g c =
     let text = c.args.token.text.now in
     let is_label = found_label text c.label_of.result.now c.kind_of.result c.find-found.result c.find-found.ensures.none
-        c.find-found.ensures.found c.kind_of.ensures c.label_of.ensures in
+    c.find-found.ensures.found c.kind_of.ensures c.label_of.ensures in
     on_ok_weaker c.push_reason.result (explained c.args.options (chars c.args.places.now) (chars text) _
-        c.place_of-place.result c.args.token.lo c.args.token.hi _ _ _ is_label (c.if-not-picks.ensures.0 refl)
-        c.place_of-place.ensures.place c.in_ok-push_placed.ensures)
-        (rw c.place_of-place.ensures.same at c.push_reason.ensures.shown)
+    c.place_of-place.result c.args.token.lo c.args.token.hi _ _ _ is_label (c.if-not-picks.ensures.0 refl)
+    c.place_of-place.ensures.place c.in_ok-push_placed.ensures)
+    (rw c.place_of-place.ensures.same at c.push_reason.ensures.shown)

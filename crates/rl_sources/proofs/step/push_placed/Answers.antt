@@ -6,4 +6,4 @@ pub returns : goal.returns
 returns g c =
     let written = c.in_ok-push_str.ensures.bytes ∙ ap (λ z. string_bytes c.args.out.now ++ z) c.spaced.ensures in
     on_ok_weaker c.push_found.result (placed c.args.place (chars c.args.text.now) _ _ _
-        (IsUtf8-string_bytes c.args.out.now) written) c.push_found.ensures
+    (IsUtf8-string_bytes c.args.out.now) written) c.push_found.ensures

@@ -8,5 +8,5 @@ use Rattle.rl_sources.proofs.words.are_kind_words.Goals as goal
 pub returns : goal.returns
 returns c =
     all_pass IsKindWord c.all.result _ (cases_from_all _ _ _ IsKindWord (λ x. IsKindWord x → ⊥) c.all.ensures.ran
-        (YieldsList-from_str_split 44 c.args.list.now (lit< tt) c.split.ensures.text c.split.ensures.has_more
-        c.split.ensures.pattern) (λ x q k. search (rules, tests)) (λ x q k. search (rules, tests)))
+    (YieldsList-from_str_split 44 c.args.list.now (lit< tt) c.split.ensures.text c.split.ensures.has_more
+    c.split.ensures.pattern) (λ x q k. search (rules, tests)) (λ x q k. search (rules, tests)))

@@ -6,4 +6,4 @@ use Rattle.rl_sources.proofs.words.options_of.Given as goal
 abbrev pub invariant-loop-word : goal.invariant-loop-word
 invariant-loop-word g l =
     (new : Wishes) → Asks false first_wishes (map string_bytes l.words) new ↔ Asks l.asked.wants_list
-        (wishes_of l.asked.options) (map string_bytes (drop l.word-index l.words)) new
+    (wishes_of l.asked.options) (map string_bytes (drop l.word-index l.words)) new

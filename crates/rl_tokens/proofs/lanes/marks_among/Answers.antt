@@ -9,5 +9,5 @@ returns c =
     let long = length-chunk c.args.at 16 c.args.bytes.now c.requires in
     masked_as is_likely_mark c.args.bytes.now c.args.at 16 _ c.requires (omega arith) c.type_inv.bytes
     (joined _ _ _ v (joined _ _ _ v (joined _ _ _ v (zip2_splat {Y = ℕ} _ v 16 34 long)
-        (zip2_splat {Y = ℕ} _ v 16 39 long)) (zip2_splat {Y = ℕ} _ v 16 47 long))
-        (zip2_splat_left {X = ℕ} (λ a b. cond (leb a b) 255 0) 128 16 v long)) refl
+    (zip2_splat {Y = ℕ} _ v 16 39 long)) (zip2_splat {Y = ℕ} _ v 16 47 long))
+    (zip2_splat_left {X = ℕ} (λ a b. cond (leb a b) 255 0) 128 16 v long)) refl

@@ -8,5 +8,5 @@ pub returns-then-found-ne0 : goal.returns-then-found-ne0
 returns-then-found-ne0 g c =
     let found = c.ends_among-found in
     let run = run_stops _ (is_held (said g.row.WORD)) (ends_opposite (said g.row.WORD)) c.args.bytes.now 0 16
-        (omega arith) (omega arith) (omega (arith, found.ensures)) ∙ ap (count_trailing_zeros 64) (sym found.ensures) in
+    (omega arith) (omega arith) (omega (arith, found.ensures)) ∙ ap (count_trailing_zeros 64) (sym found.ensures) in
     omega (arith, run)

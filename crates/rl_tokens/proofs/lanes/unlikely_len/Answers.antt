@@ -10,7 +10,7 @@ returns-then-found-ne0 c =
     let at = c.loop-at.at in
     let bs = c.args.bytes.now in
     let run = run_stops _ begins_none begins_opposite (with_before 0 bs) at 16 (room_before 0 at bs (omega arith))
-        (omega arith) (omega (arith, found.ensures)) ∙ ap (count_trailing_zeros 64) (sym found.ensures) in
+    (omega arith) (omega (arith, found.ensures)) ∙ ap (count_trailing_zeros 64) (sym found.ensures) in
     omega (arith, run, c.loop-at.invariant.run)
 
 pub loop-at-preserved : goal.loop-at-preserved
@@ -18,5 +18,5 @@ loop-at-preserved c =
     let at = c.loop-at.at in
     let bs = c.args.bytes.now in
     let run = run_through _ begins_none begins_opposite (with_before 0 bs) at 16 (room_before 0 at bs (omega arith))
-        (omega (arith, c.likely_among-found.ensures)) in
+    (omega (arith, c.likely_among-found.ensures)) in
     record { run = omega (arith, run, c.loop-at.invariant.run); in_range = omega arith; past_first = omega arith }

@@ -10,7 +10,7 @@ returns-then-is_ascii_digit-clause-found c =
     let is : is_ascii_digit s.byte ≡ true = search rules in
     form_before (chars c.args.text.now) (LiteralForm, chars c.after_digit.result.now)
     (digit_first (chars c.args.text.now) (chars s.following.now) s.byte s.ensures.some is
-        ∙ ap (λ r. Some (LiteralForm, r)) (sym (c.after_digit.ensures.rest s.byte)))
+    ∙ ap (λ r. Some (LiteralForm, r)) (sym (c.after_digit.ensures.rest s.byte)))
 
 pub returns-clause-found : goal.returns-clause-found
 returns-clause-found c = lexeme_found (chars c.args.text.now) c.lexeme_but_number.result

@@ -7,7 +7,7 @@ pub returns-in_default-byte-clause-rest : goal.returns-in_default-byte-clause-re
 returns-in_default-byte-clause-rest c =
     let t = chars c.in-Some.following.now in
     ap (λ f. Some (f, t)) c.mark_form.ensures ∙ sym (mark_first (chars c.args.text.now) t c.in-Some.byte
-        c.in-Some.ensures.some (sym c.if-is_mark_alone.ensures))
+    c.in-Some.ensures.some (sym c.if-is_mark_alone.ensures))
 
 pub returns-in_default-2-clause-following : goal.returns-in_default-2-clause-following
 returns-in_default-2-clause-following c = some_tail _ _ _ c.literal_or_identifier.result c.in-Some.ensures.following

@@ -30,29 +30,29 @@ returns-in_err-add-clause-rejected g c =
     let p = err_from_is_err_and c.from_residual.result c.from_residual.ensures.1 in
     rw (p.1, p.2)
     (rejected_token c.args.text.now c.loop-token.tokens c.next.new.self c.args.file c.loop-token.nest c.in-Some.token
-        c.in_err-add.field-0.0
+    c.in_err-add.field-0.0
     c.utf8.text c.loop-token.invariant.same c.loop-token.invariant.has c.in-Some.ensures.next c.in_err-add.ensures.at
-        c.in_err-add.ensures.kind)
+    c.in_err-add.ensures.kind)
 
 pub returns-in-None-clause-trees : goal.returns-in-None-clause-trees
 returns-in-None-clause-trees g c =
     let empty : c.loop-token.tokens.rest ≡ [] = told_end c.loop-token.tokens c.next.new.self c.in_default.ensures.stays
-        c.in_default.ensures.none c.in-None.ensures.none in
+    c.in_default.ensures.none c.in-None.ensures.none in
     all_done c.args.text.now c.loop-token.tokens.rest c.args.file c.loop-token.nest c.finish.result
-        c.loop-token.invariant.has empty c.finish.ensures.none_open c.finish.ensures.flat
+    c.loop-token.invariant.has empty c.finish.ensures.none_open c.finish.ensures.flat
 
 pub returns-in-None-clause-rejected : goal.returns-in-None-clause-rejected
 returns-in-None-clause-rejected g c =
     let empty : c.loop-token.tokens.rest ≡ [] = told_end c.loop-token.tokens c.next.new.self c.in_default.ensures.stays
-        c.in_default.ensures.none c.in-None.ensures.none in
+    c.in_default.ensures.none c.in-None.ensures.none in
     IfErr-weaker c.finish.result (EndsInGroup (groups_of c.loop-token.nest)) _
-        (λ e h. ends_open c.args.text.now c.loop-token.tokens.rest c.args.file c.loop-token.nest e c.utf8.text
-        c.loop-token.invariant.has empty h) c.finish.ensures.err
+    (λ e h. ends_open c.args.text.now c.loop-token.tokens.rest c.args.file c.loop-token.nest e c.utf8.text
+    c.loop-token.invariant.has empty h) c.finish.ensures.err
 
 pub returns-in-Some-error-clause-rejected : goal.returns-in-Some-error-clause-rejected
 returns-in-Some-error-clause-rejected g c =
     error_told c.args.text.now c.loop-token.tokens c.next.new.self c.args.file c.loop-token.nest c.in-Some-error.error
-        c.loop-token.invariant.same c.in_default.ensures.stays c.loop-token.invariant.has c.in-Some-error.ensures.first
+    c.loop-token.invariant.same c.in_default.ensures.stays c.loop-token.invariant.has c.in-Some-error.ensures.first
 
 pub loop-token-smaller : goal.loop-token-smaller
 loop-token-smaller g c = c.in-Some.ensures.shorter

@@ -9,4 +9,4 @@ returns c =
     let p = c.args.word.now in
     let t = c.args.text.now in
     starts_text c.starts_with.result p t c.starts_with.ensures.cases ∙ starts_begins p t
-        ∙ begins_bytes p t c.utf8.text c.requires
+    ∙ begins_bytes p t c.utf8.text c.requires

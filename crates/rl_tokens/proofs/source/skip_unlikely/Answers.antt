@@ -16,10 +16,10 @@ returns-clause-holds c =
     let t = c.args.text.now in
     let at = c.unlikely_len-at.result in
     unlikely-holds t c.range_from.result.now (chars c.after_word-rest.result.now) (chars c.skip.result.now) at
-        c.byte_before.result c.utf8.text (subst (λ z. at ≤ unlikely_len z) c.as_bytes-bytes.ensures.value
-        c.unlikely_len-at.ensures) c.range_from.ensures.value (c.byte_before.ensures
-        ∙ ap (λ z. byte_before z at) c.as_bytes-bytes.ensures.value) c.after_word-rest.ensures.rest
-        c.skip.ensures.skipped
+    c.byte_before.result c.utf8.text (subst (λ z. at ≤ unlikely_len z) c.as_bytes-bytes.ensures.value
+    c.unlikely_len-at.ensures) c.range_from.ensures.value (c.byte_before.ensures
+    ∙ ap (λ z. byte_before z at) c.as_bytes-bytes.ensures.value) c.after_word-rest.ensures.rest
+    c.skip.ensures.skipped
 
 pub byte_before-requires : goal.byte_before-requires
 byte_before-requires c = omega (arith, unlikely-within c.as_bytes-bytes.result.now, c.unlikely_len-at.ensures)
@@ -27,7 +27,7 @@ byte_before-requires c = omega (arith, unlikely-within c.as_bytes-bytes.result.n
 pub returns-clause-following : goal.returns-clause-following
 returns-clause-following c =
     let tail : IsTail c.args.text.now c.range_from.result.now = tail_drop c.args.text.now c.range_from.result.now
-        c.unlikely_len-at.result c.range_from.ensures.value c.range_from.utf8 in
+    c.unlikely_len-at.result c.range_from.ensures.value c.range_from.utf8 in
     tail_step _ _ _ (tail_step _ _ _ tail c.after_word-rest.ensures.following) c.skip.ensures.following
 
 pub returns-then-at-eq0-clause-holds : goal.returns-then-at-eq0-clause-holds

@@ -5,4 +5,4 @@ use Rattle.rl_tokens.proofs.source.without_preamble.Goals as goal
 pub returns-clause-front : goal.returns-clause-front
 returns-clause-front c =
     subst (λ (x : List ℕ). IsWithoutLine x (chars c.without_line.result.now)) c.without_mark.ensures.rest
-        c.without_line.ensures.front
+    c.without_line.ensures.front

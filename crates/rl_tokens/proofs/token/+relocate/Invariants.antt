@@ -6,4 +6,4 @@ abbrev pub invariant-TokenStream::relocate-loop-at : goal.invariant-TokenStream:
 invariant-TokenStream::relocate-loop-at g l =
     goal.unvisited-TokenStream::relocate-loop-at g l
     × (map tree_view (take l.at l.self.trees.items) ≡ map (relocated l.table)
-        (map tree_view (take l.at l.initial.self.trees.items)))
+    (map tree_view (take l.at l.initial.self.trees.items)))

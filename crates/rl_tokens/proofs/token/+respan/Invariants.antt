@@ -6,4 +6,4 @@ abbrev pub invariant-TokenStream::respan-loop-at : goal.invariant-TokenStream::r
 invariant-TokenStream::respan-loop-at g l =
     goal.unvisited-TokenStream::respan-loop-at g l
     × (map tree_view (take l.at l.self.trees.items) ≡ map (respanned l.span)
-        (map tree_view (take l.at l.initial.self.trees.items)))
+    (map tree_view (take l.at l.initial.self.trees.items)))

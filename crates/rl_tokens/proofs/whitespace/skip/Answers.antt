@@ -13,12 +13,10 @@ returns c =
     let run = c.skip_white-rest.ensures in
     let more = c.skip_comments.ensures in
     let skipped = skipped_run (chars c.args.text.now) _ _ run.rest more.skipped in
-    record { skipped = skipped; following = tail_step _ _ _ run.following more.following; only = one_rest; again =
-        skipped_again _ _ skipped }
+    record { skipped = skipped; following = tail_step _ _ _ run.following more.following; only = one_rest; again = skipped_again _ _ skipped }
 
 pub returns-in_default : goal.returns-in_default
 returns-in_default c =
     let run = c.skip_white-rest.ensures in
     let none = skipped_none _ (run_ends is_white (chars c.args.text.now) _ run.rest) c.in_default.ensures.rest in
-    record { skipped = skipped_run (chars c.args.text.now) _ _ run.rest none; following = run.following; only =
-        one_rest; again = none }
+    record { skipped = skipped_run (chars c.args.text.now) _ _ run.rest none; following = run.following; only = one_rest; again = none }

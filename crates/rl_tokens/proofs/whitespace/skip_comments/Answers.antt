@@ -20,7 +20,7 @@ loop-inside-preserved c =
 pub returns-in_default-after_comment-clause-skipped : goal.returns-in_default-after_comment-clause-skipped
 returns-in_default-after_comment-clause-skipped c =
     c.loop-inside.invariant.skipped _ (skipped_slash _ _ c.in-Some.ensures.rest
-        (sym c.in_default-after_comment.ensures.rest))
+    (sym c.in_default-after_comment.ensures.rest))
 
 pub returns-clause-skipped : goal.returns-clause-skipped
 returns-clause-skipped c = c.loop-inside.invariant.skipped _

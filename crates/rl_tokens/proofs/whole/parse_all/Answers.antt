@@ -18,6 +18,5 @@ returns-in-Ok-clause-parsed g c =
 pub returns-in-Ok-clause-rejected : goal.returns-in-Ok-clause-rejected
 returns-in-Ok-clause-rejected g c =
     IfErr-weaker c.parse_trees.result _ _
-    (λ e h. inr (record { trees = stream_view c.in-Ok.stream; lexes = c.in-Ok.ensures.ok; rejected = rw
-        c.new-end.ensures at h }))
+    (λ e h. inr (record { trees = stream_view c.in-Ok.stream; lexes = c.in-Ok.ensures.ok; rejected = rw c.new-end.ensures at h }))
     c.parse_trees.ensures.rejected

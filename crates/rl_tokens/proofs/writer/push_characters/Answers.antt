@@ -1,5 +1,4 @@
-use Rattle.rl_tokens.proofs.Common.{◌≡◌, ◌++◌, ◌∙◌, sym, ap, take, length, string_bytes, rules, arith, inl,
-    common_steps, chars, encode_utf8, IsUtf8-string_bytes}
+use Rattle.rl_tokens.proofs.Common.{◌≡◌, ◌++◌, ◌∙◌, sym, ap, take, length, string_bytes, rules, arith, inl, common_steps, chars, encode_utf8, IsUtf8-string_bytes}
 use Rattle.std.proofs.lemmas.Iterator.{YieldsList-from_chars}
 use Rattle.std.proofs.lemmas.Iterator.Consumers.{YieldsList-end}
 use Rattle.std.proofs.lemmas.List.{map-id}
@@ -24,25 +23,25 @@ loop-c-preserved g c = begun_more_after c.args.kind (string_bytes c.args.out.now
 pub returns-in_err-push_written-clause-front : goal.returns-in_err-push_written-clause-front
 returns-in_err-push_written-clause-front g c =
     let front : take (length (string_bytes c.args.out.now)) (string_bytes c.push_written.new.out)
-        ≡ string_bytes c.args.out.now = begun_front c.args.kind _ _ _ c.loop-c.yielded c.loop-c.invariant
-        c.in_err-push_written.ensures in
+    ≡ string_bytes c.args.out.now = begun_front c.args.kind _ _ _ c.loop-c.yielded c.loop-c.invariant
+    c.in_err-push_written.ensures in
     search rules
 
 pub returns-clause-text : goal.returns-clause-text
 returns-clause-text g c =
     let t = YieldsList-end (YieldsList-from_chars c.args.value.now c.utf8.value cc) c.loop-c.yielded _
-        c.loop-c.yielded_by _ _ c.in-None.is c.next.ensures.steps in
+    c.loop-c.yielded_by _ _ c.in-None.is c.next.ensures.steps in
     let last : string_bytes c.push.new.self ≡ string_bytes c.loop-c.out
-        ++ encode_utf8 c.closer.result = c.in_ok-push.ensures.bytes in
+    ++ encode_utf8 c.closer.result = c.in_ok-push.ensures.bytes in
     let pushed : string_bytes c.push.new.self ≡ string_bytes c.loop-c.out ++ encode_utf8 (closer c.args.kind) = last
-        ∙ ap (λ z. string_bytes c.loop-c.out ++ encode_utf8 z) c.closer.ensures.value in
+    ∙ ap (λ z. string_bytes c.loop-c.out ++ encode_utf8 z) c.closer.ensures.value in
     begun_whole_after c.args.kind (string_bytes c.args.out.now) _ _ c.loop-c.yielded (chars c.args.value.now)
-        c.loop-c.invariant pushed (sym (map-id c.loop-c.yielded) ∙ t.0) (IsUtf8-string_bytes c.args.out.now)
-        (IsUtf8-string_bytes c.push.new.self)
+    c.loop-c.invariant pushed (sym (map-id c.loop-c.yielded) ∙ t.0) (IsUtf8-string_bytes c.args.out.now)
+    (IsUtf8-string_bytes c.push.new.self)
 
 pub returns-in_err-push-clause-front : goal.returns-in_err-push-clause-front
 returns-in_err-push-clause-front g c =
     let front : take (length (string_bytes c.args.out.now)) (string_bytes c.push.new.self)
-        ≡ string_bytes c.args.out.now = begun_front c.args.kind _ _ _ c.loop-c.yielded c.loop-c.invariant
-        c.in_err-push.ensures.bytes in
+    ≡ string_bytes c.args.out.now = begun_front c.args.kind _ _ _ c.loop-c.yielded c.loop-c.invariant
+    c.in_err-push.ensures.bytes in
     search rules

@@ -1,5 +1,4 @@
-use Rattle.rl_tokens.proofs.Common.{common_steps, ◌≡◌, ◌++◌, ◌∙◌, sym, ap, subst, List, ℕ, take, get_or, rules, arith,
-    encode_utf8, take_more, take_all}
+use Rattle.rl_tokens.proofs.Common.{common_steps, ◌≡◌, ◌++◌, ◌∙◌, sym, ap, subst, List, ℕ, take, get_or, rules, arith, encode_utf8, take_more, take_all}
 use Rattle.std.specs.Prelude.{encode_utf8_all}
 use Rattle.rl_tokens.specs.Quoted.{unit_text}
 use Rattle.rl_tokens.specs.Written.{written_unit}
@@ -30,9 +29,9 @@ returns-clause-written c =
     let value = c.args.value.now in
     let pushed = c.put_char.ensures.bytes ∙ ap (λ z. take l.at l.out ++ encode_utf8 z) c.closer.ensures.value in
     written_form c.args.kind _ _ (bytes_value c.args.kind value c.requires.bytes
-        (all_bytes value (λ i l. omega (arith, c.type_inv.value i))))
+    (all_bytes value (λ i l. omega (arith, c.type_inv.value i))))
     (begun_whole _ _ _ (take l.byte-index value) value l.invariant.passed pushed
-        (take_all l.byte-index value (omega arith)) (c.put_char.ensures.utf8 l.invariant.text))
+    (take_all l.byte-index value (omega arith)) (c.put_char.ensures.utf8 l.invariant.text))
 
 pub loop-byte-init : goal.loop-byte-init
 loop-byte-init c = grind (arith, common_steps) steps 300000

@@ -10,7 +10,7 @@ returns-clause-written c =
     let opened : take c.put_text-at.result c.put_text-at.new.out ≡ opener Char = search rules in
     let text : IsUtf8 (take c.put_written-at.result c.put_written-at.new.out) = search rules in
     let pushed = c.put_char.ensures.bytes ∙ ap (λ z. take c.put_written-at.result c.put_written-at.new.out
-        ++ encode_utf8 z) c.closer.ensures.value in
+    ++ encode_utf8 z) c.closer.ensures.value in
     written_form Char _ _ refl (begun_whole Char _ _ (c.args.value ∷ []) (c.args.value ∷ [])
-        (begun_more Char _ _ [] c.args.value (begun_start Char _ opened) c.put_written-at.ensures.bytes) pushed refl
-        (c.put_char.ensures.utf8 text))
+    (begun_more Char _ _ [] c.args.value (begun_start Char _ opened) c.put_written-at.ensures.bytes) pushed refl
+    (c.put_char.ensures.utf8 text))

@@ -1,5 +1,4 @@
-use Rattle.rl_tokens.proofs.Common.{◌∙◌, ◌∷◌, [], ◌++◌, take, ap, sym, append_assoc, append-nil, arith, rules,
-    encode_utf8, chars}
+use Rattle.rl_tokens.proofs.Common.{◌∙◌, ◌∷◌, [], ◌++◌, take, ap, sym, append_assoc, append-nil, arith, rules, encode_utf8, chars}
 use Rattle.rl_tokens.specs.declared.kind.Kind.TheVariants.{Str}
 use Rattle.rl_tokens.proofs.WrittenForms.{written_form}
 use Rattle.rl_tokens.proofs.WritingLemmas.{begun_more, begun_whole}
@@ -14,8 +13,12 @@ loop-c-preserved c =
     let first = c.in-Some.c in
     record {
       utf8 = search rules;
-      passed = (xs ++ (first ∷ []), cut ∙ ap (λ z. xs ++ z) s.chars
-          ∙ sym (append_assoc xs (first ∷ []) (chars c.in-Some.after.now)), begun_more Str _ _ xs first bytes w.bytes);
+      passed = (
+        xs ++ (first ∷ []),
+        cut ∙ ap (λ z. xs ++ z) s.chars
+            ∙ sym (append_assoc xs (first ∷ []) (chars c.in-Some.after.now)),
+        begun_more Str _ _ xs first bytes w.bytes,
+      );
       text = w.utf8 l.invariant.text;
       room = omega (arith, l.invariant.room, s.shorter, w.end);
       len = w.len ∙ l.invariant.len;
@@ -28,4 +31,4 @@ returns-clause-written c =
     let whole = cut ∙ ap (λ z. xs ++ z) c.in_default.ensures.chars ∙ append-nil xs in
     let pushed = c.put_char.ensures.bytes ∙ ap (λ z. take l.at l.out ++ encode_utf8 z) c.closer.ensures.value in
     written_form Str _ _ tt (begun_whole Str _ _ xs (chars c.args.value.now) bytes pushed (sym whole)
-        (c.put_char.ensures.utf8 l.invariant.text))
+    (c.put_char.ensures.utf8 l.invariant.text))

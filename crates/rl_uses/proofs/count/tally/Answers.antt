@@ -15,12 +15,12 @@ overflow_add-before g c =
     let y = c.in-Some.literal in
     let ys = c.loop-literal.yielded in
     let before : c.unwrap_or-before.result ≡ times y ys = c.unwrap_or-before.ensures
-        ∙ ap (λ o. unwrap_or o 0) (c.copied.ensures ∙ c.get.ensures.value ∙ c.loop-literal.invariant.numbers y)
-        ∙ some_times_value (times y ys) in
+    ∙ ap (λ o. unwrap_or o 0) (c.copied.ensures ∙ c.get.ensures.value ∙ c.loop-literal.invariant.numbers y)
+    ∙ some_times_value (times y ys) in
     let within : times y ys ≤ length ys = count_by-le-length (is_equal y) ys in
     let turn = YieldsList-turn (YieldsList-from_vec c.args.literals.items into.0 (into.1 ∙ c.args.literals.ok.0)) ys
-        c.loop-literal.literal-iterator c.loop-literal.yielded_by c.next.result c.next.new.self y c.in-Some.is
-        c.next.ensures.steps in
+    c.loop-literal.literal-iterator c.loop-literal.yielded_by c.next.result c.next.new.self y c.in-Some.is
+    c.next.ensures.steps in
     let fewer : length ys < length c.args.literals.items = turn.0 in
     omega (arith, into.1, into.2, c.args.literals.ok.0)
 
@@ -35,8 +35,8 @@ loop-literal-preserved g c =
     let y = c.in-Some.literal in
     let ys = c.loop-literal.yielded in
     let before : c.unwrap_or-before.result ≡ times y ys = c.unwrap_or-before.ensures
-        ∙ ap (λ o. unwrap_or o 0) (c.copied.ensures ∙ c.get.ensures.value ∙ c.loop-literal.invariant.numbers y)
-        ∙ some_times_value (times y ys) in
+    ∙ ap (λ o. unwrap_or o 0) (c.copied.ensures ∙ c.get.ensures.value ∙ c.loop-literal.invariant.numbers y)
+    ∙ some_times_value (times y ys) in
     let old = c.in-Ok.ensures.old ∙ c.loop-literal.invariant.numbers y in
     record {
       numbers = λ q. c.in-Ok.ensures.updates.0 q ∙ rw (before, c.loop-literal.invariant.numbers q)
@@ -50,8 +50,8 @@ returns-clause-counts g c =
     let into = c.into_iter-literal-iterator.ensures.into_iter_gives in
     let ys = c.loop-literal.yielded in
     let end = YieldsList-end (YieldsList-from_vec c.args.literals.items into.0 (into.1 ∙ c.args.literals.ok.0)) ys
-        c.loop-literal.literal-iterator c.loop-literal.yielded_by c.next.result c.next.new.self c.in-None.is
-        c.next.ensures.steps in
+    c.loop-literal.literal-iterator c.loop-literal.yielded_by c.next.result c.next.new.self c.in-None.is
+    c.next.ensures.steps in
     subst (λ list. AreCounts list c.loop-literal.counts) (sym (map-id ys) ∙ end.0) c.loop-literal.invariant
 
 pub returns-in_default-clause-memory : goal.returns-in_default-clause-memory
@@ -60,6 +60,6 @@ returns-in_default-clause-memory g c =
     let y = c.in-Some.literal in
     let ys = c.loop-literal.yielded in
     let turn = YieldsList-turn (YieldsList-from_vec c.args.literals.items into.0 (into.1 ∙ c.args.literals.ok.0)) ys
-        c.loop-literal.literal-iterator c.loop-literal.yielded_by c.next.result c.next.new.self y c.in-Some.is
-        c.next.ensures.steps in
+    c.loop-literal.literal-iterator c.loop-literal.yielded_by c.next.result c.next.new.self y c.in-Some.is
+    c.next.ensures.steps in
     (length ys, y, turn.0, sym turn.1, search rules)

@@ -7,8 +7,12 @@ use Rattle.rl_uses.proofs.lint.control_strings.Goals as goal
 pub returns-clause-found : goal.returns-clause-found
 returns-clause-found g c =
     let list = c.in_ok-literals.literals.items in
-    IfOk-weaker c.faults.result _ _ (λ spans h. (list, c.in_ok-literals.ensures.read, subst
-        (λ ls. AreErrors ls spans.items) c.as_slice.ensures.value h)) c.faults.ensures.found
+    IfOk-weaker c.faults.result _ _ (λ spans h. (
+      list,
+      c.in_ok-literals.ensures.read,
+      subst
+          (λ ls. AreErrors ls spans.items) c.as_slice.ensures.value h,
+    )) c.faults.ensures.found
 
 pub returns-clause-rejected : goal.returns-clause-rejected
 returns-clause-rejected g c =

@@ -14,16 +14,16 @@ loop-literal-preserved g c =
     elim c.if-branch.branch [
       | then-branch+else-is_err w ↦
           let more : c.if-branch.spans.items ≡ c.loop-literal.spans.items
-              ++ (lit_span l ∷ []) = grind (arith, common_steps) in
+          ++ (lit_span l ∷ []) = grind (arith, common_steps) in
           rw (grown, more) (faults_more (take i literals) l c.loop-literal.spans.items c.loop-literal.invariant
-              (rw w.if-branch.true at c.in_ok-is_fault.ensures.tells))
+          (rw w.if-branch.true at c.in_ok-is_fault.ensures.tells))
       | else-branch w ↦
           rw (grown, w.spans-is) (faults_same (take i literals) l c.loop-literal.spans.items c.loop-literal.invariant
-              (rw w.if-branch.false at c.in_ok-is_fault.ensures.tells))
+          (rw w.if-branch.false at c.in_ok-is_fault.ensures.tells))
     ]
 
 pub returns-in_err-is_fault-clause-memory : goal.returns-in_err-is_fault-clause-memory
 returns-in_err-is_fault-clause-memory g c =
     short_at c.args.literals.now c.loop-literal.literal-index c.literal-item.result c.from_residual.result
-        c.in_err-is_fault.field-0.0 c.loop-literal-test.true c.literal-item.is c.in_err-is_fault.ensures.memory
-        c.from_residual.ensures.1
+    c.in_err-is_fault.field-0.0 c.loop-literal-test.true c.literal-item.is c.in_err-is_fault.ensures.memory
+    c.from_residual.ensures.1

@@ -7,8 +7,12 @@ use Rattle.rl_uses.proofs.reasons.bad_literals.Goals as goal
 pub returns-clause-found : goal.returns-clause-found
 returns-clause-found g c =
     let list = c.in_ok-literals.literals.items in
-    IfOk-weaker c.reasons_of.result _ _ (λ reasons h. (list, c.in_ok-literals.ensures.read, subst
-        (λ ls. AreReasons ls reasons.items) c.as_slice.ensures.value h)) c.reasons_of.ensures.found
+    IfOk-weaker c.reasons_of.result _ _ (λ reasons h. (
+      list,
+      c.in_ok-literals.ensures.read,
+      subst
+          (λ ls. AreReasons ls reasons.items) c.as_slice.ensures.value h,
+    )) c.reasons_of.ensures.found
 
 pub returns-clause-rejected : goal.returns-clause-rejected
 returns-clause-rejected g c =

@@ -16,11 +16,11 @@ loop-literal-preserved g c =
       | in-Some+else-is_err w ↦
           let some : IsReasonOf l w.in-Some.reason = search rules in
           let more : c.match-reason_of.reasons.items ≡ c.loop-literal.reasons.items
-              ++ (w.in-Some.reason ∷ []) = grind (arith, common_steps) in
+          ++ (w.in-Some.reason ∷ []) = grind (arith, common_steps) in
           rw (grown, more) (reasons_more (take i literals) l c.loop-literal.reasons.items w.in-Some.reason
-              c.loop-literal.invariant some)
+          c.loop-literal.invariant some)
       | in_default w ↦
           let none : HasReading (chars (token_of l).text) = search rules in
           rw (grown, w.reasons-is) (reasons_same (take i literals) l c.loop-literal.reasons.items
-              c.loop-literal.invariant none)
+          c.loop-literal.invariant none)
     ]

@@ -7,8 +7,12 @@ use Rattle.rl_uses.proofs.rewrite.format.Goals as goal
 pub returns-clause-printed : goal.returns-clause-printed
 returns-clause-printed g c =
     let list = c.in_ok-literals.literals.items in
-    IfOk-weaker c.lines.result _ _ (λ printed h. (list, c.in_ok-literals.ensures.read, subst
-        (λ ls. AreLines ls (string_bytes printed)) c.as_slice.ensures.value h)) c.lines.ensures.lines
+    IfOk-weaker c.lines.result _ _ (λ printed h. (
+      list,
+      c.in_ok-literals.ensures.read,
+      subst
+          (λ ls. AreLines ls (string_bytes printed)) c.as_slice.ensures.value h,
+    )) c.lines.ensures.lines
 
 pub returns-clause-rejected : goal.returns-clause-rejected
 returns-clause-rejected g c =

@@ -6,7 +6,7 @@ pub returns-clause-whole : goal.returns-clause-whole
 returns-clause-whole g c =
     let empty = empty_text c.rest.result.now (sym c.is_empty.ensures ∙ c.loop-tokens-test.false) in
     read_whole (chars c.args.text.now) c.args.file c.loop-tokens.list.items (chars c.loop-tokens.tokens.rest)
-        (ap chars (sym c.rest.ensures ∙ empty) ∙ chars-nil) c.loop-tokens.invariant.read
+    (ap chars (sym c.rest.ensures ∙ empty) ∙ chars-nil) c.loop-tokens.invariant.read
 
 pub loop-tokens-preserved : goal.loop-tokens-preserved
 loop-tokens-preserved g c =

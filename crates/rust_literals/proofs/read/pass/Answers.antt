@@ -10,8 +10,8 @@ pub loop-preserved : goal.loop-preserved
 loop-preserved g c = record {
   leads = λ passed rest n h.
       pass_one front_token (trees_in c.loop.input) (trees_in c.take.new.input) passed c.loop.counter rest c.take.result
-          (omega (arith, c.loop-test.true, n)) c.take.ensures.taken c.take.ensures.none
-          (c.loop.invariant.leads passed rest n h);
+      (omega (arith, c.loop-test.true, n)) c.take.ensures.taken c.take.ensures.none
+      (c.loop.invariant.leads passed rest n h);
   scope = c.take.ensures.scope ∙ c.loop.invariant.scope;
 }
 

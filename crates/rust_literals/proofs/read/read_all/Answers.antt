@@ -28,7 +28,7 @@ returns-in-Err-clause-rejected g c = c.read_from.ensures.rejected []
 pub returns-in-Err-clause-exactly : goal.returns-in-Err-clause-exactly
 returns-in-Err-clause-exactly g c =
     text_exactly (chars c.args.text.now) c.args.file (length c.args.text.now) c.read_from.result
-        (returns-in-Err-clause-read g c) (returns-in-Err-clause-rejected g c)
+    (returns-in-Err-clause-read g c) (returns-in-Err-clause-rejected g c)
 
 pub returns-in-Err-clause-printed : goal.returns-in-Err-clause-printed
 returns-in-Err-clause-printed g c = printed_read c.args.text.now c.args.file c.read_from.result c.utf8.text

@@ -21,22 +21,22 @@ led : (g : given.Over) (c : goal.After-drop-stream g) (gone : List (Lit g.row.A.
 led g c gone first =
     let list = gone ++ c.args.list.items in
     let all : trees_in c.new-input.result ≡ stream_view c.in_ok-stream.stream = c.new-input.ensures.trees
-        ∙ ap (map tree_view) c.trees.ensures in
+    ∙ ap (map tree_view) c.trees.ensures in
     let (following, leads) = goes_on (chars c.args.text.now) c.args.file list (stream_view c.in_ok-stream.stream)
-        first.begun c.in_ok-stream.ensures.ok in
+    first.begun c.in_ok-stream.ensures.ok in
     let here : ReadsLiterals (trees_in c.new-input.result) list following = subst
-        (λ ts. ReadsLiterals ts list following) (sym all) leads in
+    (λ ts. ReadsLiterals ts list following) (sym all) leads in
     subst (λ rest. ReadsLiterals (stream_view c.in_ok-stream.stream) list rest)
-        (sym (c.pass.ensures.passed list following first.count_is here)) leads
+    (sym (c.pass.ensures.passed list following first.count_is here)) leads
 
 pub returns-clause-read : goal.returns-clause-read
 returns-clause-read g c = λ gone first.
     text_read (chars c.args.text.now) c.args.file (stream_view c.in_ok-stream.stream) gone c.read_on.result
-        c.in_ok-stream.ensures.ok (c.read_on.ensures.read _ gone (led g c gone first))
+    c.in_ok-stream.ensures.ok (c.read_on.ensures.read _ gone (led g c gone first))
 
 pub returns-clause-rejected : goal.returns-clause-rejected
 returns-clause-rejected g c = λ gone first.
     text_refused (chars c.args.text.now) c.args.file (length c.args.text.now) (stream_view c.in_ok-stream.stream)
-        (scope_of c.pass.new.input) c.read_on.result c.in_ok-stream.ensures.ok
-        (c.pass.ensures.scope ∙ c.new-input.ensures.scope ∙ c.new-end.ensures)
-        (c.read_on.ensures.rejected _ gone (led g c gone first))
+    (scope_of c.pass.new.input) c.read_on.result c.in_ok-stream.ensures.ok
+    (c.pass.ensures.scope ∙ c.new-input.ensures.scope ∙ c.new-end.ensures)
+    (c.read_on.ensures.rejected _ gone (led g c gone first))

@@ -21,10 +21,10 @@ loop-alloc-preserved g c =
     record {
       leads = λ all gone h.
           subst (λ ls. ReadsLiterals all ls (trees_in c.parse.new.self))
-              (append_assoc gone c.loop-alloc.list.items (c.in_ok-literal.literal ∷ [])
-              ∙ ap (λ ls. gone ++ ls) (sym grown))
+          (append_assoc gone c.loop-alloc.list.items (c.in_ok-literal.literal ∷ [])
+          ∙ ap (λ ls. gone ++ ls) (sym grown))
           (leads_step all (gone ++ c.loop-alloc.list.items) (trees_in c.loop-alloc.input) c.in_ok-literal.literal
-              (trees_in c.parse.new.self) (c.loop-alloc.invariant.leads all gone h) c.in_ok-literal.ensures.runs);
+          (trees_in c.parse.new.self) (c.loop-alloc.invariant.leads all gone h) c.in_ok-literal.ensures.runs);
       scope = c.in_ok-literal.ensures.scope ∙ c.loop-alloc.invariant.scope;
     }
 
@@ -34,10 +34,10 @@ returns-in_err-literal-clause-rejected g c = λ all gone h.
     let some : trees_in c.loop-alloc.input ≢ [] = λ e. absurd (let full = c.is_empty.ensures.1 e in cc) in
     rw (p.1, p.2)
     (subst (λ (s : Span). RejectsNextLiteral all s c.in_err-literal.field-0.0
-        ⊎ LacksMemory all s c.in_err-literal.field-0.0) c.loop-alloc.invariant.scope
+    ⊎ LacksMemory all s c.in_err-literal.field-0.0) c.loop-alloc.invariant.scope
     (refused_next all (trees_in c.loop-alloc.input) (trees_in c.parse.new.self) (scope_of c.loop-alloc.input)
-        (gone ++ c.loop-alloc.list.items) c.in_err-literal.field-0.0 (c.loop-alloc.invariant.leads all gone h) some
-        c.in_err-literal.ensures.runs))
+    (gone ++ c.loop-alloc.list.items) c.in_err-literal.field-0.0 (c.loop-alloc.invariant.leads all gone h) some
+    c.in_err-literal.ensures.runs))
 
 pub returns-in-Err-clause-rejected : goal.returns-in-Err-clause-rejected
 returns-in-Err-clause-rejected g c = λ all gone h. inr (record {
@@ -51,4 +51,4 @@ pub returns-clause-read : goal.returns-clause-read
 returns-clause-read g c = λ all gone h.
     let nothing : trees_in c.loop-alloc.input ≡ [] = c.loop-alloc-test.ensures.0 refl in
     subst (λ ts. ReadsLiterals all (gone ++ c.loop-alloc.list.items) ts) nothing
-        (c.loop-alloc.invariant.leads all gone h)
+    (c.loop-alloc.invariant.leads all gone h)

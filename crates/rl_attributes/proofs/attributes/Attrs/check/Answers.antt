@@ -1,6 +1,5 @@
-use Rattle.std.proofs.Common.{◌≡◌, ◌+◌, ◌∷◌, [], ◌++◌, All, take, drop, length, ap, sym, subst, arith}
-use Rattle.std.proofs.lemmas.Grind.{common_steps}
-use Rattle.std.proofs.lemmas.List.{take_all}
+use Rattle.rl_tokens.proofs.Common.{[], ap, arith, common_steps, drop, length, subst, sym, take, take_all, ◌++◌, ◌+◌, ◌∷◌, ◌≡◌}
+use Rattle.std.proofs.Common.{All}
 use Rattle.std.proofs.lemmas.List.Elements.{All-push}
 use Rattle.std.proofs.lemmas.Result.{err_from_is_err_and}
 use Rattle.rl_attributes.specs.Settings.{IsAccepted}
@@ -31,20 +30,20 @@ loop-entry-preserved g c =
     let grown : take (i + 1) entries ≡ take i entries ++ (c.entry-item.result ∷ []) = grind (arith, common_steps) in
     let accepted = IsAccepted c.args.settings.now in
     subst (λ l. All accepted l) (sym grown) (All-push accepted (take i entries) c.entry-item.result
-        c.loop-entry.invariant c.in_ok-check_entry.ensures.accepted)
+    c.loop-entry.invariant c.in_ok-check_entry.ensures.accepted)
 
 pub returns-clause-known : goal.returns-clause-known
 returns-clause-known g c k d h =
     let entries = c.args.self.now.entries.items in
     let all = subst (λ l. All (IsAccepted c.args.settings.now) l)
-        (take_all c.loop-entry.entry-index entries (omega (arith, ap length c.entries-entry-items.ensures.entries)))
-        c.loop-entry.invariant in
+    (take_all c.loop-entry.entry-index entries (omega (arith, ap length c.entries-entry-items.ensures.entries)))
+    c.loop-entry.invariant in
     (all k d h).known
 
 pub returns-clause-bare : goal.returns-clause-bare
 returns-clause-bare g c k d h =
     let entries = c.args.self.now.entries.items in
     let all = subst (λ l. All (IsAccepted c.args.settings.now) l)
-        (take_all c.loop-entry.entry-index entries (omega (arith, ap length c.entries-entry-items.ensures.entries)))
-        c.loop-entry.invariant in
+    (take_all c.loop-entry.entry-index entries (omega (arith, ap length c.entries-entry-items.ensures.entries)))
+    c.loop-entry.invariant in
     (all k d h).bare

@@ -7,16 +7,15 @@ use Rattle.rl_attributes.proofs.EntryLemmas.{at_first, at_next, at_end, at_memor
 use Rattle.rl_attributes.proofs.attributes.take.take_all.Goals as goal
 
 pub loop-alloc-init : goal.loop-alloc-init
-loop-alloc-init g c = record { at = at_first (trees_in c.args.input.now) c.new-entries.result.items c.new-names.result
-    c.new-entries.ensures.items c.new-names.ensures.empty; scope = refl }
+loop-alloc-init g c = record { at = at_first (trees_in c.args.input.now) c.new-entries.result.items c.new-names.result c.new-entries.ensures.items c.new-names.ensures.empty; scope = refl }
 
 pub returns-in_err-entry-clause-rejected : goal.returns-in_err-entry-clause-rejected
 returns-in_err-entry-clause-rejected g c =
     let some : trees_in c.loop-alloc.input ≢ [] = λ e. absurd (let full = c.is_empty.ensures.1 e in cc) in
     let p = err_from_is_err_and c.from_residual.result c.from_residual.ensures.1 in
     rw (p.1, p.2) (at_refusal _ c.loop-alloc.entries.items c.loop-alloc.names (trees_in c.loop-alloc.input) _
-        (scope_of c.loop-alloc.input) c.in_err-entry.field-0.0 c.loop-alloc.invariant.at some
-        c.loop-alloc.invariant.scope c.in_err-entry.ensures.rejected)
+    (scope_of c.loop-alloc.input) c.in_err-entry.field-0.0 c.loop-alloc.invariant.at some
+    c.loop-alloc.invariant.scope c.in_err-entry.ensures.rejected)
 
 pub returns-in_err-entry-clause-rest : goal.returns-in_err-entry-clause-rest
 returns-in_err-entry-clause-rest g c = c.in_err-entry.ensures.onward _ c.loop-alloc.invariant.at.left
@@ -28,9 +27,9 @@ pub returns-in-Err-clause-rejected : goal.returns-in-Err-clause-rejected
 returns-in-Err-clause-rejected g c =
     let some : trees_in c.loop-alloc.input ≢ [] = λ e. absurd (let full = c.is_empty.ensures.1 e in cc) in
     inl (at_memory _ c.loop-alloc.entries.items c.loop-alloc.names (trees_in c.loop-alloc.input) c.memory.result
-        c.loop-alloc.invariant.at some (next_memory (trees_in c.loop-alloc.input) (trees_in c.take_next.new.input)
-        (attribute_of c.in_ok-entry.entry) c.memory.result c.in_ok-entry.ensures.taken
-        (ap (λ e. e.kind) c.memory.ensures)))
+    c.loop-alloc.invariant.at some (next_memory (trees_in c.loop-alloc.input) (trees_in c.take_next.new.input)
+    (attribute_of c.in_ok-entry.entry) c.memory.result c.in_ok-entry.ensures.taken
+    (ap (λ e. e.kind) c.memory.ensures)))
 
 pub returns-in-Err-clause-rest : goal.returns-in-Err-clause-rest
 returns-in-Err-clause-rest g c = c.in_ok-entry.ensures.onward _ c.loop-alloc.invariant.at.left

@@ -13,5 +13,4 @@ returns-in-Ok-true-clause-adds g c other =
 pub returns-in-Ok-false-clause-rejected : goal.returns-in-Ok-false-clause-rejected
 returns-in-Ok-false-clause-rejected g c =
     let again : has_name c.args.names.now c.in-Some.name.now.text ≡ true = search rules in
-    inr (record { why = inr (inl (record { name = c.in-Some.name.now; following = trees_in c.ident.new.self; named =
-        c.in-Some.ensures.taken; again = again; error = search rules })) })
+    inr (record { why = inr (inl (record { name = c.in-Some.name.now; following = trees_in c.ident.new.self; named = c.in-Some.ensures.taken; again = again; error = search rules })) })

@@ -15,9 +15,9 @@ pub returns-in-Err-clause-rejected : goal.returns-in-Err-clause-rejected
 returns-in-Err-clause-rejected g c =
     let some : trees_in c.take_entry.new.input ≢ [] = λ e. absurd (let full = c.is_empty.ensures.1 e in cc) in
     comma_refused (has_name c.args.names.now) (trees_in c.args.input.now) (trees_in c.take_entry.new.input)
-        (scope_of c.args.input.now) (scope_of c.take_entry.new.input) (attribute_of c.in_ok-entry.entry) c.in-Err.error
-        c.in_ok-entry.ensures.taken c.in_ok-entry.ensures.anew some c.in-Err.ensures.other c.in_ok-entry.ensures.scope
-        c.in-Err.ensures.rejected
+    (scope_of c.args.input.now) (scope_of c.take_entry.new.input) (attribute_of c.in_ok-entry.entry) c.in-Err.error
+    c.in_ok-entry.ensures.taken c.in_ok-entry.ensures.anew some c.in-Err.ensures.other c.in_ok-entry.ensures.scope
+    c.in-Err.ensures.rejected
 
 pub returns-in-Err-clause-onward : goal.returns-in-Err-clause-onward
 returns-in-Err-clause-onward g c before h = c.in-Err.ensures.onward before (c.in_ok-entry.ensures.onward before h)

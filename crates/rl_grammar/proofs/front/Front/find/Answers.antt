@@ -12,4 +12,4 @@ returns-in-Word-clause-found g c = rw c.in-Word.is (rw c.text-in-Word.ensures.te
 pub returns-in-Negative-clause-found : goal.returns-in-Negative-clause-found
 returns-in-Negative-clause-found g c =
     rw c.in-Negative.is (subst (λ (n : Mark × SpannedText). IsFound (45 ∷ n.1.text) c.negative.inside.found)
-        c.negative.view_is c.negative.invariant)
+    c.negative.view_is c.negative.invariant)

@@ -12,5 +12,10 @@ returns-in-Some c = subst (IsLeftAt ends_in c.args.self c.args.at) (sym c.end_of
 
 pub returns-in-None : goal.returns-in-None
 returns-in-None c =
-    past_left ends_in _ _ _ c.in-None.ensures.none (omega (arith, c.self.invariant.room, ap
-        (λ (s : SegmentsState). s.at) c.self.view_is, ap (λ (s : SegmentsState). length s.rest) c.self.view_is))
+    past_left ends_in _ _ _ c.in-None.ensures.none (omega (
+      arith,
+      c.self.invariant.room,
+      ap
+          (λ (s : SegmentsState). s.at) c.self.view_is,
+      ap (λ (s : SegmentsState). length s.rest) c.self.view_is,
+    ))

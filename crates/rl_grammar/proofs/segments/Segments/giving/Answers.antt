@@ -5,7 +5,7 @@ use Rattle.rl_grammar.proofs.segments.Segments.giving.Goals as goal
 pub returns-then-left-len-clause-some : goal.returns-then-left-len-clause-some
 returns-then-left-len-clause-some c =
     arrives _ _ _ _ _ c.in-Some.segment c.loop-segment.invariant c.in-Some.ensures.next c.in-Some.ensures.some
-        (omega (arith, c.if-left-len.true, c.len-len.ensures))
+    (omega (arith, c.if-left-len.true, c.len-len.ensures))
 
 pub loop-segment-preserved : goal.loop-segment-preserved
 loop-segment-preserved c = goes_past _ _ _ _ _ _ c.in-Some.segment c.loop-segment.invariant c.in-Some.ensures.next

@@ -16,18 +16,18 @@ pub loop-segment-preserved : goal.loop-segment-preserved
 loop-segment-preserved g c =
     let more = c.in_ok-push_spans.ensures in
     tabled_more _ _ _ _ _ _ c.in-Some.segment c.loop-segment.invariant c.in-Some.ensures.next more.long more.kept
-        more.added
+    more.added
 
 pub overflow_add-end : goal.overflow_add-end
 overflow_add-end g c =
     let fits : c.args.base.hi < 18446744073709551616 = search rules in
     let at : c.at.result ≡ c.loop-segment.self.at = c.at.ensures
-        ∙ ap (λ (s : SegmentsState). s.at) c.in_default.ensures.stays in
+    ∙ ap (λ (s : SegmentsState). s.at) c.in_default.ensures.stays in
     omega (arith, fits, at, c.loop-segment.invariant.same_end, c.requires)
 
 pub returns : goal.returns
 returns g c =
     let at : c.at.result ≡ c.loop-segment.self.at = c.at.ensures
-        ∙ ap (λ (s : SegmentsState). s.at) c.in_default.ensures.stays in
+    ∙ ap (λ (s : SegmentsState). s.at) c.in_default.ensures.stays in
     tabled_all _ _ _ _ _ c.loop-segment.invariant c.in_default.ensures.none
-        (c.in_ok-push.ensures.items ∙ ap (λ n. c.loop-segment.spans.items ++ (span_from c.args.base n n ∷ [])) at)
+    (c.in_ok-push.ensures.items ∙ ap (λ n. c.loop-segment.spans.items ++ (span_from c.args.base n n ∷ [])) at)

@@ -10,11 +10,17 @@ returns-then-not-spans_text-clause-moved g c =
 
 pub spans-requires : goal.spans-requires
 spans-requires g c =
-    omega (arith, c.segments.ensures.within, c.if-not-spans_text.ensures.long, ap (λ (s : Span). s.lo)
-        c.span-span.ensures, ap (λ (s : Span). s.hi) c.span-span.ensures)
+    omega (
+      arith,
+      c.segments.ensures.within,
+      c.if-not-spans_text.ensures.long,
+      ap (λ (s : Span). s.lo)
+          c.span-span.ensures,
+      ap (λ (s : Span). s.hi) c.span-span.ensures,
+    )
 
 pub returns-in-Ok-clause-moved : goal.returns-in-Ok-clause-moved
 returns-in-Ok-clause-moved g c =
     moved_by_table c.args.self.now c.segments.result _ c.as_slice.result.now _ _ c.segments.ensures.segments
-        c.span-span.ensures (subst (IsSpanTable c.segments.result c.span-span.result) (sym c.as_slice.ensures.value)
-        c.in-Ok.ensures) c.if-not-spans_text.ensures.long c.relocate.ensures
+    c.span-span.ensures (subst (IsSpanTable c.segments.result c.span-span.result) (sym c.as_slice.ensures.value)
+    c.in-Ok.ensures) c.if-not-spans_text.ensures.long c.relocate.ensures

@@ -6,4 +6,4 @@ pub returns-then-plain-clause-some : goal.returns-then-plain-clause-some
 returns-then-plain-clause-some g c =
     let body : IsUtf8 c.body-plain.result.0.now = search rules in
     rw c.as_bytes.ensures.value (plain_contents_bytes _ _ _ _ (inr refl) c.if-plain.true c.body-plain.ensures.stands
-        body)
+    body)

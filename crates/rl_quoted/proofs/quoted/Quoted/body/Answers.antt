@@ -13,4 +13,4 @@ returns-clause-stands g c =
     let text : t ≡ c.args.self.now.text = search rules in
     let has = has_body kind t body c.requires c.self.invariant in
     subst (λ z. HasBody kind (chars z) c.range.result.now body.plain) text
-        (subst (λ z. HasBody kind (chars t) z body.plain) (sym same) has)
+    (subst (λ z. HasBody kind (chars t) z body.plain) (sym same) has)

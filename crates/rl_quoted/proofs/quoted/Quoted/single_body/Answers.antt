@@ -12,4 +12,4 @@ returns g c =
     let same : c.range.result.now ≡ body_in t body = c.range.ensures.value ∙ ap (λ z. body_in z body) c.text.ensures in
     let text : t ≡ c.args.self.now.text = search rules in
     subst (λ z. HasSingleBody kind (chars z) c.range.result.now) text
-        (subst (HasSingleBody kind (chars t)) (sym same) (single_body kind t body c.requires c.self.invariant))
+    (subst (HasSingleBody kind (chars t)) (sym same) (single_body kind t body c.requires c.self.invariant))

@@ -13,14 +13,14 @@ range-text-requires-clause-end_boundary c = cut_boundary c.self.inside.rest.now 
 pub invariant_of-self : goal.invariant_of-self
 invariant_of-self c =
     still_cutting c.self.inside.text.now c.self.inside.rest.now c.in_ok-form.following.now c.skip-self-inside.result.now
-        c.self.invariant c.in_ok-form.ensures.following c.skip-self-inside.ensures.following
+    c.self.invariant c.in_ok-form.ensures.following c.skip-self-inside.ensures.following
 
 pub returns-clause-next : goal.returns-clause-next
 returns-clause-next c =
     rw (← c.self.view_is)
     (takes_next c.self.inside.text.now c.self.inside.rest.now c.in_ok-form.following.now c.skip-self-inside.result.now _
     c.self.invariant c.in_ok-form.ensures.found c.in_ok-form.ensures.following c.range-text.utf8
-        c.range-text.ensures.value refl refl c.skip-self-inside.ensures.skipped c.skip-self-inside.ensures.following)
+    c.range-text.ensures.value refl refl c.skip-self-inside.ensures.skipped c.skip-self-inside.ensures.following)
 
 pub overflow_sub-lo : goal.overflow_sub-lo
 overflow_sub-lo c = grind (arith, common_steps)

@@ -10,5 +10,5 @@ returns-clause-following c =
     let exponent = c.after_exponent.result.now in
     tail_step t exponent c.after_suffix.result.now
     (tail_step t fraction exponent (tail_step t whole fraction c.skip_class.ensures.following
-        c.after_fraction.ensures.following) c.after_exponent.ensures.following)
+    c.after_fraction.ensures.following) c.after_exponent.ensures.following)
     c.after_suffix.ensures.following

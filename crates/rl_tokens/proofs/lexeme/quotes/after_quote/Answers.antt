@@ -7,7 +7,7 @@ pub returns-then-mark-eq34-clause-rest : goal.returns-then-mark-eq34-clause-rest
 returns-then-mark-eq34-clause-rest c =
     let m = c.two.ensures in
     sym (sym c.loop-mark.invariant.same ∙ quote_found _ _ _ _ (ap (λ z. z.first) m) (ap (λ z. z.second) m)
-        c.in-Some.ensures.some c.if-mark-eq34.true)
+    c.in-Some.ensures.some c.if-mark-eq34.true)
 
 pub returns-in_err-more-clause-rest : goal.returns-in_err-more-clause-rest
 returns-in_err-more-clause-rest c =
@@ -17,8 +17,8 @@ returns-in_err-more-clause-rest c =
       | inr backslash ↦
           let none : c.from_residual.result ≡ None = search rules in
           ap (option_map (λ rest. chars rest.now)) none ∙ sym (sym c.loop-mark.invariant.same
-              ∙ quote_open _ _ _ _ (ap (λ z. z.first) m) (ap (λ z. z.second) m) c.in-Some.ensures.some backslash
-              c.in_err-more.ensures.chars)
+          ∙ quote_open _ _ _ _ (ap (λ z. z.first) m) (ap (λ z. z.second) m) c.in-Some.ensures.some backslash
+          c.in_err-more.ensures.chars)
     ]
 
 pub loop-mark-preserved : goal.loop-mark-preserved
@@ -39,4 +39,4 @@ pub returns-clause-rest : goal.returns-clause-rest
 returns-clause-rest c =
     let m = c.two.ensures in
     sym (sym c.loop-mark.invariant.same ∙ quote_none _ _ (ap (λ z. z.first) m) (ap (λ z. z.second) m)
-        c.in_default.ensures.none)
+    c.in_default.ensures.none)

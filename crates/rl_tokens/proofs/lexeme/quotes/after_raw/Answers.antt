@@ -10,7 +10,7 @@ returns-in-Some-after_prefix-clause-rest c =
     let next = c.in-Some.ensures.some in
     let met = hashes_met _ _ _ c.requires c.in-Some-after_prefix.ensures.some in
     ap Some (sym met.1) ∙ sym (sym c.loop-following.invariant.same
-        ∙ raw_found _ _ _ _ _ (ap (λ z. z.first) m) next (only _ 34 _ m next.is_mark) met.0)
+    ∙ raw_found _ _ _ _ _ (ap (λ z. z.first) m) next (only _ 34 _ m next.is_mark) met.0)
 
 pub loop-following-preserved : goal.loop-following-preserved
 loop-following-preserved c =
@@ -31,4 +31,4 @@ returns-clause-rest c =
 pub returns-in-Some-after_prefix-clause-following : goal.returns-in-Some-after_prefix-clause-following
 returns-in-Some-after_prefix-clause-following c =
     tail_step _ _ _ (tail_step _ _ _ c.loop-following.invariant.following c.in-Some.ensures.following)
-        c.in-Some-after_prefix.ensures.following
+    c.in-Some-after_prefix.ensures.following

@@ -10,5 +10,5 @@ returns-clause-following c =
     let rest = c.in_ok-rest.rest.now in
     tail_step t rest c.after_suffix.result.now
     (tail_step t body rest (tail_step t opener body c.skip_hashes-opener.ensures.following
-        c.without_first.ensures.following) c.in_ok-rest.ensures.following)
+    c.without_first.ensures.following) c.in_ok-rest.ensures.following)
     c.after_suffix.ensures.following

@@ -11,7 +11,7 @@ text_of_characters-requires-clause-value g c = ap length (one_character c.args.v
 pub returns-clause-text : goal.returns-clause-text
 returns-clause-text g c =
     let Written : List ℕ → Type 0 = λ v. IfOk c.text_of_characters.result
-        (λ s. IsWrittenForm Char v (chars (string_bytes s))) in
+    (λ s. IsWrittenForm Char v (chars (string_bytes s))) in
     let written : Written (c.args.value ∷ []) = subst Written (one_character c.args.value c.encode_utf8.result.now
-        c.encode_utf8.utf8 c.encode_utf8.ensures.value) c.text_of_characters.ensures in
+    c.encode_utf8.utf8 c.encode_utf8.ensures.value) c.text_of_characters.ensures in
     search (written, rules) steps 300000

@@ -6,12 +6,14 @@ use Rattle.rust_literals.proofs.lit.Lit.of_found.Goals as goal
 pub returns-in_err-of_found-in-Int-clause-lent : goal.returns-in_err-of_found-in-Int-clause-lent
 returns-in_err-of_found-in-Int-clause-lent g c =
     on_err _ _ (found_lent Int c.args.token.text c.in-Some.found (some_found _ _ _ c.in-Some.is c.requires.found)
-        c.in-Int.is c.in_err-of_found-in-Int.ensures.lent)
+    c.in-Int.is c.in_err-of_found-in-Int.ensures.lent)
 
 pub returns-in_ok-of_found-in-Float-clause-reads : goal.returns-in_ok-of_found-in-Float-clause-reads
-returns-in_ok-of_found-in-Float-clause-reads g c =
-    (c.in_ok-of_found-in-Float.ensures.ok, found_as Float c.args.token.text _ c.in-Some.found c.in-Some.is
-        c.requires.found c.in-Float.is)
+returns-in_ok-of_found-in-Float-clause-reads g c = (
+  c.in_ok-of_found-in-Float.ensures.ok,
+  found_as Float c.args.token.text _ c.in-Some.found c.in-Some.is
+      c.requires.found c.in-Float.is,
+)
 
 pub returns-in_err-of_found-in-Float-clause-numbers_alone : goal.returns-in_err-of_found-in-Float-clause-numbers_alone
 returns-in_err-of_found-in-Float-clause-numbers_alone g c =
@@ -20,7 +22,7 @@ returns-in_err-of_found-in-Float-clause-numbers_alone g c =
 pub returns-in_err-of_found-in-Float-clause-lent : goal.returns-in_err-of_found-in-Float-clause-lent
 returns-in_err-of_found-in-Float-clause-lent g c =
     on_err _ _ (found_lent Float c.args.token.text c.in-Some.found (some_found _ _ _ c.in-Some.is c.requires.found)
-        c.in-Float.is c.in_err-of_found-in-Float.ensures.lent)
+    c.in-Float.is c.in_err-of_found-in-Float.ensures.lent)
 
 pub returns-in-Bool-clause-reads : goal.returns-in-Bool-clause-reads
 returns-in-Bool-clause-reads g c =
@@ -31,29 +33,46 @@ returns-in-Bool-clause-reads g c =
     (ap (λ l. l.span) c.new.ensures ∙ c.span.ensures)
 
 pub returns-in-Str-clause-reads : goal.returns-in-Str-clause-reads
-returns-in-Str-clause-reads g c = (c.of_found.ensures, found_as Str c.args.token.text _ c.in-Some.found c.in-Some.is
-    c.requires.found c.in-Str.is)
+returns-in-Str-clause-reads g c = (
+  c.of_found.ensures,
+  found_as Str c.args.token.text _ c.in-Some.found c.in-Some.is
+      c.requires.found c.in-Str.is,
+)
 
 pub returns-in-ByteStr-clause-reads : goal.returns-in-ByteStr-clause-reads
-returns-in-ByteStr-clause-reads g c = (c.of_found-in-ByteStr.ensures, found_as ByteStr c.args.token.text _
-    c.in-Some.found c.in-Some.is c.requires.found c.in-ByteStr.is)
+returns-in-ByteStr-clause-reads g c = (
+  c.of_found-in-ByteStr.ensures,
+  found_as ByteStr c.args.token.text _
+      c.in-Some.found c.in-Some.is c.requires.found c.in-ByteStr.is,
+)
 
 pub returns-in-CStr-clause-reads : goal.returns-in-CStr-clause-reads
-returns-in-CStr-clause-reads g c = (c.of_found-in-CStr.ensures, found_as CStr c.args.token.text _ c.in-Some.found
-    c.in-Some.is c.requires.found c.in-CStr.is)
+returns-in-CStr-clause-reads g c = (
+  c.of_found-in-CStr.ensures,
+  found_as CStr c.args.token.text _ c.in-Some.found
+      c.in-Some.is c.requires.found c.in-CStr.is,
+)
 
 pub returns-in-Byte-clause-reads : goal.returns-in-Byte-clause-reads
-returns-in-Byte-clause-reads g c = (c.of_found-in-Byte.ensures, found_as Byte c.args.token.text _ c.in-Some.found
-    c.in-Some.is c.requires.found c.in-Byte.is)
+returns-in-Byte-clause-reads g c = (
+  c.of_found-in-Byte.ensures,
+  found_as Byte c.args.token.text _ c.in-Some.found
+      c.in-Some.is c.requires.found c.in-Byte.is,
+)
 
 pub returns-in-Char-clause-reads : goal.returns-in-Char-clause-reads
-returns-in-Char-clause-reads g c = (c.of_found-in-Char.ensures, found_as Char c.args.token.text _ c.in-Some.found
-    c.in-Some.is c.requires.found c.in-Char.is)
+returns-in-Char-clause-reads g c = (
+  c.of_found-in-Char.ensures,
+  found_as Char c.args.token.text _ c.in-Some.found
+      c.in-Some.is c.requires.found c.in-Char.is,
+)
 
 pub returns-in_ok-of_found-in-Int-clause-reads : goal.returns-in_ok-of_found-in-Int-clause-reads
-returns-in_ok-of_found-in-Int-clause-reads g c =
-    (c.in_ok-of_found-in-Int.ensures.ok, found_as Int c.args.token.text _ c.in-Some.found c.in-Some.is c.requires.found
-        c.in-Int.is)
+returns-in_ok-of_found-in-Int-clause-reads g c = (
+  c.in_ok-of_found-in-Int.ensures.ok,
+  found_as Int c.args.token.text _ c.in-Some.found c.in-Some.is c.requires.found
+      c.in-Int.is,
+)
 
 pub returns-in_err-of_found-in-Int-clause-numbers_alone : goal.returns-in_err-of_found-in-Int-clause-numbers_alone
 returns-in_err-of_found-in-Int-clause-numbers_alone g c =

@@ -16,7 +16,7 @@ returns-in_default-clause-runs g c =
 pub returns-in-Some-of_front-clause-runs : goal.returns-in-Some-of_front-clause-runs
 returns-in-Some-of_front-clause-runs g c =
     lit_front (trees_in c.args.input.now) (trees_in c.fork-ahead.result) (trees_in c.take.new.input)
-        (front_token c.in-Some.front) (front_token c.in-Some.front) c.in-Some-of_front.literal
+    (front_token c.in-Some.front) (front_token c.in-Some.front) c.in-Some-of_front.literal
     c.fork-ahead.ensures.trees c.in-Some.ensures.taken refl c.in-Some-of_front.ensures
 
 pub returns-in-Some-of_front-clause-rest : goal.returns-in-Some-of_front-clause-rest
@@ -26,5 +26,5 @@ returns-in-Some-of_front-clause-rest g c = subst (λ ts. IsRest ts (trees_in c.t
 pub returns-in-None-clause-runs : goal.returns-in-None-clause-runs
 returns-in-None-clause-runs g c =
     lit_memory (trees_in c.args.input.now) (trees_in c.fork-ahead.result) (trees_in c.take.new.input)
-        (front_token c.in-Some.front) (scope_of c.args.input.now) c.span.result c.memory.result
+    (front_token c.in-Some.front) (scope_of c.args.input.now) c.span.result c.memory.result
     c.fork-ahead.ensures.trees c.in-Some.ensures.taken c.memory.ensures c.span.ensures

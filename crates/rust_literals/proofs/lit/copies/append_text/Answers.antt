@@ -13,7 +13,7 @@ returns-in_err-token-clause-memory g c =
 pub returns-in-Ok-clause-ok : goal.returns-in-Ok-clause-ok
 returns-in-Ok-clause-ok g c =
     stream_view-append c.args.tokens.now c.append.new.self (tree.Literal c.in_ok-token.token) _
-        (tree_view-literal _ c.in_ok-token.token ∙ ap LiteralTree c.in_ok-token.ensures.ok) c.in-Ok.ensures.ok
+    (tree_view-literal _ c.in_ok-token.token ∙ ap LiteralTree c.in_ok-token.ensures.ok) c.in-Ok.ensures.ok
 
 pub returns-clause-unchanged : goal.returns-clause-unchanged
 returns-clause-unchanged g c = ap (map tree_view) c.in-Err.ensures.unchanged

@@ -8,19 +8,19 @@ use Rattle.rust_literals.proofs.lit_bool.LitBoolParse.parse.Goals as goal
 pub returns-in_default-clause-runs : goal.returns-in_default-clause-runs
 returns-in_default-clause-runs g c =
     none_passed BoolKind (codes "boolean literal") (trees_in c.args.input.now) (trees_in c.fork-ahead.result)
-        (scope_of c.args.input.now) c.error.result
+    (scope_of c.args.input.now) c.error.result
     c.fork-ahead.ensures.trees c.in_default.ensures.none c.error.ensures
 
 pub returns-in_default-truth-clause-runs : goal.returns-in_default-truth-clause-runs
 returns-in_default-truth-clause-runs g c =
     other_passed BoolKind (codes "boolean literal") (trees_in c.args.input.now) (trees_in c.fork-ahead.result)
-        (trees_in c.take.new.input) (front_token c.in-Some.front) (scope_of c.args.input.now) c.error-error.result
+    (trees_in c.take.new.input) (front_token c.in-Some.front) (scope_of c.args.input.now) c.error-error.result
     c.fork-ahead.ensures.trees c.in-Some.ensures.taken c.in_default-truth.ensures.none c.error-error.ensures
 
 pub returns-clause-runs : goal.returns-clause-runs
 returns-clause-runs g c =
     truth_front (trees_in c.args.input.now) (trees_in c.fork-ahead.result) (trees_in c.take.new.input)
-        (front_token c.in-Some.front) c.new.result c.in-Some-truth.value c.span.result
+    (front_token c.in-Some.front) c.new.result c.in-Some-truth.value c.span.result
     c.fork-ahead.ensures.trees c.in-Some.ensures.taken c.in-Some-truth.ensures.some c.new.ensures c.span.ensures
 
 pub returns-in_default-truth-clause-rest : goal.returns-in_default-truth-clause-rest

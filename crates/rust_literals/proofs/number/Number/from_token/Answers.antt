@@ -8,9 +8,11 @@ returns-in-Err-clause-lent g c =
     no_number_plain g.K.NumberKind.KIND c.args.token.text c.in-Err.kind (rw c.text.ensures at c.in-Err.ensures.err)
 
 pub returns-in-Err-clause-err : goal.returns-in-Err-clause-err
-returns-in-Err-clause-err g c =
-    (c.span.ensures, no_number_refused g.K.NumberKind.KIND (chars c.args.token.text) c.in-Err.kind
-        (rw c.text.ensures at c.in-Err.ensures.err))
+returns-in-Err-clause-err g c = (
+  c.span.ensures,
+  no_number_refused g.K.NumberKind.KIND (chars c.args.token.text) c.in-Err.kind
+      (rw c.text.ensures at c.in-Err.ensures.err),
+)
 
 pub of_found-requires-clause-found : goal.of_found-requires-clause-found
 of_found-requires-clause-found g c = rw c.text.ensures at c.in-Ok.ensures.found
@@ -21,4 +23,4 @@ returns-in-Ok-clause-reads g c = on_ok c.of_found.result _ c.of_found.ensures.nu
 pub returns-in-Ok-clause-err : goal.returns-in-Ok-clause-err
 returns-in-Ok-clause-err g c =
     memory_refused g.K.NumberKind.KIND (chars c.args.token.text) c.args.token.span c.of_found.result
-        c.of_found.ensures.memory c.of_found.ensures.number
+    c.of_found.ensures.memory c.of_found.ensures.number

@@ -7,13 +7,16 @@ pub returns-in-Err-from_text-clause-err : goal.returns-in-Err-from_text-clause-e
 returns-in-Err-from_text-clause-err g c =
     let kind = g.K.NumberKind.KIND in
     let number = found_number kind c.args.repr.now c.in-Ok.found c.utf8.repr c.in-Ok.ensures.found c.in-Ok.ensures.kind
-        in
+    in
     wants_memory kind (chars c.args.repr.now) c.in-Err-from_text.error c.args.span c.in-Err-from_text.ensures.memory
-        number
+    number
 
 pub returns-in-Err-clause-err : goal.returns-in-Err-clause-err
-returns-in-Err-clause-err g c = (refl, no_number_refused g.K.NumberKind.KIND (chars c.args.repr.now) c.in-Err.kind
-    c.in-Err.ensures.err)
+returns-in-Err-clause-err g c = (
+  refl,
+  no_number_refused g.K.NumberKind.KIND (chars c.args.repr.now) c.in-Err.kind
+      c.in-Err.ensures.err,
+)
 
 pub of_found-requires-clause-found : goal.of_found-requires-clause-found
 of_found-requires-clause-found g c = rw c.in-Ok-from_text.ensures.ok c.in-Ok.ensures.found
@@ -29,6 +32,6 @@ pub returns-clause-err : goal.returns-clause-err
 returns-clause-err g c =
     let kind = g.K.NumberKind.KIND in
     let number = found_number kind c.args.repr.now c.in-Ok.found c.utf8.repr c.in-Ok.ensures.found c.in-Ok.ensures.kind
-        in
+    in
     wants_memory kind (chars c.args.repr.now) c.in-Err-of_found.field-0.error c.args.span
-        (c.in-Err-of_found.ensures.memory ∙ ap (λ t. memory_at t.span) c.in-Ok-from_text.ensures.ok) number
+    (c.in-Err-of_found.ensures.memory ∙ ap (λ t. memory_at t.span) c.in-Ok-from_text.ensures.ok) number

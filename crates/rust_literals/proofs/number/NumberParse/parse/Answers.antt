@@ -12,7 +12,7 @@ returns-in-Err-clause-runs g c =
 pub of_found-requires-clause-found : goal.of_found-requires-clause-found
 of_found-requires-clause-found g c =
     is_found_number g.K.NumberKind.KIND c.in-Ok.taken.0.text c.in-Ok.taken.1 g.met.K.NumberKind.is_number
-        (c.in-Ok.ensures.kind ∙ c.KIND.ensures) c.in-Ok.ensures.found
+    (c.in-Ok.ensures.kind ∙ c.KIND.ensures) c.in-Ok.ensures.found
 
 pub returns-clause-rest : goal.returns-clause-rest
 returns-clause-rest g c = rest_none _ _ c.fork-before.ensures.trees
