@@ -3,4 +3,3 @@ pub mod OptionLemmas
 pub mod StepLemmas
 pub mod ReasonLemmas
 pub mod WriteLemmas
-pub mod DecimalLemmas

@@ -2,7 +2,6 @@
 //! program that prints them.
 #![tactic(auto)]
 
-mod decimal;
 mod ending;
 mod options;
 mod place;

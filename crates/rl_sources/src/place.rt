@@ -1,16 +1,14 @@
 //! Places of a source, as they are printed.
 
-ghost use Rattle.std.specs.Prelude.{◌≡◌, ◌+◌, ◌*◌, ◌≤◌, ◌∷◌, ◌++◌, [], drop, length, Some};
-ghost use Rattle.rl_tokens.specs.Texts.{code};
+ghost use Rattle.std.specs.Prelude.{◌≡◌, ◌+◌, drop, length, Some};
 ghost use Rattle.std.specs.Str.{chars, IsCharBoundary};
 ghost use Rattle.rl_tokens.specs.Cursors.{IsCursorState};
 ghost use Rattle.rl_tokens.specs.Lines.{BeginsAt};
 ghost use Rattle.rl_sources.specs.Places.{place_text, IsPlaceIn};
 
-use crate::decimal::{DIGITS, put, put_decimal};
 use rl_tokens::{LineColumn, Lines};
+use std::fmt;
 use std::marker::Model;
-use std::{fmt, str};
 
 /// A place of a source, as it is printed: `LO..HI` or `LINE:COLUMN`.
 #[derive(Clone, Copy)]
@@ -21,61 +19,14 @@ pub enum Place {
     Line(LineColumn),
 }
 
-/// How many bytes a place and a space take at most: two numbers, and what stands between them and after them.
-pub(crate) const ROOM: usize = 2 * DIGITS + 3;
-
-impl Place {
-    /// Puts the place, as it is printed, in front of the end, and returns where it begins.
-    #[inline(always)]
-    fn put(self, room: &mut [u8; ROOM], end: usize) -> usize
-        requires before { 2 * DIGITS + 2 ≤ end }
-        requires within { end ≤ ROOM }
-        ensures within { result ≤ length room.new }
-        ensures text { drop result room.new ≡ place_text self ++ drop end room.old }
-    {
-        match self {
-            Place::Bytes(lo, hi) => {
-                let at = put_decimal(room, end, hi);
-                let at = put(room, at, b'.');
-                let at = put(room, at, b'.');
-                put_decimal(room, at, lo)
-            }
-            Place::Line(LineColumn { line, column }) => {
-                let at = put_decimal(room, end, column);
-                let at = put(room, at, b':');
-                put_decimal(room, at, line)
-            }
-        }
-    }
-
-    /// The place as it is printed, in this room.
-    fn text(self, room: &mut [u8; ROOM]) -> &str
-        ensures { result.now ≡ place_text self }
-    {
-        let at = self.put(room, ROOM);
-        let all = &room[..];
-        // SAFETY: digits and the marks between them are ASCII.
-        unsafe { str::from_utf8_unchecked(&all[at..]) }
-    }
-
-    /// The place as it is printed, and a space, in this room.
-    #[inline(always)]
-    pub(crate) fn spaced(self, room: &mut [u8; ROOM]) -> &str
-        ensures { result.now ≡ place_text self ++ code " " ∷ [] }
-    {
-        let space = put(room, ROOM, b' ');
-        let at = self.put(room, space);
-        let all = &room[..];
-        // SAFETY: digits, the marks between them and a space are ASCII.
-        unsafe { str::from_utf8_unchecked(&all[at..]) }
-    }
-}
-
 impl fmt::Display for Place {
     ghost output = { λ place. Some (place_text place) };
 
     fn fmt<W: fmt::Write>(&self, f: &mut fmt::Formatter<W>) -> fmt::Result {
-        f.write_str(self.text(&mut [0; ROOM]))
+        match self {
+            Place::Bytes(lo, hi) => write!(f, "{lo}..{hi}"),
+            Place::Line(LineColumn { line, column }) => write!(f, "{line}:{column}"),
+        }
     }
 }
 

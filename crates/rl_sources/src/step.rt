@@ -11,7 +11,7 @@ ghost use Rattle.rl_sources.specs.Scans.{IsShownLiteral, IsErrorAt};
 ghost use Rattle.rl_sources.specs.Steps.{IsPlacedText, IsAcceptedToken, BeginsRest, IsCursorOver, TakesShown, EndsUnshown, StopsUnshown, IsStepOf};
 
 use crate::options::Options;
-use crate::place::{Place, Places, ROOM, place_of};
+use crate::place::{Place, Places, place_of};
 use crate::reason::push_reason;
 use rl_grammar::{Found, Kind, find};
 use rl_lines::{label_of, push_found};
@@ -44,7 +44,7 @@ fn push_placed<A: Allocator + Copy>(
     ensures { OnOk result (Appends (IsPlacedText place (chars text.now))
         (chars (string_bytes out.old)) (chars (string_bytes out.new))) }
 {
-    out.push_str(place.spaced(&mut [0; ROOM]))?;
+    write!(out, "{place} ")?;
     push_found(alloc, out, text, found)
 }
 
