@@ -14,6 +14,8 @@ USE = re.compile(r'((?:pub(?:\(crate\))? |ghost )?use) ([^;]*);', re.S)
 STRINGS = re.compile(r'"(?:\\.|[^"\\])*"', re.S)
 # A trait that is imported for its method.
 BY_METHOD = {'ToTokens': '.to_tokens('}
+# The example of an item.
+EXAMPLE = re.compile(r'```(?:rust)?\n(.*?)```', re.S)
 # A line of an example that says what a call returns.
 VALUE = re.compile(r'^ *// (.* == .*)$', re.M)
 

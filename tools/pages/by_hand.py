@@ -1,0 +1,91 @@
+"""What is run by hand: the commands, texts and examples that the pages show."""
+import os
+import re
+import subprocess
+
+from .items import TOP, libraries, public_items, read
+from .pieces import paste
+
+
+def tried(crate, words, given):
+    """What a program of the repository writes, as `rt try` runs it: output, and error output."""
+    ran = subprocess.run(
+        ['rt', 'try', '--', *words], cwd=os.path.join(TOP, 'crates', crate), input=given,
+        capture_output=True, check=False)
+    kept = [it for it in ran.stderr.decode().split('\n') if not re.match(r'checked: |run=', it)]
+    return ran.stdout.decode(), '\n'.join(kept)
+
+
+def run_commands(tell):
+    """The calls of the programs that pages show: each line after `$`, and what is written."""
+    shown = read('README.md') + read('docs/PROGRAMS.md')
+    for block in re.findall(r'```sh\n(\$.*?)```', shown, re.S):
+        for call in re.split(r'^\$ ', block, flags=re.M)[1:]:
+            command, wanted = call.split('\n', 1)
+            ran = subprocess.run(
+                ['bash', '-c', command], cwd=TOP, capture_output=True, check=False)
+            told = re.sub(r'^rl_\w+: .*\n', '', ran.stderr.decode(), flags=re.M)
+            found = ran.stdout.decode() + told
+            print(f'{"as shown" if found == wanted else "OTHER"}: {command}', flush=True)
+            if found != wanted:
+                tell(f'{command} writes {found!r}')
+
+
+# The calls of docs/REFUSALS.md, as commands of programs that answer many texts at once
+# (`attr`: one).
+CALLS = {
+    'read': ('rl_rows', 'read'), 'text': ('rl_rows', 'text'), 'attr': ('rl_tool', 'attr'),
+    'explain': ('rl_rows', 'explain'),
+    'LitInt::new': ('rl_rows', 'integer'), 'LitFloat::new': ('rl_rows', 'real'),
+    'LitStr::parse': ('rl_rows', 'inside'), 'read_number': ('rl_rows', 'settings'),
+    'read_config': ('rl_rows', 'config'),
+    'LitInt': ('rl_rows', 'LitInt'), 'LitStr': ('rl_rows', 'LitStr'),
+}
+# A call behind each row of rl_rows, and the line that it prints.
+MARK, LINE = 'skipped', '===\n'
+
+
+def text_of(cell):
+    """The text that a cell names: in code font, so many times, or none; None for anything else."""
+    it = re.fullmatch(r'(?:(\d+) times )?(`+) ?(.*?) ?\2', cell)
+    if it:
+        return it[3].replace('\\|', '|') * int(it[1] or 1)
+    return '' if cell == 'nothing' else None
+
+
+def rows_of_refusals():
+    """The rows of docs/REFUSALS.md: the call, which stands second, the text and the message."""
+    for line in read('docs/REFUSALS.md').split('\n'):
+        cells = [it.strip() for it in re.split(r'(?<!\\)\|', line)[1:-1]]
+        row = [text_of(it) for it in cells[1:4]] if len(cells) == 5 else []
+        if None not in row and row and row[0] in CALLS:
+            yield row
+
+
+def answers_of(crate, rows):
+    """What a program answers to commands and texts."""
+    if crate == 'rl_tool':
+        return [''.join(tried(crate, [command], text.encode())) for command, text in rows]
+    given = ''.join(f'{it} {text.encode().hex()}\n{MARK} {b"===".hex()}\n' for it, text in rows)
+    return tried(crate, [], given.encode())[0].split(LINE)
+
+
+def run_refusals(tell):
+    shown = list(rows_of_refusals())
+    for crate in ('rl_rows', 'rl_tool'):
+        rows = [it for it in shown if CALLS[it[0]][0] == crate]
+        answers = answers_of(crate, [(CALLS[call][1], text) for call, text, _ in rows])
+        for (call, text, message), found in zip(rows, answers):
+            print(f'{"as shown" if message in found else "OTHER"}: {call} {text[:60]}', flush=True)
+            if message not in found:
+                tell(f'docs/REFUSALS.md: {call} of {text} tells {found!r}')
+
+
+def run_examples(tell):
+    """Pastes the examples into a program, and runs it."""
+    examples = [it for crate in libraries() for _, item in public_items(crate) for it in item.examples()]
+    missed, said = paste(TOP, examples)
+    for value in missed:
+        tell(value)
+        print(f'OTHER: {value}')
+    print(said if missed else f'{len(examples)} examples, pasted, return what they say')

@@ -1,0 +1,278 @@
+"""What is checked of the pages and of the documentation: each check tells its errors to `tell`."""
+import fnmatch
+import glob
+import importlib.machinery
+import importlib.util
+import os
+import re
+import sys
+import textwrap
+
+from .items import TOP, code_files, definition_files, libraries, pages, paths, public_items, read
+from .pieces import EXAMPLE, VALUE, Source, blanked, whole_items
+
+# The Rust of a page.
+RUST = re.compile(r'```rust\n(.*?) *```', re.S)
+# What a newcomer meets first: each has an example, of 30 lines at most, or names the item that has it.
+EXAMPLES = {
+    'rl_tokens': """
+        Kind Span Literal CString Ident Punct Group TokenTree TokenStream Tokens Sources LexError Error
+        ErrorKind Kept ParseBuffer Parse Parser Token ToTokens lex parse_all attempt skip xid_ok
+        ParseBuffer::peek ParseBuffer::parse""",
+    'rl_grammar': 'Parts shape is_token str_of is_plain explain',
+    'rl_quoted': """
+        LitStr LitByteStr LitCStr LitByte LitChar LitStr::new LitStr::value LitStr::value_ref
+        LitByteStr::value LitByteStr::value_ref LitCStr::value LitByte::value LitChar::value
+        LitStr::parse LitStr::parse_with""",
+    'rust_literals': """
+        Lit Lit::new Lit::explain LitInt LitFloat LitBool Number::base10_digits
+        Number::base10_parse read_all read_next""",
+    'rl_attributes': 'Attrs Attrs::get read',
+}
+# The crates whose comments are held to the field's words.
+TERMS_IN = """
+    rl_quoted rust_literals rl_attributes rl_lines rl_program rl_commands rl_sources rl_tool rl_scan
+    rl_uses rl_example rl_bench rl_tokens rl_grammar rl_c""".split()
+# Words of others, and of what stands in no crate.
+FOREIGN = {'parse_str', 'proc_macro2'}
+# Pages that name what isn't here.
+OF_OTHERS = ['docs/DIFFERENCES.md', 'docs/COMPARISON.md', 'docs/PERFORMANCE.md']
+
+
+def check_items(tell):
+    count = 0
+    shown = {item.name for crate in libraries() for _, item in public_items(crate) if item.examples()}
+    for crate in libraries():
+        items = public_items(crate)
+        names = {item.name for _, item in items}
+        wanted = EXAMPLES.get(crate, '').split()
+        for name in wanted:
+            if name not in names:
+                tell(f'crates/{crate}: no public item {name}, of which an example is wanted')
+        for path, item in items:
+            count += 1
+            if not item.docs.strip():
+                tell(f'{path}: {item.name} has no documentation')
+            if item.answers_result() and not item.errors():
+                tell(f'{path}: {item.name} answers a Result and has no `# Errors`')
+            if item.name in wanted and not item.examples() and item.named_example() not in shown:
+                tell(f'{path}: {item.name} has no example')
+            for example in item.examples():
+                if not VALUE.search(example):
+                    tell(f'{path}: an example of {item.name} has no value')
+                if example.count('\n') > 30:
+                    tell(f'{path}: an example of {item.name} is too long')
+    return count
+
+
+def words_of(definitions):
+    """The definitions without comments and white space."""
+    return re.sub(r'\s+', '', re.sub(r'(^|\s)--[^\n]*', r'\1', definitions))
+
+
+def pieces(block):
+    return [it for it in re.split(r'\n\s*\n', block) if it.strip()]
+
+
+def check_definitions(tell):
+    """Each definition that a page shows stands in a crate."""
+    found = [words_of(read(it)) for it in definition_files()]
+    for page in pages():
+        for block in re.findall(r'```antt\n(.*?)```', read(page), re.S):
+            for piece in pieces(block):
+                if not any(words_of(piece) in it for it in found):
+                    tell(f'{page}: stands in no source: {piece.strip().splitlines()[0]}')
+
+
+# A public definition of specs/; fields are indented.
+DEFINED = re.compile(r'^(?:(?:abbrev|unfoldable) )?pub (?!mod |use )(?:record |data )?([\w-]+)', re.M)
+
+
+def check_names(tell):
+    """Each public name of specs/ stands in one file."""
+    found = {}
+    for path in paths('crates/*/specs/**/*.antt'):
+        for name in DEFINED.findall(read(path)):
+            found.setdefault(name, set()).add(path)
+    for name, files in sorted(found.items()):
+        if len(files) > 1:
+            tell(f'{name} stands in {", ".join(sorted(files))}')
+
+
+def shown_pieces():
+    """Each piece of Rust that is shown, with where it stands."""
+    yield from ((page, textwrap.dedent(it)) for page in pages() for it in RUST.findall(read(page)))
+    for path in code_files():
+        docs = '\n'.join(re.findall(r'^ *//[/!] ?(.*)$', read(path), re.M))
+        yield from ((path, it) for it in EXAMPLE.findall(docs))
+
+
+def check_pieces(tell):
+    """Each piece of Rust that is shown is whole, and of the code of a crate; its values are printed."""
+    sources = [Source(read(it)) for it in code_files() + paths('rust/examples/*.rs')]
+    printed = set(read('crates/rl_rows/stdout').split('\n'))
+    for where, block in shown_pieces():
+        first = block.strip().splitlines()[0] if block.strip() else 'an empty piece'
+        for value in VALUE.findall(block):
+            if value not in printed:
+                tell(f'{where}: rl_rows prints no {value}')
+        items, rest = whole_items(block)
+        lacks = [it for it in (source.lacks(items) for source in sources) if it is not None]
+        if rest or not items:
+            tell(f'{where}: is no whole item: {(rest or [first])[0].splitlines()[0]}')
+        elif not lacks:
+            tell(f'{where}: stands in no source: {first}')
+        elif min(lacks, key=len):
+            tell(f'{where}: lacks {", ".join(sorted(min(lacks, key=len)))}: {first}')
+
+
+def kept_out():
+    """Patterns of what is built, and never committed."""
+    return [it.rstrip('/') for it in read('.gitignore').split()]
+
+
+def is_there(path, page):
+    folder = os.path.dirname(page)
+    ways = [path, f'{folder}/{path}', f'crates/{path}']
+    pattern = [re.sub(r'\b(?:NAME|X|PATH)\b', '*', it) for it in ways]
+    if any(glob.glob(os.path.join(TOP, it)) for it in pattern):
+        return True
+    return any(
+        path == it or path.startswith(f'{it}/') or fnmatch.fnmatch(path, f'*/{it}/*')
+        for it in kept_out())
+
+
+def check_paths(tell):
+    sources = {os.path.basename(it) for it in [*code_files(), *definition_files()]}
+    folder = r'(?:docs|tools|crates|bench|\.ci|rl_\w+|rust_literals)'
+    bare_path = re.compile(rf'(?<![\w/.-])({folder}/[\w./-]*[\w/])')
+    for page in pages():
+        text = read(page)
+        for target in re.findall(r'\]\(([^)#]+)(?:#[^)]*)?\)', text):
+            if '://' not in target and not is_there(target, page):
+                tell(f'{page}: no {target}')
+        for path in bare_path.findall(text):
+            if not is_there(path, page):
+                tell(f'{page}: no {path}')
+        for name in re.findall(r'`(\w+\.(?:antt|rt))`', text):
+            if name not in sources:
+                tell(f'{page}: no file {name}')
+
+
+def check_words(tell):
+    """Each word in code font that is written as definitions and types are stands in a source."""
+    known = set()
+    for path in [*code_files(), *definition_files(), 'crates.txt', *paths('rust/src/**/*.rs', 'include/*.h')]:
+        known.update(re.findall(r'\w+', read(path)))
+    for page in pages():
+        if page in OF_OTHERS:
+            continue
+        prose = re.sub(r'```.*?```', '', read(page), flags=re.S)
+        for word in re.findall(r'`([A-Z]\w*[a-z]\w*|[a-z]\w*_\w+)`', prose):
+            if word not in known and word not in FOREIGN:
+                tell(f'{page}: {word} stands in no source')
+
+
+# What a source defines, gives out, or names a clause or a member by.
+OWN_CODE = re.compile(
+    r'\b(?:fn|struct|enum|trait|type|mod|const|ensures|requires|ghost)\s+(\w+)'
+    r'|^ +([A-Z]\w*)(?:\([^)]*\))?,|^ +pub (\w+):', re.M)
+OWN_DEFINITION = re.compile(r'^ *(?:(?:pub|abbrev|record|data|mod)\s+)*(\w+)\s*[:({]', re.M)
+GIVEN_OUT = re.compile(r'pub use ([^;]*);')
+
+
+def owned_by(crate):
+    """The files of a crate, the names that it defines or gives out, and its commands."""
+    names = {os.path.basename(it) for it in paths(f'crates/{crate}/*')}
+    for path in code_files(crate):
+        text = read(path)
+        names.update(it for found in OWN_CODE.findall(blanked(text)) for it in found)
+        names.update(re.findall(r'"(\w+)"', text))
+        names.update(it for found in GIVEN_OUT.findall(text) for it in re.findall(r'\w+', found))
+        names.update([os.path.basename(path), os.path.basename(path)[:-3]])
+    for path in definition_files():
+        if path.startswith(f'crates/{crate}/'):
+            names.update(OWN_DEFINITION.findall(read(path)))
+            names.add(os.path.basename(path))
+    return names
+
+
+def placed_names(prose):
+    """Each name that a page says is of a crate, with the crate."""
+    listed = r'`[^`]+`(?:(?:, | and |, and | or )`[^`]+`)*'
+    crate = r'`(rl_\w+|rust_literals)`'
+    for it in re.finditer(rf'({listed}) of {crate}', prose):
+        yield from ((name, it[2]) for name in re.findall(r'`([^`]+)`', it[1]))
+    for it in re.finditer(rf"{crate}'s? ({listed})", prose):
+        yield from ((name, it[1]) for name in re.findall(r'`([^`]+)`', it[2]))
+    for it in re.finditer(r'`(rl_\w+|rust_literals)::([\w:]+)', prose):
+        yield it[2], it[1]
+
+
+def check_owners(tell):
+    """What a page says is of a crate is of that one, where it is of any."""
+    own = {it.split('/')[1]: owned_by(it.split('/')[1]) for it in paths('crates/*/src')}
+    for page in pages():
+        prose = re.sub(r'\s+', ' ', re.sub(r'```.*?```', '', read(page), flags=re.S))
+        for name, crate in placed_names(prose):
+            is_file = name.endswith(('.antt', '.rt'))
+            is_item = re.fullmatch(r'[\w:]+', name) and name not in own
+            for part in [name] if is_file else name.split('::') if is_item else []:
+                others = [it for it in own if part in own[it]]
+                if crate in own and others and crate not in others:
+                    tell(f'{page}: {name} is of {", ".join(others)}, not of {crate}')
+
+
+def check_refusals(tell):
+    """Each kind of refusal stands on the page of refusals."""
+    page = read('docs/REFUSALS.md')
+    for _, item in [*public_items('rl_tokens'), *public_items('rl_grammar')]:
+        owner, _, name = item.name.partition('::')
+        is_refusal = item.kind == 'part' and owner in ('ErrorKind', 'LexKind', 'FlawKind')
+        if is_refusal and f'`{name}`' not in page and f'`{item.name}`' not in page:
+            tell(f'docs/REFUSALS.md: {item.name} is missing')
+
+
+# Words that the field has others for, and what they are right in.
+TERMS = re.compile(r'\b(faults?|refus\w+|lent|lends?|want of memory|behind)\b', re.I)
+RIGHT = re.compile(r'page faults|REFUSALS|behind a pointer|system lends memory', re.I)
+
+
+def check_terms(tell):
+    """No page and no comment of these crates has a word that the field has another for."""
+    for path in pages() + paths(*(f'crates/{it}/src/**/*.rt' for it in TERMS_IN)):
+        is_page, is_code = path.endswith('.md'), False
+        for number, line in enumerate(read(path).split('\n'), 1):
+            comment = line if is_page else line.partition('//')[2] if line.strip().startswith('//') else ''
+            if comment.strip(' /!').startswith('```'):
+                is_code = not is_code
+            elif not is_code:
+                prose = re.sub(r'``.*?``|`[^`]*`|\]\([^)]*\)|!\[[^]]*\]', '', comment)
+                for found in TERMS.finditer(RIGHT.sub('', prose)):
+                    tell(f'{path}:{number}: {found[0]}: another word is the field\'s')
+
+
+def check_diagrams(tell):
+    """Each diagram shows a definition that stands and is on a page; that of the crates shows them."""
+    loader = importlib.machinery.SourceFileLoader('diagrams', os.path.join(TOP, 'tools', 'diagrams'))
+    spec = importlib.util.spec_from_loader('diagrams', loader)
+    diagrams = importlib.util.module_from_spec(spec)
+    sys.dont_write_bytecode = True
+    loader.exec_module(diagrams)
+    defined = set(re.findall(r'(?m)^(?:abbrev |unfoldable |opaque )*(?:pub )?(?:record|data|abbrev) (?:pub )?(\w+)',
+                             '\n'.join(map(read, paths(f'{diagrams.SPECS}/*.antt')))))
+    shown = ''.join(map(read, paths('docs/*.md')))
+    for path in paths('docs/diagrams/*.svg'):
+        name = os.path.basename(path)[:-len('.svg')]
+        if f'(diagrams/{name}.svg)' not in shown:
+            tell(f'{path}: no page shows it')
+        if name == 'crates':
+            if diagrams.crates().replace('->', 'to') not in read(path):
+                tell(f'{path}: it is not what crates.txt says: run tools/diagrams')
+        elif name not in defined:
+            tell(f'{path}: there is no definition of this name')
+
+
+OF_PAGES = (
+    check_paths, check_pieces, check_definitions, check_names, check_words, check_owners, check_refusals,
+    check_diagrams, check_terms)

@@ -1,0 +1,181 @@
+"""The public items of the crates, with their documentation, as the sources have them."""
+import glob
+import os
+import re
+
+from .pieces import EXAMPLE, PARTS, bare, blanked
+
+TOP = os.path.dirname(os.path.dirname(os.path.dirname(os.path.abspath(__file__))))
+# The crates whose items are for callers.
+LIBRARIES = """
+    rl_tokens rl_grammar rl_quoted rust_literals rl_attributes rl_lines rl_program rl_commands
+    rl_sources rl_uses rl_c""".split()
+
+
+def read(path):
+    with open(os.path.join(TOP, path), encoding='utf-8') as it:
+        return it.read()
+
+
+def paths(*patterns):
+    found = set()
+    for pattern in patterns:
+        found.update(glob.glob(os.path.join(TOP, pattern), recursive=True))
+    return sorted(os.path.relpath(it, TOP) for it in found)
+
+
+def code_files(crate='*'):
+    return paths(f'crates/{crate}/src/**/*.rt')
+
+
+def definition_files():
+    return paths('crates/*/specs/**/*.antt', 'crates/*/proofs/**/*.antt')
+
+
+def pages():
+    return paths('README.md', 'docs/*.md', 'crates/*/*.md')
+
+
+class Item:
+    def __init__(self, kind, name, docs, head, line):
+        self.kind, self.name, self.docs, self.head, self.line = kind, name, docs, head, line
+
+    def examples(self):
+        return [it for it in EXAMPLE.findall(self.docs) if bare(it)]
+
+    def named_example(self):
+        """The item whose example the documentation says is of this one too."""
+        found = re.search(r'example of\s+\[`([\w:]+)`\]', self.docs)
+        return found[1] if found else None
+
+    def errors(self):
+        found = re.search(r'# Errors\n+(.*?)(?=\n# |\n```|\n\[|\Z)', self.docs, re.S)
+        return re.sub(r'\s+', ' ', found[1]).strip() if found else ''
+
+    def answers_result(self):
+        return self.kind == 'fn' and re.search(r'->\s*(?:[\w:]+::)?Result<', self.head) is not None
+
+
+def closing(code, at):
+    """The place behind the brace that closes the one at a place, past strings and characters."""
+    depth = 0
+    for it in re.compile(PARTS.pattern + '|[{}]', re.S).finditer(code, at):
+        depth += {'{': 1, '}': -1}.get(it[0], 0)
+        if depth == 0 and it[0] == '}':
+            return it.end()
+    return len(code)
+
+
+def on_a_line(code):
+    line = re.sub(r'\s+', ' ', code).strip()
+    return re.sub(r',? ([)\]])', r'\1', re.sub(r'([(\[]) ', r'\1', line)).rstrip(',')
+
+
+def docs_before(text, at):
+    """The documentation that stands right above a place, attributes between."""
+    lines = []
+    for line in reversed(text[:at].split('\n')[:-1]):
+        line = line.strip()
+        if line.startswith('///'):
+            lines.append(line[3:].removeprefix(' '))
+        elif not line.startswith('#['):
+            break
+    return '\n'.join(reversed(lines))
+
+
+def holders(text):
+    """The blocks of impls and traits: where each begins and ends, of what, and of which sort."""
+    head = re.compile(r'^(pub trait|impl(?:<[^\n]*?>)?) ([^\n{]*)', re.M)
+    found = []
+    for it in head.finditer(text):
+        at = text.find('{', it.start())
+        is_trait = it[1] == 'pub trait'
+        named = re.sub(r'.* for ', '', it[2]) if not is_trait else it[2]
+        of_trait = ' for ' in it[2]
+        name = re.match(r'\w+', named)[0]
+        found.append((it.start(), closing(text, at), name, is_trait, of_trait, it[0]))
+    return found
+
+
+def line_at(code, at):
+    return code.count('\n', 0, at) + 1
+
+
+def items_of(path):
+    text = read(path)
+    code = blanked(text)
+    blocks = holders(code)
+    found = []
+    item = re.compile(r'^( *)(pub |)(?:const )?(fn|struct|enum|trait|type) (\w+)', re.M)
+    for it in item.finditer(code):
+        within = next((b for b in blocks if b[0] < it.start() < b[1]), None)
+        is_own = within and not within[4] and (within[3] or it[2])
+        if not (is_own or (it[2] and not within)):
+            continue
+        end = signature_end(code, it.end())
+        name = f'{within[2]}::{it[4]}' if within else it[4]
+        head = on_a_line(code[it.start(3):end])
+        docs = docs_before(text, it.start())
+        found.append(Item(it[3], name, docs, head, line_at(code, it.start())))
+        if it[3] in ('struct', 'enum') and code[end] == '{':
+            found += parts_of(text, code, end, it[4])
+    return found
+
+
+def parts_of(text, code, at, name):
+    """The public fields of a struct, or the variants of an enum, whose brace stands at a place."""
+    part = re.compile(r'^    (?:pub (\w+: [^\n]*),$|([A-Z]\w*(?:\([^)]*\))?),)', re.M)
+    found = []
+    for it in part.finditer(code, at, closing(code, at)):
+        head = it[1] or it[2]
+        named = f"{name}::{re.match('[A-Za-z0-9_]+', head)[0]}"
+        found.append(Item('part', named, docs_before(text, it.start()), head, line_at(code, it.start())))
+    return found
+
+
+def signature_end(code, at):
+    """The place where the signature ends that goes on from a place."""
+    depth = 0
+    for it in re.compile(r'->|=>|[(<>)\[\]]|[;{=]|\b(?:requires|ensures)\b').finditer(code, at):
+        if it[0] in '(<[':
+            depth += 1
+        elif it[0] in ')>]':
+            depth -= 1
+        elif depth == 0 and it[0] not in ('->', '=>'):
+            return it.start()
+    return len(code)
+
+
+def modules(crate):
+    """What the root of a library gives out: names by their files, None for all of a file."""
+    root = read(f'crates/{crate}/src/lib.rt')
+    given = {it: None for it in re.findall(r'^pub mod (\w+);', root, re.M)}
+    for name, several, one in re.findall(r'pub use crate::(\w+)::(?:\{([^}]*)\}|(\w+));', root):
+        if given.get(name, ()) is not None:
+            given.setdefault(name, set()).update(re.findall(r'\w+', several or one))
+    return given
+
+
+def is_given(item, names):
+    """Whether an item of a module is given out, where these names of it are."""
+    owner = item.name.split('::')[0]
+    return names is None or owner in names
+
+
+def public_items(crate):
+    """The items that the library gives out, each with its file."""
+    given = modules(crate)
+    shown = {name for names in given.values() if names for name in names}
+    found = []
+    for path in code_files(crate):
+        module = path.split('/')[3].removesuffix('.rt')
+        names = given.get(module, set())
+        for item in items_of(path):
+            is_method = '::' in item.name
+            if is_given(item, names) or (is_method and item.name.split('::')[0] in shown):
+                found.append((path, item))
+    return found
+
+
+def libraries():
+    return [it for it in LIBRARIES if os.path.isdir(os.path.join(TOP, 'crates', it))]
