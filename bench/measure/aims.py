@@ -40,4 +40,4 @@ def print_table(rows, found):
         lines, met = lines + 1, met + good
         text.row(corpus, aim.work, '%.1f' % ours, aim.beside, '%.1f' % theirs,
                  '%.2f' % (ours / theirs), '%.2f' % most, 'yes' if good else 'no')
-    print('\n%d of %d aims are met.' % (met, lines), flush=True)
+    print('# %d of %d aims are met.' % (met, lines), flush=True)

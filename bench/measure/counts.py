@@ -66,6 +66,6 @@ def print_hottest(rows, found):
     for row, (whole, *_) in zip(rows, found):
         if row.whose == 'ours' and row.form in build.GOOD + ('program',):
             most = whole.own.most_common(3)
-            shown = ['`%s` %.1f' % (name, own / whole.bytes) for name, own in most]
+            shown = ['%s %.1f' % (name, own / whole.bytes) for name, own in most]
             shown += [''] * (3 - len(shown))
             text.row(row.corpus, row.work, '%.1f' % (whole.instructions / whole.bytes), *shown)

@@ -1,4 +1,4 @@
-"""The pictures, from bench/RESULTS.md."""
+"""The pictures, from bench/results.tsv."""
 import os
 import sys
 

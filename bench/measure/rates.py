@@ -2,12 +2,11 @@
 libraries and programs."""
 import collections
 import os
-import re
 import shutil
 import sys
 import tempfile
 
-from measure import build, sources, times
+from measure import build, sources, text, times
 
 # more bytes than the files of the core library have: all of them
 ALL = 100_000_000
@@ -56,13 +55,13 @@ def one_round(driver, cpu, rows, names, path):
 
 def least(driver, cpu, rounds, rows):
     """The rate of each work and each program, the fastest first. They take turns."""
-    text = build.output([driver, 'text', sources.CORPUS, str(ALL)]).encode()
+    whole = build.output([driver, 'text', sources.CORPUS, str(ALL)]).encode()
     names = programs(rows)
     with tempfile.NamedTemporaryFile() as file:
-        file.write(text)
+        file.write(whole)
         file.flush()
         each = [one_round(driver, cpu, rows, names, file.name) for _ in range(rounds)]
-    found = {name: Rate(len(text), min(one[name] for one in each)) for name in each[0]}
+    found = {name: Rate(len(whole), min(one[name] for one in each)) for name in each[0]}
     return sorted(found.items(), key=lambda pair: pair[1].seconds)
 
 
@@ -73,15 +72,11 @@ def print_table(driver, cpu, rounds, rows):
     found = least(driver, cpu, rounds, rows)
     note = "On the core library's %d bytes, by processor time, the least of %d rounds in which all "
     note += 'take turns, each in a process of its own.'
-    print('\n## Rates\n\n' + note % (found[0][1].bytes, rounds))
-    print('\n| Work | MB a second | ms | What it does |\n|---|---|---|---|')
+    text.begin('Rates', ('work', 'MB a second', 'ms', 'what it does'), note % (found[0][1].bytes, rounds))
     for name, (size, seconds) in found:
-        cells = ('%.0f' % (size / seconds / 1e6), '%.1f' % (1000 * seconds), WORKS[name])
-        print('| %s |' % ' | '.join((name,) + cells), flush=True)
+        text.row(name, '%.0f' % (size / seconds / 1e6), '%.1f' % (1000 * seconds), WORKS[name])
 
 
-def read(text):
-    """The megabytes a second of each row, of the results' text; none where it has no such table."""
-    part = re.search(r'\n## Rates\n(.*?)(\n## |\Z)', text, re.S)
-    lines = re.findall(r'^\| ([^|]+) \| (\d+) \| ([\d.]+) \|', part[1], re.M) if part else []
-    return {name: int(rate) for name, rate, _ in lines}
+def read(rows):
+    """The megabytes a second of each row, of the rows of the results."""
+    return {name: int(rate) for name, rate, *_ in rows}

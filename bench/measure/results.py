@@ -1,24 +1,22 @@
-"""Reads bench/RESULTS.md."""
+"""Reads bench/results.tsv."""
 import os
-import re
 import sys
 
 from measure import build
 
-PATH = os.path.join(build.BENCH, 'RESULTS.md')
+PATH = os.path.join(build.BENCH, 'results.tsv')
 
 
-def text():
+def rows(table):
+    """The cells of each row of a table, after its name."""
     if not os.path.exists(PATH):
-        sys.exit('bench/run: no bench/RESULTS.md')
+        sys.exit('bench/run: no bench/results.tsv')
     with open(PATH) as file:
-        return file.read()
+        each = [line.rstrip('\n').split('\t') for line in file if not line.startswith('# ')]
+    return [cells for name, *cells in each if name == table]
 
 
 def read():
     """The instructions a byte of each corpus and work, from the greatest size on."""
-    part = re.search(r'\n## Instructions\n(.*?)(\n## |\Z)', text(), re.S)[1]
-    found = {}
-    for corpus, work, rest in re.findall(r'^\| `(.+)` \| ([^|]+) \| (.*) \|$', part, re.M):
-        found[corpus, work] = [float(word) for word in rest.split(' | ')[2:-1]]
-    return found
+    return {(corpus, work): [float(cell) for cell in cells[2:-1]]
+            for corpus, work, *cells in rows('Instructions')}

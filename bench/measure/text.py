@@ -1,13 +1,17 @@
-"""Prints tables."""
+"""Prints tables of data: each line a row, its cells parted by tabs, the table's name first."""
+
+# the table that is being printed
+table = None
 
 
 def begin(title, columns, note=None):
-    print('\n## %s\n' % title)
+    """Begins a table with a line of comment that names its columns, after one that says what they are."""
+    global table
+    table = title
     if note:
-        print(note + '\n')
-    print('| %s |' % ' | '.join(columns))
-    print('|%s' % ('---|' * len(columns)), flush=True)
+        print('# ' + note)
+    print('# ' + '\t'.join((title, *columns)), flush=True)
 
 
-def row(corpus, work, *cells):
-    print('| %s |' % ' | '.join(('`%s`' % corpus, work) + cells), flush=True)
+def row(*cells):
+    print('\t'.join((table, *cells)), flush=True)
