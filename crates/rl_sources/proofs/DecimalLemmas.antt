@@ -1,11 +1,11 @@
 -- Numbers in base ten, put digit by digit from the last on.
-use Rattle.rl_tokens.proofs.Common.{Bool, IsUtf8, List, [], ap, append-nil, append_assoc, arith, drop, false, if◌then◌else◌, length, nat_tests, refl, subst, suc, sym, take, take_all, true, zero, ℕ, ◌%◌, ◌++◌, ◌+◌, ◌-◌, ◌/◌, ◌<◌, ◌==◌, ◌^◌, ◌∙◌, ◌∷◌, ◌≡◌, ◌≤◌}
+use Rattle.rl_text.proofs.Common.{Bool, IsUtf8, List, [], ap, append-nil, append_assoc, arith, drop, false, if◌then◌else◌, length, nat_tests, refl, subst, suc, sym, take, take_all, true, zero, ℕ, ◌%◌, ◌++◌, ◌+◌, ◌-◌, ◌/◌, ◌<◌, ◌==◌, ◌^◌, ◌∙◌, ◌∷◌, ◌≡◌, ◌≤◌}
 use Rattle.std.proofs.Common.{length-drop}
 use Rattle.std.specs.Fmt.{digits_onto, digit_glyph, digits, decimal}
 use Rattle.std.proofs.Math.Nat.{pow-suc}
 use Rattle.std.proofs.lemmas.List.{drop_all}
 use Rattle.std.proofs.lemmas.Str.{IsUtf8-from_ascii}
-use Rattle.rl_tokens.specs.declared.lines.LineColumn.{LineColumn}
+use Rattle.rl_lexer.specs.declared.lines.LineColumn.{LineColumn}
 use Rattle.rl_sources.specs.declared.place.Place.{Place}
 use Rattle.rl_sources.specs.declared.place.Place.TheVariants.{Bytes, Line}
 use Rattle.rl_sources.specs.Places.{place_text}

@@ -1,10 +1,10 @@
 //! Places of a source, as they are printed.
 
 ghost use Rattle.std.specs.Prelude.{◌≡◌, ◌+◌, ◌*◌, ◌≤◌, ◌∷◌, ◌++◌, [], drop, length, Some};
-ghost use Rattle.rl_tokens.specs.Texts.{code};
+ghost use Rattle.rl_text.specs.Texts.{code};
 ghost use Rattle.std.specs.Str.{chars, IsCharBoundary};
-ghost use Rattle.rl_tokens.specs.Cursors.{IsCursorState};
-ghost use Rattle.rl_tokens.specs.Lines.{BeginsAt};
+ghost use Rattle.rl_lexer.specs.Cursors.{IsCursorState};
+ghost use Rattle.rl_lexer.specs.Lines.{BeginsAt};
 ghost use Rattle.rl_sources.specs.Places.{place_text, IsPlaceIn};
 
 use crate::decimal::{DIGITS, put, put_decimal};

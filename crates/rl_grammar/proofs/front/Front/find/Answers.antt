@@ -1,6 +1,6 @@
-use Rattle.rl_grammar.proofs.Names.{subst, ◌∷◌, SpannedText}
+use Rattle.rl_reading.proofs.Names.{subst, ◌∷◌, SpannedText}
 use Rattle.rl_tokens.specs.Puncts.{Mark}
-use Rattle.rl_grammar.specs.Founds.{IsFound}
+use Rattle.rl_reading.specs.Founds.{IsFound}
 use Rattle.rl_grammar.proofs.front.Front.find.Goals as goal
 
 pub returns-in-Literal-clause-found : goal.returns-in-Literal-clause-found

@@ -1,0 +1,5 @@
+use Rattle.rl_reading.proofs.Names.{rules}
+use Rattle.rl_reading.proofs.contents.is_plain.Goals as goal
+
+pub returns-in-Float : goal.returns-in-Float
+returns-in-Float c = search rules steps 300000
