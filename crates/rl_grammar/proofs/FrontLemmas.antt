@@ -1,5 +1,6 @@
 -- At most one literal begins the trees.
-use Rattle.rl_reading.proofs.Names.{◌≡◌, ◌≢◌, ℕ, ◌<◌, Bool, false, List, [], ◌∷◌, length, refl, sym, ap, ap₂, ◌∙◌, subst, arith, ◌↔◌, IsTrue, Kind, BoolKind, SpannedText, Truth, ReadsAs, HasNoReading, Reads, truth_text}
+use Rattle.rl_text.proofs.Common.{◌≡◌, ◌≢◌, ℕ, ◌<◌, Bool, false, List, [], ◌∷◌, length, refl, sym, ap, ap₂, ◌∙◌, subst, arith, IsTrue}
+use Rattle.rl_reading.proofs.Names.{◌↔◌, Kind, BoolKind, SpannedText, Truth, ReadsAs, HasNoReading, Reads, truth_text}
 use Rattle.std.specs.Prelude.{Option, Some, None, IfSome, IfNone}
 use Rattle.std.specs.Option.{is_some}
 use Rattle.std.specs.Str.{chars}

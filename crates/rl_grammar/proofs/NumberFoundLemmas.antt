@@ -1,5 +1,6 @@
 -- The digits of a number that was found.
-use Rattle.rl_reading.proofs.Names.{◌≡◌, ◌≢◌, ℕ, inl, inr, true, List, ◌++◌, refl, sym, ap, subst, ◌∙◌, append_cancel_right, chars-append, IsUtf8, decimal, Kind, Byte, Char, Int, Float, BoolKind, FloatReads, float_digits, sign_text, HasSuffix}
+use Rattle.rl_text.proofs.Common.{◌≡◌, ◌≢◌, ℕ, inl, inr, true, List, ◌++◌, refl, sym, ap, subst, ◌∙◌, append_cancel_right, chars-append, IsUtf8}
+use Rattle.rl_reading.proofs.Names.{decimal, Kind, Byte, Char, Int, Float, BoolKind, FloatReads, float_digits, sign_text, HasSuffix}
 use Rattle.std.specs.Str.{chars}
 use Rattle.rl_reading.specs.declared.found.Found.{Found}
 use Rattle.rl_reading.specs.Founds.{IsFound, IsFoundFloat, IsFoundNumber, StandsIn, body_in, suffix_in}

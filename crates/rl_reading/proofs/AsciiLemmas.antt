@@ -1,5 +1,6 @@
 -- Where no character of ASCII stands at the front.
-use Rattle.rl_reading.proofs.Names.{◌≡◌, ℕ, ◌≤◌, ◌<◌, false, ltb, eqb, List, [], ◌∷◌, None, refl, arith, ltb-false, le-ltb, nat_tests, is_ascii_digit, digit_value, Kind, Str, ByteStr, first_passes, NoSign}
+use Rattle.rl_text.proofs.Common.{◌≡◌, ℕ, ◌≤◌, ◌<◌, false, ltb, eqb, List, [], ◌∷◌, None, refl, arith, ltb-false, nat_tests, is_ascii_digit, digit_value}
+use Rattle.rl_reading.proofs.Names.{le-ltb, Kind, Str, ByteStr, first_passes, NoSign}
 use Rattle.std.specs.Char.{is_ascii}
 use Rattle.rl_text.proofs.LowBytes.{not_equal}
 use Rattle.rl_reading.specs.Mirrors.NumberAt.{after_minus, radix_at, sign_at}

@@ -1,5 +1,6 @@
 -- A character of ASCII that stands for itself between single quotes.
-use Rattle.rl_reading.proofs.Names.{◌≡◌, ◌<◌, ◌≤◌, ℕ, suc, zero, false, not, eqb, List, [], ◌∷◌, length, drop, get_or, refl, sym, ap, subst, ◌∙◌, arith, inl, inr, eqb-true, cases_Bool, IsUtf8-drop, IsCharBoundary, IsAscii, IsUtf8, Char, Plain}
+use Rattle.rl_text.proofs.Common.{◌≡◌, ◌<◌, ◌≤◌, ℕ, suc, zero, false, not, eqb, List, [], ◌∷◌, length, drop, get_or, refl, sym, ap, subst, ◌∙◌, arith, inl, inr, eqb-true, cases_Bool, IsUtf8-drop, IsCharBoundary, IsAscii, IsUtf8}
+use Rattle.rl_reading.proofs.Names.{Char, Plain}
 use Rattle.std.proofs.lemmas.Str.{IsCharBoundary-after_ascii, chars-IsAscii}
 use Rattle.std.specs.Str.{chars}
 use Rattle.rl_text.proofs.ScanLemmas.{ascii_first}

@@ -1,5 +1,6 @@
 -- What the body of a string stands for.
-use Rattle.rl_reading.proofs.Names.{◌≡◌, ◌⊎◌, inl, inr, ℕ, Bool, true, false, List, refl, sym, ap, subst, ◌∙◌, both_ways, IsUtf8, Kind, Str, ByteStr, CStr, Characters, Bytes, ReadsQuoted, HasContents, quoted_contents}
+use Rattle.rl_text.proofs.Common.{◌≡◌, ◌⊎◌, inl, inr, ℕ, Bool, true, false, List, refl, sym, ap, subst, ◌∙◌, both_ways, IsUtf8}
+use Rattle.rl_reading.proofs.Names.{Kind, Str, ByteStr, CStr, Characters, Bytes, ReadsQuoted, HasContents, quoted_contents}
 use Rattle.std.specs.Prelude.{Result, Ok, Err, IfOk}
 use Rattle.std.specs.Str.{chars}
 use Rattle.rl_reading.specs.Bodies.{HasBody, StandsFor}

@@ -1,5 +1,6 @@
 -- Where the contents of a string are its body, byte for byte, and where they are shorter.
-use Rattle.rl_reading.proofs.Names.{◌≡◌, ℕ, ◌<◌, ◌≤◌, ◌⊎◌, inl, inr, Bool, true, false, not, ltb, ◌==◌, drop, List, [], ◌∷◌, ◌++◌, length, refl, sym, ap, subst, ◌∙◌, arith, encode_utf8_all, AllByRecursion, list_all, IsUtf8, append_cancel_left, append_cancel_right, and_from, and_parts, both_ways, or_right, encodes-append, encodes-chars, length-encode, Kind, Str, ByteStr, CStr, first_passes, Contents, Characters, Bytes, ReadsQuoted, quoted_contents, QuotedUnit, Letter, Plain, CrLf, Named, Hex, Unicode, Continuation, LowerN, LowerR, LowerT, Backslash, Apostrophe, Quote, Zero, letter_value, unit_text, unit_value, hex_value, unicode_value, holds_characters, content_of, allows_code, is_string, is_plain, IsUnit, opener, raw_opener, texts, values}
+use Rattle.rl_text.proofs.Common.{◌≡◌, ℕ, ◌<◌, ◌≤◌, ◌⊎◌, inl, inr, Bool, true, false, not, ltb, ◌==◌, drop, List, [], ◌∷◌, ◌++◌, length, refl, sym, ap, subst, ◌∙◌, arith, encode_utf8_all, AllByRecursion, list_all, IsUtf8, append_cancel_right, and_from, and_parts, both_ways, or_right, encodes-append, encodes-chars, length-encode}
+use Rattle.rl_reading.proofs.Names.{append_cancel_left, Kind, Str, ByteStr, CStr, first_passes, Contents, Characters, Bytes, ReadsQuoted, quoted_contents, QuotedUnit, Letter, Plain, CrLf, Named, Hex, Unicode, Continuation, LowerN, LowerR, LowerT, Backslash, Apostrophe, Quote, Zero, letter_value, unit_text, unit_value, hex_value, unicode_value, holds_characters, content_of, allows_code, is_string, is_plain, IsUnit, opener, raw_opener, texts, values}
 use Rattle.std.proofs.Common.{length-append}
 use Rattle.std.specs.Str.{chars}
 use Rattle.std.proofs.lemmas.Str.{length-le-encodes, len_utf8_bounds}

@@ -1,5 +1,6 @@
 -- Runs of ASCII at the front of a text, which byte strings hold.
-use Rattle.rl_reading.proofs.Names.{◌≡◌, ◌+◌, ◌<◌, ◌≤◌, ◌⊎◌, inl, inr, ℕ, suc, ◌&&◌, Bool, true, false, cond, eqb, List, [], ◌∷◌, ◌++◌, length, nat_lt, refl, sym, ap, ◌∙◌, arith, and_parts, ltb-true, ne_eqb, nat_tests, encodes-chars, list_all, prefix_len, IsUtf8, Kind, Str, ByteStr, CStr, Marks, is_plain, is_string, is_ascii_other, is_other}
+use Rattle.rl_text.proofs.Common.{◌≡◌, ◌+◌, ◌<◌, ◌≤◌, ◌⊎◌, inl, inr, ℕ, suc, ◌&&◌, Bool, true, false, cond, eqb, List, [], ◌∷◌, ◌++◌, length, nat_lt, refl, sym, ap, ◌∙◌, arith, and_parts, ltb-true, ne_eqb, nat_tests, encodes-chars, list_all, prefix_len, IsUtf8}
+use Rattle.rl_reading.proofs.Names.{Kind, Str, ByteStr, CStr, Marks, is_plain, is_string, is_ascii_other, is_other}
 use Rattle.std.specs.Char.{is_ascii}
 use Rattle.std.specs.Str.{chars, encode_utf8_all}
 use Rattle.rl_text.proofs.LowBytes.{cases128, encode_is_high, low_front}

@@ -1,6 +1,7 @@
 -- The digits of `\u{..}`, one at a time: what is read of them.
-use Rattle.rl_reading.proofs.Names.{◌≡◌, ℕ, ◌+◌, ◌*◌, ◌≤◌, ◌<◌, ◌&&◌, Bool, true, false, cond, eqb, ltb, List, [], ◌∷◌, Option, Some, None, refl, sym, ap, subst, inl, inr, arith, option_and_then, digit_value, scalar, both_ways, cases_Bool, eq-eqb, eqb-true, lt-ltb, ltb-true, ltb-false, ne_eqb, Kind, allows_code, has_unicode, is_hex_digit}
-use Rattle.rl_reading.specs.Mirrors.UnitAt.{brace_at, closed_at, code_digits_at, digit_at, first_code_digits_at, number_if, unicode_at}
+use Rattle.rl_text.proofs.Common.{◌≡◌, ℕ, ◌+◌, ◌*◌, ◌≤◌, ◌<◌, ◌&&◌, Bool, true, false, cond, eqb, ltb, List, [], ◌∷◌, Option, Some, None, refl, sym, ap, subst, inl, inr, arith, option_and_then, digit_value, scalar, both_ways, cases_Bool, eq-eqb, eqb-true, lt-ltb, ltb-true, ltb-false, ne_eqb}
+use Rattle.rl_reading.proofs.Names.{Kind, allows_code, has_unicode, is_hex_digit}
+use Rattle.rl_reading.specs.Mirrors.UnitAt.{◌>>=◌, brace_at, closed_at, code_digits_at, digit_at, first_code_digits_at, number_if, unicode_at}
 
 -- ---- what is read
 

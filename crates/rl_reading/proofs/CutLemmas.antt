@@ -1,5 +1,6 @@
 -- From what std says of bytes to characters.
-use Rattle.rl_reading.proofs.Names.{◌≡◌, ◌≢◌, ℕ, ◌+◌, ◌<◌, ◌≤◌, ◌&&◌, Bool, true, false, not, eqb, List, [], ◌∷◌, ◌++◌, length, take, drop, Option, Some, None, refl, sym, ap, subst, ◌∙◌, arith, ◌==◌, encode_utf8_all, MatchBool, list_all, IsUtf8, IsCharBoundary, and_from, and_right, both_ways, eq-eqb, eqb-true, not_from_false, list_all-append, encodes-chars, encodes-append, chars-append, chars-nil, IsUtf8-take, IsUtf8-drop, IsTail}
+use Rattle.rl_text.proofs.Common.{◌≡◌, ◌≢◌, ℕ, ◌+◌, ◌<◌, ◌≤◌, ◌&&◌, Bool, true, false, not, eqb, List, [], ◌∷◌, ◌++◌, length, take, drop, Option, Some, None, refl, sym, ap, subst, ◌∙◌, arith, ◌==◌, encode_utf8_all, list_all, IsUtf8, IsCharBoundary, and_from, both_ways, eq-eqb, eqb-true, not_from_false, list_all-append, encodes-chars, encodes-append, chars-append, chars-nil, IsUtf8-take, IsUtf8-drop}
+use Rattle.rl_reading.proofs.Names.{MatchBool, and_right, IsTail}
 use Rattle.std.proofs.Common.{take-append-drop, length-drop}
 use Rattle.std.specs.Prelude.{IfSome, IfNone, MatchOption}
 use Rattle.std.specs.Str.{chars, NoCharPasses, NonePass}

@@ -1,5 +1,6 @@
 -- The digits of numbers.
-use Rattle.rl_reading.proofs.Names.{◌≡◌, ℕ, suc, zero, ◌<◌, ◌≤◌, ◌^◌, List, [], ◌∷◌, ◌++◌, sym, ap, ◌∙◌, arith, encodes-append, decimal, IsAscii, encode_utf8_all, Sign, NoSign, Minus, sign_text, IntReads, limit, float_digits, FloatReads, Contents, Digits}
+use Rattle.rl_text.proofs.Common.{◌≡◌, ℕ, suc, zero, ◌<◌, ◌≤◌, ◌^◌, List, [], ◌∷◌, ◌++◌, sym, ap, ◌∙◌, arith, encodes-append, IsAscii, encode_utf8_all}
+use Rattle.rl_reading.proofs.Names.{decimal, Sign, NoSign, Minus, sign_text, IntReads, limit, float_digits, FloatReads, Contents, Digits}
 use Rattle.std.proofs.lemmas.Str.{chars-IsAscii}
 use Rattle.std.proofs.lemmas.List.{map-append}
 use Rattle.std.proofs.lemmas.List.Elements.{filter-append}

@@ -1,5 +1,6 @@
 -- Rows of digits and underscores.
-use Rattle.rl_reading.proofs.Names.{◌≡◌, ◌≢◌, ℕ, suc, ◌+◌, ◌*◌, ◌^◌, ◌<◌, ◌≤◌, Bool, true, false, not, ◌||◌, ◌==◌, cond, List, [], ◌∷◌, Option, Some, None, length, refl, sym, ap, ◌∙◌, arith, ◌⊎◌, inl, inr, nat_lt, eqb-true, nat_tests, pow-suc, digit_value, list_any, place_value, without_underscores, limit, after_run, is_row_part}
+use Rattle.rl_text.proofs.Common.{◌≡◌, ◌≢◌, ℕ, suc, ◌+◌, ◌*◌, ◌^◌, ◌<◌, ◌≤◌, Bool, true, false, not, ◌||◌, ◌==◌, cond, List, [], ◌∷◌, Option, Some, None, length, refl, sym, ap, ◌∙◌, arith, ◌⊎◌, inl, inr, nat_lt, eqb-true, nat_tests, digit_value, list_any}
+use Rattle.rl_reading.proofs.Names.{pow-suc, place_value, without_underscores, limit, after_run, is_row_part}
 use Rattle.std.proofs.Math.Nat.{mul-le-mul_left}
 use native.Mathlib.Numerals.{unary_clauses}
 use Rattle.rl_reading.specs.Mirrors.NumberAt.{run, has_value, capped, append_digit, row_from, digit_row_at, has_digit_at, magnitude_at, after_digits}

@@ -1,5 +1,6 @@
 -- A float is what `float_at` reads.
-use Rattle.rl_reading.proofs.Names.{◌≡◌, ℕ, Bool, true, false, not, ◌&&◌, ◌||◌, ◌==◌, cond, List, [], ◌∷◌, ◌++◌, Some, None, refl, sym, ap, subst, ◌∙◌, arith, append_assoc, and_parts, and_from, both_ways, eqb-true, false_from_ne_true, not-true, nat_tests, is_ascii_digit, list_all, list_any, is_xid_continue, first_passes, is_underscore, xid_ok, is_row_part, sign_text, is_exponent_letter, Fraction, NoFraction, Dot, fraction_text, IsFraction, FloatReads, after_run}
+use Rattle.rl_text.proofs.Common.{◌≡◌, ℕ, Bool, true, false, not, ◌&&◌, ◌||◌, ◌==◌, cond, List, [], ◌∷◌, ◌++◌, Some, None, refl, sym, ap, subst, ◌∙◌, arith, append_assoc, and_parts, and_from, both_ways, eqb-true, not-true, nat_tests, is_ascii_digit, list_all, list_any, is_xid_continue}
+use Rattle.rl_reading.proofs.Names.{false_from_ne_true, first_passes, is_underscore, xid_ok, is_row_part, sign_text, is_exponent_letter, Fraction, NoFraction, Dot, fraction_text, IsFraction, FloatReads, after_run}
 use Rattle.rl_forms.specs.Numbers.{Exponent, NoExponent, Power, exponent_text, IsExponent, is_power_sign, BeginsExponent}
 use Rattle.rl_text.proofs.Basics.{any_same, continue_not, digit_is_ten, word_continues, word_without}
 use Rattle.rl_forms.proofs.StrictNumbers.{letter_no_part, suffix_no_part}

@@ -1,5 +1,6 @@
 -- Which form and kind a text's front tells, and the one reading of a quoted literal.
-use Rattle.rl_reading.proofs.Names.{◌≡◌, ◌≢◌, ℕ, true, false, eqb, List, [], ◌∷◌, ◌++◌, length, Some, None, refl, sym, ap, subst, ◌∙◌, inl, inr, append_assoc, append-nil, list_all, both_ways, cases_Bool, eqb-true, append_cancel_left, append_cancel_right, Kind, Str, ByteStr, CStr, Byte, Char, Int, Float, BoolKind, Cooked, Single, is_string, is_single, is_plain, opener, raw_opener, texts, unit_text, Contents, ReadsQuoted, quoted_contents}
+use Rattle.rl_text.proofs.Common.{◌≡◌, ◌≢◌, ℕ, true, false, eqb, List, [], ◌∷◌, ◌++◌, length, Some, None, refl, sym, ap, subst, ◌∙◌, inl, inr, append_assoc, append-nil, list_all, both_ways, cases_Bool, eqb-true, append_cancel_right}
+use Rattle.rl_reading.proofs.Names.{append_cancel_left, Kind, Str, ByteStr, CStr, Byte, Char, Int, Float, BoolKind, Cooked, Single, is_string, is_single, is_plain, opener, raw_opener, texts, unit_text, Contents, ReadsQuoted, quoted_contents}
 use Rattle.rl_reading.specs.declared.quoted_forms.QuotedForm.{QuotedForm}
 use Rattle.rl_reading.specs.declared.quoted_forms.QuotedForm.TheVariants.{Cooked as CookedForm, Raw as RawForm, Single as SingleForm}
 use Rattle.rl_reading.specs.Mirrors.UnitAt.{found, unit_at}

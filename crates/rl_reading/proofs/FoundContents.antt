@@ -1,5 +1,6 @@
 -- What a text that reads as a kind is found to be, and what it stands for.
-use Rattle.rl_reading.proofs.Names.{◌≡◌, ℕ, ◌⊎◌, inl, inr, List, true, refl, sym, ap, subst, ◌∙◌, Kind, Str, ByteStr, CStr, Int, Float, is_string, is_single, Contents, HasContents, HasNoReading, ReadsAs}
+use Rattle.rl_text.proofs.Common.{◌≡◌, ℕ, ◌⊎◌, inl, inr, List, true, refl, sym, ap, subst, ◌∙◌}
+use Rattle.rl_reading.proofs.Names.{Kind, Str, ByteStr, CStr, Int, Float, is_string, is_single, Contents, HasContents, HasNoReading, ReadsAs}
 use Rattle.std.proofs.lemmas.Bool.{or_left}
 use Rattle.std.specs.Str.{chars}
 use Rattle.rl_forms.proofs.OneReading.{one_reading}

@@ -1,5 +1,6 @@
 -- What reading a text finds, from its parts.
-use Rattle.rl_reading.proofs.Names.{◌≡◌, ℕ, ◌⊎◌, inl, inr, Bool, true, false, List, [], ◌++◌, length, take, drop, refl, sym, ap, ap₂, subst, ◌∙◌, arith, rules, drop-append_seam, both_ways, append_cancel_right, IsCharBoundary-start, IsUtf8-drop, chars-append, chars-nil, IsUtf8, IsCharBoundary, Kind, Str, ByteStr, CStr, Byte, Char, Int, Float, BoolKind, IsTail, FloatReads, float_digits, is_string, is_single, Digits, Truth, HasNoInteger, HasSuffix, ReadsAs, ReadsQuoted, quoted_contents, truth_text}
+use Rattle.rl_text.proofs.Common.{◌≡◌, ℕ, ◌⊎◌, inl, inr, Bool, true, false, List, [], ◌++◌, length, take, drop, refl, sym, ap, ap₂, subst, ◌∙◌, arith, rules, both_ways, append_cancel_right, IsCharBoundary-start, IsUtf8-drop, chars-append, chars-nil, IsUtf8, IsCharBoundary}
+use Rattle.rl_reading.proofs.Names.{drop-append_seam, Kind, Str, ByteStr, CStr, Byte, Char, Int, Float, BoolKind, IsTail, FloatReads, float_digits, is_string, is_single, Digits, Truth, HasNoInteger, HasSuffix, ReadsAs, ReadsQuoted, quoted_contents, truth_text}
 use Rattle.std.proofs.Common.{◌-◌}
 use Rattle.std.proofs.Math.Seq.{take-append_seam}
 use Rattle.std.proofs.lemmas.Str.{IsCharBoundary-at_seam, IsCharBoundary-end, IsUtf8-between}

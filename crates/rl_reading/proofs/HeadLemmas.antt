@@ -1,5 +1,6 @@
 -- What a number begins with.
-use Rattle.rl_reading.proofs.Names.{◌≡◌, ℕ, Bool, true, false, not, ◌&&◌, ◌||◌, ◌==◌, cond, List, [], ◌∷◌, Option, Some, None, refl, sym, ap, ◌∙◌, and_parts, eqb-true, is_ascii_digit, Sign, first_passes}
+use Rattle.rl_text.proofs.Common.{◌≡◌, ℕ, Bool, true, false, not, ◌&&◌, ◌||◌, ◌==◌, cond, List, [], ◌∷◌, Option, Some, None, refl, sym, ap, ◌∙◌, and_parts, eqb-true, is_ascii_digit}
+use Rattle.rl_reading.proofs.Names.{Sign, first_passes}
 use Rattle.rl_reading.specs.Mirrors.NumberAt.{after_digits, after_fraction, after_exponent, after_minus, based_at, capped, capped_int, ended_at, float_at, float_tail_at, has_digit_at, int_at, is_suffix, IsHead, magnitude_at, may_begin_number, may_end, radix_at, radix_of, sign_at, with_sign}
 
 abbrev ten : List ℕ → ℕ × List ℕ

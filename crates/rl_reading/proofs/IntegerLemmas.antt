@@ -1,5 +1,6 @@
 -- An integer is what `int_at` reads.
-use Rattle.rl_reading.proofs.Names.{◌≡◌, ℕ, ◌<◌, ◌≤◌, ◌⊎◌, Bool, true, false, not, ◌&&◌, ◌||◌, ◌==◌, cond, List, [], ◌∷◌, ◌++◌, Option, Some, None, refl, sym, ap, subst, ◌∙◌, arith, inl, inr, and_parts, and_from, both_ways, eqb-true, false_from_ne_true, not-true, not_from_false, nat_tests, is_ascii_digit, list_all, list_any, IsTrue, first_passes, xid_ok, is_row_part, place_value, without_underscores, Base, Binary, Octal, Decimal, Hexadecimal, radix, prefix, Sign, NoSign, Minus, sign_text, IsAfterPrefix, IsSuffix, is_exponent_letter, IntReads, limit, decimal, Contents, Digits, HasNoInteger, IsPast, after_run}
+use Rattle.rl_text.proofs.Common.{◌≡◌, ℕ, ◌<◌, ◌≤◌, ◌⊎◌, Bool, true, false, not, ◌&&◌, ◌||◌, ◌==◌, cond, List, [], ◌∷◌, ◌++◌, Option, Some, None, refl, sym, ap, subst, ◌∙◌, arith, inl, inr, and_parts, and_from, both_ways, eqb-true, not-true, not_from_false, nat_tests, is_ascii_digit, list_all, list_any, IsTrue}
+use Rattle.rl_reading.proofs.Names.{false_from_ne_true, first_passes, xid_ok, is_row_part, place_value, without_underscores, Base, Binary, Octal, Decimal, Hexadecimal, radix, prefix, Sign, NoSign, Minus, sign_text, IsAfterPrefix, IsSuffix, is_exponent_letter, IntReads, limit, decimal, Contents, Digits, HasNoInteger, IsPast, after_run}
 use Rattle.rl_text.specs.Texts.{begins}
 use Rattle.rl_forms.specs.Numbers.{begins_base, IsExponentSuffix, AllowsSuffix}
 use Rattle.rl_forms.specs.Reading.{ReadsInt}

@@ -1,5 +1,6 @@
 -- A number that was found, after a minus.
-use Rattle.rl_reading.proofs.Names.{◌≡◌, ℕ, zero, suc, ◌+◌, ◌≤◌, ◌⊎◌, inl, inr, Bool, true, false, cond, ◌==◌, List, [], ◌∷◌, ◌++◌, length, take, drop, refl, sym, ap, subst, ◌∙◌, arith, append_cancel_right, IsUtf8-take, IsUtf8-drop, chars-append, IsUtf8, IsAscii, Int, Float, IsTail, NoSign, Minus, FloatReads, HasNoInteger, HasSuffix}
+use Rattle.rl_text.proofs.Common.{◌≡◌, ℕ, zero, suc, ◌+◌, ◌≤◌, ◌⊎◌, inl, inr, Bool, true, false, cond, ◌==◌, List, [], ◌∷◌, ◌++◌, length, take, drop, refl, sym, ap, subst, ◌∙◌, arith, append_cancel_right, IsUtf8-take, IsUtf8-drop, chars-append, IsUtf8, IsAscii}
+use Rattle.rl_reading.proofs.Names.{Int, Float, IsTail, NoSign, Minus, FloatReads, HasNoInteger, HasSuffix}
 use Rattle.std.proofs.Common.{length-take-le}
 use Rattle.std.proofs.lemmas.List.{take-append-drop}
 use Rattle.std.proofs.lemmas.Str.{IsUtf8-append, IsUtf8-from_ascii}

@@ -1,5 +1,6 @@
 -- The table of what a backslash and a character of ASCII stand for.
-use Rattle.rl_reading.proofs.Names.{◌≡◌, ◌∙◌, ◌||◌, ◌<◌, ℕ, true, cond, eqb, ltb, List, [], ◌∷◌, Option, Some, None, Kind, refl, sym, ap, subst, inl, inr, eqb-true, ltb-true, option_and_then}
+use Rattle.rl_text.proofs.Common.{◌≡◌, ◌∙◌, ◌||◌, ◌<◌, ℕ, true, cond, eqb, ltb, List, [], ◌∷◌, Option, Some, None, refl, sym, ap, subst, inl, inr, eqb-true, ltb-true, option_and_then}
+use Rattle.rl_reading.proofs.Names.{Kind}
 use Rattle.std.proofs.Math.ListN.{get_or}
 use Rattle.std.proofs.lemmas.Bool.{agree_below_at, or_cases}
 use Rattle.std.proofs.lemmas.Grind.{get_or_default_zero}

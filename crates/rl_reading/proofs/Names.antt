@@ -1,4 +1,4 @@
--- What most lemmas name of std and rl_tokens, in one place.
+-- What most lemmas on readers name of the definitions below, and of std what `Common` of `rl_text` does not, in one place.
 pub use Rattle.rl_text.specs.Classes.{after_run, is_hash}
 pub use Rattle.rl_lexer.specs.Mirrors.LexemeAt.{hashes as hash_count}
 pub use Rattle.rl_forms.specs.Numbers.{Base, Binary, Decimal, Dot, FloatReads, Fraction, Hexadecimal, IntReads, IsAfterPrefix, IsFraction, IsSuffix, Minus, NoFraction, NoSign, Octal, Sign, float_digits, fraction_text, is_exponent_letter, limit, prefix, radix, sign_text}
@@ -10,21 +10,12 @@ pub use Rattle.rl_forms.specs.Strict.{AsciiEscape, ByteEscape, IsStrictSuffix, I
 pub use Rattle.rl_forms.specs.declared.kind.Kind.{Kind}
 pub use Rattle.rl_forms.specs.declared.kind.Kind.TheVariants.{Bool as BoolKind, Byte, ByteStr, CStr, Char, Float, Int, Str}
 pub use Rattle.rl_text.specs.declared.scan.Marks.{Marks}
-pub use Rattle.std.proofs.Common.{◌&&◌, ◌*◌, ◌++◌, ◌+◌, ◌<◌, ◌==◌, ◌^◌, ◌||◌, ◌∙◌, ◌∷◌, ◌≡◌, ◌≢◌, ◌≤◌, ◌⊎◌, Bool, List, None, Option, Some, [], ap, append-nil, append_assoc, ap₂, arith, cond, drop, eqb, false, get_or, inl, inr, length, ltb, nat_lt, not, refl, replicate, rules, subst, suc, sym, take, true, zero, ℕ}
 pub use Rattle.std.proofs.Math.Nat.{pow-suc}
 pub use Rattle.std.proofs.Math.Seq.{drop-append_seam}
-pub use Rattle.std.proofs.Math.Utf8.{scalar}
-pub use Rattle.std.proofs.lemmas.Bool.{and_from, and_parts, and_right, both_ways, cases_Bool, cond_both, eq-eqb, eqb-true, false_from_ne_true, le-ltb, lt-ltb, ltb-false, ltb-true, ne_eqb, not-true, not_from_false, or_cases, or_from, or_parts, or_right}
-pub use Rattle.std.proofs.lemmas.Bool.Decides.{nat_tests}
-pub use Rattle.std.proofs.lemmas.Grind.{common_steps}
-pub use Rattle.std.proofs.lemmas.List.{append_cancel_left, append_cancel_right}
+pub use Rattle.std.proofs.lemmas.Bool.{and_right, cond_both, false_from_ne_true, le-ltb}
+pub use Rattle.std.proofs.lemmas.List.{append_cancel_left}
 pub use Rattle.std.proofs.lemmas.List.Concat.{flat_map-append}
-pub use Rattle.std.proofs.lemmas.List.Folds.{list_all-append}
 pub use Rattle.std.proofs.lemmas.Result.{IfOk-weaker}
-pub use Rattle.std.proofs.lemmas.Str.{IsCharBoundary-start, IsUtf8-drop, IsUtf8-take, chars-append, chars-nil, encodes-append, encodes-chars, length-encode}
-pub use Rattle.std.specs.Char.{IsScalar, digit_value, is_ascii_digit, is_ascii_hexdigit}
+pub use Rattle.std.specs.Char.{IsScalar}
 pub use Rattle.std.specs.Fmt.{decimal}
-pub use Rattle.std.specs.List.{AllByRecursion, flat_map, list_all, list_any, prefix_len}
-pub use Rattle.std.specs.Prelude.{◌↔◌, IsTrue, MatchBool, encode_utf8, encode_utf8_all, option_and_then}
-pub use Rattle.std.specs.Str.{IsAscii, IsCharBoundary, IsUtf8}
-pub use Rattle.unicode_ident.specs.Ident.{is_xid_continue, is_xid_start}
+pub use Rattle.std.specs.Prelude.{◌↔◌, MatchBool}

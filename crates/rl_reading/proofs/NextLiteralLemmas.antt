@@ -1,5 +1,5 @@
 -- No literal stands next in a list.
-use Rattle.rl_reading.proofs.Names.{◌≡◌, ◌≢◌, ◌⊎◌, inl, inr, [], Option, Some, None, refl, sym, subst}
+use Rattle.rl_text.proofs.Common.{◌≡◌, ◌≢◌, ◌⊎◌, inl, inr, [], Option, Some, None, refl, sym, subst}
 use Rattle.std.specs.Prelude.{IfNone}
 use Rattle.std.specs.Str.{chars}
 use Rattle.rl_lexer.specs.declared.cursor.Lexeme.{Lexeme}

@@ -1,5 +1,6 @@
 -- Numbers, an integer before a float.
-use Rattle.rl_reading.proofs.Names.{ℕ, List, arith, Int, Float, HasNoFloat, HasNoInteger, IsPast}
+use Rattle.rl_text.proofs.Common.{ℕ, List, arith}
+use Rattle.rl_reading.proofs.Names.{Int, Float, HasNoFloat, HasNoInteger, IsPast}
 use Rattle.rl_reading.specs.NumberShapes.{ReadsNoNumber}
 use Rattle.rl_forms.proofs.OneNumber.{int_once}
 

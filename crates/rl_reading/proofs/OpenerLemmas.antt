@@ -1,5 +1,6 @@
 -- A text that has an opener is a quoted literal or none.
-use Rattle.rl_reading.proofs.Names.{◌≡◌, ℕ, Bool, true, false, List, ◌++◌, None, refl, sym, ap, ◌∙◌, Kind, first_passes, HasNoReading, HasNoTruth, truth_text}
+use Rattle.rl_text.proofs.Common.{◌≡◌, ℕ, Bool, true, false, List, ◌++◌, None, refl, sym, ap, ◌∙◌}
+use Rattle.rl_reading.proofs.Names.{Kind, first_passes, HasNoReading, HasNoTruth, truth_text}
 use Rattle.rl_reading.specs.declared.quoted_forms.QuotedForm.{QuotedForm}
 use Rattle.rl_reading.specs.Forms.{HasNoParts, form_opener}
 use Rattle.rl_reading.specs.Mirrors.OpenerAt.{found_opener, opener_at}

@@ -1,5 +1,5 @@
 -- What follows from what a clause says of an `Option`.
-use Rattle.rl_reading.proofs.Names.{Option, Some, None}
+use Rattle.rl_text.proofs.Common.{Option, Some, None}
 use Rattle.std.specs.Option.{IfSome, IfNone}
 
 -- where nothing is given

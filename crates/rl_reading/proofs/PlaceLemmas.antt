@@ -1,5 +1,6 @@
 -- Where the parts of a quoted literal stand.
-use Rattle.rl_reading.proofs.Names.{◌≡◌, ℕ, Bool, List, ◌∷◌, ◌++◌, length, take, drop, sym, ap, ap₂, subst, ◌∙◌, arith, drop-append_seam, IsUtf8-take, IsUtf8, Kind, IsTail}
+use Rattle.rl_text.proofs.Common.{◌≡◌, ℕ, Bool, List, ◌∷◌, ◌++◌, length, take, drop, sym, ap, ap₂, subst, ◌∙◌, arith, IsUtf8-take, IsUtf8}
+use Rattle.rl_reading.proofs.Names.{drop-append_seam, Kind, IsTail}
 use Rattle.std.proofs.Common.{◌-◌}
 use Rattle.std.specs.Str.{chars}
 use Rattle.rl_text.proofs.TailLemmas.{tail_step, cut_boundary, cut_chars, cut_drop}

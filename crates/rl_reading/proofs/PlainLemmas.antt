@@ -1,5 +1,6 @@
 -- Runs of plain characters.
-use Rattle.rl_reading.proofs.Names.{◌≡◌, ℕ, ◌+◌, ◌&&◌, ◌||◌, ◌==◌, Bool, true, false, not, cond, List, [], ◌∷◌, ◌++◌, refl, sym, ap, ap₂, ◌∙◌, arith, append_assoc, append_cancel_right, list_all, prefix_len, Kind, Str, ByteStr, CStr, first_passes, is_string, is_plain, Marks, is_other}
+use Rattle.rl_text.proofs.Common.{◌≡◌, ℕ, ◌+◌, ◌&&◌, ◌||◌, ◌==◌, Bool, true, false, not, cond, List, [], ◌∷◌, ◌++◌, refl, sym, ap, ap₂, ◌∙◌, arith, append_assoc, append_cancel_right, list_all, prefix_len}
+use Rattle.rl_reading.proofs.Names.{Kind, Str, ByteStr, CStr, first_passes, is_string, is_plain, Marks, is_other}
 use Rattle.rl_text.specs.Scanning.{IsNextMark, is_one_of}
 use Rattle.rl_reading.specs.Mirrors.Classes.{is_in_run}
 use Rattle.rl_reading.specs.Mirrors.PlainAt.{is_kept, is_plain_float}

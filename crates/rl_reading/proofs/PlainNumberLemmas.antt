@@ -1,5 +1,6 @@
 -- Numbers whose body is their digits.
-use Rattle.rl_reading.proofs.Names.{◌≡◌, ℕ, suc, zero, ◌+◌, ◌*◌, ◌^◌, ◌<◌, ◌≤◌, Bool, true, false, not, ◌||◌, ◌==◌, cond, nat_lt, List, [], ◌∷◌, ◌++◌, length, append_assoc, refl, sym, ap, subst, ◌∙◌, arith, and_parts, and_from, not_from_false, not-true, or_parts, nat_tests, pow-suc, append_cancel_right, encodes-append, encodes-chars, digit_value, is_ascii_digit, decimal, list_all, list_any, IsUtf8, encode_utf8_all, IsTrue, Kind, Float, Int, Base, Binary, Octal, Decimal, Hexadecimal, radix, prefix, IsAfterPrefix, Sign, sign_text, IntReads, limit, FloatReads, float_digits, place_value, without_underscores, Digits, HasNoFloat, first_passes}
+use Rattle.rl_text.proofs.Common.{◌≡◌, ℕ, suc, zero, ◌+◌, ◌*◌, ◌^◌, ◌<◌, ◌≤◌, Bool, true, false, not, ◌||◌, ◌==◌, cond, nat_lt, List, [], ◌∷◌, ◌++◌, length, append_assoc, refl, sym, ap, subst, ◌∙◌, arith, and_parts, and_from, not_from_false, not-true, or_parts, nat_tests, append_cancel_right, encodes-append, encodes-chars, digit_value, is_ascii_digit, list_all, list_any, IsUtf8, encode_utf8_all, IsTrue}
+use Rattle.rl_reading.proofs.Names.{pow-suc, decimal, Kind, Float, Int, Base, Binary, Octal, Decimal, Hexadecimal, radix, prefix, IsAfterPrefix, Sign, sign_text, IntReads, limit, FloatReads, float_digits, place_value, without_underscores, Digits, HasNoFloat, first_passes}
 use Rattle.std.proofs.Common.{◌/◌, ◌%◌}
 use native.Mathlib.Numerals.{unary_clauses}
 use Rattle.std.proofs.lemmas.Str.{digit_value_digit}

@@ -1,5 +1,6 @@
 -- Raw strings: their hashes, their last quote, and their one reading.
-use Rattle.rl_reading.proofs.Names.{◌≡◌, ◌≢◌, ℕ, zero, suc, Bool, true, false, not, eqb, List, [], ◌∷◌, ◌++◌, length, replicate, refl, sym, ap, subst, ◌∙◌, list_all, both_ways, and_parts, append_cancel_left, append_cancel_right, list_all-append, Kind, ByteStr, CStr, content_of, is_string, is_raw, raw_opener, Raw, hash_count, after_run, is_hash}
+use Rattle.rl_text.proofs.Common.{◌≡◌, ◌≢◌, ℕ, zero, suc, Bool, true, false, not, eqb, List, [], ◌∷◌, ◌++◌, length, replicate, refl, sym, ap, subst, ◌∙◌, list_all, both_ways, and_parts, append_cancel_right, list_all-append}
+use Rattle.rl_reading.proofs.Names.{append_cancel_left, Kind, ByteStr, CStr, content_of, is_string, is_raw, raw_opener, Raw, hash_count, after_run, is_hash}
 use Rattle.std.proofs.lemmas.List.{length-replicate}
 use Rattle.rl_lexer.proofs.HashLemmas.{hashes_before, hashes_first, hashes_past}
 use Rattle.rl_reading.specs.declared.quoted_forms.QuotedForm.TheVariants.{Raw as RawForm}

@@ -1,5 +1,6 @@
 -- Truth values, and texts that are no literal.
-use Rattle.rl_reading.proofs.Names.{◌≡◌, ℕ, ◌<◌, ◌≤◌, ◌⊎◌, inl, inr, Bool, true, false, ◌||◌, ◌==◌, cond, List, [], ◌∷◌, ◌++◌, None, refl, sym, ap, ◌∙◌, arith, both_ways, or_parts, nat_tests, encodes-chars, encode_utf8_all, is_ascii_digit, IsUtf8, first_passes, Int, Float, BoolKind, truth_text, HasNoReading, HasNoTruth}
+use Rattle.rl_text.proofs.Common.{◌≡◌, ℕ, ◌<◌, ◌≤◌, ◌⊎◌, inl, inr, Bool, true, false, ◌||◌, ◌==◌, cond, List, [], ◌∷◌, ◌++◌, None, refl, sym, ap, ◌∙◌, arith, both_ways, or_parts, nat_tests, encodes-chars, encode_utf8_all, is_ascii_digit, IsUtf8}
+use Rattle.rl_reading.proofs.Names.{first_passes, Int, Float, BoolKind, truth_text, HasNoReading, HasNoTruth}
 use Rattle.std.specs.Str.{chars}
 use Rattle.rl_text.proofs.Basics.{apart}
 use Rattle.rl_text.proofs.LowBytes.{cases128, encode_is_high, low_front, not_equal}

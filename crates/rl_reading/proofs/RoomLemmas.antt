@@ -1,5 +1,6 @@
 -- What is decoded is never longer than what it was decoded from.
-use Rattle.rl_reading.proofs.Names.{◌≡◌, ℕ, Bool, true, false, not, cond, ◌||◌, ◌==◌, [], ◌∷◌, ◌+◌, ◌≤◌, List, ◌++◌, length, take, Some, refl, sym, ap, ◌∙◌, arith, encode_utf8_all, list_all, IsUtf8, encodes-append, encodes-chars, scalar, and_from, and_parts, float_digits, Kind, is_plain, texts, values}
+use Rattle.rl_text.proofs.Common.{◌≡◌, ℕ, Bool, true, false, not, cond, ◌||◌, ◌==◌, [], ◌∷◌, ◌+◌, ◌≤◌, List, ◌++◌, length, take, Some, refl, sym, ap, ◌∙◌, arith, encode_utf8_all, list_all, IsUtf8, encodes-append, encodes-chars, scalar, and_from, and_parts}
+use Rattle.rl_reading.proofs.Names.{float_digits, Kind, is_plain, texts, values}
 use Rattle.std.proofs.Common.{map, filter, length-append}
 use Rattle.std.specs.Str.{chars}
 use Rattle.std.proofs.lemmas.List.{length-take-le}

@@ -1,5 +1,5 @@
 -- Rows of digits, told by the bytes of a text.
-use Rattle.rl_reading.proofs.Names.{◌≡◌, ◌≢◌, ℕ, ◌<◌, ◌≤◌, ◌+◌, ◌⊎◌, inl, inr, Bool, true, false, ◌&&◌, ◌==◌, cond, List, [], ◌∷◌, ◌++◌, length, get_or, drop, Option, refl, sym, ap, ◌∙◌, arith, nat_lt, nat_tests, encodes-chars, digit_value, is_ascii_digit, IsUtf8, IsCharBoundary, list_all}
+use Rattle.rl_text.proofs.Common.{◌≡◌, ◌≢◌, ℕ, ◌<◌, ◌≤◌, ◌+◌, ◌⊎◌, inl, inr, Bool, true, false, ◌&&◌, ◌==◌, cond, List, [], ◌∷◌, ◌++◌, length, get_or, drop, Option, refl, sym, ap, ◌∙◌, arith, nat_lt, nat_tests, encodes-chars, digit_value, is_ascii_digit, IsUtf8, IsCharBoundary, list_all}
 use Rattle.std.proofs.lemmas.List.{drop_more}
 use Rattle.std.proofs.lemmas.Str.{chars_from_encodes, IsCharBoundary-after_ascii}
 use Rattle.std.proofs.Math.ListN.{drop_of_length-le}

@@ -1,5 +1,6 @@
 -- Runs of characters that pass a test, and the suffixes of numbers.
-use Rattle.rl_reading.proofs.Names.{◌≡◌, ℕ, Bool, true, false, not, ◌&&◌, ◌==◌, cond, List, [], ◌∷◌, ◌++◌, refl, ap, ◌∙◌, inl, inr, and_parts, and_from, not-true, not_from_false, list_all, first_passes, xid_ok, IsSuffix, is_blank, after_run}
+use Rattle.rl_text.proofs.Common.{◌≡◌, ℕ, Bool, true, false, not, ◌&&◌, ◌==◌, cond, List, [], ◌∷◌, ◌++◌, refl, ap, ◌∙◌, inl, inr, and_parts, and_from, not-true, not_from_false, list_all}
+use Rattle.rl_reading.proofs.Names.{first_passes, xid_ok, IsSuffix, is_blank, after_run}
 use Rattle.rl_reading.specs.Mirrors.NumberAt.{run, is_suffix}
 use Rattle.rl_reading.specs.Mirrors.UnitAt.{after_blanks}
 use Rattle.rl_reading.proofs.DigitRowLemmas.{run_yes, run_no}

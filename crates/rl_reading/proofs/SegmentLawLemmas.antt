@@ -1,5 +1,6 @@
 -- The segments of a literal together, and the order of places.
-use Rattle.rl_reading.proofs.Names.{◌≡◌, ◌⊎◌, inl, inr, ℕ, ◌+◌, ◌≤◌, ◌<◌, Bool, true, false, cond, ltb, List, [], ◌∷◌, ◌++◌, length, replicate, refl, sym, ap, subst, ◌∙◌, arith, append-nil, IsUtf8, encodes-chars, append_cancel_left, append_cancel_right, flat_map-append, Kind, byte_len, first_passes, QuotedUnit, Plain, CrLf, Named, Hex, Unicode, Continuation, Cooked, Raw, Single, IsUnit, is_plain, opener, raw_opener, texts, unit_text, unit_value, values, HasContents, ReadsQuoted, quoted_contents}
+use Rattle.rl_text.proofs.Common.{◌≡◌, ◌⊎◌, inl, inr, ℕ, ◌+◌, ◌≤◌, ◌<◌, Bool, true, false, cond, ltb, List, [], ◌∷◌, ◌++◌, length, replicate, refl, sym, ap, subst, ◌∙◌, arith, append-nil, IsUtf8, encodes-chars, append_cancel_right}
+use Rattle.rl_reading.proofs.Names.{append_cancel_left, flat_map-append, Kind, byte_len, first_passes, QuotedUnit, Plain, CrLf, Named, Hex, Unicode, Continuation, Cooked, Raw, Single, IsUnit, is_plain, opener, raw_opener, texts, unit_text, unit_value, values, HasContents, ReadsQuoted, quoted_contents}
 use Rattle.std.proofs.Common.{◌-◌, map}
 use Rattle.std.specs.Str.{chars}
 use Rattle.std.proofs.lemmas.Str.{length-le-encodes}

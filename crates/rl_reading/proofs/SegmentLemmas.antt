@@ -1,5 +1,6 @@
 -- The segments of a quoted literal, one after another.
-use Rattle.rl_reading.proofs.Names.{◌≡◌, ◌==◌, ℕ, ◌+◌, ◌<◌, ◌≤◌, Bool, true, false, cond, ltb, List, [], ◌∷◌, ◌++◌, length, get_or, Some, None, refl, sym, ap, subst, ◌∙◌, arith, append_assoc, append-nil, encode_utf8, encode_utf8_all, list_all, IsUtf8, and_parts, both_ways, eqb-true, lt-ltb, ltb-false, ltb-true, flat_map-append, encodes-append, encodes-chars, chars-nil, Kind, byte_len, first_passes, QuotedUnit, Plain, CrLf, Named, Hex, Unicode, Continuation, unit_text, unit_value, content_of, is_plain, is_string, IsUnit, EndsBefore, texts}
+use Rattle.rl_text.proofs.Common.{◌≡◌, ◌==◌, ℕ, ◌+◌, ◌<◌, ◌≤◌, Bool, true, false, cond, ltb, List, [], ◌∷◌, ◌++◌, length, get_or, Some, None, refl, sym, ap, subst, ◌∙◌, arith, append_assoc, append-nil, encode_utf8, encode_utf8_all, list_all, IsUtf8, and_parts, both_ways, eqb-true, lt-ltb, ltb-false, ltb-true, encodes-append, encodes-chars, chars-nil}
+use Rattle.rl_reading.proofs.Names.{flat_map-append, Kind, byte_len, first_passes, QuotedUnit, Plain, CrLf, Named, Hex, Unicode, Continuation, unit_text, unit_value, content_of, is_plain, is_string, IsUnit, EndsBefore, texts}
 use Rattle.std.proofs.Common.{◌-◌, map, length-append}
 use denote.Ref.{Bor}
 use Rattle.std.specs.Str.{chars}

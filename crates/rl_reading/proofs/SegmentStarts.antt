@@ -1,5 +1,6 @@
 -- The segments of a whole literal.
-use Rattle.rl_reading.proofs.Names.{◌≡◌, ◌⊎◌, inl, inr, ℕ, ◌+◌, ◌≤◌, Bool, true, false, List, [], ◌∷◌, ◌++◌, length, drop, refl, sym, ap, subst, ◌∙◌, arith, append-nil, both_ways, list_all, IsUtf8, Kind, Str, ByteStr, CStr, Byte, Char, QuotedUnit, Plain, CrLf, Named, Hex, Unicode, Continuation, is_plain, is_single, is_string, opener, texts, unit_text, unit_value, values, Reads, Contents, ReadsQuoted}
+use Rattle.rl_text.proofs.Common.{◌≡◌, ◌⊎◌, inl, inr, ℕ, ◌+◌, ◌≤◌, Bool, true, false, List, [], ◌∷◌, ◌++◌, length, drop, refl, sym, ap, subst, ◌∙◌, arith, append-nil, both_ways, list_all, IsUtf8}
+use Rattle.rl_reading.proofs.Names.{Kind, Str, ByteStr, CStr, Byte, Char, QuotedUnit, Plain, CrLf, Named, Hex, Unicode, Continuation, is_plain, is_single, is_string, opener, texts, unit_text, unit_value, values, Reads, Contents, ReadsQuoted}
 use Rattle.std.proofs.Common.{◌-◌, map, length-drop}
 use Rattle.std.proofs.lemmas.List.{length-take-le}
 use Rattle.std.specs.Str.{chars}

@@ -1,5 +1,6 @@
 -- The bytes of a quoted literal are cut as its characters are.
-use Rattle.rl_reading.proofs.Names.{◌≡◌, ℕ, zero, suc, List, [], ◌∷◌, ◌++◌, replicate, refl, sym, ap, ◌∙◌, inl, inr, arith, encode_utf8_all, IsAscii, IsUtf8, encodes-chars, encodes-append, Kind, Str, ByteStr, CStr, Byte, Char, Int, Float, BoolKind, opener, raw_opener}
+use Rattle.rl_text.proofs.Common.{◌≡◌, ℕ, zero, suc, List, [], ◌∷◌, ◌++◌, replicate, refl, sym, ap, ◌∙◌, inl, inr, arith, encode_utf8_all, IsAscii, IsUtf8, encodes-chars, encodes-append}
+use Rattle.rl_reading.proofs.Names.{Kind, Str, ByteStr, CStr, Byte, Char, Int, Float, BoolKind, opener, raw_opener}
 use Rattle.std.specs.Str.{chars}
 use Rattle.std.proofs.lemmas.Str.{IsUtf8-append, IsUtf8-from_ascii}
 use Rattle.rl_reading.specs.declared.quoted_forms.QuotedForm.{QuotedForm}

@@ -1,5 +1,6 @@
 -- What the body of a character or a byte stands for.
-use Rattle.rl_reading.proofs.Names.{◌≡◌, ◌<◌, ℕ, List, [], ◌∷◌, true, Some, None, refl, sym, ap, subst, ◌∙◌, arith, append-nil, nat_tests, encode_utf8_all, IsScalar, Kind, Byte, Char, is_single, is_string, unit_text, Bytes, Characters, ReadsQuoted}
+use Rattle.rl_text.proofs.Common.{◌≡◌, ◌<◌, ℕ, List, [], ◌∷◌, true, Some, None, refl, sym, ap, subst, ◌∙◌, arith, append-nil, nat_tests, encode_utf8_all}
+use Rattle.rl_reading.proofs.Names.{IsScalar, Kind, Byte, Char, is_single, is_string, unit_text, Bytes, Characters, ReadsQuoted}
 use Rattle.std.specs.Str.{chars}
 use Rattle.rl_reading.specs.declared.found.Body.{Body}
 use Rattle.rl_reading.specs.declared.units.Piece.TheVariants.{Character}

@@ -1,5 +1,5 @@
 -- Where a source ends.
-use Rattle.rl_reading.proofs.Names.{◌≡◌, ◌⊎◌, inl, inr, ℕ, List, []}
+use Rattle.rl_text.proofs.Common.{◌≡◌, ◌⊎◌, inl, inr, ℕ, List, []}
 use Rattle.std.specs.Str.{chars}
 use Rattle.rl_lexer.specs.Sources.{SourceKind, SourceBefore, BeginsNoSource}
 

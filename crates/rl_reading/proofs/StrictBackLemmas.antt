@@ -1,5 +1,6 @@
 -- The units of the lenient reading are strict, line breaks apart.
-use Rattle.rl_reading.proofs.Names.{◌≡◌, ℕ, zero, suc, ◌<◌, ◌≤◌, ◌==◌, ◌||◌, ◌&&◌, Bool, true, false, not, cond, eqb, List, [], ◌∷◌, ◌++◌, length, replicate, refl, sym, ap, subst, ◌∙◌, inl, inr, arith, and_from, and_parts, cases_Bool, eqb-true, lt-ltb, ltb-true, not_from_false, scalar, digit_value, is_ascii_hexdigit, IsScalar, list_all, flat_map, Kind, Str, ByteStr, CStr, Byte, Char, is_underscore, QuotedUnit, Letter, Named, Hex, Unicode, LowerN, LowerR, LowerT, Backslash, Zero, letter_text, letter_value, unit_text, unit_value, content_of, place_value, without_underscores, unicode_value, hex_value, is_hex_digit, is_plain, allows_code, IsUnit, StrictUnit, Itself, QuoteEscape, PlainEscape, AsciiEscape, ByteEscape, UnicodeEscape, LineBreak, strict_text, strict_contents, strict_content_of, is_strict_unit}
+use Rattle.rl_text.proofs.Common.{◌≡◌, ℕ, zero, suc, ◌<◌, ◌≤◌, ◌==◌, ◌||◌, ◌&&◌, Bool, true, false, not, cond, eqb, List, [], ◌∷◌, ◌++◌, length, replicate, refl, sym, ap, subst, ◌∙◌, inl, inr, arith, and_from, and_parts, cases_Bool, eqb-true, lt-ltb, ltb-true, not_from_false, scalar, digit_value, is_ascii_hexdigit, list_all, flat_map}
+use Rattle.rl_reading.proofs.Names.{IsScalar, Kind, Str, ByteStr, CStr, Byte, Char, is_underscore, QuotedUnit, Letter, Named, Hex, Unicode, LowerN, LowerR, LowerT, Backslash, Zero, letter_text, letter_value, unit_text, unit_value, content_of, place_value, without_underscores, unicode_value, hex_value, is_hex_digit, is_plain, allows_code, IsUnit, StrictUnit, Itself, QuoteEscape, PlainEscape, AsciiEscape, ByteEscape, UnicodeEscape, LineBreak, strict_text, strict_contents, strict_content_of, is_strict_unit}
 use Rattle.std.proofs.Common.{map}
 use Rattle.std.proofs.lemmas.Bool.{le-leb}
 use Rattle.std.specs.Prelude.{nat_lt, nat_le}

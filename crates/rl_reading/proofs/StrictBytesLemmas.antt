@@ -1,5 +1,6 @@
 -- Of texts without CR, literals of bytes that read with escapes and a strict suffix are the strict ones.
-use Rattle.rl_reading.proofs.Names.{◌≡◌, ℕ, ◌&&◌, Bool, true, false, not, ◌==◌, List, [], ◌∷◌, ◌++◌, nat_lt, refl, sym, ap, subst, ◌∙◌, inl, inr, append_assoc, append-nil, and_from, and_parts, both_ways, eqb-true, ltb-true, not-true, or_cases, or_parts, list_all-append, AllByRecursion, flat_map, list_all, Kind, ByteStr, Byte, first_passes, QuotedUnit, Plain, CrLf, Named, Hex, Unicode, Continuation, unit_text, unit_value, is_blank, is_plain, IsUnit, texts, values, EndsBefore, Cooked, Single, Contents, Bytes, Reads, StrictUnit, Itself, LineBreak, strict_text, strict_contents, is_dropped_blank, is_strict_unit, strict_content_of, IsStrictSuffix, QuoteEscape, PlainEscape, AsciiEscape, ByteEscape, UnicodeEscape, Str, CStr, is_string}
+use Rattle.rl_text.proofs.Common.{◌≡◌, ℕ, ◌&&◌, Bool, true, false, not, ◌==◌, List, [], ◌∷◌, ◌++◌, nat_lt, refl, sym, ap, subst, ◌∙◌, inl, inr, append_assoc, append-nil, and_from, and_parts, both_ways, eqb-true, ltb-true, not-true, or_cases, or_parts, list_all-append, AllByRecursion, flat_map, list_all}
+use Rattle.rl_reading.proofs.Names.{Kind, ByteStr, Byte, first_passes, QuotedUnit, Plain, CrLf, Named, Hex, Unicode, Continuation, unit_text, unit_value, is_blank, is_plain, IsUnit, texts, values, EndsBefore, Cooked, Single, Contents, Bytes, Reads, StrictUnit, Itself, LineBreak, strict_text, strict_contents, is_dropped_blank, is_strict_unit, strict_content_of, IsStrictSuffix, QuoteEscape, PlainEscape, AsciiEscape, ByteEscape, UnicodeEscape, Str, CStr, is_string}
 use Rattle.std.proofs.lemmas.Str.{encode_ascii}
 use Rattle.std.specs.Prelude.{⊤, IsFalse}
 use Rattle.rl_forms.specs.Quoted.{ContinuationsEnd}

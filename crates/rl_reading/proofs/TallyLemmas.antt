@@ -1,5 +1,5 @@
 -- A magnitude with its last digits apart.
-use Rattle.rl_reading.proofs.Names.{◌≡◌, ℕ, ◌+◌, ◌*◌, ◌<◌, ◌≤◌, Option, Some, None, refl, sym, ap, ◌∙◌, arith}
+use Rattle.rl_text.proofs.Common.{◌≡◌, ℕ, ◌+◌, ◌*◌, ◌<◌, ◌≤◌, Option, Some, None, refl, sym, ap, ◌∙◌, arith}
 use Rattle.std.proofs.Math.Nat.{mul-le-mul_left}
 use Rattle.rl_reading.specs.Mirrors.NumberAt.{append_digit, capped}
 use Rattle.rl_reading.proofs.DigitRowLemmas.{append_capped, capped_within}

@@ -1,5 +1,6 @@
 -- Tests of the first character of a text, and of all.
-use Rattle.rl_reading.proofs.Names.{◌≡◌, ◌∙◌, ◌&&◌, ℕ, Bool, true, false, List, [], ◌∷◌, ◌++◌, refl, sym, ap, list_all, first_passes}
+use Rattle.rl_text.proofs.Common.{◌≡◌, ◌∙◌, ◌&&◌, ℕ, Bool, true, false, List, [], ◌∷◌, ◌++◌, refl, sym, ap, list_all}
+use Rattle.rl_reading.proofs.Names.{first_passes}
 use Rattle.std.proofs.lemmas.Bool.{and_left, and_right}
 use Rattle.std.proofs.lemmas.List.Folds.{list_all-append}
 

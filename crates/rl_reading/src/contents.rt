@@ -14,8 +14,8 @@ ghost use Rattle.rl_reading.specs.Mirrors.Decodes.{Decodes};
 
 use crate::found::{find, find_float, found_in};
 use crate::units::{Piece, piece_unit, split_plain, unit};
-use rl_text::room::{put, put_byte, put_char};
 use rl_forms::Kind;
+use rl_text::room::{put, put_byte, put_char};
 
 /// Puts a piece there, a character as its UTF-8 bytes.
 #[inline(always)]

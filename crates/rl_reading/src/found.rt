@@ -18,7 +18,10 @@ ghost use Rattle.rl_reading.specs.WholeShapes.{IsSplit, is_number_front, IsPlain
 use crate::digit_rows::is_negative;
 use crate::digits::{is_plain_float, is_plain_integer};
 use crate::number_forms::{Number, float_suffix, read_integer, read_number};
-use crate::quoted_forms::{QuotedForm, begins_character, find_bare_character, find_character, find_cooked, find_raw, find_single, split_opener};
+use crate::quoted_forms::{
+    QuotedForm, begins_character, find_bare_character, find_character, find_cooked, find_raw,
+    find_single, split_opener,
+};
 use rl_forms::Kind;
 use rl_text::text::before;
 

@@ -11,7 +11,9 @@ ghost use Rattle.rl_reading.specs.NumberShapes.{HasOneInteger, HasOneFloat, Read
 ghost use Rattle.rl_forms.specs.Numbers.{FloatReads};
 ghost use Rattle.rl_reading.specs.NumbersRead.{IsNumberOf};
 
-use crate::digit_rows::{DigitRow, after_minus, begins_digit, is_exponent_suffix, is_suffix, read_row, skip_row};
+use crate::digit_rows::{
+    DigitRow, after_minus, begins_digit, is_exponent_suffix, is_suffix, read_row, skip_row,
+};
 use crate::found::{Parts, find_float, find_int, find_unsigned};
 use rl_text::classes::{CharClass, skip_class};
 use rl_text::text::{split_ascii, split_char};

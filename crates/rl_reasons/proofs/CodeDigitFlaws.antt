@@ -1,5 +1,6 @@
 -- The digits of `\u{..}`, one at a time: their flaw.
-use Rattle.rl_reading.proofs.Names.{◌≡◌, ℕ, ◌+◌, ◌*◌, ◌≤◌, ◌&&◌, false, not, cond, eqb, List, [], ◌∷◌, Option, Some, None, refl, sym, ap, subst, ◌∙◌, inl, inr, arith, option_and_then, digit_value, and_parts, both_ways, cases_Bool, eq-eqb, eqb-true, ne_eqb, not-true, Kind, is_hex_digit}
+use Rattle.rl_text.proofs.Common.{◌≡◌, ℕ, ◌+◌, ◌*◌, ◌≤◌, ◌&&◌, false, not, cond, eqb, List, [], ◌∷◌, Option, Some, None, refl, sym, ap, subst, ◌∙◌, inl, inr, arith, option_and_then, digit_value, and_parts, both_ways, cases_Bool, eq-eqb, eqb-true, ne_eqb, not-true}
+use Rattle.rl_reading.proofs.Names.{Kind, is_hex_digit}
 use Rattle.rl_reasons.specs.declared.flaws.FlawKind.TheVariants.{Unclosed, NoHexDigit, TooManyDigits}
 use Rattle.rl_reading.specs.Mirrors.UnitAt.{CodeDigits, code_digits_at, first_code_digits_at}
 use Rattle.rl_reasons.specs.Mirrors.UnitFlawAt.{FoundFlaw, code_flaw_at, code_flaw_of, first_digit_flaw_at, found_flaw, is_code}

@@ -1,5 +1,6 @@
 -- Places of flaws, in bytes.
-use Rattle.rl_reading.proofs.Names.{◌≡◌, ℕ, true, List, [], ◌+◌, ◌++◌, length, sym, ap, ◌∙◌, inl, inr, append_assoc, encode_utf8_all, IsUtf8, encodes-append, encodes-chars, texts, HasReading, byte_len, Kind}
+use Rattle.rl_text.proofs.Common.{◌≡◌, ℕ, true, List, [], ◌+◌, ◌++◌, length, sym, ap, ◌∙◌, inl, inr, append_assoc, encode_utf8_all, IsUtf8, encodes-append, encodes-chars}
+use Rattle.rl_reading.proofs.Names.{texts, HasReading, byte_len, Kind}
 use Rattle.std.specs.Prelude.{Option, Some, None, IfSome}
 use Rattle.std.specs.Option.{is_some}
 use Rattle.std.specs.Str.{chars}

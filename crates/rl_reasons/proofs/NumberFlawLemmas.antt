@@ -1,5 +1,6 @@
 -- Where a text that begins as a number stops being the front of a literal, and why.
-use Rattle.rl_reading.proofs.Names.{◌≡◌, ℕ, ◌≤◌, Bool, true, false, not, cond, ◌&&◌, ◌||◌, ◌==◌, List, [], ◌∷◌, ◌++◌, refl, sym, ap, subst, ◌∙◌, arith, append_assoc, append-nil, Option, Some, None, inl, inr, is_ascii_digit, list_all, list_any, and_parts, and_right, both_ways, eqb-true, or_from, or_parts, or_right, and_from, le-ltb, false_from_ne_true, cond_both, is_xid_start, is_xid_continue, is_exponent_letter, Base, Binary, Octal, Decimal, Hexadecimal, radix, prefix, Sign, NoSign, Minus, sign_text, float_digits, first_passes, is_row_part, Int, Float, place_value, without_underscores, Digits, HasReading, IsPast, append_cancel_right}
+use Rattle.rl_text.proofs.Common.{◌≡◌, ℕ, ◌≤◌, Bool, true, false, not, cond, ◌&&◌, ◌||◌, ◌==◌, List, [], ◌∷◌, ◌++◌, refl, sym, ap, subst, ◌∙◌, arith, append_assoc, append-nil, Option, Some, None, inl, inr, is_ascii_digit, list_all, list_any, and_parts, both_ways, eqb-true, or_from, or_parts, or_right, and_from, is_xid_start, is_xid_continue, append_cancel_right}
+use Rattle.rl_reading.proofs.Names.{and_right, le-ltb, false_from_ne_true, cond_both, is_exponent_letter, Base, Binary, Octal, Decimal, Hexadecimal, radix, prefix, Sign, NoSign, Minus, sign_text, float_digits, first_passes, is_row_part, Int, Float, place_value, without_underscores, Digits, HasReading, IsPast}
 use Rattle.std.proofs.Common.{is_none}
 use Rattle.unicode_ident.proofs.IdentLemmas.{is_xid_start-ascii, is_xid_start-is_xid_continue}
 use Rattle.rl_text.proofs.Basics.{all_weaker, digit_is_ten}

@@ -1,5 +1,6 @@
 -- Whether a number stands, by what follows its whole part.
-use Rattle.rl_reading.proofs.Names.{◌≡◌, ℕ, ◌≤◌, ◌<◌, Bool, true, false, not, cond, ◌&&◌, ◌||◌, ◌==◌, List, [], ◌∷◌, ◌++◌, refl, sym, ap, ◌∙◌, arith, append_assoc, digit_value, is_ascii_digit, is_ascii_hexdigit, list_all, list_any, and_parts, both_ways, eqb-true, lt-ltb, ltb-true, or_from, or_parts, or_right, nat_tests, is_xid_start, is_xid_continue, is_exponent_letter, first_passes, is_row_part, is_underscore, xid_ok}
+use Rattle.rl_text.proofs.Common.{◌≡◌, ℕ, ◌≤◌, ◌<◌, Bool, true, false, not, cond, ◌&&◌, ◌||◌, ◌==◌, List, [], ◌∷◌, ◌++◌, refl, sym, ap, ◌∙◌, arith, append_assoc, digit_value, is_ascii_digit, is_ascii_hexdigit, list_all, list_any, and_parts, both_ways, eqb-true, lt-ltb, ltb-true, or_from, or_parts, or_right, nat_tests, is_xid_start, is_xid_continue}
+use Rattle.rl_reading.proofs.Names.{is_exponent_letter, first_passes, is_row_part, is_underscore, xid_ok}
 use Rattle.std.specs.Char.{is_ascii_alphanumeric}
 use Rattle.std.proofs.lemmas.Bool.{and_left}
 use Rattle.std.proofs.lemmas.List.Folds.{list_any-append}

@@ -1,6 +1,7 @@
 -- Where what follows the whole part of a number in base ten stops being the front of such a text,
 -- and why.
-use Rattle.rl_reading.proofs.Names.{◌≡◌, ℕ, Bool, true, false, not, cond, ◌&&◌, ◌||◌, ◌==◌, List, [], ◌∷◌, ◌++◌, refl, sym, ap, subst, ◌∙◌, append_assoc, append-nil, ◌≢◌, inl, inr, IsScalar, is_ascii_digit, AllByRecursion, list_all, list_any, and_parts, and_right, both_ways, eqb-true, or_from, or_parts, or_right, and_from, not-true, cond_both, cases_Bool, is_xid_start, is_xid_continue, after_run, is_exponent_letter, Dot, Fraction, IsFraction, NoFraction, fraction_text, first_passes, is_row_part, is_underscore}
+use Rattle.rl_text.proofs.Common.{◌≡◌, ℕ, Bool, true, false, not, cond, ◌&&◌, ◌||◌, ◌==◌, List, [], ◌∷◌, ◌++◌, refl, sym, ap, subst, ◌∙◌, append_assoc, append-nil, ◌≢◌, inl, inr, is_ascii_digit, AllByRecursion, list_all, list_any, and_parts, both_ways, eqb-true, or_from, or_parts, or_right, and_from, not-true, cases_Bool, is_xid_start, is_xid_continue}
+use Rattle.rl_reading.proofs.Names.{IsScalar, and_right, cond_both, after_run, is_exponent_letter, Dot, Fraction, IsFraction, NoFraction, fraction_text, first_passes, is_row_part, is_underscore}
 use Rattle.std.proofs.lemmas.Bool.{not-false}
 use Rattle.std.proofs.lemmas.List.Folds.{list_any-append}
 use Rattle.unicode_ident.proofs.IdentLemmas.{is_xid_start-is_xid_continue}

@@ -1,5 +1,6 @@
 -- A text has one flaw at most.
-use Rattle.rl_reading.proofs.Names.{◌≡◌, ℕ, Bool, true, false, ◌+◌, List, [], ◌∷◌, ◌++◌, Some, None, refl, sym, ap, subst, ◌∙◌, inl, inr, append_assoc, both_ways, append_cancel_right, Kind, HasReading, truth_text, byte_len, first_passes}
+use Rattle.rl_text.proofs.Common.{◌≡◌, ℕ, Bool, true, false, ◌+◌, List, [], ◌∷◌, ◌++◌, Some, None, refl, sym, ap, subst, ◌∙◌, inl, inr, append_assoc, both_ways, append_cancel_right}
+use Rattle.rl_reading.proofs.Names.{Kind, HasReading, truth_text, byte_len, first_passes}
 use Rattle.rl_reasons.specs.declared.flaws.Flaw.{Flaw}
 use Rattle.rl_reasons.specs.declared.flaws.FlawKind.{FlawKind}
 use Rattle.rl_reasons.specs.declared.flaws.FlawKind.TheVariants.{Empty, NoLiteral, Unfinished}

@@ -1,5 +1,6 @@
 -- At one place a text that begins as a number has one flaw.
-use Rattle.rl_reading.proofs.Names.{◌≡◌, ℕ, ◌≤◌, Bool, true, false, not, cond, ◌&&◌, ◌||◌, ◌==◌, List, [], ◌∷◌, ◌++◌, refl, sym, ap, subst, ◌∙◌, inl, inr, ◌⊎◌, arith, append_assoc, append-nil, is_ascii_digit, list_all, and_from, and_parts, and_right, both_ways, eqb-true, or_from, is_xid_continue, Base, Binary, Octal, Decimal, Hexadecimal, radix, prefix, Sign, NoSign, Minus, sign_text, Fraction, NoFraction, Dot, IsFraction, fraction_text, IntReads, is_exponent_letter, place_value, without_underscores, HasNoInteger, HasReading, IsPast, first_passes, is_row_part}
+use Rattle.rl_text.proofs.Common.{◌≡◌, ℕ, ◌≤◌, Bool, true, false, not, cond, ◌&&◌, ◌||◌, ◌==◌, List, [], ◌∷◌, ◌++◌, refl, sym, ap, subst, ◌∙◌, inl, inr, ◌⊎◌, arith, append_assoc, append-nil, is_ascii_digit, list_all, and_from, and_parts, both_ways, eqb-true, or_from, is_xid_continue}
+use Rattle.rl_reading.proofs.Names.{and_right, Base, Binary, Octal, Decimal, Hexadecimal, radix, prefix, Sign, NoSign, Minus, sign_text, Fraction, NoFraction, Dot, IsFraction, fraction_text, IntReads, is_exponent_letter, place_value, without_underscores, HasNoInteger, HasReading, IsPast, first_passes, is_row_part}
 use Rattle.std.proofs.Common.{is_none}
 use Rattle.unicode_ident.proofs.IdentLemmas.{is_xid_continue-ascii}
 use Rattle.rl_text.proofs.Basics.{all_weaker, apart, digit_is_ten}

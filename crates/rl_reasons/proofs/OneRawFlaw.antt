@@ -1,5 +1,6 @@
 -- At one place a raw string has one flaw.
-use Rattle.rl_reading.proofs.Names.{◌≡◌, ℕ, zero, suc, true, false, not, cond, List, [], ◌∷◌, ◌++◌, replicate, refl, sym, ap, ◌∙◌, inl, inr, ◌⊎◌, append_assoc, both_ways, eqb-true, not-true, Kind, Str, ByteStr, CStr, Byte, Char, Int, Float, BoolKind, is_hash, first_passes, is_raw}
+use Rattle.rl_text.proofs.Common.{◌≡◌, ℕ, zero, suc, true, false, not, cond, List, [], ◌∷◌, ◌++◌, replicate, refl, sym, ap, ◌∙◌, inl, inr, ◌⊎◌, append_assoc, both_ways, eqb-true, not-true}
+use Rattle.rl_reading.proofs.Names.{Kind, Str, ByteStr, CStr, Byte, Char, Int, Float, BoolKind, is_hash, first_passes, is_raw}
 use Rattle.rl_reasons.specs.declared.flaws.FlawKind.{FlawKind}
 use Rattle.rl_reasons.specs.declared.flaws.FlawKind.TheVariants.{LateQuote, NoQuote, NotAscii, Nul, Unclosed, Unfinished}
 use Rattle.rl_reasons.specs.FlawKinds.{IsOpened, IsUnopened, RawFlaw, is_quote}

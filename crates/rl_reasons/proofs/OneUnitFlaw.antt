@@ -1,5 +1,6 @@
 -- At one place a unit of a quoted literal has one flaw.
-use Rattle.rl_reading.proofs.Names.{◌≡◌, ℕ, ◌+◌, ◌*◌, ◌||◌, ◌&&◌, Bool, true, false, not, cond, eqb, ltb, List, [], ◌∷◌, ◌++◌, None, refl, sym, ap, subst, ◌∙◌, inl, inr, ◌⊎◌, arith, append_assoc, append-nil, digit_value, AllByRecursion, list_all, and_parts, eqb-true, le-ltb, lt-ltb, ne_eqb, not-true, or_parts, append_cancel_right, Kind, first_passes, is_underscore, QuotedUnit, Plain, CrLf, Named, Hex, Unicode, Continuation, Zero, IsUnit, EndsBefore, is_hex_digit, is_string, texts, unit_text, unit_value}
+use Rattle.rl_text.proofs.Common.{◌≡◌, ℕ, ◌+◌, ◌*◌, ◌||◌, ◌&&◌, Bool, true, false, not, cond, eqb, ltb, List, [], ◌∷◌, ◌++◌, None, refl, sym, ap, subst, ◌∙◌, inl, inr, ◌⊎◌, arith, append_assoc, append-nil, digit_value, AllByRecursion, list_all, and_parts, eqb-true, lt-ltb, ne_eqb, not-true, or_parts, append_cancel_right}
+use Rattle.rl_reading.proofs.Names.{le-ltb, Kind, first_passes, is_underscore, QuotedUnit, Plain, CrLf, Named, Hex, Unicode, Continuation, Zero, IsUnit, EndsBefore, is_hex_digit, is_string, texts, unit_text, unit_value}
 use Rattle.rl_text.proofs.Basics.{apart}
 use Rattle.rl_text.specs.Texts.{is_among}
 use Rattle.rl_reasons.specs.declared.flaws.FlawKind.{FlawKind}

@@ -1,5 +1,6 @@
 -- Where the text after an opener stops being the front of a quoted literal, and why.
-use Rattle.rl_reading.proofs.Names.{◌≡◌, ℕ, Bool, true, false, cond, eqb, List, [], ◌∷◌, ◌++◌, Some, None, refl, sym, ap, subst, ◌∙◌, inl, inr, append_assoc, IsScalar, AllByRecursion, both_ways, eqb-true, Kind, first_passes, QuotedUnit, Plain, CrLf, Named, Hex, Unicode, Continuation, Cooked, Single, IsUnit, EndsBefore, is_blank, is_string, is_single, opener, texts, unit_text}
+use Rattle.rl_text.proofs.Common.{◌≡◌, ℕ, Bool, true, false, cond, eqb, List, [], ◌∷◌, ◌++◌, Some, None, refl, sym, ap, subst, ◌∙◌, inl, inr, append_assoc, AllByRecursion, both_ways, eqb-true}
+use Rattle.rl_reading.proofs.Names.{IsScalar, Kind, first_passes, QuotedUnit, Plain, CrLf, Named, Hex, Unicode, Continuation, Cooked, Single, IsUnit, EndsBefore, is_blank, is_string, is_single, opener, texts, unit_text}
 use Rattle.rl_reasons.specs.declared.flaws.FlawKind.{FlawKind}
 use Rattle.rl_reasons.specs.declared.flaws.FlawKind.TheVariants.{NoCharacter, TwoCharacters}
 use Rattle.rl_reading.specs.declared.quoted_forms.QuotedForm.{QuotedForm}

@@ -1,6 +1,7 @@
 -- Where the text after an opener stops being the front of a quoted literal, the whole text stops
 -- being that of any literal.
-use Rattle.rl_reading.proofs.Names.{◌≡◌, ℕ, false, List, ◌∷◌, ◌++◌, None, refl, sym, ap, subst, ◌∙◌, inl, inr, append_assoc, both_ways, Kind, Str, ByteStr, CStr, Byte, Char, is_string, is_single, Contents, HasNoReading, HasReading, Reads, ReadsQuoted, quoted_contents}
+use Rattle.rl_text.proofs.Common.{◌≡◌, ℕ, false, List, ◌∷◌, ◌++◌, None, refl, sym, ap, subst, ◌∙◌, inl, inr, append_assoc, both_ways}
+use Rattle.rl_reading.proofs.Names.{Kind, Str, ByteStr, CStr, Byte, Char, is_string, is_single, Contents, HasNoReading, HasReading, Reads, ReadsQuoted, quoted_contents}
 use Rattle.rl_reasons.specs.declared.flaws.FlawKind.{FlawKind}
 use Rattle.rl_reading.specs.declared.quoted_forms.QuotedForm.{QuotedForm}
 use Rattle.rl_reasons.specs.FlawKinds.{HasNoOpener, HasQuotedFlaw, HasQuotedPiece, IsPiece, QuotedFlaw}

@@ -1,5 +1,6 @@
 -- Where the text after the opener of a raw string stops being the front of one, and why.
-use Rattle.rl_reading.proofs.Names.{◌≡◌, ◌≢◌, ℕ, zero, suc, Bool, true, false, cond, not, eqb, ltb, List, [], ◌∷◌, ◌++◌, replicate, Option, Some, None, refl, sym, ap, subst, ◌∙◌, append_assoc, append-nil, MatchBool, IsScalar, list_all, AllByRecursion, both_ways, and_parts, and_from, eqb-true, ne_eqb, not_from_false, append_cancel_right, list_all-append, Kind, Str, ByteStr, CStr, first_passes, content_of, is_string, is_raw, raw_opener, Raw, after_run, is_hash, hash_count}
+use Rattle.rl_text.proofs.Common.{◌≡◌, ◌≢◌, ℕ, zero, suc, Bool, true, false, cond, not, eqb, ltb, List, [], ◌∷◌, ◌++◌, replicate, Option, Some, None, refl, sym, ap, subst, ◌∙◌, append_assoc, append-nil, list_all, AllByRecursion, both_ways, and_parts, and_from, eqb-true, ne_eqb, not_from_false, append_cancel_right, list_all-append}
+use Rattle.rl_reading.proofs.Names.{MatchBool, IsScalar, Kind, Str, ByteStr, CStr, first_passes, content_of, is_string, is_raw, raw_opener, Raw, after_run, is_hash, hash_count}
 use denote.Ref.{Bor}
 use Rattle.std.specs.Prelude.{IfSome, IfNone}
 use Rattle.std.specs.Option.{is_some}

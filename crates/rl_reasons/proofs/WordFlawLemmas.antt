@@ -1,6 +1,7 @@
 -- Where a text that begins neither as a number nor as a quoted literal stops being the front of a
 -- truth value.
-use Rattle.rl_reading.proofs.Names.{◌≡◌, ◌≢◌, ℕ, Bool, true, false, cond, ◌||◌, ◌==◌, List, [], ◌∷◌, ◌++◌, None, Some, inl, inr, refl, sym, ap, subst, ◌∙◌, append-nil, IsScalar, AllByRecursion, both_ways, cases_Bool, cond_both, eq-eqb, eqb-true, or_parts, append_cancel_left, append_cancel_right, Kind, BoolKind, Byte, ByteStr, Char, CStr, Str, is_string, opener, HasContents, HasNoTruth, HasReading, Truth, quoted_contents, truth_text, first_passes}
+use Rattle.rl_text.proofs.Common.{◌≡◌, ◌≢◌, ℕ, Bool, true, false, cond, ◌||◌, ◌==◌, List, [], ◌∷◌, ◌++◌, None, Some, inl, inr, refl, sym, ap, subst, ◌∙◌, append-nil, AllByRecursion, both_ways, cases_Bool, eq-eqb, eqb-true, or_parts, append_cancel_right}
+use Rattle.rl_reading.proofs.Names.{IsScalar, cond_both, append_cancel_left, Kind, BoolKind, Byte, ByteStr, Char, CStr, Str, is_string, opener, HasContents, HasNoTruth, HasReading, Truth, quoted_contents, truth_text, first_passes}
 use Rattle.rl_reasons.specs.Flaws.{StopsBefore}
 use Rattle.rl_reasons.specs.NumberFlaws.{BeginsWord, IsWordFlaw}
 use Rattle.rl_reading.specs.declared.quoted_forms.QuotedForm.{QuotedForm}

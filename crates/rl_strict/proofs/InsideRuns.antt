@@ -1,5 +1,6 @@
 -- What a raw C string may hold, by a run of bytes.
-use Rattle.rl_reading.proofs.Names.{◌≡◌, ℕ, ◌==◌, ◌&&◌, ◌||◌, Bool, true, false, not, List, [], ◌∷◌, nat_lt, refl, sym, ap, ◌∙◌, and_from, and_parts, list_all, ByteStr, Marks, is_ascii_other}
+use Rattle.rl_text.proofs.Common.{◌≡◌, ℕ, ◌==◌, ◌&&◌, ◌||◌, Bool, true, false, not, List, [], ◌∷◌, nat_lt, refl, sym, ap, ◌∙◌, and_from, and_parts, list_all}
+use Rattle.rl_reading.proofs.Names.{ByteStr, Marks, is_ascii_other}
 use Rattle.rl_strict.specs.Mirrors.StrictAt.{is_inside}
 
 -- ---- what raw byte strings hold

@@ -1,5 +1,6 @@
 -- A strict number is what `is_strict_number` passes.
-use Rattle.rl_reading.proofs.Names.{◌≡◌, ℕ, ◌⊎◌, ◌||◌, ◌&&◌, Bool, true, false, not, ◌==◌, cond, List, [], ◌∷◌, ◌++◌, refl, ap, subst, sym, ◌∙◌, inl, inr, arith, append_assoc, append-nil, and_from, and_parts, cases_Bool, eqb-true, not-true, not_from_false, or_cases, or_right, is_ascii_digit, is_ascii_hexdigit, list_all, list_any, first_passes, is_row_part, Base, Binary, Octal, Decimal, Hexadecimal, radix, prefix, IsAfterPrefix, is_exponent_letter, Contents}
+use Rattle.rl_text.proofs.Common.{◌≡◌, ℕ, ◌⊎◌, ◌||◌, ◌&&◌, Bool, true, false, not, ◌==◌, cond, List, [], ◌∷◌, ◌++◌, refl, ap, subst, sym, ◌∙◌, inl, inr, arith, append_assoc, append-nil, and_from, and_parts, cases_Bool, eqb-true, not-true, not_from_false, or_cases, or_right, is_ascii_digit, is_ascii_hexdigit, list_all, list_any}
+use Rattle.rl_reading.proofs.Names.{first_passes, is_row_part, Base, Binary, Octal, Decimal, Hexadecimal, radix, prefix, IsAfterPrefix, is_exponent_letter, Contents}
 use Rattle.std.proofs.lemmas.Bool.{or_left}
 use Rattle.rl_forms.specs.Numbers.{AllowsSuffix}
 use Rattle.rl_forms.specs.Strict.{is_row, IsDigits, IsDecimalText, IsNumberSuffix, BasedPrefix, StrictInt, IsStrictExponent, IsDotAlone, IsPointed, IsScientific, StrictFloat}

@@ -1,5 +1,6 @@
 -- Strict raw forms: hashes, contents up to the first closer, and the suffix after it.
-use Rattle.rl_reading.proofs.Names.{◌≡◌, ◌≢◌, ℕ, zero, suc, ◌<◌, ◌≤◌, ◌⊎◌, ◌&&◌, ◌||◌, Bool, true, false, not, ◌==◌, cond, List, [], ◌∷◌, ◌++◌, length, drop, replicate, refl, sym, ap, subst, ◌∙◌, inl, inr, arith, nat_lt, and_from, and_parts, both_ways, cases_Bool, eqb-true, false_from_ne_true, not-true, append_cancel_right, encodes-chars, drop-append_seam, list_all, ◌↔◌, IsTrue, encode_utf8_all, IsUtf8, Kind, Str, ByteStr, CStr, is_string, IsStrictSuffix, Marks, is_other, after_run, is_hash, hash_count}
+use Rattle.rl_text.proofs.Common.{◌≡◌, ◌≢◌, ℕ, zero, suc, ◌<◌, ◌≤◌, ◌⊎◌, ◌&&◌, ◌||◌, Bool, true, false, not, ◌==◌, cond, List, [], ◌∷◌, ◌++◌, length, drop, replicate, refl, sym, ap, subst, ◌∙◌, inl, inr, arith, nat_lt, and_from, and_parts, both_ways, cases_Bool, eqb-true, not-true, append_cancel_right, encodes-chars, list_all, IsTrue, encode_utf8_all, IsUtf8}
+use Rattle.rl_reading.proofs.Names.{false_from_ne_true, drop-append_seam, ◌↔◌, Kind, Str, ByteStr, CStr, is_string, IsStrictSuffix, Marks, is_other, after_run, is_hash, hash_count}
 use Rattle.std.proofs.lemmas.List.{length-replicate}
 use Rattle.std.specs.Str.{chars}
 use Rattle.rl_text.specs.Texts.{begins}

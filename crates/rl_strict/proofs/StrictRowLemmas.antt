@@ -1,5 +1,6 @@
 -- Strict units up to a quote, and the suffix after it.
-use Rattle.rl_reading.proofs.Names.{◌≡◌, ℕ, Bool, true, false, cond, ◌==◌, List, [], ◌∷◌, ◌++◌, length, Some, None, refl, sym, ap, subst, ◌∙◌, arith, append_assoc, append-nil, and_from, and_parts, both_ways, eqb-true, list_all, flat_map, ◌↔◌, IsTrue, Kind, Str, ByteStr, CStr, Byte, Char, first_passes, is_plain, is_single, is_string, StrictUnit, Itself, QuoteEscape, PlainEscape, AsciiEscape, ByteEscape, UnicodeEscape, LineBreak, strict_text, is_dropped_blank, is_strict_unit, IsStrictSuffix}
+use Rattle.rl_text.proofs.Common.{◌≡◌, ℕ, Bool, true, false, cond, ◌==◌, List, [], ◌∷◌, ◌++◌, length, Some, None, refl, sym, ap, subst, ◌∙◌, arith, append_assoc, append-nil, and_from, and_parts, both_ways, eqb-true, list_all, flat_map, IsTrue}
+use Rattle.rl_reading.proofs.Names.{◌↔◌, Kind, Str, ByteStr, CStr, Byte, Char, first_passes, is_plain, is_single, is_string, StrictUnit, Itself, QuoteEscape, PlainEscape, AsciiEscape, ByteEscape, UnicodeEscape, LineBreak, strict_text, is_dropped_blank, is_strict_unit, IsStrictSuffix}
 use Rattle.rl_text.proofs.Basics.{apart}
 use Rattle.rl_forms.specs.Strict.{BlanksEnd, HasUnits, strict_closer}
 use Rattle.rl_strict.specs.Mirrors.StrictAt.{ends_quoted, escape_rest, is_strict_suffix, unit_rest}

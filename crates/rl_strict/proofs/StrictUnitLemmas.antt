@@ -1,5 +1,6 @@
 -- A strict unit stands at the front of a text exactly where `unit_rest` gives what is left.
-use Rattle.rl_reading.proofs.Names.{◌≡◌, ℕ, ◌||◌, Bool, true, false, not, ◌==◌, cond, List, [], ◌∷◌, ◌++◌, Option, Some, None, refl, sym, ap, subst, ◌∙◌, inl, inr, and_parts, both_ways, cases_Bool, eqb-true, or_from, list_all, Kind, Str, ByteStr, CStr, Byte, Char, Int, Float, BoolKind, first_passes, QuotedUnit, Plain, CrLf, Named, Hex, Unicode, Continuation, unit_text, is_line_end, is_plain, is_string, IsUnit, StrictUnit, Itself, QuoteEscape, PlainEscape, AsciiEscape, ByteEscape, UnicodeEscape, LineBreak, strict_text, is_dropped_blank, is_strict_unit, after_run}
+use Rattle.rl_text.proofs.Common.{◌≡◌, ℕ, ◌||◌, Bool, true, false, not, ◌==◌, cond, List, [], ◌∷◌, ◌++◌, Option, Some, None, refl, sym, ap, subst, ◌∙◌, inl, inr, and_parts, both_ways, cases_Bool, eqb-true, or_from, list_all}
+use Rattle.rl_reading.proofs.Names.{Kind, Str, ByteStr, CStr, Byte, Char, Int, Float, BoolKind, first_passes, QuotedUnit, Plain, CrLf, Named, Hex, Unicode, Continuation, unit_text, is_line_end, is_plain, is_string, IsUnit, StrictUnit, Itself, QuoteEscape, PlainEscape, AsciiEscape, ByteEscape, UnicodeEscape, LineBreak, strict_text, is_dropped_blank, is_strict_unit, after_run}
 use Rattle.std.proofs.Common.{option_map}
 use Rattle.rl_forms.specs.Strict.{is_plain_letter}
 use Rattle.rl_text.proofs.Basics.{apart}

@@ -1,5 +1,6 @@
 -- The suffixes of strict texts are what their tests pass.
-use Rattle.rl_reading.proofs.Names.{◌≡◌, ◌≢◌, ℕ, ◌||◌, ◌&&◌, Bool, true, not, ◌==◌, cond, List, [], ◌∷◌, refl, ap, subst, sym, ◌∙◌, inl, inr, and_from, and_parts, both_ways, cases_Bool, eqb-true, not-true, not_from_false, list_all, is_xid_start, is_xid_continue, is_underscore, first_passes, IsSuffix, IsStrictSuffix}
+use Rattle.rl_text.proofs.Common.{◌≡◌, ◌≢◌, ℕ, ◌||◌, ◌&&◌, Bool, true, not, ◌==◌, cond, List, [], ◌∷◌, refl, ap, subst, sym, ◌∙◌, inl, inr, and_from, and_parts, both_ways, cases_Bool, eqb-true, not-true, not_from_false, list_all, is_xid_start, is_xid_continue}
+use Rattle.rl_reading.proofs.Names.{is_underscore, first_passes, IsSuffix, IsStrictSuffix}
 use Rattle.rl_text.specs.Texts.{IsWord, is_white, is_continue, is_start}
 use Rattle.rl_forms.specs.Strict.{IsNumberSuffix}
 use Rattle.rl_strict.specs.Mirrors.StrictAt.{is_number_suffix, is_strict_suffix}

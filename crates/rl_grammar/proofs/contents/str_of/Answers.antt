@@ -1,4 +1,5 @@
-use Rattle.rl_reading.proofs.Names.{refl, IfOk-weaker, Str}
+use Rattle.rl_text.proofs.Common.{refl}
+use Rattle.rl_reading.proofs.Names.{IfOk-weaker, Str}
 use Rattle.rl_reading.proofs.FoundContents.{string_body}
 use Rattle.rl_grammar.proofs.contents.str_of.Goals as goal
 

@@ -1,4 +1,5 @@
-use Rattle.rl_reading.proofs.Names.{◌≡◌, subst, rules, Str, Characters, HasContents}
+use Rattle.rl_text.proofs.Common.{◌≡◌, subst, rules}
+use Rattle.rl_reading.proofs.Names.{Str, Characters, HasContents}
 use Rattle.std.proofs.Common.{string_bytes}
 use Rattle.std.specs.Str.{chars}
 use Rattle.rl_reading.proofs.BodyContents.{str_of_has}

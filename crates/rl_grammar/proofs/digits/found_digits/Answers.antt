@@ -1,4 +1,5 @@
-use Rattle.rl_reading.proofs.Names.{ap, ◌∙◌, float_digits, IfOk-weaker}
+use Rattle.rl_text.proofs.Common.{ap, ◌∙◌}
+use Rattle.rl_reading.proofs.Names.{float_digits, IfOk-weaker}
 use Rattle.std.proofs.Common.{string_bytes}
 use Rattle.std.specs.Str.{chars}
 use Rattle.rl_reading.specs.Founds.{body_in}

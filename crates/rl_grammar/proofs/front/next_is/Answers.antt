@@ -1,5 +1,5 @@
 use Rattle.rl_grammar.specs.Fronts.{HasNoFront, IsFront}
-use Rattle.rl_reading.proofs.Names.{subst}
+use Rattle.rl_text.proofs.Common.{subst}
 use Rattle.rl_tokens.specs.Buffers.{trees_in}
 use Rattle.rl_grammar.specs.FrontTokens.{front_token}
 use Rattle.rl_grammar.proofs.FrontLemmas.{front_of, none_of_kind, same_front}

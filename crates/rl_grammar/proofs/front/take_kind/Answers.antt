@@ -1,5 +1,6 @@
 use Rattle.std.specs.Str.{chars}
-use Rattle.rl_reading.proofs.Names.{ReadsAs, SpannedText, refl, subst, sym, common_steps, inl, inr, arith}
+use Rattle.rl_reading.proofs.Names.{ReadsAs, SpannedText}
+use Rattle.rl_text.proofs.Common.{refl, subst, sym, common_steps, inl, inr, arith}
 use Rattle.rl_tokens.specs.Buffers.{trees_in}
 use Rattle.rl_grammar.specs.Fronts.{IsFrontOf, HasNoFront, IsFront}
 use Rattle.rl_reading.specs.Founds.{IsFound}

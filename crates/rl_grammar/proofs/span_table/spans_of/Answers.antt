@@ -1,4 +1,4 @@
-use Rattle.rl_reading.proofs.Names.{◌≡◌, ◌<◌, ◌∙◌, [], ◌∷◌, ◌++◌, ap, arith, rules}
+use Rattle.rl_text.proofs.Common.{◌≡◌, ◌<◌, ◌∙◌, [], ◌∷◌, ◌++◌, ap, arith, rules}
 use Rattle.rl_reading.specs.Segments.{SegmentsState, span_from}
 use Rattle.rl_reading.proofs.SegmentLemmas.{place_below, segment_fits, tabled_all, tabled_more}
 use Rattle.rl_grammar.proofs.span_table.spans_of.Goals as goal

@@ -1,4 +1,4 @@
-use Rattle.rl_reading.proofs.Names.{length}
+use Rattle.rl_text.proofs.Common.{length}
 use Rattle.rl_reading.proofs.SegmentLemmas.{IsTabled}
 use Rattle.rl_grammar.proofs.span_table.spans_of.Given as goal
 

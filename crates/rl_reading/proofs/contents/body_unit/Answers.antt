@@ -1,4 +1,4 @@
-use Rattle.rl_reading.proofs.Names.{sym}
+use Rattle.rl_text.proofs.Common.{sym}
 use Rattle.rl_reading.proofs.SingleBodies.{body_stands, body_one, body_reads}
 use Rattle.rl_reading.proofs.contents.body_unit.Goals as goal
 

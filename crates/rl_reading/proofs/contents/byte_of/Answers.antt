@@ -1,4 +1,5 @@
-use Rattle.rl_reading.proofs.Names.{◌<◌, arith, refl, Byte}
+use Rattle.rl_text.proofs.Common.{◌<◌, arith, refl}
+use Rattle.rl_reading.proofs.Names.{Byte}
 use Rattle.rl_reading.proofs.FoundContents.{unit_of}
 use Rattle.rl_reading.proofs.contents.byte_of.Goals as goal
 

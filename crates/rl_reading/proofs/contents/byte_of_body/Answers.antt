@@ -1,4 +1,4 @@
-use Rattle.rl_reading.proofs.Names.{◌<◌, arith, refl}
+use Rattle.rl_text.proofs.Common.{◌<◌, arith, refl}
 use Rattle.rl_reading.proofs.contents.byte_of_body.Goals as goal
 
 pub overflow_cast-result : goal.overflow_cast-result

@@ -1,4 +1,4 @@
-use Rattle.rl_reading.proofs.Names.{sym}
+use Rattle.rl_text.proofs.Common.{sym}
 use Rattle.rl_reading.proofs.BodyContents.{bytes_of_has}
 use Rattle.rl_reading.proofs.ContentLemmas.{cooked_bytes, not_raw}
 use Rattle.rl_reading.proofs.contents.bytes_into.Goals as goal

@@ -1,4 +1,4 @@
-use Rattle.rl_reading.proofs.Names.{◌≡◌, ◌∙◌, ◌≤◌, None, length, arith, rules, IsUtf8}
+use Rattle.rl_text.proofs.Common.{◌≡◌, ◌∙◌, ◌≤◌, None, length, arith, rules, IsUtf8}
 use Rattle.std.specs.Str.{chars}
 use Rattle.rl_reading.specs.Mirrors.UnitAt.{unit_at}
 use Rattle.rl_reading.proofs.RoomLemmas.{run_room, run_filled, piece_room, piece_filled}

@@ -1,5 +1,5 @@
 -- What was passed stands in the buffer, and the rest has room after it.
-use Rattle.rl_reading.proofs.Names.{◌≡◌, length}
+use Rattle.rl_text.proofs.Common.{◌≡◌, length}
 use denote.Text.{Utf8}
 use denote.Shadow.{shadow}
 use Rattle.rl_reading.proofs.RoomLemmas.{IsFilled}

@@ -1,4 +1,4 @@
-use Rattle.rl_reading.proofs.Names.{rules}
+use Rattle.rl_text.proofs.Common.{rules}
 use Rattle.rl_reading.proofs.contents.is_plain.Goals as goal
 
 pub returns-in-Float : goal.returns-in-Float

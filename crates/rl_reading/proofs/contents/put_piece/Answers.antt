@@ -1,4 +1,4 @@
-use Rattle.rl_reading.proofs.Names.{rules}
+use Rattle.rl_text.proofs.Common.{rules}
 use Rattle.rl_reading.proofs.contents.put_piece.Goals as goal
 
 pub returns-in-Byte-clause-bytes : goal.returns-in-Byte-clause-bytes

@@ -1,4 +1,5 @@
-use Rattle.rl_reading.proofs.Names.{◌≡◌, sym, subst, ◌∙◌, Kind}
+use Rattle.rl_text.proofs.Common.{◌≡◌, sym, subst, ◌∙◌}
+use Rattle.rl_reading.proofs.Names.{Kind}
 use denote.Enum.Bare.{true_same}
 use Rattle.rl_forms.specs.contracts.kind.Kind.{the_type}
 use Rattle.rl_reading.specs.WholeShapes.{IsPlain}

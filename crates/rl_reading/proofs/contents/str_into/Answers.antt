@@ -1,4 +1,5 @@
-use Rattle.rl_reading.proofs.Names.{sym, Str}
+use Rattle.rl_text.proofs.Common.{sym}
+use Rattle.rl_reading.proofs.Names.{Str}
 use Rattle.rl_reading.proofs.BodyContents.{str_of_has}
 use Rattle.rl_reading.proofs.ContentLemmas.{cooked_bytes, not_raw}
 use Rattle.rl_reading.proofs.contents.str_into.Goals as goal

@@ -1,4 +1,4 @@
-use Rattle.rl_reading.proofs.Names.{◌≡◌, ◌<◌, None, true, nat_lt, arith, ap, sym, refl, ◌∙◌, drop, get_or, ◌+◌, nat_tests, IsCharBoundary-start, digit_value}
+use Rattle.rl_text.proofs.Common.{◌≡◌, ◌<◌, None, true, nat_lt, arith, ap, sym, refl, ◌∙◌, drop, get_or, ◌+◌, nat_tests, IsCharBoundary-start, digit_value}
 use Rattle.rl_reading.specs.Mirrors.NumberAt.{row_from}
 use Rattle.rl_reading.proofs.RowBytes.{digit_cuts, is_digit, row_goes}
 use Rattle.rl_reading.proofs.digit_rows.digits_len.Goals as goal

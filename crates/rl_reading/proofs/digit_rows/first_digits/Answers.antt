@@ -1,4 +1,4 @@
-use Rattle.rl_reading.proofs.Names.{common_steps, ◌≡◌, ◌<◌, ◌*◌, Some, true, nat_lt, arith, ap, sym, subst, refl, ◌∙◌, drop, ◌+◌, nat_tests, IsCharBoundary-start}
+use Rattle.rl_text.proofs.Common.{common_steps, ◌≡◌, ◌<◌, ◌*◌, Some, true, nat_lt, arith, ap, sym, subst, refl, ◌∙◌, drop, ◌+◌, nat_tests, IsCharBoundary-start}
 use Rattle.rl_reading.specs.Mirrors.NumberAt.{row_from}
 use Rattle.rl_reading.proofs.RowBytes.{digit_cuts, row_goes}
 use Rattle.rl_reading.proofs.TallyLemmas.{stays_small, append_small}

@@ -1,4 +1,4 @@
-use Rattle.rl_reading.proofs.Names.{Some, true, false, nat_lt, arith, ap, sym, subst, ◌∙◌, drop, ◌+◌, IsCharBoundary}
+use Rattle.rl_text.proofs.Common.{Some, true, false, nat_lt, arith, ap, sym, subst, ◌∙◌, drop, ◌+◌, IsCharBoundary}
 use Rattle.std.specs.Str.{chars}
 use Rattle.rl_reading.specs.Mirrors.NumberAt.{row_from}
 use Rattle.rl_reading.proofs.DigitRowLemmas.{row_start}

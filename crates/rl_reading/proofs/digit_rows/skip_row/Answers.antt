@@ -1,4 +1,4 @@
-use Rattle.rl_reading.proofs.Names.{◌≡◌, Bool, ℕ, Option, List, None, false, nat_lt, refl, arith, ap, sym, subst, ◌∙◌, drop, get_or, ◌+◌, IsCharBoundary}
+use Rattle.rl_text.proofs.Common.{◌≡◌, Bool, ℕ, Option, List, None, false, nat_lt, refl, arith, ap, sym, subst, ◌∙◌, drop, get_or, ◌+◌, IsCharBoundary}
 use Rattle.std.specs.Str.{chars}
 use Rattle.rl_text.proofs.Rests.{tail_drop}
 use Rattle.rl_reading.specs.Mirrors.NumberAt.{row_from}

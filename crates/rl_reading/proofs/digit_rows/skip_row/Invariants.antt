@@ -1,4 +1,4 @@
-use Rattle.rl_reading.proofs.Names.{◌≡◌, None, false, length, drop, IsCharBoundary}
+use Rattle.rl_text.proofs.Common.{◌≡◌, None, false, length, drop, IsCharBoundary}
 use Rattle.std.specs.Prelude.{◌-◌}
 use Rattle.rl_reading.specs.Mirrors.NumberAt.{row_from}
 use Rattle.rl_reading.proofs.digit_rows.skip_row.Given as goal

@@ -1,4 +1,4 @@
-use Rattle.rl_reading.proofs.Names.{ap, ◌∙◌, is_ascii_digit, list_all}
+use Rattle.rl_text.proofs.Common.{ap, ◌∙◌, is_ascii_digit, list_all}
 use Rattle.rl_reading.proofs.RowBytes.{digits_same}
 use Rattle.rl_reading.proofs.digits.all_digits.Goals as goal
 

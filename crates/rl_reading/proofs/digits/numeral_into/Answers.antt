@@ -1,4 +1,5 @@
-use Rattle.rl_reading.proofs.Names.{◌≡◌, ◌∙◌, ◌+◌, ◌∷◌, [], ◌++◌, length, ap, sym, append_assoc, append-nil, arith, rules, encode_utf8, encode_utf8_all, float_digits}
+use Rattle.rl_text.proofs.Common.{◌≡◌, ◌∙◌, ◌+◌, ◌∷◌, [], ◌++◌, length, ap, sym, append_assoc, append-nil, arith, rules, encode_utf8, encode_utf8_all}
+use Rattle.rl_reading.proofs.Names.{float_digits}
 use Rattle.std.proofs.Common.{length-append}
 use Rattle.std.specs.Str.{chars}
 use Rattle.rl_reading.proofs.DigitLemmas.{plain_more}

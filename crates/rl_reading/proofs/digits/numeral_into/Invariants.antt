@@ -1,5 +1,6 @@
 -- The digits of what was passed stand in the buffer, and the rest has room after them.
-use Rattle.rl_reading.proofs.Names.{◌≡◌, ◌+◌, ◌≤◌, ◌++◌, ℕ, List, take, length, encode_utf8_all, float_digits}
+use Rattle.rl_text.proofs.Common.{◌≡◌, ◌+◌, ◌≤◌, ◌++◌, ℕ, List, take, length, encode_utf8_all}
+use Rattle.rl_reading.proofs.Names.{float_digits}
 use denote.Text.{Utf8}
 use denote.Shadow.{shadow}
 use Rattle.std.specs.Str.{chars}

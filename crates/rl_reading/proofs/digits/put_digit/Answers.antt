@@ -1,4 +1,4 @@
-use Rattle.rl_reading.proofs.Names.{common_steps, arith}
+use Rattle.rl_text.proofs.Common.{common_steps, arith}
 use Rattle.rl_reading.proofs.digits.put_digit.Goals as goal
 
 pub overflow_cast-c : goal.overflow_cast-c

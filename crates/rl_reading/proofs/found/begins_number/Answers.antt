@@ -1,4 +1,5 @@
-use Rattle.rl_reading.proofs.Names.{ap, ◌∙◌, first_passes}
+use Rattle.rl_text.proofs.Common.{ap, ◌∙◌}
+use Rattle.rl_reading.proofs.Names.{first_passes}
 use Rattle.rl_reading.specs.WholeShapes.{is_number_front}
 use Rattle.rl_reading.proofs.ReadingLemmas.{front_same}
 use Rattle.rl_reading.proofs.found.begins_number.Goals as goal

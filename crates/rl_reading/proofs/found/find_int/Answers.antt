@@ -1,4 +1,4 @@
-use Rattle.rl_reading.proofs.Names.{refl}
+use Rattle.rl_text.proofs.Common.{refl}
 use Rattle.std.specs.Str.{chars}
 use Rattle.rl_text.proofs.TailLemmas.{if_none}
 use Rattle.rl_forms.proofs.OneNumber.{int_once}

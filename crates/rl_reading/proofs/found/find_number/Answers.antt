@@ -1,4 +1,4 @@
-use Rattle.rl_reading.proofs.Names.{common_steps, subst, arith}
+use Rattle.rl_text.proofs.Common.{common_steps, subst, arith}
 use Rattle.rl_reading.specs.NumbersRead.{IsNumberOf}
 use Rattle.rl_reading.proofs.FoundLemmas.{float_alone}
 use Rattle.rl_reading.proofs.found.find_number.Goals as goal

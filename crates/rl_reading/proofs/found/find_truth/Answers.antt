@@ -1,4 +1,4 @@
-use Rattle.rl_reading.proofs.Names.{subst, sym}
+use Rattle.rl_text.proofs.Common.{subst, sym}
 use Rattle.rl_reading.specs.Founds.{IsFound}
 use Rattle.rl_reading.proofs.FoundLemmas.{OfTruth, truth_found}
 use Rattle.rl_reading.proofs.found.find_truth.Goals as goal

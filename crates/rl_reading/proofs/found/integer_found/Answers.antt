@@ -1,4 +1,4 @@
-use Rattle.rl_reading.proofs.Names.{refl, rules, IsUtf8}
+use Rattle.rl_text.proofs.Common.{refl, rules, IsUtf8}
 use Rattle.rl_reading.proofs.FoundLemmas.{integer_found}
 use Rattle.rl_reading.proofs.found.integer_found.Goals as goal
 

@@ -1,5 +1,5 @@
 use Rattle.rl_reading.proofs.StrictBytesLemmas.{bytes_are_strict}
-use Rattle.rl_reading.proofs.Names.{common_steps, arith}
+use Rattle.rl_text.proofs.Common.{common_steps, arith}
 use Rattle.rl_reading.proofs.found.shape.Goals as goal
 
 pub returns-in_err-found-clause-none : goal.returns-in_err-found-clause-none

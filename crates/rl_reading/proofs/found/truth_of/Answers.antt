@@ -1,4 +1,4 @@
-use Rattle.rl_reading.proofs.Names.{true, false}
+use Rattle.rl_text.proofs.Common.{true, false}
 use Rattle.rl_lexer.proofs.TruthWords.{truth_chars, no_word}
 use Rattle.rl_reading.proofs.found.truth_of.Goals as goal
 

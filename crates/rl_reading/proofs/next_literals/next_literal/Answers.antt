@@ -1,4 +1,4 @@
-use Rattle.rl_reading.proofs.Names.{subst}
+use Rattle.rl_text.proofs.Common.{subst}
 use Rattle.rl_reading.specs.NextLiterals.{HasNoNextLiteral}
 use Rattle.rl_reading.proofs.NextLiteralLemmas.{if_none}
 use Rattle.rl_reading.proofs.next_literals.next_literal.Goals as goal

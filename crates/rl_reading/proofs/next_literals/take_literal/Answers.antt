@@ -1,4 +1,4 @@
-use Rattle.rl_reading.proofs.Names.{◌≡◌, ◌∙◌, inl, inr, ap, rules}
+use Rattle.rl_text.proofs.Common.{◌≡◌, ◌∙◌, inl, inr, ap, rules}
 use Rattle.rl_lexer.specs.Cursors.{form_view}
 use Rattle.rl_lexer.specs.Lexemes.{MarkForm}
 use Rattle.rl_reading.proofs.NextLiteralLemmas.{if_none, no_number, other_form}

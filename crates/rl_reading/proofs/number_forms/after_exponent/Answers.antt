@@ -1,5 +1,5 @@
 use Rattle.rl_text.proofs.TailLemmas.{tail_step}
-use Rattle.rl_reading.proofs.Names.{common_steps, arith}
+use Rattle.rl_text.proofs.Common.{common_steps, arith}
 use Rattle.rl_reading.specs.Mirrors.NumberAt.{after_exponent}
 use Rattle.rl_reading.proofs.number_forms.after_exponent.Goals as goal
 

@@ -1,4 +1,4 @@
-use Rattle.rl_reading.proofs.Names.{◌∙◌}
+use Rattle.rl_text.proofs.Common.{◌∙◌}
 use Rattle.std.specs.Str.{chars}
 use Rattle.rl_text.proofs.TailLemmas.{some_tail}
 use Rattle.rl_reading.proofs.HeadLemmas.{head_float}

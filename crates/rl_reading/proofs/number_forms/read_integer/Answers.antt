@@ -1,4 +1,4 @@
-use Rattle.rl_reading.proofs.Names.{◌∙◌}
+use Rattle.rl_text.proofs.Common.{◌∙◌}
 use Rattle.std.specs.Str.{chars}
 use Rattle.rl_reading.proofs.HeadLemmas.{no_head_int, head_int}
 use Rattle.rl_reading.proofs.number_forms.read_integer.Goals as goal

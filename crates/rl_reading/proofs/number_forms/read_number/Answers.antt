@@ -1,4 +1,4 @@
-use Rattle.rl_reading.proofs.Names.{sym, refl, ◌∙◌}
+use Rattle.rl_text.proofs.Common.{sym, refl, ◌∙◌}
 use Rattle.std.specs.Str.{chars}
 use Rattle.rl_text.proofs.TailLemmas.{if_none}
 use Rattle.rl_reading.proofs.FloatLemmas.{no_float, float_sound}

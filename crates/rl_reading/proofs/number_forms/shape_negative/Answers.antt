@@ -1,4 +1,5 @@
-use Rattle.rl_reading.proofs.Names.{ℕ, List, ◌∷◌, ◌++◌, ap₂, sym, subst, ◌∙◌, Kind, Reads}
+use Rattle.rl_text.proofs.Common.{ℕ, List, ◌∷◌, ◌++◌, ap₂, sym, subst, ◌∙◌}
+use Rattle.rl_reading.proofs.Names.{Kind, Reads}
 use Rattle.std.specs.Str.{chars}
 use Rattle.rl_reading.specs.Founds.{suffix_in}
 use Rattle.rl_reading.proofs.MinusLemmas.{negative_reads, number_split}

@@ -1,4 +1,4 @@
-use Rattle.rl_reading.proofs.Names.{◌∙◌}
+use Rattle.rl_text.proofs.Common.{◌∙◌}
 use Rattle.rl_reading.proofs.BareCharacters.{bare_text}
 use Rattle.rl_reading.proofs.quoted_forms.find_bare_character.Goals as goal
 

@@ -1,4 +1,5 @@
-use Rattle.rl_reading.proofs.Names.{◌∙◌, ap, refl, Char}
+use Rattle.rl_text.proofs.Common.{◌∙◌, ap, refl}
+use Rattle.rl_reading.proofs.Names.{Char}
 use Rattle.std.specs.Str.{chars}
 use Rattle.rl_reading.specs.declared.quoted_forms.QuotedForm.TheVariants.{Single as SingleForm}
 use Rattle.rl_reading.specs.Mirrors.OpenerAt.{opener_at}

@@ -1,4 +1,5 @@
-use Rattle.rl_reading.proofs.Names.{◌∙◌, sym, rules, IsUtf8, is_plain}
+use Rattle.rl_text.proofs.Common.{◌∙◌, sym, rules, IsUtf8}
+use Rattle.rl_reading.proofs.Names.{is_plain}
 use Rattle.std.specs.Str.{chars}
 use Rattle.rl_text.proofs.TailLemmas.{if_none}
 use Rattle.rl_reading.proofs.CutLemmas.{tail_chars}

@@ -1,4 +1,4 @@
-use Rattle.rl_reading.proofs.Names.{sym, rules, IsUtf8}
+use Rattle.rl_text.proofs.Common.{sym, rules, IsUtf8}
 use Rattle.rl_text.proofs.TailLemmas.{if_none}
 use Rattle.rl_reading.proofs.CutLemmas.{tail_chars}
 use Rattle.rl_reading.proofs.FormLemmas.{front_sound, single_found, single_stuck, single_none}

@@ -1,4 +1,4 @@
-use Rattle.rl_reading.proofs.Names.{sym}
+use Rattle.rl_text.proofs.Common.{sym}
 use Rattle.std.specs.Str.{chars}
 use Rattle.rl_reading.proofs.RawLemmas.{others_hold}
 use Rattle.rl_reading.proofs.quoted_forms.holds_all.Goals as goal

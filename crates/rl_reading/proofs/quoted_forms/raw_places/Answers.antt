@@ -1,4 +1,5 @@
-use Rattle.rl_reading.proofs.Names.{◌∷◌, ◌++◌, ◌∙◌, ap, sym, rules, list_all, IsUtf8, append_cancel_right, is_raw}
+use Rattle.rl_text.proofs.Common.{◌∷◌, ◌++◌, ◌∙◌, ap, sym, rules, list_all, IsUtf8, append_cancel_right}
+use Rattle.rl_reading.proofs.Names.{is_raw}
 use Rattle.std.specs.Str.{chars}
 use Rattle.std.proofs.lemmas.Str.{IsCharBoundary-at_seam}
 use Rattle.rl_text.proofs.TailLemmas.{tail_step, if_none}

@@ -1,4 +1,4 @@
-use Rattle.rl_reading.proofs.Names.{subst, sym, rules}
+use Rattle.rl_text.proofs.Common.{subst, sym, rules}
 use Rattle.std.specs.Str.{chars}
 use Rattle.rl_reading.specs.Rows.{BeginsRow}
 use Rattle.rl_reading.proofs.RowLemmas.{row_step, row_run}

@@ -1,4 +1,5 @@
-use Rattle.rl_reading.proofs.Names.{◌≡◌, ◌∙◌, [], ◌∷◌, ◌++◌, ap, sym, refl, rules, and_from, append_cancel_right, chars-nil, list_all, IsUtf8, first_passes, is_plain}
+use Rattle.rl_text.proofs.Common.{◌≡◌, ◌∙◌, [], ◌∷◌, ◌++◌, ap, sym, refl, rules, and_from, append_cancel_right, chars-nil, list_all, IsUtf8}
+use Rattle.rl_reading.proofs.Names.{first_passes, is_plain}
 use Rattle.std.specs.Str.{chars}
 use Rattle.rl_reading.proofs.CutLemmas.{tail_chars}
 use Rattle.rl_reading.proofs.segments.split_run.Goals as goal

@@ -1,4 +1,5 @@
-use Rattle.rl_reading.proofs.Names.{◌≡◌, ◌+◌, ◌∙◌, [], length, sym, ap, append-nil, arith, rules, chars-nil, IsUtf8, first_passes, is_plain}
+use Rattle.rl_text.proofs.Common.{◌≡◌, ◌+◌, ◌∙◌, [], length, sym, ap, append-nil, arith, rules, chars-nil, IsUtf8}
+use Rattle.rl_reading.proofs.Names.{first_passes, is_plain}
 use Rattle.std.proofs.Common.{length-append}
 use Rattle.std.proofs.lemmas.Str.{IsUtf8-nil}
 use Rattle.std.specs.Str.{chars}

@@ -1,4 +1,5 @@
-use Rattle.rl_reading.proofs.Names.{◌∙◌, ByteStr, is_plain}
+use Rattle.rl_text.proofs.Common.{◌∙◌}
+use Rattle.rl_reading.proofs.Names.{ByteStr, is_plain}
 use Rattle.rl_reading.proofs.PlainLemmas.{same_prefix}
 use Rattle.rl_reading.proofs.units.byte_run_len.Goals as goal
 

@@ -1,4 +1,4 @@
-use Rattle.rl_reading.proofs.Names.{common_steps, arith}
+use Rattle.rl_text.proofs.Common.{common_steps, arith}
 use Rattle.rl_reading.specs.Mirrors.UnitAt.{hex_at}
 use Rattle.rl_reading.proofs.units.hex_escape.Goals as goal
 

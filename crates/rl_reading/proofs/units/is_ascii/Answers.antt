@@ -1,4 +1,5 @@
-use Rattle.rl_reading.proofs.Names.{refl, ap, ◌∙◌, prefix_len, is_ascii_other}
+use Rattle.rl_text.proofs.Common.{refl, ap, ◌∙◌, prefix_len}
+use Rattle.rl_reading.proofs.Names.{is_ascii_other}
 use Rattle.rl_reading.proofs.ByteRunLemmas.{ascii_all}
 use Rattle.rl_reading.proofs.units.is_ascii.Goals as goal
 

@@ -1,5 +1,5 @@
 -- At most five digits stand before this one, so the value is below 16 to the fifth.
-use Rattle.rl_reading.proofs.Names.{◌<◌, ◌≤◌, ◌^◌, arith, common_steps}
+use Rattle.rl_text.proofs.Common.{◌<◌, ◌≤◌, ◌^◌, arith, common_steps}
 use Rattle.std.proofs.Math.Nat.{pow-le-pow_right}
 use Rattle.rl_reading.proofs.units.more_digits.Goals as goal
 

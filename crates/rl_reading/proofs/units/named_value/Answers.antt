@@ -1,4 +1,4 @@
-use Rattle.rl_reading.proofs.Names.{◌∙◌, sym}
+use Rattle.rl_text.proofs.Common.{◌∙◌, sym}
 use Rattle.rl_reading.proofs.NamedLemmas.{named_ascii, named_some}
 use Rattle.rl_reading.proofs.units.named_value.Goals as goal
 

@@ -1,4 +1,5 @@
-use Rattle.rl_reading.proofs.Names.{◌<◌, ap, sym, ◌∙◌, rules, IsScalar}
+use Rattle.rl_text.proofs.Common.{◌<◌, ap, sym, ◌∙◌, rules}
+use Rattle.rl_reading.proofs.Names.{IsScalar}
 use Rattle.rl_reading.specs.Mirrors.UnitAt.{piece_value}
 use Rattle.rl_reading.proofs.SingleBodies.{character_unit, byte_unit}
 use Rattle.rl_reading.proofs.units.piece_unit.Goals as goal

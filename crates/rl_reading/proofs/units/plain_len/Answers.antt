@@ -1,4 +1,5 @@
-use Rattle.rl_reading.proofs.Names.{arith, is_plain}
+use Rattle.rl_text.proofs.Common.{arith}
+use Rattle.rl_reading.proofs.Names.{is_plain}
 use Rattle.rl_reading.proofs.UnitLemmas.{backslash_not_plain}
 use Rattle.rl_text.proofs.ScanLemmas.{none_passes}
 use Rattle.rl_reading.proofs.units.plain_len.Goals as goal

@@ -1,4 +1,5 @@
-use Rattle.rl_reading.proofs.Names.{◌≡◌, ap, sym, ◌∙◌, prefix_len, Str, ByteStr, CStr, is_plain}
+use Rattle.rl_text.proofs.Common.{◌≡◌, ap, sym, ◌∙◌, prefix_len}
+use Rattle.rl_reading.proofs.Names.{Str, ByteStr, CStr, is_plain}
 use Rattle.rl_reading.proofs.PlainLemmas.{same_prefix, in_run_other, other_string}
 use Rattle.rl_reading.proofs.units.run_len.Goals as goal
 

@@ -1,4 +1,4 @@
-use Rattle.rl_reading.proofs.Names.{◌∙◌}
+use Rattle.rl_text.proofs.Common.{◌∙◌}
 use Rattle.rl_reading.proofs.RunLemmas.{run_is_blanks}
 use Rattle.rl_reading.proofs.units.skip_blanks.Goals as goal
 

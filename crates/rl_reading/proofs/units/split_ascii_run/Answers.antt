@@ -1,4 +1,5 @@
-use Rattle.rl_reading.proofs.Names.{◌≡◌, ◌++◌, take, drop, sym, subst, ap, ap₂, ◌∙◌, rules, IsCharBoundary, list_all, prefix_len, first_passes, is_ascii_other}
+use Rattle.rl_text.proofs.Common.{◌≡◌, ◌++◌, take, drop, sym, subst, ap, ap₂, ◌∙◌, rules, IsCharBoundary, list_all, prefix_len}
+use Rattle.rl_reading.proofs.Names.{first_passes, is_ascii_other}
 use Rattle.std.specs.Str.{chars}
 use Rattle.rl_reading.proofs.ByteRunLemmas.{other_cut}
 use Rattle.rl_reading.proofs.units.split_ascii_run.Goals as goal

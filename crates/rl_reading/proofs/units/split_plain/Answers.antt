@@ -1,4 +1,5 @@
-use Rattle.rl_reading.proofs.Names.{◌≡◌, ◌++◌, take, drop, sym, subst, ap, ap₂, ◌∙◌, rules, IsCharBoundary, list_all, prefix_len, first_passes, is_plain}
+use Rattle.rl_text.proofs.Common.{◌≡◌, ◌++◌, take, drop, sym, subst, ap, ap₂, ◌∙◌, rules, IsCharBoundary, list_all, prefix_len}
+use Rattle.rl_reading.proofs.Names.{first_passes, is_plain}
 use Rattle.std.specs.Str.{chars}
 use Rattle.rl_reading.proofs.ByteRunLemmas.{plain_cut}
 use Rattle.rl_reading.proofs.units.split_plain.Goals as goal

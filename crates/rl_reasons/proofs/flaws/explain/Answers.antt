@@ -1,4 +1,4 @@
-use Rattle.rl_reading.proofs.Names.{rules, arith, ap, ◌+◌, length, sym, ◌∙◌, IsUtf8}
+use Rattle.rl_text.proofs.Common.{rules, arith, ap, ◌+◌, length, sym, ◌∙◌, IsUtf8}
 use Rattle.std.proofs.Common.{◌-◌}
 use Rattle.std.specs.Str.{chars}
 use Rattle.rl_reasons.proofs.ExplainLemmas.{front_bytes, piece_bytes, piece_front, some_reads}

@@ -1,4 +1,4 @@
-use Rattle.rl_reading.proofs.Names.{true, false, refl, ◌∙◌}
+use Rattle.rl_text.proofs.Common.{true, false, refl, ◌∙◌}
 use Rattle.rl_lexer.proofs.TruthWords.{truth_chars}
 use Rattle.rl_reasons.proofs.WordFlawLemmas.{false_place, true_place}
 use Rattle.rl_reasons.proofs.flaws.first_flaw.Goals as goal

@@ -1,4 +1,4 @@
-use Rattle.rl_reading.proofs.Names.{common_steps, sym, ap, inl, inr, arith, ◌∙◌}
+use Rattle.rl_text.proofs.Common.{common_steps, sym, ap, inl, inr, arith, ◌∙◌}
 use Rattle.std.specs.Str.{chars}
 use Rattle.rl_reading.proofs.FormLemmas.{front_sound}
 use Rattle.rl_reasons.proofs.QuotedStopLemmas.{no_opener_piece, no_parts_of, quoted_has, quoted_piece, stops_quoted}

@@ -1,4 +1,4 @@
-use Rattle.rl_reading.proofs.Names.{rules}
+use Rattle.rl_text.proofs.Common.{rules}
 use Rattle.rl_reasons.proofs.flaws.place_in.Goals as goal
 
 pub returns-in-Some : goal.returns-in-Some

@@ -1,4 +1,4 @@
-use Rattle.rl_reading.proofs.Names.{common_steps, arith}
+use Rattle.rl_text.proofs.Common.{common_steps, arith}
 use Rattle.rl_reasons.proofs.flaws.skip_letters.Goals as goal
 
 pub loop-letter-smaller : goal.loop-letter-smaller

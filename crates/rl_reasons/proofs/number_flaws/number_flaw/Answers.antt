@@ -1,4 +1,4 @@
-use Rattle.rl_reading.proofs.Names.{sym, ◌∙◌}
+use Rattle.rl_text.proofs.Common.{sym, ◌∙◌}
 use Rattle.rl_reasons.proofs.NumberFlawLemmas.{digits_place, minus_place}
 use Rattle.rl_reasons.proofs.number_flaws.number_flaw.Goals as goal
 

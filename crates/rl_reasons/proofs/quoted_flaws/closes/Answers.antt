@@ -1,4 +1,5 @@
-use Rattle.rl_reading.proofs.Names.{sym, subst, MatchBool}
+use Rattle.rl_text.proofs.Common.{sym, subst}
+use Rattle.rl_reading.proofs.Names.{MatchBool}
 use Rattle.std.specs.Str.{chars}
 use Rattle.rl_reasons.specs.FlawKinds.{HasLastCloser}
 use Rattle.rl_reasons.proofs.RawFlawLemmas.{closes_either}

@@ -1,4 +1,4 @@
-use Rattle.rl_reading.proofs.Names.{◌∙◌, sym, ap, subst}
+use Rattle.rl_text.proofs.Common.{◌∙◌, sym, ap, subst}
 use Rattle.std.specs.Str.{chars}
 use Rattle.rl_reasons.specs.FlawKinds.{BeginsUnits}
 use Rattle.rl_reasons.specs.Mirrors.UnitFlawAt.{found_flaw}

@@ -1,4 +1,4 @@
-use Rattle.rl_reading.proofs.Names.{◌∙◌}
+use Rattle.rl_text.proofs.Common.{◌∙◌}
 use Rattle.rl_reasons.proofs.CodeDigitFlaws.{first_flaw_is}
 use Rattle.rl_reasons.proofs.quoted_flaws.first_digit_flaw.Goals as goal
 

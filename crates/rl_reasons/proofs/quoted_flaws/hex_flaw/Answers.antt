@@ -1,5 +1,5 @@
 use Rattle.rl_reasons.specs.Mirrors.UnitFlawAt.{hex_flaw_at}
-use Rattle.rl_reading.proofs.Names.{common_steps, arith}
+use Rattle.rl_text.proofs.Common.{common_steps, arith}
 use Rattle.rl_reasons.proofs.quoted_flaws.hex_flaw.Goals as goal
 
 pub returns-in-Some-to_digit : goal.returns-in-Some-to_digit

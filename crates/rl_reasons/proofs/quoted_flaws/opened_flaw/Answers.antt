@@ -1,4 +1,4 @@
-use Rattle.rl_reading.proofs.Names.{◌∙◌, ap, sym}
+use Rattle.rl_text.proofs.Common.{◌∙◌, ap, sym}
 use Rattle.std.specs.Str.{chars}
 use Rattle.rl_reasons.proofs.RawFlawLemmas.{flaw_as, reopened_flaw, spoiled_flaw}
 use Rattle.rl_reasons.proofs.quoted_flaws.opened_flaw.Goals as goal

@@ -1,4 +1,4 @@
-use Rattle.rl_reading.proofs.Names.{ap}
+use Rattle.rl_text.proofs.Common.{ap}
 use Rattle.std.specs.Str.{chars}
 use Rattle.rl_reasons.proofs.RawFlawLemmas.{raw_stops}
 use Rattle.rl_reasons.proofs.quoted_flaws.quoted_flaw.Goals as goal

@@ -1,4 +1,5 @@
-use Rattle.rl_reading.proofs.Names.{◌++◌, ◌∙◌, ap, subst, sym, raw_opener}
+use Rattle.rl_text.proofs.Common.{◌++◌, ◌∙◌, ap, subst, sym}
+use Rattle.rl_reading.proofs.Names.{raw_opener}
 use Rattle.std.specs.Str.{chars}
 use Rattle.rl_reading.specs.declared.quoted_forms.QuotedForm.TheVariants.{Raw as RawForm}
 use Rattle.rl_reasons.specs.FlawKinds.{RawFlaw}

@@ -1,4 +1,4 @@
-use Rattle.rl_reading.proofs.Names.{◌∙◌, sym, ap}
+use Rattle.rl_text.proofs.Common.{◌∙◌, sym, ap}
 use Rattle.std.specs.Str.{chars}
 use Rattle.rl_reasons.specs.Mirrors.UnitFlawAt.{found_flaw}
 use Rattle.rl_reasons.proofs.QuotedFlawLemmas.{single_unit_flaw, single_quote_flaw}

@@ -1,4 +1,5 @@
-use Rattle.rl_reading.proofs.Names.{ap, sym, ◌∙◌, chars-nil, is_raw}
+use Rattle.rl_text.proofs.Common.{ap, sym, ◌∙◌, chars-nil}
+use Rattle.rl_reading.proofs.Names.{is_raw}
 use lib.Seq.{drop-length}
 use Rattle.std.specs.Str.{chars}
 use Rattle.rl_text.proofs.Rests.{tail_drop}

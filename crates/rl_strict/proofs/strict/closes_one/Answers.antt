@@ -1,4 +1,4 @@
-use Rattle.rl_reading.proofs.Names.{sym}
+use Rattle.rl_text.proofs.Common.{sym}
 use Rattle.rl_strict.proofs.StrictRowLemmas.{one_end, one_none}
 use Rattle.rl_strict.proofs.strict.closes_one.Goals as goal
 

@@ -1,4 +1,4 @@
-use Rattle.rl_reading.proofs.Names.{arith, nat_tests}
+use Rattle.rl_text.proofs.Common.{arith, nat_tests}
 use Rattle.rl_strict.proofs.StrictRawLemmas.{raw_opened, raw_many, raw_unquoted}
 use Rattle.rl_strict.proofs.strict.closes_raw.Goals as goal
 

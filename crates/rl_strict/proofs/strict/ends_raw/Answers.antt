@@ -1,4 +1,4 @@
-use Rattle.rl_reading.proofs.Names.{refl, rules}
+use Rattle.rl_text.proofs.Common.{refl, rules}
 use Rattle.std.specs.Str.{chars}
 use Rattle.rl_strict.proofs.StrictRawLemmas.{turn_close, turn_on, raw_past}
 use Rattle.rl_strict.proofs.strict.ends_raw.Goals as goal

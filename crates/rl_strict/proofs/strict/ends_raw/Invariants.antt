@@ -1,4 +1,4 @@
-use Rattle.rl_reading.proofs.Names.{◌≡◌, length}
+use Rattle.rl_text.proofs.Common.{◌≡◌, length}
 use denote.Text.{Utf8}
 use denote.Shadow.{shadow}
 use Rattle.std.specs.Str.{chars}

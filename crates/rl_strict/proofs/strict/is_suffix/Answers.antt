@@ -1,6 +1,6 @@
 use Rattle.rl_strict.specs.Mirrors.StrictAt.{is_strict_suffix}
 use Rattle.rl_reading.proofs.CutLemmas.{some_text}
-use Rattle.rl_reading.proofs.Names.{arith}
+use Rattle.rl_text.proofs.Common.{arith}
 use Rattle.rl_strict.proofs.strict.is_suffix.Goals as goal
 
 pub returns-then-not-is_empty : goal.returns-then-not-is_empty

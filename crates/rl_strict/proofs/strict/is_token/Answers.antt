@@ -1,4 +1,4 @@
-use Rattle.rl_reading.proofs.Names.{◌∙◌, sym}
+use Rattle.rl_text.proofs.Common.{◌∙◌, sym}
 use Rattle.std.specs.Str.{chars}
 use Rattle.rl_reading.proofs.FormLemmas.{front_sound}
 use Rattle.rl_strict.proofs.StrictLemmas.{told_token, passed_token, other_token}

@@ -1,4 +1,4 @@
-use Rattle.rl_reading.proofs.Names.{sym, rules}
+use Rattle.rl_text.proofs.Common.{sym, rules}
 use Rattle.rl_strict.proofs.StrictRowLemmas.{units_step, units_past}
 use Rattle.rl_strict.proofs.strict.skip_units.Goals as goal
 

@@ -1,5 +1,5 @@
 use Rattle.rl_reading.proofs.FoundLemmas.{kinds_same, kinds_differ, found_reads}
-use Rattle.rl_reading.proofs.Names.{common_steps, arith}
+use Rattle.rl_text.proofs.Common.{common_steps, arith}
 use Rattle.std.specs.Str.{chars}
 use Rattle.rl_grammar.specs.FrontTokens.{front_token}
 use Rattle.rl_grammar.proofs.FrontLemmas.{one_kind}

@@ -1,4 +1,4 @@
-use Rattle.rl_reading.proofs.Names.{rules}
+use Rattle.rl_text.proofs.Common.{rules}
 use Rattle.std.specs.Str.{chars}
 use Rattle.rl_reading.proofs.MinusLemmas.{minus_chars}
 use Rattle.rl_grammar.proofs.FrontLemmas.{no_negative_truth}

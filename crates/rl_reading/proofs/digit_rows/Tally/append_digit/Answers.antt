@@ -1,4 +1,4 @@
-use Rattle.rl_reading.proofs.Names.{common_steps, ◌+◌, ◌*◌, ap, ◌∙◌, arith}
+use Rattle.rl_text.proofs.Common.{common_steps, ◌+◌, ◌*◌, ap, ◌∙◌, arith}
 use Rattle.rl_reading.specs.Mirrors.NumberAt.{append_digit}
 use Rattle.rl_reading.proofs.TallyLemmas.{append_last}
 use Rattle.rl_reading.proofs.digit_rows.Tally.append_digit.Goals as goal

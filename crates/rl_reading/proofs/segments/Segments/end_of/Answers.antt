@@ -1,4 +1,4 @@
-use Rattle.rl_reading.proofs.Names.{length, arith, ap, subst, sym}
+use Rattle.rl_text.proofs.Common.{length, arith, ap, subst, sym}
 use Rattle.rl_reading.specs.Segments.{IsLeftAt, SegmentsState, ends_in}
 use Rattle.rl_reading.proofs.SegmentLemmas.{given_end, given_within, past_left}
 use Rattle.rl_reading.proofs.segments.Segments.end_of.Goals as goal

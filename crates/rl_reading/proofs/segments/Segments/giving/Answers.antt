@@ -1,4 +1,4 @@
-use Rattle.rl_reading.proofs.Names.{arith}
+use Rattle.rl_text.proofs.Common.{arith}
 use Rattle.rl_reading.proofs.SegmentLemmas.{arrives, ends_before, goes_past}
 use Rattle.rl_reading.proofs.segments.Segments.giving.Goals as goal
 

@@ -1,4 +1,4 @@
-use Rattle.rl_reading.proofs.Names.{length}
+use Rattle.rl_text.proofs.Common.{length}
 use Rattle.rl_reading.proofs.SegmentLemmas.{IsOnTheWay}
 use Rattle.rl_reading.proofs.segments.Segments.giving.Given as goal
 

@@ -1,4 +1,4 @@
-use Rattle.rl_reading.proofs.Names.{◌∙◌, sym}
+use Rattle.rl_text.proofs.Common.{◌∙◌, sym}
 use Rattle.rl_text.proofs.TailLemmas.{if_none}
 use Rattle.rl_reading.proofs.FoundLemmas.{found_reads}
 use Rattle.rl_reading.proofs.SegmentStarts.{no_quoted, none_quoted}

@@ -1,4 +1,4 @@
-use Rattle.rl_reading.proofs.Names.{length, arith, ap, subst, sym}
+use Rattle.rl_text.proofs.Common.{length, arith, ap, subst, sym}
 use Rattle.rl_reading.specs.Segments.{IsLeftAt, SegmentsState, begins_in}
 use Rattle.rl_reading.proofs.SegmentLemmas.{given_place, given_within, past_left}
 use Rattle.rl_reading.proofs.segments.Segments.place_of.Goals as goal
