@@ -1,4 +1,4 @@
--- What most lemmas on readers name of the definitions below, and of std what `Common` of `rl_text` does not, in one place.
+-- What most lemmas on readers name besides what `Common` of `rl_text` passes on, in one place.
 pub use Rattle.rl_text.specs.Classes.{after_run, is_hash}
 pub use Rattle.rl_lexer.specs.Mirrors.LexemeAt.{hashes as hash_count}
 pub use Rattle.rl_forms.specs.Numbers.{Base, Binary, Decimal, Dot, FloatReads, Fraction, Hexadecimal, IntReads, IsAfterPrefix, IsFraction, IsSuffix, Minus, NoFraction, NoSign, Octal, Sign, float_digits, fraction_text, is_exponent_letter, limit, prefix, radix, sign_text}

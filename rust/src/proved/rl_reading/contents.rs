@@ -4,8 +4,8 @@
 
 use crate::rl_reading::found::{find, find_float, found_in};
 use crate::rl_reading::units::{Piece, piece_unit, split_plain, unit};
-use crate::rl_text::room::{put, put_byte, put_char};
 use crate::rl_forms::Kind;
+use crate::rl_text::room::{put, put_byte, put_char};
 
 /// Puts a piece there, a character as its UTF-8 bytes.
 #[inline(always)]

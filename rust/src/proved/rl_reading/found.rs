@@ -4,7 +4,10 @@
 use crate::rl_reading::digit_rows::is_negative;
 use crate::rl_reading::digits::{is_plain_float, is_plain_integer};
 use crate::rl_reading::number_forms::{Number, float_suffix, read_integer, read_number};
-use crate::rl_reading::quoted_forms::{QuotedForm, begins_character, find_bare_character, find_character, find_cooked, find_raw, find_single, split_opener};
+use crate::rl_reading::quoted_forms::{
+    QuotedForm, begins_character, find_bare_character, find_character, find_cooked, find_raw,
+    find_single, split_opener,
+};
 use crate::rl_forms::Kind;
 use crate::rl_text::text::before;
 

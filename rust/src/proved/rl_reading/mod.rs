@@ -12,10 +12,16 @@ mod segments;
 mod source_literals;
 pub mod units;
 
-pub use crate::rl_reading::contents::{byte_of, byte_of_body, bytes_into, char_of, char_of_body, is_plain, str_into};
+pub use crate::rl_reading::contents::{
+    byte_of, byte_of_body, bytes_into, char_of, char_of_body, is_plain, str_into,
+};
 pub use crate::rl_reading::digits::numeral_into;
-pub use crate::rl_reading::found::{Body, Found, Parts, find, find_float, find_int, find_negative, shape, truth_of};
-pub use crate::rl_reading::next_literals::{ListStep, NextLiteral, Rejection, RejectionKind, list_step, next_literal};
+pub use crate::rl_reading::found::{
+    Body, Found, Parts, find, find_float, find_int, find_negative, shape, truth_of,
+};
+pub use crate::rl_reading::next_literals::{
+    ListStep, NextLiteral, Rejection, RejectionKind, list_step, next_literal,
+};
 pub use crate::rl_reading::number_forms::{float_shape, int_shape, shape_negative};
 pub use crate::rl_reading::segments::{Segment, SegmentValue, Segments, place_of};
 pub use crate::rl_reading::source_literals::{SourceStep, source_step};

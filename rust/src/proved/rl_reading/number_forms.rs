@@ -1,7 +1,9 @@
 // Rendered from crates/rl_reading/src/number_forms.rt by tools/render, which erases contracts: change that file, and render anew.
 //! Numbers: integers with their base, floats, and an integer before a float.
 
-use crate::rl_reading::digit_rows::{DigitRow, after_minus, begins_digit, is_exponent_suffix, is_suffix, read_row, skip_row};
+use crate::rl_reading::digit_rows::{
+    DigitRow, after_minus, begins_digit, is_exponent_suffix, is_suffix, read_row, skip_row,
+};
 use crate::rl_reading::found::{Parts, find_float, find_int, find_unsigned};
 use crate::rl_text::classes::{CharClass, skip_class};
 use crate::rl_text::text::{split_ascii, split_char};
