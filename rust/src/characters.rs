@@ -1,9 +1,9 @@
 //! Bytes and characters.
 
 use crate::common::literal_type;
-use crate::grammar::Body;
 use crate::places::quoted_type;
-use crate::tokens::Kind;
+use crate::rl_forms::Kind;
+use crate::rl_reading::Body;
 use alloc::borrow::Cow;
 
 /// A byte: `b'a'`.

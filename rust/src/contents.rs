@@ -1,7 +1,7 @@
 //! What literals stand for whose bodies aren't it.
 
-use crate::grammar::{bytes_into, numeral_into, Body, SegmentValue, Segments};
-use crate::tokens::Kind;
+use crate::rl_forms::Kind;
+use crate::rl_reading::{bytes_into, numeral_into, Body, SegmentValue, Segments};
 use alloc::string::String;
 use alloc::vec::Vec;
 

@@ -1,7 +1,7 @@
 //! Why a text is no list of literals, and no source.
 
-use crate::grammar::RejectionKind;
-use crate::tokens::{LexKind, Sources};
+use crate::rl_lexer::{LexKind, Sources};
+use crate::rl_reading::RejectionKind;
 use core::fmt;
 use core::ops::Range;
 

@@ -49,7 +49,7 @@ mod parse_error;
 mod places;
 #[cfg(feature = "proc-macro")]
 mod proc_macros;
-#[allow(dead_code, unused_variables)]
+#[allow(dead_code, unused_imports, unused_variables)]
 #[allow(clippy::style, clippy::complexity, clippy::pedantic)]
 #[rustfmt::skip]
 mod proved;
@@ -63,7 +63,7 @@ mod unicode;
 mod words;
 mod write;
 
-use proved::{grammar, tokens};
+use proved::{rl_forms, rl_lexer, rl_reading, rl_reasons, rl_strict, rl_text};
 
 pub use characters::{LitByte, LitChar};
 pub use error::{ErrorKind, ListError};
@@ -94,7 +94,7 @@ pub use write::{write_byte, write_byte_str, write_c_str, write_char, write_str};
 /// ```
 #[must_use]
 pub fn is_token(text: &str) -> bool {
-    grammar::strict::is_token(text)
+    rl_strict::is_token(text)
 }
 
 /// The examples of `README.md`.

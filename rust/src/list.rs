@@ -1,9 +1,9 @@
 //! Lists of literals.
 
 use crate::error::{ErrorKind, ListError};
-use crate::grammar::{list_step, next_literal, ListStep, NextLiteral};
 use crate::lit::Lit;
-use crate::tokens::Tokens;
+use crate::rl_lexer::Tokens;
+use crate::rl_reading::{list_step, next_literal, ListStep, NextLiteral};
 use alloc::borrow::Cow;
 use alloc::format;
 use core::fmt;

@@ -1,11 +1,11 @@
 //! Literals of any kind.
 
-use crate::grammar::{find, Found};
 use crate::kind::Kind;
 use crate::parse_error::ParseError;
 use crate::places::{Places, Segments};
 use crate::reading::{find_rust, is_plainly_rust, is_rust};
-use crate::tokens;
+use crate::rl_forms;
+use crate::rl_reading::{find, Found};
 use crate::{
     LitBool, LitByte, LitByteStr, LitCStr, LitChar, LitFloat, LitInt, LitStr, LitVerbatim,
 };
@@ -76,8 +76,8 @@ macro_rules! each_found_kind {
     };
     (@arms $found:expr, $kind:ident => $result:expr; $($name:ident)*) => {
         match $found {
-            $(tokens::Kind::$name => {
-                let $kind = tokens::Kind::$name;
+            $(rl_forms::Kind::$name => {
+                let $kind = rl_forms::Kind::$name;
                 $result
             })*
         }
@@ -214,22 +214,22 @@ impl<'t> Lit<'t> {
 
     /// The literal of a text, of which this was found, and this kind.
     #[inline]
-    fn of_kind(kind: tokens::Kind, text: Cow<'t, str>, found: &Found) -> Lit<'t> {
+    fn of_kind(kind: rl_forms::Kind, text: Cow<'t, str>, found: &Found) -> Lit<'t> {
         let body = found.body;
         match kind {
-            tokens::Kind::Str => Lit::Str(LitStr::of(text, body)),
-            tokens::Kind::ByteStr => Lit::ByteStr(LitByteStr::of(text, body)),
-            tokens::Kind::CStr => Lit::CStr(LitCStr::of(text, body)),
-            tokens::Kind::Byte => Lit::Byte(LitByte::of(text, body.suffix_at, found.unit)),
-            tokens::Kind::Char => Lit::Char(LitChar::of(text, body.suffix_at, found.unit)),
-            tokens::Kind::Int => Lit::Int(LitInt::of(
+            rl_forms::Kind::Str => Lit::Str(LitStr::of(text, body)),
+            rl_forms::Kind::ByteStr => Lit::ByteStr(LitByteStr::of(text, body)),
+            rl_forms::Kind::CStr => Lit::CStr(LitCStr::of(text, body)),
+            rl_forms::Kind::Byte => Lit::Byte(LitByte::of(text, body.suffix_at, found.unit)),
+            rl_forms::Kind::Char => Lit::Char(LitChar::of(text, body.suffix_at, found.unit)),
+            rl_forms::Kind::Int => Lit::Int(LitInt::of(
                 text,
                 body.suffix_at,
                 found.magnitude,
                 body.plain,
             )),
-            tokens::Kind::Float => Lit::Float(LitFloat::of(text, body.suffix_at, body.plain)),
-            tokens::Kind::Bool => Lit::Bool(LitBool::of(text, found.truth)),
+            rl_forms::Kind::Float => Lit::Float(LitFloat::of(text, body.suffix_at, body.plain)),
+            rl_forms::Kind::Bool => Lit::Bool(LitBool::of(text, found.truth)),
         }
     }
 

@@ -1,8 +1,8 @@
 //! Why a text is no literal, and where.
 
-use crate::grammar::explain;
-pub use crate::grammar::FlawKind;
 use crate::kind::Kind;
+use crate::rl_reasons::explain;
+pub use crate::rl_reasons::FlawKind;
 use core::fmt;
 use core::ops::Range;
 

@@ -1,7 +1,7 @@
 //! Where in a literal's text what it stands for is written.
 
-use crate::grammar::{self, Body};
-use crate::tokens;
+use crate::rl_forms;
+use crate::rl_reading::{self, Body};
 use alloc::vec::Vec;
 use core::fmt;
 use core::iter::FusedIterator;
@@ -50,10 +50,10 @@ pub struct Segment<'t> {
 
 /// The segments of a quoted literal, in order: see [`LitStr::segments`](crate::LitStr::segments).
 #[must_use = "an iterator does nothing until it is asked"]
-pub struct Segments<'t>(grammar::Segments<'t>);
+pub struct Segments<'t>(rl_reading::Segments<'t>);
 
 impl<'t> Segments<'t> {
-    pub(crate) fn of(kind: tokens::Kind, text: &'t str, body: Body) -> Self {
+    pub(crate) fn of(kind: rl_forms::Kind, text: &'t str, body: Body) -> Self {
         Segments(body.segments_in(kind, text))
     }
 }
@@ -64,10 +64,10 @@ impl<'t> Iterator for Segments<'t> {
     fn next(&mut self) -> Option<Segment<'t>> {
         let next = self.0.next()?;
         let value = match next.value {
-            grammar::SegmentValue::Text(text) => SegmentValue::Text(text),
-            grammar::SegmentValue::Char(c) => SegmentValue::Char(c),
-            grammar::SegmentValue::Byte(byte) => SegmentValue::Byte(byte),
-            grammar::SegmentValue::Nothing => SegmentValue::Nothing,
+            rl_reading::SegmentValue::Text(text) => SegmentValue::Text(text),
+            rl_reading::SegmentValue::Char(c) => SegmentValue::Char(c),
+            rl_reading::SegmentValue::Byte(byte) => SegmentValue::Byte(byte),
+            rl_reading::SegmentValue::Nothing => SegmentValue::Nothing,
         };
         Some(Segment {
             range: next.lo..next.hi,
@@ -96,12 +96,12 @@ pub struct Places {
 }
 
 impl Places {
-    pub(crate) fn of(mut segments: grammar::Segments<'_>) -> Places {
+    pub(crate) fn of(mut segments: rl_reading::Segments<'_>) -> Places {
         let (mut places, mut at) = (Vec::new(), 0);
         while let Some(segment) = segments.next() {
             let len = segment.value.len();
             if len > 0 {
-                let is_text = matches!(segment.value, grammar::SegmentValue::Text(_));
+                let is_text = matches!(segment.value, rl_reading::SegmentValue::Text(_));
                 places.push((at, segment.lo..segment.hi, is_text));
             }
             at += len;

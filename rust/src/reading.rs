@@ -1,9 +1,9 @@
 //! Whether Rust takes a text that `syn` reads.
 
-use crate::grammar::strict::is_token;
-use crate::grammar::{find, Body, Found};
 use crate::numbers::NumberType;
-use crate::tokens::Kind;
+use crate::rl_forms::Kind;
+use crate::rl_reading::{find, Body, Found};
+use crate::rl_strict::is_token;
 
 /// The most hashes that a raw string of Rust's has on each side.
 const MOST_HASHES: usize = 255;
@@ -120,7 +120,7 @@ fn is_token_after_minus(text: &str) -> bool {
 #[cfg(test)]
 mod tests {
     use super::*;
-    use crate::grammar::find;
+    use crate::rl_reading::find;
     use std::string::String;
 
     /// All texts of up to so many of these characters, after the front.

@@ -2,7 +2,7 @@
 
 use crate::list::take_literal;
 use crate::lit::Lit;
-use crate::tokens::{Form, LexKind, Lexeme, Tokens};
+use crate::rl_lexer::{Form, LexKind, Lexeme, Tokens};
 use alloc::collections::BTreeSet;
 use alloc::vec::Vec;
 use core::fmt;

@@ -1,9 +1,9 @@
 //! The literals of whole sources.
 
 use crate::error::{ErrorKind, ListError};
-use crate::grammar::{source_step, SourceStep};
 use crate::lit::Lit;
-use crate::tokens::Sources;
+use crate::rl_lexer::Sources;
+use crate::rl_reading::{source_step, SourceStep};
 use alloc::borrow::Cow;
 use core::fmt;
 use core::iter::FusedIterator;

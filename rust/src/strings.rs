@@ -2,9 +2,9 @@
 
 use crate::common::{literal_type, part};
 use crate::contents::{bytes_of, text_of};
-use crate::grammar::Body;
 use crate::places::quoted_type;
-use crate::tokens::Kind;
+use crate::rl_forms::Kind;
+use crate::rl_reading::Body;
 use alloc::borrow::Cow;
 use alloc::ffi::CString;
 use alloc::string::String;

@@ -1,6 +1,6 @@
 //! Values written as literals. Each text is a token of the Rust Reference, and reads as the value, with no suffix.
 
-use crate::tokens::{write_bytes_into, write_char_into, write_str_into, Kind};
+use crate::rl_forms::{write_bytes_into, write_char_into, write_str_into, Kind};
 use alloc::string::String;
 use alloc::vec;
 use core::ffi::CStr;

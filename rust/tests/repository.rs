@@ -105,7 +105,7 @@ fn stored_cases() {
 fn the_words_are_the_programs() {
     let path = concat!(
         env!("CARGO_MANIFEST_DIR"),
-        "/../crates/rl_grammar/specs/FlawWords.antt"
+        "/../crates/rl_reasons/specs/FlawWords.antt"
     );
     let table = fs::read_to_string(path).expect("the table of words");
     for text in [

@@ -8,7 +8,8 @@ import re
 import sys
 import textwrap
 
-from .items import TOP, code_files, definition_files, libraries, pages, paths, public_items, read
+from .items import (
+    TOP, code_files, core, definition_files, libraries, pages, paths, public_items, read, signature_end)
 from .pieces import EXAMPLE, VALUE, Source, blanked, whole_items
 
 # The Rust of a page.
@@ -32,7 +33,8 @@ EXAMPLES = {
 # The crates whose comments are held to the field's words.
 TERMS_IN = """
     rl_quoted rust_literals rl_attributes rl_lines rl_program rl_commands rl_sources rl_tool rl_scan
-    rl_uses rl_example rl_bench rl_tokens rl_grammar rl_c""".split()
+    rl_uses rl_example rl_bench rl_tokens rl_grammar rl_c rl_text rl_forms rl_lexer rl_reading rl_strict
+    rl_reasons""".split()
 # Words of others, and of what stands in no crate.
 FOREIGN = {'parse_str', 'proc_macro2'}
 # Pages that name what isn't here.
@@ -63,6 +65,21 @@ def check_items(tell):
                 if example.count('\n') > 30:
                     tell(f'{path}: an example of {item.name} is too long')
     return count
+
+
+# What takes memory, in a signature.
+MEMORY = re.compile(r'\b(?:Allocator|AllocError|Global|String|Vec|Box)\b')
+
+
+def check_core(tell):
+    """No function of the core has an allocator or what takes memory in its signature."""
+    for crate in core():
+        for path in code_files(crate):
+            code = blanked(read(path))
+            for it in re.finditer(r'(?m)^ *(?:pub )?(?:const )?fn (\w+)', code):
+                head = code[it.start():signature_end(code, it.end())]
+                if found := MEMORY.search(head):
+                    tell(f'{path}: {it[1]} has {found[0]} in its signature, and the core takes no memory')
 
 
 def words_of(definitions):
@@ -260,7 +277,7 @@ def check_diagrams(tell):
     sys.dont_write_bytecode = True
     loader.exec_module(diagrams)
     defined = set(re.findall(r'(?m)^(?:abbrev |unfoldable |opaque )*(?:pub )?(?:record|data|abbrev) (?:pub )?(\w+)',
-                             '\n'.join(map(read, paths(f'{diagrams.SPECS}/*.antt')))))
+                             '\n'.join(map(read, paths(*diagrams.SPECS)))))
     shown = ''.join(map(read, paths('docs/*.md')))
     for path in paths('docs/diagrams/*.svg'):
         name = os.path.basename(path)[:-len('.svg')]
@@ -274,5 +291,5 @@ def check_diagrams(tell):
 
 
 OF_PAGES = (
-    check_paths, check_pieces, check_definitions, check_names, check_words, check_owners, check_refusals,
+    check_core, check_paths, check_pieces, check_definitions, check_names, check_words, check_owners, check_refusals,
     check_diagrams, check_terms)

@@ -146,13 +146,39 @@ def signature_end(code, at):
     return len(code)
 
 
-def modules(crate):
-    """What the root of a library gives out: names by their files, None for all of a file."""
+def core():
+    """The crates of the core: those of crates.txt between the line that names it and the next comment."""
+    part = re.search(r'(?m)^# The core[^\n]*\n((?:[^#\n][^\n]*\n)*)', read('crates.txt'))
+    return re.findall(r'(?m)^(\w+)', part[1])
+
+
+def given_by(crate, file):
+    """What a file gives out: names by crate and module, None for all of a module."""
+    text = read(file)
+    given = {(crate, it): None for it in re.findall(r'(?m)^pub mod (\w+);', text)}
+    for owner, path, several, one in re.findall(r'pub use (\w+)((?:::\w+)*)::(?:\{([^}]*)\}|(\w+));', text):
+        owner = crate if owner == 'crate' else owner
+        for name in re.findall(r'\w+', several or one) if owner in [crate, *core()] else []:
+            is_module = not path and os.path.isfile(os.path.join(TOP, f'crates/{owner}/src/{name}.rt'))
+            at = (owner, path[2:]) if path else (owner, name) if is_module else module_of(owner, name)
+            if given.setdefault(at, None if is_module else set()) is not None:
+                given[at].add(name)
+    return given
+
+
+def module_of(crate, name):
+    """The module whose item the root of a library gives out under this name."""
     root = read(f'crates/{crate}/src/lib.rt')
-    given = {it: None for it in re.findall(r'^pub mod (\w+);', root, re.M)}
-    for name, several, one in re.findall(r'pub use crate::(\w+)::(?:\{([^}]*)\}|(\w+));', root):
-        if given.get(name, ()) is not None:
-            given.setdefault(name, set()).update(re.findall(r'\w+', several or one))
+    found = re.search(rf'pub use crate::(\w+)::(?:\{{[^}}]*)?\b{name}\b', root)
+    return crate, found[1]
+
+
+def modules(crate):
+    """What the root of a library and the modules that it gives out whole give out."""
+    given = given_by(crate, f'crates/{crate}/src/lib.rt')
+    for owner, module in [at for at, names in given.items() if names is None]:
+        for at, names in given_by(owner, f'crates/{owner}/src/{module}.rt').items():
+            given.setdefault(at, names)
     return given
 
 
@@ -163,15 +189,18 @@ def is_given(item, names):
 
 
 def public_items(crate):
-    """The items that the library gives out, each with its file."""
+    """The items that the library gives out, each with its file; those of the core that a library before it gives out aren't."""
     given = modules(crate)
-    shown = {name for names in given.values() if names for name in names}
+    before = {at for it in LIBRARIES[:LIBRARIES.index(crate)] for at in modules(it)} if crate in LIBRARIES else set()
+    owners = [crate, *(it for it in core() if any(owner == it for owner, _ in given))]
     found = []
-    for path in code_files(crate):
-        module = path.split('/')[3].removesuffix('.rt')
-        names = given.get(module, set())
+    for path in (path for owner in owners for path in code_files(owner)):
+        owner, _, file = path.split('/')[1:4]
+        module = file.removesuffix('.rt')
+        shown = {name for at, names in given.items() if at[0] == owner and names for name in names}
+        names = set() if owner != crate and (owner, module) in before else given.get((owner, module), set())
         for item in items_of(path):
-            is_method = '::' in item.name
+            is_method = '::' in item.name and (owner, module) not in before
             if is_given(item, names) or (is_method and item.name.split('::')[0] in shown):
                 found.append((path, item))
     return found

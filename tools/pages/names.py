@@ -1,22 +1,24 @@
 """The table of a crate's public names: the page crates/NAME/CALLING.md has it, with the line of each."""
-from .items import code_files, modules, pages, public_items, read
+from .items import modules, pages, public_items, read
 
 BEGIN, END = '<!-- names: written by tools/docs --write -->', '<!-- end of names -->'
 
 
 def place(crate, path):
     """The file as a link, and the module to name where the root of the library doesn't give out its items."""
-    name = path.removeprefix(f'crates/{crate}/')
-    module = path.split('/')[3].removesuffix('.rt')
-    is_module = modules(crate).get(module, ()) is None
-    return f'[{name}]({name})' + (f', `{crate}::{module}`' if is_module else '')
+    owner, _, file = path.split('/')[1:4]
+    name = path.removeprefix('crates/').removeprefix(f'{crate}/')
+    module = file.removesuffix('.rt')
+    is_module = modules(crate).get((owner, module), ()) is None
+    target = name if owner == crate else f'../{name}'
+    return f'[{name}]({target})' + (f', `{crate}::{module}`' if is_module else '')
 
 
 def names(crate):
     """A row for each file: its types, traits and functions, each with its line."""
     given = public_items(crate)
     rows = []
-    for path in code_files(crate):
+    for path in dict.fromkeys(path for path, _ in given):
         here = [item for at, item in given if at == path and item.kind != 'part']
         if here:
             listed = ', '.join(f'`{it.name}` {it.line}' for it in here)

@@ -1,6 +1,6 @@
 -- What the parser of attributes does.
 use Rattle.std.specs.Prelude.{◌≡◌, List, [], All, Result, Ok, Err}
-use Rattle.rl_tokens.specs.declared.span.Span.{Span}
+use Rattle.rl_text.specs.declared.span.Span.{Span}
 use Rattle.rl_tokens.specs.declared.error.Error.{Error}
 use Rattle.rl_tokens.specs.declared.error.ErrorKind.TheVariants.{Memory}
 use Rattle.rl_tokens.specs.Trees.{Tree}

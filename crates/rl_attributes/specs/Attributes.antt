@@ -3,11 +3,11 @@ use Rattle.std.specs.Prelude.{◌≡◌, ◌≢◌, ◌⊎◌, ℕ, Bool, List, 
 use Prim.Native.Char.{code}
 use Rattle.std.specs.List.{list_any, IsDistinct}
 use Rattle.std.specs.Str.{bytes_eq}
-use Rattle.rl_tokens.specs.declared.span.Span.{Span}
+use Rattle.rl_text.specs.declared.span.Span.{Span}
 use Rattle.rl_tokens.specs.declared.error.ErrorKind.TheVariants.{Repeated}
 use Rattle.rl_tokens.specs.declared.error.Error.{Error}
 use Rattle.rl_tokens.specs.Errors.{memory_at}
-use Rattle.rl_tokens.specs.Texts.{SpannedText}
+use Rattle.rl_text.specs.Texts.{SpannedText}
 use Rattle.rl_tokens.specs.Trees.{Tree, IdentTree}
 use Rattle.rl_tokens.specs.Buffers.{first_span, begins_ident, begins_mark, IsAfterMark, IsRejection}
 use Rattle.rl_grammar.specs.Fronts.{IsFront, HasNoFront}

@@ -101,7 +101,8 @@ impl<A: Allocator> From<Error<A>> for SettingError<A> {
 /// std's error for an allocation failure, which has no place: `Memory` at [`Span::call_site`], as `Text`.
 impl<A: Allocator> From<AllocError> for SettingError<A> {
     ghost use Rattle.std.specs.Prelude.{◌≡◌};
-    ghost use Rattle.rl_tokens.specs.Errors.{memory_at, nowhere};
+    ghost use Rattle.rl_tokens.specs.Errors.{memory_at};
+    ghost use Rattle.rl_text.specs.Spans.{nowhere};
     ghost use Rattle.rl_attributes.specs.declared.settings.SettingError.TheVariants.{Text};
 
     ghost from_gives = { λ failed told. told ≡ Text (memory_at nowhere) };

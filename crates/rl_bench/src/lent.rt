@@ -1,6 +1,6 @@
 //! What literals weigh whose contents are borrowed from the text, where they stand in it.
 
-ghost use Rattle.rl_grammar.specs.Founds.{IsFound};
+ghost use Rattle.rl_reading.specs.Founds.{IsFound};
 
 use crate::sums::Weigh;
 use crate::values::contents_size;

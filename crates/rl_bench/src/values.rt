@@ -1,6 +1,6 @@
 //! What literals weigh by their values.
 
-ghost use Rattle.rl_grammar.specs.Founds.{IsFound};
+ghost use Rattle.rl_reading.specs.Founds.{IsFound};
 
 use crate::sums::Weigh;
 use crate::weights::weight;

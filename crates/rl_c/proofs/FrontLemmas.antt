@@ -1,14 +1,15 @@
 -- Trees that are literals, one after another, are cut from the tokens of a list.
-use Rattle.rl_grammar.proofs.Names.{HasReading, ReadsAs, SpannedText}
-use Rattle.rl_tokens.proofs.Common.{Bool, List, [], ap, arith, chars, false, if◌then◌else◌, inl, inr, map, refl, subst, sym, true, ℕ, ◌++◌, ◌∙◌, ◌∷◌, ◌≡◌, ◌≤◌, ◌⊎◌}
-use Rattle.rl_tokens.specs.declared.kind.Kind.TheVariants.{Bool as BoolKind}
-use Rattle.rl_tokens.specs.declared.span.Span.{Span}
+use Rattle.rl_reading.proofs.Names.{HasReading, ReadsAs, SpannedText}
+use Rattle.rl_text.proofs.Common.{Bool, List, [], ap, arith, chars, false, if◌then◌else◌, inl, inr, map, refl, subst, sym, true, ℕ, ◌++◌, ◌∙◌, ◌∷◌, ◌≡◌, ◌≤◌, ◌⊎◌}
+use Rattle.rl_forms.specs.declared.kind.Kind.TheVariants.{Bool as BoolKind}
+use Rattle.rl_text.specs.declared.span.Span.{Span}
 use Rattle.rl_tokens.specs.Puncts.{Mark}
-use Rattle.rl_tokens.specs.Lexemes.{LexemeForm, LiteralForm, IdentifierForm, DelimiterForm, MarkForm, lexeme_text, form_of}
-use Rattle.rl_tokens.specs.Lexing.{LexedToken, end_of, LexesUpTo, flat_form, flat_token, is_opener, delimiter_for}
+use Rattle.rl_lexer.specs.Lexemes.{LexemeForm, LiteralForm, IdentifierForm, DelimiterForm, MarkForm, lexeme_text, form_of}
+use Rattle.rl_lexer.specs.Cuts.{LexedToken, end_of, LexesUpTo, is_opener}
+use Rattle.rl_tokens.specs.Lexing.{flat_form, flat_token, delimiter_for}
 use Rattle.rl_tokens.specs.Trees.{Tree, GroupTree, IdentTree, PunctTree, LiteralTree, flat_trees, FlatToken, Opening, Closing, FlatIdent, FlatPunct, FlatLiteral}
 use Rattle.rl_grammar.specs.Fronts.{IsFront, joined_span}
-use Rattle.rl_grammar.proofs.FrontLemmas.{minus_chars}
+use Rattle.rl_reading.proofs.MinusLemmas.{minus_chars}
 use Rattle.rl_c.specs.declared.reading.Reading.{Reading}
 use Rattle.rl_c.specs.Crossing.{ReportsReading, ReportsLiteral}
 use Rattle.rl_c.specs.Lists.{ReportsToken}

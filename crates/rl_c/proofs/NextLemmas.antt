@@ -1,15 +1,15 @@
 -- The literal at the front of a list.
-use Rattle.rl_tokens.proofs.Common.{List, None, Option, Some, [], ap, arith, chars, chars-nil, false, inl, inr, length, subst, true, ℕ, ◌-◌, ◌∙◌, ◌≡◌, ◌≤◌}
+use Rattle.rl_text.proofs.Common.{List, None, Option, Some, [], ap, arith, chars, chars-nil, false, inl, inr, length, subst, true, ℕ, ◌-◌, ◌∙◌, ◌≡◌, ◌≤◌}
 use Rattle.std.specs.Prelude.{MatchOption}
-use Rattle.rl_tokens.specs.Cursors.{CursorState, IsCursorState}
-use Rattle.rl_tokens.specs.Lexemes.{LexemeForm, LiteralForm, IdentifierForm, DelimiterForm, MarkForm}
-use Rattle.rl_tokens.specs.Skipping.{Skipped}
-use Rattle.rl_tokens.proofs.Rests.{tail_length}
-use Rattle.rl_grammar.specs.declared.found.Found.{Found}
-use Rattle.rl_grammar.specs.declared.next_literals.NextLiteral.{NextLiteral}
-use Rattle.rl_grammar.specs.declared.next_literals.Rejection.{Rejection}
-use Rattle.rl_grammar.specs.NextLiterals.{FindsReading, IsLiteralToken, TakesNextLiteral, HasNoNextLiteral, RejectsNext}
-use Rattle.rl_tokens.proofs.TruthWords.{truth_chars}
+use Rattle.rl_lexer.specs.Cursors.{CursorState, IsCursorState}
+use Rattle.rl_lexer.specs.Lexemes.{LexemeForm, LiteralForm, IdentifierForm, DelimiterForm, MarkForm}
+use Rattle.rl_lexer.specs.Skipping.{Skipped}
+use Rattle.rl_text.proofs.Rests.{tail_length}
+use Rattle.rl_reading.specs.declared.found.Found.{Found}
+use Rattle.rl_reading.specs.declared.next_literals.NextLiteral.{NextLiteral}
+use Rattle.rl_reading.specs.declared.next_literals.Rejection.{Rejection}
+use Rattle.rl_reading.specs.NextLiterals.{FindsReading, IsLiteralToken, TakesNextLiteral, HasNoNextLiteral, RejectsNext}
+use Rattle.rl_lexer.proofs.TruthWords.{truth_chars}
 use Rattle.rl_c.specs.declared.next.Next.{Next}
 use Rattle.rl_c.specs.declared.reading.Reading.{Reading}
 use Rattle.rl_c.specs.Crossing.{ReportsFound, ReportsReading, ReportsVerbatim, ReportsLiteral}

@@ -1,17 +1,18 @@
 -- A text whose calls return an error is no list.
-use Rattle.rl_tokens.proofs.Common.{List, [], ap, chars, encode_utf8_all, inl, inr, none-some, refl, subst, sym, ℕ, ◌++◌, ◌∙◌, ◌∷◌, ◌≡◌, ◌⊎◌}
-use Rattle.rl_tokens.specs.Skipping.{Skipped}
-use Rattle.rl_tokens.specs.Reading.{HasNoReading}
-use Rattle.rl_tokens.specs.Lexemes.{Lexeme, LexemeForm, LiteralForm, IdentifierForm, DelimiterForm, MarkForm, lexeme_text, IsLexeme, form_of}
-use Rattle.rl_tokens.specs.Lexing.{LexedToken, end_of, LexesUpTo, ErrorAt}
-use Rattle.rl_tokens.specs.Cursors.{CursorState, form_view}
-use Rattle.rl_tokens.specs.Mirrors.LexemeAt.{lexeme_at}
-use Rattle.rl_tokens.specs.declared.cursor.Lexeme.{Lexeme as Lent}
+use Rattle.rl_text.proofs.Common.{List, [], ap, chars, encode_utf8_all, inl, inr, none-some, refl, subst, sym, ℕ, ◌++◌, ◌∙◌, ◌∷◌, ◌≡◌, ◌⊎◌}
+use Rattle.rl_lexer.specs.Skipping.{Skipped}
+use Rattle.rl_forms.specs.Reading.{HasNoReading}
+use Rattle.rl_lexer.specs.Lexemes.{Lexeme, LexemeForm, LiteralForm, IdentifierForm, DelimiterForm, MarkForm, lexeme_text, IsLexeme, form_of}
+use Rattle.rl_lexer.specs.Cuts.{LexedToken, end_of, LexesUpTo, ErrorAt}
+use Rattle.rl_lexer.specs.Cursors.{CursorState, form_view}
+use Rattle.rl_lexer.specs.Mirrors.LexemeAt.{lexeme_at}
+use Rattle.rl_lexer.specs.declared.cursor.Lexeme.{Lexeme as Lent}
 use Rattle.rl_tokens.proofs.ErrorLaws.{no_error}
-use Rattle.rl_tokens.proofs.LexemeFronts.{lexeme_at-past, one_front, same_pair}
-use Rattle.rl_tokens.proofs.Pieces.{one_rest, skipped_again}
-use Rattle.rl_grammar.specs.NextLiterals.{BeginsNone, HasNoNumber, HasNoNextLiteral}
-use Rattle.rl_grammar.proofs.FrontLemmas.{minus_chars, truth_reads}
+use Rattle.rl_lexer.proofs.LexemeFronts.{lexeme_at-past, one_front, same_pair}
+use Rattle.rl_lexer.proofs.Pieces.{one_rest, skipped_again}
+use Rattle.rl_reading.specs.NextLiterals.{BeginsNone, HasNoNumber, HasNoNextLiteral}
+use Rattle.rl_reading.proofs.MinusLemmas.{minus_chars}
+use Rattle.rl_grammar.proofs.FrontLemmas.{truth_reads}
 use Rattle.rl_c.specs.declared.next.Next.{Next}
 use Rattle.rl_c.specs.declared.reading.Reading.{Reading}
 use Rattle.rl_c.specs.Crossing.{ReportsReading}

@@ -1,10 +1,10 @@
 -- Where the next literal of a source stands.
-use Rattle.rl_tokens.proofs.Common.{IsCharBoundary, List, [], ap, chars, drop, length, subst, sym, ℕ, ◌++◌, ◌-◌, ◌∙◌, ◌∷◌, ◌≡◌}
-use Rattle.rl_tokens.specs.Cursors.{CursorState}
-use Rattle.rl_tokens.specs.Sources.{IsCutUpTo, TakesLiteralAfter}
-use Rattle.rl_tokens.specs.declared.sources.SourceToken.{SourceToken}
-use Rattle.rl_tokens.proofs.TailLemmas.{tail_step, cut_boundary, cut_drop}
-use Rattle.rl_tokens.specs.Texts.{IsTail}
+use Rattle.rl_text.proofs.Common.{IsCharBoundary, List, [], ap, chars, drop, length, subst, sym, ℕ, ◌++◌, ◌-◌, ◌∙◌, ◌∷◌, ◌≡◌}
+use Rattle.rl_lexer.specs.Cursors.{CursorState}
+use Rattle.rl_lexer.specs.Sources.{IsCutUpTo, TakesLiteralAfter}
+use Rattle.rl_lexer.specs.declared.sources.SourceToken.{SourceToken}
+use Rattle.rl_text.proofs.TailLemmas.{tail_step, cut_boundary, cut_drop}
+use Rattle.rl_text.specs.Texts.{IsTail}
 use Rattle.rl_c.specs.declared.next.Next.{Next}
 use Rattle.rl_c.specs.Literals.{IsCutTo, FindsToken, cursor_at}
 

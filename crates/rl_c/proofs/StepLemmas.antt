@@ -1,17 +1,17 @@
 -- A call that returned a literal cut off its tokens; and so all calls, up to the end, cut off those of
 -- the list.
-use Rattle.rl_tokens.proofs.Common.{IsUtf8, List, [], ap, arith, chars, drop, encodes-chars, inl, inr, length, map, refl, subst, sym, ℕ, ◌++◌, ◌+◌, ◌-◌, ◌∙◌, ◌∷◌, ◌≡◌, ◌⊎◌}
-use Rattle.rl_tokens.specs.Texts.{IsTail, byte_len}
-use Rattle.rl_tokens.specs.Skipping.{Skipped}
-use Rattle.rl_tokens.specs.Lexemes.{LexemeForm, lexeme_text, form_of}
-use Rattle.rl_tokens.specs.Lexing.{LexedToken, end_of, LexesUpTo}
-use Rattle.rl_tokens.specs.Cursors.{CursorState, TakesNext, IsBorrowedToken, form_view}
-use Rattle.rl_tokens.specs.declared.cursor.Lexeme.{Lexeme}
-use Rattle.rl_tokens.proofs.TailLemmas.{tail_step, cut_drop}
-use Rattle.rl_tokens.proofs.CutLemmas.{tail_place}
-use Rattle.rl_tokens.proofs.Pieces.{one_rest, skipped_again}
-use Rattle.rl_grammar.specs.declared.next_literals.NextLiteral.{NextLiteral}
-use Rattle.rl_grammar.specs.NextLiterals.{TakesNegative, TakesNextLiteral}
+use Rattle.rl_text.proofs.Common.{IsUtf8, List, [], ap, arith, chars, drop, encodes-chars, inl, inr, length, map, refl, subst, sym, ℕ, ◌++◌, ◌+◌, ◌-◌, ◌∙◌, ◌∷◌, ◌≡◌, ◌⊎◌}
+use Rattle.rl_text.specs.Texts.{IsTail, byte_len}
+use Rattle.rl_lexer.specs.Skipping.{Skipped}
+use Rattle.rl_lexer.specs.Lexemes.{LexemeForm, lexeme_text, form_of}
+use Rattle.rl_lexer.specs.Cuts.{LexedToken, end_of, LexesUpTo}
+use Rattle.rl_lexer.specs.Cursors.{CursorState, TakesNext, IsBorrowedToken, form_view}
+use Rattle.rl_lexer.specs.declared.cursor.Lexeme.{Lexeme}
+use Rattle.rl_text.proofs.TailLemmas.{tail_step, cut_drop}
+use Rattle.rl_lexer.proofs.CutLemmas.{tail_place}
+use Rattle.rl_lexer.proofs.Pieces.{one_rest, skipped_again}
+use Rattle.rl_reading.specs.declared.next_literals.NextLiteral.{NextLiteral}
+use Rattle.rl_reading.specs.NextLiterals.{TakesNegative, TakesNextLiteral}
 use Rattle.rl_c.specs.declared.next.Next.{Next}
 use Rattle.rl_c.specs.Crossing.{ReportsFound, ReportsReading}
 use Rattle.rl_c.specs.Lists.{Starts, ReportsToken, ReportsNext, BeginsLiteral}

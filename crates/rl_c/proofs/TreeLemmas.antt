@@ -1,16 +1,18 @@
 -- The trees of a list are its literals.
-use Rattle.rl_grammar.proofs.Names.{HasReading, SpannedText, byte_len}
-use Rattle.rl_tokens.proofs.Common.{List, Some, [], ap, arith, chars, encode_utf8_all, if◌then◌else◌, inl, inr, map, nat_tests, option_and_then, refl, subst, sym, true, ℕ, ◌++◌, ◌==◌, ◌∙◌, ◌∷◌, ◌≡◌, ◌≤◌}
+use Rattle.rl_reading.proofs.Names.{HasReading, SpannedText, byte_len}
+use Rattle.rl_text.proofs.Common.{List, Some, [], ap, arith, chars, encode_utf8_all, if◌then◌else◌, inl, inr, map, nat_tests, option_and_then, refl, subst, sym, true, ℕ, ◌++◌, ◌==◌, ◌∙◌, ◌∷◌, ◌≡◌, ◌≤◌}
 use Rattle.std.specs.Prelude.{min, max}
-use Rattle.rl_tokens.specs.declared.span.Span.{Span}
+use Rattle.rl_text.specs.declared.span.Span.{Span}
 use Rattle.rl_tokens.specs.Puncts.{Mark}
-use Rattle.rl_tokens.specs.Skipping.{Skipped}
-use Rattle.rl_tokens.specs.Lexemes.{LexemeForm, LiteralForm, IdentifierForm, DelimiterForm, MarkForm, lexeme_text, form_of}
-use Rattle.rl_tokens.specs.Lexing.{LexedToken, end_of, LexesUpTo, after_form, open_groups, flat_form, flat_token}
+use Rattle.rl_lexer.specs.Skipping.{Skipped}
+use Rattle.rl_lexer.specs.Lexemes.{LexemeForm, LiteralForm, IdentifierForm, DelimiterForm, MarkForm, lexeme_text, form_of}
+use Rattle.rl_lexer.specs.Cuts.{LexedToken, end_of, LexesUpTo, after_form, open_groups}
+use Rattle.rl_tokens.specs.Lexing.{flat_form, flat_token}
 use Rattle.rl_tokens.specs.Trees.{Tree, IdentTree, PunctTree, LiteralTree, flat, flat_trees}
-use Rattle.rl_tokens.proofs.CutLemmas.{byte_len-append}
+use Rattle.rl_lexer.proofs.CutLemmas.{byte_len-append}
 use Rattle.rl_grammar.specs.Fronts.{IsFront, joined, joined_span}
-use Rattle.rl_grammar.proofs.FrontLemmas.{minus_chars, truth_reads}
+use Rattle.rl_reading.proofs.MinusLemmas.{minus_chars}
+use Rattle.rl_grammar.proofs.FrontLemmas.{truth_reads}
 use Rattle.rl_c.specs.declared.reading.Reading.{Reading}
 use Rattle.rl_c.specs.Crossing.{ReportsReading, ReportsLiteral}
 use Rattle.rl_c.specs.Lists.{ReportsToken}

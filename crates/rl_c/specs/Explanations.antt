@@ -1,10 +1,10 @@
 -- Why a text has no reading, as it crosses to callers in other languages.
 use Rattle.std.specs.Prelude.{◌≡◌, ℕ, List}
 use Rattle.std.specs.Str.{chars}
-use Rattle.rl_grammar.specs.declared.flaws.Flaw.{Flaw}
-use Rattle.rl_grammar.specs.declared.flaws.FlawKind.{FlawKind}
-use Rattle.rl_grammar.specs.declared.flaws.FlawKind.TheVariants.{Empty, NoLiteral, Unfinished, NoQuote, NoNumber, Unclosed, UnknownEscape, NoUnicode, NoHexDigit, NoBrace, EmptyBraces, TooManyDigits, PastAscii, PastUnicode, Surrogate, Nul, NotAscii, LateQuote, LoneCr, MustEscape, NoCharacter, TwoCharacters, NoExponentDigit, BadSuffix, TooLarge}
-use Rattle.rl_grammar.specs.Flaws.{Explains}
+use Rattle.rl_reasons.specs.declared.flaws.Flaw.{Flaw}
+use Rattle.rl_reasons.specs.declared.flaws.FlawKind.{FlawKind}
+use Rattle.rl_reasons.specs.declared.flaws.FlawKind.TheVariants.{Empty, NoLiteral, Unfinished, NoQuote, NoNumber, Unclosed, UnknownEscape, NoUnicode, NoHexDigit, NoBrace, EmptyBraces, TooManyDigits, PastAscii, PastUnicode, Surrogate, Nul, NotAscii, LateQuote, LoneCr, MustEscape, NoCharacter, TwoCharacters, NoExponentDigit, BadSuffix, TooLarge}
+use Rattle.rl_reasons.specs.Flaws.{Explains}
 use Rattle.rl_c.specs.declared.explain.Explanation.{Explanation}
 
 -- the numbers of the kinds of flaws

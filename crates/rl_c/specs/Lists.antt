@@ -1,16 +1,16 @@
 -- A list of literals, taken one by one from the front of what is left of it.
 use Rattle.std.specs.Prelude.{◌≡◌, ℕ, ◌+◌, Bool, true, false, List, length, MatchOption}
 use Rattle.std.specs.Str.{chars}
-use Rattle.rl_tokens.specs.declared.lex_error.LexKind.{LexKind}
-use Rattle.rl_tokens.specs.declared.lex_error.LexKind.TheVariants.{DocComment, UnclosedComment, UnclosedQuote, Lifetime, RawIdentifier, StrayCharacter, UnmatchedClose, UnclosedGroup, TooDeep, Memory}
-use Rattle.rl_tokens.specs.Cursors.{CursorState, IsCursorState}
-use Rattle.rl_tokens.specs.Lexemes.{LexemeForm, LiteralForm, IdentifierForm}
-use Rattle.rl_tokens.specs.Reading.{truth_text}
-use Rattle.rl_tokens.specs.Skipping.{Skipped}
-use Rattle.rl_grammar.specs.declared.next_literals.NextLiteral.{NextLiteral}
-use Rattle.rl_grammar.specs.declared.next_literals.RejectionKind.{RejectionKind}
-use Rattle.rl_grammar.specs.declared.next_literals.RejectionKind.TheVariants.{Lex, Group, UnmatchedClose as UnmatchedListClose, NoLiteral}
-use Rattle.rl_grammar.specs.NextLiterals.{TakesNextLiteral, HasNoNextLiteral, IsRejected}
+use Rattle.rl_lexer.specs.declared.lex_error.LexKind.{LexKind}
+use Rattle.rl_lexer.specs.declared.lex_error.LexKind.TheVariants.{DocComment, UnclosedComment, UnclosedQuote, Lifetime, RawIdentifier, StrayCharacter, UnmatchedClose, UnclosedGroup, TooDeep, Memory}
+use Rattle.rl_lexer.specs.Cursors.{CursorState, IsCursorState}
+use Rattle.rl_lexer.specs.Lexemes.{LexemeForm, LiteralForm, IdentifierForm}
+use Rattle.rl_forms.specs.Reading.{truth_text}
+use Rattle.rl_lexer.specs.Skipping.{Skipped}
+use Rattle.rl_reading.specs.declared.next_literals.NextLiteral.{NextLiteral}
+use Rattle.rl_reading.specs.declared.next_literals.RejectionKind.{RejectionKind}
+use Rattle.rl_reading.specs.declared.next_literals.RejectionKind.TheVariants.{Lex, Group, UnmatchedClose as UnmatchedListClose, NoLiteral}
+use Rattle.rl_reading.specs.NextLiterals.{TakesNextLiteral, HasNoNextLiteral, IsRejected}
 use Rattle.rl_c.specs.declared.next.Next.{Next}
 use Rattle.rl_c.specs.declared.reading.Reading.{Reading}
 use Rattle.rl_c.specs.Crossing.{ReportsFound, ReportsReading, ReportsLiteral}

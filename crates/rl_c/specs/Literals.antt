@@ -1,10 +1,10 @@
 -- The literals of a whole source, taken one by one from a place up to which it was cut.
 use Rattle.std.specs.Prelude.{◌≡◌, ℕ, ◌+◌, List, [], drop, length}
 use Rattle.std.specs.Str.{chars, IsCharBoundary}
-use Rattle.rl_tokens.specs.Cursors.{CursorState}
-use Rattle.rl_tokens.specs.Sources.{CutSource, IsCutUpTo, PassesTo, TakesLiteralAfter, SourceErrorAt}
-use Rattle.rl_tokens.specs.declared.lex_error.LexKind.{LexKind}
-use Rattle.rl_tokens.specs.declared.sources.SourceToken.{SourceToken}
+use Rattle.rl_lexer.specs.Cursors.{CursorState}
+use Rattle.rl_lexer.specs.Sources.{CutSource, IsCutUpTo, PassesTo, TakesLiteralAfter, SourceErrorAt}
+use Rattle.rl_lexer.specs.declared.lex_error.LexKind.{LexKind}
+use Rattle.rl_lexer.specs.declared.sources.SourceToken.{SourceToken}
 use Rattle.rl_c.specs.declared.next.Next.{Next}
 use Rattle.rl_c.specs.Crossing.{ReportsReading, ReportsVerbatim}
 use Rattle.rl_c.specs.Lists.{error_number}

@@ -2,10 +2,11 @@
 use Rattle.std.specs.Prelude.{◌≡◌, ◌⊎◌, ℕ, ◌+◌, List, [], ◌∷◌, drop, encode_utf8_all}
 use Rattle.std.specs.Str.{chars}
 use Prim.Native.Char.{code}
-use Rattle.rl_tokens.specs.Lexemes.{lexeme_text, form_of, LiteralForm, MarkForm}
-use Rattle.rl_tokens.specs.Lexing.{LexedToken, end_of, LexesUpTo, Lexes}
-use Rattle.rl_tokens.specs.Skipping.{Skipped}
-use Rattle.rl_tokens.specs.Texts.{SpannedText}
+use Rattle.rl_lexer.specs.Lexemes.{lexeme_text, form_of, LiteralForm, MarkForm}
+use Rattle.rl_lexer.specs.Cuts.{LexedToken, end_of, LexesUpTo}
+use Rattle.rl_tokens.specs.Lexing.{Lexes}
+use Rattle.rl_lexer.specs.Skipping.{Skipped}
+use Rattle.rl_text.specs.Texts.{SpannedText}
 use Rattle.rl_tokens.specs.Trees.{Tree}
 use Rattle.rl_grammar.specs.Fronts.{IsFront}
 use Rattle.rl_c.specs.declared.next.Next.{Next}

@@ -2,7 +2,7 @@
 
 ghost use Rattle.std.specs.Prelude.{◌≡◌, IsTrue, IsFalse};
 ghost use Rattle.std.specs.Str.{chars, IsUtf8};
-ghost use Rattle.rl_tokens.specs.Reading.{HasReading};
+ghost use Rattle.rl_forms.specs.Reading.{HasReading};
 ghost use Rattle.rl_c.specs.Explanations.{ReportsFlaw, flaw_number};
 
 use rl_grammar::{FlawKind, explain};

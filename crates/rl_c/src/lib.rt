@@ -6,10 +6,10 @@
 
 ghost use Rattle.std.specs.Prelude.{◌≡◌, ◌↔◌, ◌-◌, ◌≤◌, ◌<◌, [], false, length, take, IsTrue, IsFalse};
 ghost use Rattle.std.specs.Str.{chars, IsUtf8};
-ghost use Rattle.rl_tokens.specs.declared.kind.Kind.TheVariants.{Str, ByteStr, CStr, Float as FloatKind};
-ghost use Rattle.rl_tokens.specs.Reading.{Characters, Bytes, Digits, HasContents, HasNoReading};
-ghost use Rattle.rl_grammar.specs.StrictShapes.{IsToken};
-ghost use Rattle.rl_tokens.specs.Skipping.{Skipped};
+ghost use Rattle.rl_forms.specs.declared.kind.Kind.TheVariants.{Str, ByteStr, CStr, Float as FloatKind};
+ghost use Rattle.rl_forms.specs.Reading.{Characters, Bytes, Digits, HasContents, HasNoReading};
+ghost use Rattle.rl_strict.specs.StrictShapes.{IsToken};
+ghost use Rattle.rl_lexer.specs.Skipping.{Skipped};
 ghost use Rattle.rl_c.specs.Lists.{BeginsLiteral, BeginsNoLiteral};
 ghost use Rattle.rl_c.specs.Crossing.{ReportsReading, Reports, IsOfKind, IsCooked};
 

@@ -2,9 +2,9 @@
 
 ghost use Rattle.std.specs.Prelude.{◌≡◌, IfSome, IfNone, IsTrue, IsFalse};
 ghost use Rattle.std.specs.Str.{chars, IsUtf8};
-ghost use Rattle.rl_tokens.specs.declared.kind.Kind.{Kind as AnyKind};
-ghost use Rattle.rl_grammar.specs.Segments.{IsBytePlace, IsByteEnd};
-ghost use Rattle.rl_grammar.specs.Shapes.{HasNoQuoted};
+ghost use Rattle.rl_forms.specs.declared.kind.Kind.{Kind as AnyKind};
+ghost use Rattle.rl_reading.specs.Segments.{IsBytePlace, IsByteEnd};
+ghost use Rattle.rl_reading.specs.Shapes.{HasNoQuoted};
 
 use rl_grammar::{Segments, place_of};
 

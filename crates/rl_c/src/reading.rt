@@ -2,12 +2,12 @@
 
 ghost use Rattle.std.specs.Prelude.{◌≡◌, ◌-◌, ℕ, List, false, length, IsTrue};
 ghost use Rattle.std.specs.Str.{chars};
-ghost use Rattle.rl_tokens.specs.declared.kind.Kind.{Kind as AnyKind};
-ghost use Rattle.rl_tokens.specs.declared.kind.Kind.TheVariants.{Float};
-ghost use Rattle.rl_tokens.specs.Numbers.{float_digits};
-ghost use Rattle.rl_tokens.specs.Quoted.{is_string};
-ghost use Rattle.rl_tokens.specs.Reading.{Digits, HasContents};
-ghost use Rattle.rl_grammar.specs.Bodies.{HasBody};
+ghost use Rattle.rl_forms.specs.declared.kind.Kind.{Kind as AnyKind};
+ghost use Rattle.rl_forms.specs.declared.kind.Kind.TheVariants.{Float};
+ghost use Rattle.rl_forms.specs.Numbers.{float_digits};
+ghost use Rattle.rl_forms.specs.Quoted.{is_string};
+ghost use Rattle.rl_forms.specs.Reading.{Digits, HasContents};
+ghost use Rattle.rl_reading.specs.Bodies.{HasBody};
 ghost use Rattle.rl_c.specs.Crossing.{kind_number, Reports, ReportsFound, IsOfKind, IsCooked, verbatim};
 
 use rl_grammar::{Found, Kind};

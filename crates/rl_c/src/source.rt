@@ -2,7 +2,7 @@
 
 ghost use Rattle.std.specs.Prelude.{◌≡◌, ◌<◌, ◌⊎◌, [], drop};
 ghost use Rattle.std.specs.Str.{chars, IsUtf8, IsCharBoundary};
-ghost use Rattle.rl_tokens.specs.Sources.{IsCutUpTo};
+ghost use Rattle.rl_lexer.specs.Sources.{IsCutUpTo};
 ghost use Rattle.rl_c.specs.Literals.{IsCutTo, EndsWithoutLiteral, FindsLiteral, FindsNoReading, FindsError};
 
 use crate::next::{END, LITERAL, Next, error_number};

@@ -2,9 +2,9 @@
 
 ghost use Rattle.std.specs.Prelude.{◌≡◌, ◌+◌, ◌*◌, ◌≤◌, ◌<◌, [], ◌∷◌, length, take, IsTrue};
 ghost use Rattle.std.specs.Str.{chars, IsUtf8};
-ghost use Rattle.rl_tokens.specs.declared.kind.Kind.TheVariants.{Str, ByteStr, CStr, Byte as ByteKind, Char as CharKind};
-ghost use Rattle.rl_tokens.specs.CStrings.{has_no_zero};
-ghost use Rattle.rl_tokens.specs.Written.{IsWrittenForm};
+ghost use Rattle.rl_forms.specs.declared.kind.Kind.TheVariants.{Str, ByteStr, CStr, Byte as ByteKind, Char as CharKind};
+ghost use Rattle.rl_forms.specs.Agreeing.{has_no_zero};
+ghost use Rattle.rl_forms.specs.Written.{IsWrittenForm};
 ghost use Rattle.rl_c.specs.Crossing.{IsCharacter};
 
 use rl_tokens::{Kind, write_bytes_into, write_char_into, write_str_into};

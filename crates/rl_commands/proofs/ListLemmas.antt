@@ -1,5 +1,5 @@
 -- The lines of a list, literal by literal.
-use Rattle.rl_tokens.proofs.Common.{IsUtf8, List, None, Option, Result, Some, [], ap, chars, chars-nil, length, length-append, refl, string_bytes, subst, sym, ℕ, ◌++◌, ◌+◌, ◌∙◌, ◌∷◌, ◌≡◌}
+use Rattle.rl_text.proofs.Common.{IsUtf8, List, None, Option, Result, Some, [], ap, chars, chars-nil, length, length-append, refl, string_bytes, subst, sym, ℕ, ◌++◌, ◌+◌, ◌∙◌, ◌∷◌, ◌≡◌}
 use Rattle.std.proofs.Common.{IfErr, IfOk}
 use Rattle.std.specs.Prelude.{String, IfSome}
 use Rattle.std.specs.Option.{ok_or}

@@ -1,5 +1,5 @@
 -- What a run does with its lines.
-use Rattle.rl_tokens.proofs.Common.{IsUtf8, List, None, Option, Some, chars, encodes-chars, subst, sym, ℕ, ◌≡◌}
+use Rattle.rl_text.proofs.Common.{IsUtf8, List, None, Option, Some, chars, encodes-chars, subst, sym, ℕ, ◌≡◌}
 use Rattle.std.specs.Prelude.{IfSome}
 use Rattle.std.specs.Io.KnownBytes.{Appends}
 use Rattle.std.proofs.KnownBytes.{Keeps-refl}

@@ -1,23 +1,24 @@
 -- At most one literal begins the trees.
-use Rattle.rl_grammar.proofs.Names.{◌≡◌, ◌≢◌, ℕ, ◌<◌, Bool, false, List, [], ◌∷◌, length, refl, sym, ap, ap₂, ◌∙◌, subst, arith, ◌↔◌, IsTrue, Kind, BoolKind, SpannedText, Truth, ReadsAs, HasNoReading, Reads, truth_text}
+use Rattle.rl_text.proofs.Common.{◌≡◌, ◌≢◌, ℕ, ◌<◌, Bool, false, List, [], ◌∷◌, length, refl, sym, ap, ap₂, ◌∙◌, subst, arith, IsTrue}
+use Rattle.rl_reading.proofs.Names.{◌↔◌, Kind, BoolKind, SpannedText, Truth, ReadsAs, HasNoReading, Reads, truth_text}
 use Rattle.std.specs.Prelude.{Option, Some, None, IfSome, IfNone}
 use Rattle.std.specs.Option.{is_some}
 use Rattle.std.specs.Str.{chars}
 use Rattle.rl_tokens.specs.Puncts.{Mark}
 use Rattle.rl_tokens.specs.declared.error.Error.{Error}
 use Rattle.rl_tokens.specs.declared.error.ErrorKind.{ErrorKind}
-use Rattle.rl_tokens.specs.declared.span.Span.{Span}
+use Rattle.rl_text.specs.declared.span.Span.{Span}
 use Rattle.rl_tokens.specs.Errors.{memory_at}
 use Rattle.rl_tokens.specs.Trees.{Tree, GroupTree, IdentTree, PunctTree, LiteralTree}
 use Rattle.rl_tokens.specs.Buffers.{IsRest}
 use Rattle.rl_grammar.specs.Fronts.{IsFront, IsFrontOf, HasFrontOf, HasNoFront, joined}
 use Rattle.rl_grammar.specs.FrontTokens.{HasNoWord, HasNoMinus}
-use Rattle.rl_tokens.proofs.OneReading.{one_reading}
+use Rattle.rl_forms.proofs.OneReading.{one_reading}
 use Rattle.rl_tokens.proofs.TreeRests.{rest_one, rest_two}
-use Rattle.rl_grammar.specs.declared.found.Found.{Found}
-use Rattle.rl_grammar.specs.Founds.{IsFound}
-use Rattle.rl_grammar.proofs.FoundLemmas.{found_reads}
-use Rattle.rl_grammar.proofs.MinusLemmas.{no_truth}
+use Rattle.rl_reading.specs.declared.found.Found.{Found}
+use Rattle.rl_reading.specs.Founds.{IsFound}
+use Rattle.rl_reading.proofs.FoundLemmas.{found_reads}
+use Rattle.rl_reading.proofs.MinusLemmas.{no_truth, minus_chars}
 
 -- at most one literal begins the trees
 pub one_front : (trees : List Tree) (a b : SpannedText) (r s : List Tree) → IsFront trees a r → IsFront trees b s
@@ -95,12 +96,6 @@ truth_reads t b e = (Truth b, [], record { truth = b; text_is = e; suffix_is = r
 -- after a minus no truth value stands
 pub no_negative_truth : (t : List ℕ) → ReadsAs BoolKind (45 ∷ t) → ⊥
 no_negative_truth t (v, x, r) = no_truth t x v r
-
--- the characters of a text with a minus before it
-pub minus_chars : (bs : List ℕ) → chars (45 ∷ bs) ≡ 45 ∷ chars bs
-unfolding chars
-minus_chars [] = refl
-minus_chars (b ∷ bs) = refl
 
 -- a minus and a literal that read together begin the trees
 pub negative_front : (trees following rest : List Tree) (m : Mark) (l : SpannedText) (f : Found) → trees

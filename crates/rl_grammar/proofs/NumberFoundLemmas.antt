@@ -1,14 +1,15 @@
 -- The digits of a number that was found.
-use Rattle.rl_grammar.proofs.Names.{◌≡◌, ◌≢◌, ℕ, inl, inr, true, List, ◌++◌, refl, sym, ap, subst, ◌∙◌, append_cancel_right, chars-append, IsUtf8, decimal, Kind, Byte, Char, Int, Float, BoolKind, FloatReads, float_digits, sign_text, HasSuffix}
+use Rattle.rl_text.proofs.Common.{◌≡◌, ◌≢◌, ℕ, inl, inr, true, List, ◌++◌, refl, sym, ap, subst, ◌∙◌, append_cancel_right, chars-append, IsUtf8}
+use Rattle.rl_reading.proofs.Names.{decimal, Kind, Byte, Char, Int, Float, BoolKind, FloatReads, float_digits, sign_text, HasSuffix}
 use Rattle.std.specs.Str.{chars}
-use Rattle.rl_grammar.specs.declared.found.Found.{Found}
-use Rattle.rl_grammar.specs.Founds.{IsFound, IsFoundFloat, IsFoundNumber, StandsIn, body_in, suffix_in}
-use Rattle.rl_grammar.specs.Mirrors.NumberAt.{sign_at}
-use Rattle.rl_grammar.specs.NumberShapes.{AreDigits, IsNumber}
-use Rattle.rl_grammar.specs.WholeShapes.{IsSplit, IsPlain}
-use Rattle.rl_grammar.proofs.DigitLemmas.{int_contents, same_numeral}
-use Rattle.rl_grammar.proofs.FoundLemmas.{body_text, Whether}
-use Rattle.rl_grammar.proofs.PlainNumberLemmas.{IsSplitInteger, plain_integer, plain_float, plain_contents, plain_numeral}
+use Rattle.rl_reading.specs.declared.found.Found.{Found}
+use Rattle.rl_reading.specs.Founds.{IsFound, IsFoundFloat, IsFoundNumber, StandsIn, body_in, suffix_in}
+use Rattle.rl_reading.specs.Mirrors.NumberAt.{sign_at}
+use Rattle.rl_reading.specs.NumberShapes.{AreDigits, IsNumber}
+use Rattle.rl_reading.specs.WholeShapes.{IsSplit, IsPlain}
+use Rattle.rl_reading.proofs.DigitLemmas.{int_contents, same_numeral}
+use Rattle.rl_reading.proofs.FoundLemmas.{body_text, Whether}
+use Rattle.rl_reading.proofs.PlainNumberLemmas.{IsSplitInteger, plain_integer, plain_float, plain_contents, plain_numeral}
 
 -- ---- which number was found
 

@@ -2,11 +2,11 @@
 use Rattle.std.specs.Prelude.{◌≡◌, List, ◌∷◌}
 use Rattle.std.specs.Str.{chars}
 use Prim.Native.Char.{code}
-use Rattle.rl_tokens.specs.declared.kind.Kind.TheVariants.{Bool as BoolKind}
+use Rattle.rl_forms.specs.declared.kind.Kind.TheVariants.{Bool as BoolKind}
 use Rattle.rl_tokens.specs.Puncts.{Mark}
 use Rattle.rl_tokens.specs.Trees.{Tree, IdentTree, PunctTree, LiteralTree}
-use Rattle.rl_tokens.specs.Reading.{ReadsAs, HasReading}
-use Rattle.rl_tokens.specs.Texts.{SpannedText}
+use Rattle.rl_forms.specs.Reading.{ReadsAs, HasReading}
+use Rattle.rl_text.specs.Texts.{SpannedText}
 use Rattle.rl_grammar.specs.Fronts.{joined}
 use Rattle.rl_grammar.specs.declared.front.Front.{Front}
 use Rattle.rl_grammar.specs.declared.front.Front.TheVariants.{Literal as LiteralFront, Word, Negative}

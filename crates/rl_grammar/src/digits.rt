@@ -1,36 +1,23 @@
-//! The digits of numbers.
+//! The digits of numbers, in memory that is taken.
 
-ghost use Rattle.std.specs.Prelude.{◌≡◌, ◌≤◌, ◌+◌, ◌++◌, IfErr, IfOk, OnOk, encode_utf8, encode_utf8_all, length, string_bytes, take, [], ◌∷◌};
-ghost use Rattle.std.specs.Char.{is_ascii_digit};
+ghost use Rattle.std.specs.Prelude.{◌≡◌, ◌++◌, IfErr, IfOk, OnOk, string_bytes};
 ghost use Rattle.std.specs.Fmt.{decimal};
-ghost use Rattle.std.specs.List.{list_all};
-ghost use Rattle.std.specs.Str.{chars, IsUtf8};
-ghost use Rattle.rl_tokens.specs.Errors.{memory_at, nowhere};
-ghost use Rattle.rl_tokens.specs.Numbers.{float_digits, sign_text};
-ghost use Rattle.rl_grammar.specs.Mirrors.NumberAt.{sign_at};
-ghost use Rattle.rl_grammar.specs.Founds.{IsFoundNumber};
-ghost use Rattle.rl_grammar.specs.NumberShapes.{AreDigits, IsNumber};
-ghost use Rattle.rl_grammar.specs.Mirrors.PlainAt.{is_plain_digits, is_plain_float, is_plain_integer};
+ghost use Rattle.std.specs.Str.{chars};
+ghost use Rattle.rl_tokens.specs.Errors.{memory_at};
+ghost use Rattle.rl_text.specs.Spans.{nowhere};
+ghost use Rattle.rl_forms.specs.Numbers.{float_digits, sign_text};
+ghost use Rattle.rl_reading.specs.Mirrors.NumberAt.{sign_at};
+ghost use Rattle.rl_reading.specs.Founds.{IsFoundNumber};
+ghost use Rattle.rl_reading.specs.NumberShapes.{AreDigits, IsNumber};
 
-use crate::digit_rows::{after_minus, is_negative};
-use crate::found::{Found, find_float, found_in};
-use rl_tokens::room::{put_byte, put_char};
-use rl_tokens::scan::{Marks, next_mark};
-use rl_tokens::text::split_char;
+use rl_reading::digit_rows::is_negative;
+use rl_reading::found::found_in;
+use rl_reading::{Found, find_float, numeral_into};
 use rl_tokens::{Error, Kind};
 use std::alloc::{AllocError, Allocator};
-use std::fmt::Write;
 
 /// A minus, and the digits of the greatest magnitude.
 const INTEGER_DIGITS: usize = 40;
-
-/// The bytes of a float's numeral that its digits don't keep as they are.
-const CHANGED: Marks = Marks {
-    first: b'_',
-    second: b'+',
-    third: b'E',
-    fourth: b'E',
-};
 
 /// The digits of a number in base ten.
 ///
@@ -116,48 +103,6 @@ fn signed_decimal<A: Allocator>(
     Ok(digits)
 }
 
-/// Whether all bytes are decimal digits.
-fn are_digits(bytes: &[u8]) -> bool
-    ensures { result ≡ list_all is_ascii_digit bytes.now }
-{
-    bytes.iter().all(u8::is_ascii_digit)
-}
-
-/// Whether all characters are decimal digits.
-fn all_digits(text: &str) -> bool
-    ensures { result ≡ list_all is_ascii_digit (chars text.now) }
-{
-    are_digits(text.as_bytes())
-}
-
-/// Whether the text is digits in base ten, with no needless zero in front; such a zero is looked for first.
-#[tactic(auto, using(crate::proofs::CutLemmas::some_text))]
-fn is_plain_digits(text: &str) -> bool
-    ensures { result ≡ is_plain_digits (chars text.now) }
-{
-    match split_char(text) {
-        Some((first, rest)) => (first != '0' || rest.is_empty()) && all_digits(text),
-        None => false,
-    }
-}
-
-/// Whether the body of an integer is its digits, perhaps after a minus.
-pub(crate) fn is_plain_integer(body: &str) -> bool
-    ensures { result ≡ is_plain_integer (chars body.now) }
-{
-    is_plain_digits(after_minus(body))
-}
-
-/// Whether a float's digits are its numeral as it stands.
-pub(crate) fn is_plain_float(numeral: &str) -> bool
-    ensures { result ≡ is_plain_float (chars numeral.now) }
-{
-    match next_mark(CHANGED, numeral) {
-        Some(_) => false,
-        None => true,
-    }
-}
-
 /// Writes a minus where the text begins with one.
 fn push_sign<A: Allocator>(digits: &mut String<A>, text: &str) -> Result<(), AllocError>
     ensures { OnOk result
@@ -194,39 +139,4 @@ fn plain_numeral<A: Allocator>(alloc: A, numeral: &str) -> Result<String<A>, All
     digits.truncate(len);
     // SAFETY: the digits are characters in UTF-8, which is proved.
     Ok(unsafe { String::from_utf8_unchecked(digits) })
-}
-
-/// Puts a character of a numeral there, if it belongs to the digits. One of ASCII is put as a byte.
-#[inline(always)]
-#[tactic(auto, using(std::proofs::lemmas::Str::encode_ascii))]
-fn put_digit(out: &mut [u8], at: usize, c: char) -> usize
-    requires { at + length (encode_utf8 c) ≤ length out.old }
-    ensures end { result ≤ at + length (encode_utf8 c) }
-    ensures bytes { take result out.new
-        ≡ take at out.old ++ encode_utf8_all (float_digits (c ∷ [])) }
-    ensures len { length out.new ≡ length out.old }
-{
-    match c {
-        '_' | '+' => at,
-        'E' => put_byte(out, at, b'e'),
-        _ if c.is_ascii() => put_byte(out, at, c as u8),
-        _ => put_char(out, at, c),
-    }
-}
-
-/// Writes a float's digits, of its numeral, and returns how many bytes they are long. No memory is taken.
-pub fn numeral_into(numeral: &str, out: &mut [u8]) -> usize
-    requires { length numeral.now ≤ length out.old }
-    ensures digits { chars (take result out.new) ≡ float_digits (chars numeral.now) }
-    ensures utf8 { IsUtf8 (take result out.new) }
-    ensures within { result ≤ length numeral.now }
-    ensures len { length out.new ≡ length out.old }
-{
-    let mut at = 0;
-    let mut rest = numeral;
-    while let Some((c, after)) = split_char(rest) {
-        at = put_digit(out, at, c);
-        rest = after;
-    }
-    at
 }

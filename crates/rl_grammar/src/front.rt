@@ -3,16 +3,16 @@
 ghost use Rattle.std.specs.Prelude.{◌≡◌, [], ◌∷◌, IsTrue, ◌↔◌, IfOk, IfErr, IfSome, IfNone};
 ghost use Rattle.std.specs.Result.{result_map_both};
 ghost use Rattle.std.specs.Str.{chars};
-ghost use Rattle.rl_tokens.specs.declared.kind.Kind.TheVariants.{Bool as BoolKind};
+ghost use Rattle.rl_forms.specs.declared.kind.Kind.TheVariants.{Bool as BoolKind};
 ghost use Rattle.rl_tokens.specs.Errors.{memory_at};
 ghost use Rattle.rl_tokens.specs.Trees.{IdentTree};
-ghost use Rattle.rl_tokens.specs.Reading.{Reads, ReadsAs, Truth, truth_text, HasNoReading};
+ghost use Rattle.rl_forms.specs.Reading.{Reads, ReadsAs, Truth, truth_text, HasNoReading};
 ghost use Rattle.rl_tokens.specs.Buffers.{trees_in, scope_of, IsRest};
 ghost use Rattle.rl_grammar.specs.Fronts.{IsFront, HasNoFront, HasFrontOf, RunsAs, joined, joined_span};
-ghost use Rattle.rl_grammar.specs.Founds.{IsFound};
+ghost use Rattle.rl_reading.specs.Founds.{IsFound};
 ghost use Rattle.rl_grammar.specs.FrontTokens.{HasNoWord, HasNoMinus};
 
-use crate::found::{Found, find, find_negative, truth_of};
+use rl_reading::{Found, find, find_negative, truth_of};
 use rl_tokens::{Error, Ident, Kind, Literal, ParseBuffer, Punct, Span};
 use std::alloc::Allocator;
 use std::marker::Model;
@@ -29,8 +29,8 @@ pub struct Negative<'a, A: Allocator> {
 impl<'a, A: Allocator> Model for Negative<'a, A> {
     ghost use Rattle.std.specs.Prelude.{◌∷◌};
     ghost use Rattle.rl_tokens.specs.Puncts.{Mark};
-    ghost use Rattle.rl_tokens.specs.Texts.{SpannedText, code};
-    ghost use Rattle.rl_grammar.specs.Founds.{IsFound};
+    ghost use Rattle.rl_text.specs.Texts.{SpannedText, code};
+    ghost use Rattle.rl_reading.specs.Founds.{IsFound};
 
     ghost Value = { Mark × SpannedText };
 

@@ -1,16 +1,10 @@
 //! Where each byte of a quoted literal's contents comes from, all at once.
 
 ghost use Rattle.std.specs.Prelude.{◌≡◌, ◌<◌, ◌≤◌, ◌+◌, ℕ, length, slice_index_or, OnOk, IfOk};
-ghost use Rattle.rl_tokens.specs.Errors.{nowhere};
-ghost use Rattle.rl_grammar.specs.Segments.{
-  IsSpanTable,
-  segment_end,
-  segment_place,
-  span_from,
-  value_bytes,
-};
+ghost use Rattle.rl_text.specs.Spans.{nowhere};
+ghost use Rattle.rl_reading.specs.Segments.{IsSpanTable, segment_end, segment_place, span_from, value_bytes};
 
-use crate::segments::{Segment, Segments};
+use rl_reading::{Segment, Segments};
 use rl_tokens::Span;
 use std::alloc::{AllocError, Allocator};
 
@@ -41,29 +35,30 @@ fn push_spans<A: Allocator>(
     Ok(())
 }
 
-impl<'t> Segments<'t> {
-    /// For each byte of the contents from the next segment on, where in the file what gives it stands, and for their end
-    /// the closing quote's place, as a span of no bytes: all that [`place_of`](Segments::place_of) and
-    /// [`end_of`](Segments::end_of) say, in one walk. The literal's text stands from the base's first byte on, up to its
-    /// last.
-    ///
-    /// # Errors
-    ///
-    /// An allocation failure.
-    pub fn spans<A: Allocator>(mut self, alloc: A, base: Span) -> Result<Vec<Span, A>, AllocError>
-        requires { base.lo + (self.at + length self.rest) ≤ base.hi }
-        ensures { IfOk result (λ table. IsSpanTable self.entry base table.items) }
-    {
-        let mut spans = Vec::new(alloc);
-        while let Some(segment) = self.next() {
-            push_spans(&mut spans, base, segment)?;
-        }
-        let end = base.lo + self.at();
-        spans.push(Span {
-            file: base.file,
-            lo: end,
-            hi: end,
-        })?;
-        Ok(spans)
+/// For each byte of the contents from the next segment on, where in the file what gives it stands, and for their end the
+/// closing quote's place, as a span of no bytes: all that [`place_of`](Segments::place_of) and
+/// [`end_of`](Segments::end_of) say, in one walk. The literal's text stands from the base's first byte on, up to its last.
+///
+/// # Errors
+///
+/// An allocation failure.
+pub fn spans_of<A: Allocator>(
+    alloc: A,
+    mut segments: Segments<'_>,
+    base: Span,
+) -> Result<Vec<Span, A>, AllocError>
+    requires { base.lo + (segments.at + length segments.rest) ≤ base.hi }
+    ensures { IfOk result (λ table. IsSpanTable segments.entry base table.items) }
+{
+    let mut spans = Vec::new(alloc);
+    while let Some(segment) = segments.next() {
+        push_spans(&mut spans, base, segment)?;
     }
+    let end = base.lo + segments.at();
+    spans.push(Span {
+        file: base.file,
+        lo: end,
+        hi: end,
+    })?;
+    Ok(spans)
 }

@@ -1,11 +1,11 @@
 -- Texts that a string literal holds as they stand.
-use Rattle.rl_grammar.proofs.Names.{Characters, Plain, Str, texts}
-use Rattle.rl_tokens.proofs.Common.{Bool, IsAscii, List, [], ap, append_assoc, arith, chars, chars-IsAscii, chars-nil, codes, eqb, eqb-true, false, if◌then◌else◌, length, list_all, map, nat_lt, nat_tests, not, refl, sym, true, ℕ, ◌&&◌, ◌++◌, ◌<◌, ◌==◌, ◌∙◌, ◌∷◌, ◌≡◌}
+use Rattle.rl_reading.proofs.Names.{Characters, Plain, Str, texts}
+use Rattle.rl_text.proofs.Common.{Bool, IsAscii, List, [], ap, append_assoc, arith, chars, chars-IsAscii, chars-nil, codes, eqb, eqb-true, false, if◌then◌else◌, length, list_all, map, nat_lt, nat_tests, not, refl, sym, true, ℕ, ◌&&◌, ◌++◌, ◌<◌, ◌==◌, ◌∙◌, ◌∷◌, ◌≡◌}
 use Rattle.std.specs.List.{All}
 use Rattle.std.proofs.lemmas.Bool.{false≢true}
 use Rattle.std.proofs.lemmas.List.Elements.{All-nil, All-cons}
 use Rattle.std.proofs.lemmas.Str.Ascii.{IsAscii-from_all}
-use Rattle.rl_tokens.specs.Written.{written_unit, is_written_as_number}
+use Rattle.rl_forms.specs.Written.{written_unit, is_written_as_number}
 use Rattle.rl_lines.specs.Bare.{is_bare}
 use Rattle.rl_lines.specs.Lines.{literal_line}
 

@@ -1,7 +1,7 @@
 -- Pairs of digits, one after another.
-use Rattle.rl_tokens.proofs.Common.{IsFalse, IsTrue, List, None, Option, Some, [], ap, append_assoc, arith, eqb, eqb-true, false, length, refl, sym, true, ℕ, ◌&&◌, ◌++◌, ◌<◌, ◌∙◌, ◌∷◌, ◌≡◌}
+use Rattle.rl_text.proofs.Common.{IsFalse, IsTrue, List, None, Option, Some, [], ap, append_assoc, arith, eqb, eqb-true, false, length, refl, sym, true, ℕ, ◌&&◌, ◌++◌, ◌<◌, ◌∙◌, ◌∷◌, ◌≡◌}
 use Rattle.std.proofs.lemmas.List.{append-nil}
-use Rattle.rl_tokens.specs.Quoted.{is_hex_digit, hex_value}
+use Rattle.rl_forms.specs.Quoted.{is_hex_digit, hex_value}
 use Rattle.rl_lines.specs.Digits.{with_front, bytes_of}
 
 -- before anything is read

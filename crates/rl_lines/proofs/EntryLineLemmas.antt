@@ -1,5 +1,5 @@
 -- The lines of entries, one after another.
-use Rattle.rl_tokens.proofs.Common.{List, [], ap, append_assoc, chars, refl, string_bytes, ℕ, ◌++◌, ◌∙◌, ◌∷◌, ◌≡◌}
+use Rattle.rl_text.proofs.Common.{List, [], ap, append_assoc, chars, refl, string_bytes, ℕ, ◌++◌, ◌∙◌, ◌∷◌, ◌≡◌}
 use Rattle.std.specs.Prelude.{All}
 use Rattle.std.proofs.lemmas.List.Elements.{All-head, All-tail}
 use Rattle.rust_literals.specs.Literals.{token_of}

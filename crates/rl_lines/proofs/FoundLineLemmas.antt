@@ -1,14 +1,14 @@
 -- What is shown of a text that was found to be a literal.
-use Rattle.rl_grammar.proofs.Names.{Byte, ByteStr, CStr, Char, Characters, Contents, Float, HasContents, HasSuffix, Int, Kind, ReadsAs, SpannedText, Str, is_single, quoted_contents}
+use Rattle.rl_reading.proofs.Names.{Byte, ByteStr, CStr, Char, Characters, Contents, Float, HasContents, HasSuffix, Int, Kind, ReadsAs, SpannedText, Str, is_single, quoted_contents}
 use Rattle.std.proofs.Common.{◌≡◌, ℕ, List, [], ◌∷◌, ◌++◌, Result, IfOk, true, refl, sym, ap, subst, ◌∙◌, inl}
 use Rattle.std.proofs.lemmas.Result.{IfOk-weaker}
 use Rattle.std.specs.Str.{chars}
-use Rattle.rl_tokens.specs.declared.kind.Kind.TheVariants.{Bool}
-use Rattle.rl_tokens.specs.Written.{written_text, IsWrittenForm}
-use Rattle.rl_grammar.specs.declared.found.Found.{Found}
-use Rattle.rl_grammar.specs.Founds.{IsFound}
-use Rattle.rl_grammar.specs.NumberShapes.{AreDigits}
-use Rattle.rl_grammar.proofs.FoundContents.{unit_of}
+use Rattle.rl_forms.specs.declared.kind.Kind.TheVariants.{Bool}
+use Rattle.rl_forms.specs.Written.{written_text, IsWrittenForm}
+use Rattle.rl_reading.specs.declared.found.Found.{Found}
+use Rattle.rl_reading.specs.Founds.{IsFound}
+use Rattle.rl_reading.specs.NumberShapes.{AreDigits}
+use Rattle.rl_reading.proofs.FoundContents.{unit_of}
 use Rattle.rl_lines.specs.FoundLines.{IsShownOf}
 use Rattle.rl_lines.specs.Lines.{line, kind_label, payload, literal_line, IsLineOfKind, Appends}
 use Rattle.rl_quoted.proofs.PlaceLemmas.{found_kind}

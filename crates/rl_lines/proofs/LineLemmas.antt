@@ -1,9 +1,9 @@
 -- Pieces of a line, by their characters.
-use Rattle.rl_grammar.proofs.Names.{Str, xid_ok}
-use Rattle.rl_tokens.proofs.Common.{IsUtf8, List, [], ap, append_assoc, arith, both_ways, chars, chars-append, encodes-chars, eqb, eqb-true, false, length, refl, sym, true, ℕ, ◌++◌, ◌∙◌, ◌∷◌, ◌≡◌}
+use Rattle.rl_reading.proofs.Names.{Str, xid_ok}
+use Rattle.rl_text.proofs.Common.{IsUtf8, List, [], ap, append_assoc, arith, both_ways, chars, chars-append, encodes-chars, eqb, eqb-true, false, length, refl, sym, true, ℕ, ◌++◌, ◌∙◌, ◌∷◌, ◌≡◌}
 use Rattle.std.specs.Prelude.{encode_utf8_all}
 use Rattle.std.proofs.lemmas.Bool.{false≢true}
-use Rattle.rl_tokens.specs.Written.{written_text}
+use Rattle.rl_forms.specs.Written.{written_text}
 use Rattle.rl_lines.specs.Lines.{line, line_end, suffix_word}
 
 -- a piece at the end

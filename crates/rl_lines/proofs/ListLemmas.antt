@@ -1,6 +1,6 @@
 -- The lines of the literals of a text.
 use Rattle.std.proofs.Common.{ℕ, List, [], ◌∷◌, refl}
-use Rattle.rl_tokens.specs.Texts.{SpannedText}
+use Rattle.rl_text.specs.Texts.{SpannedText}
 use Rattle.rl_tokens.specs.Trees.{Tree}
 use Rattle.rust_literals.specs.declared.lit.Lit.{Lit}
 use Rattle.rust_literals.specs.Parsing.{ReadsLiterals, AreRead}

@@ -1,9 +1,9 @@
 -- A literal's line, from its contents and its suffix.
-use Rattle.rl_grammar.proofs.Names.{Byte, ByteStr, CStr, Char, Contents, Digits, Float, FloatReads, HasContents, HasSuffix, Int, Kind, Reads, Str, float_digits, truth_text}
-use Rattle.rl_tokens.proofs.Common.{Bool, List, [], ap, chars, codes, false, refl, subst, true, ℕ, ◌++◌, ◌∙◌, ◌≡◌}
-use Rattle.rl_tokens.specs.declared.kind.Kind.TheVariants.{Bool as BoolKind}
-use Rattle.rl_tokens.proofs.OneReading.{one_reading}
-use Rattle.rl_tokens.proofs.OneNumber.{float_once}
+use Rattle.rl_reading.proofs.Names.{Byte, ByteStr, CStr, Char, Contents, Digits, Float, FloatReads, HasContents, HasSuffix, Int, Kind, Reads, Str, float_digits, truth_text}
+use Rattle.rl_text.proofs.Common.{Bool, List, [], ap, chars, codes, false, refl, subst, true, ℕ, ◌++◌, ◌∙◌, ◌≡◌}
+use Rattle.rl_forms.specs.declared.kind.Kind.TheVariants.{Bool as BoolKind}
+use Rattle.rl_forms.proofs.OneReading.{one_reading}
+use Rattle.rl_forms.proofs.OneNumber.{float_once}
 use Rattle.rl_lines.specs.Lines.{line, kind_label, payload, literal_line, IsLineOfKind, IsLineOfFloat, Appends}
 
 -- a kind's word, by its characters

@@ -1,8 +1,8 @@
 -- A whole text's line.
-use Rattle.rl_grammar.proofs.Names.{Byte, ByteStr, CStr, Char, Digits, Float, Int, Kind, Reads, ReadsAs, SpannedText, Str, Truth, float_digits, truth_text}
-use Rattle.rl_tokens.proofs.Common.{List, [], ap, chars, inl, inr, subst, sym, ℕ, ◌∙◌, ◌≡◌}
-use Rattle.rl_tokens.specs.declared.kind.Kind.TheVariants.{Bool}
-use Rattle.rl_tokens.proofs.OneNumber.{float_once}
+use Rattle.rl_reading.proofs.Names.{Byte, ByteStr, CStr, Char, Digits, Float, Int, Kind, Reads, ReadsAs, SpannedText, Str, Truth, float_digits, truth_text}
+use Rattle.rl_text.proofs.Common.{List, [], ap, chars, inl, inr, subst, sym, ℕ, ◌∙◌, ◌≡◌}
+use Rattle.rl_forms.specs.declared.kind.Kind.TheVariants.{Bool}
+use Rattle.rl_forms.proofs.OneNumber.{float_once}
 use Rattle.rust_literals.specs.declared.lit.Lit.{Lit}
 use Rattle.rust_literals.specs.declared.lit.Lit.TheVariants.{Str as StrLit, ByteStr as ByteStrLit, CStr as CStrLit, Byte as ByteLit, Char as CharLit, Int as IntLit, Float as FloatLit, Bool as BoolLit, Verbatim}
 use Rattle.rust_literals.specs.Literals.{IsReadFrom}

@@ -1,6 +1,6 @@
 -- Bytes as pairs of hexadecimal digits.
 use Rattle.std.specs.Prelude.{ℕ, ◌&&◌, List, [], ◌∷◌, ◌++◌, Option, Some, None, Vec, if◌then◌else◌}
-use Rattle.rl_tokens.specs.Quoted.{is_hex_digit, hex_value}
+use Rattle.rl_forms.specs.Quoted.{is_hex_digit, hex_value}
 
 -- these bytes before those, where there are some
 abbrev pub with_front : List ℕ → Option (List ℕ) → Option (List ℕ)

@@ -1,7 +1,7 @@
 -- The line of a text, of what reading it found.
 use Rattle.std.specs.Prelude.{◌≡◌, ℕ, List}
-use Rattle.rl_tokens.specs.declared.kind.Kind.{Kind}
-use Rattle.rl_tokens.specs.Reading.{Contents, HasContents}
+use Rattle.rl_forms.specs.declared.kind.Kind.{Kind}
+use Rattle.rl_forms.specs.Reading.{Contents, HasContents}
 use Rattle.rl_lines.specs.Lines.{payload}
 
 -- what a text stands for, a literal of the kind, is shown so

@@ -1,16 +1,16 @@
 -- What the program prints: a line for a literal. Texts and lines are lists of characters.
 use Rattle.std.specs.Prelude.{◌≡◌, ◌⊎◌, ℕ, List, [], ◌∷◌, ◌++◌, codes, Option, Some, None, if◌then◌else◌}
 use Prim.Native.Char.{code}
-use Rattle.rl_tokens.specs.declared.kind.Kind.{Kind}
-use Rattle.rl_tokens.specs.declared.kind.Kind.TheVariants.{Str, ByteStr, CStr, Byte, Char, Int, Float, Bool}
+use Rattle.rl_forms.specs.declared.kind.Kind.{Kind}
+use Rattle.rl_forms.specs.declared.kind.Kind.TheVariants.{Str, ByteStr, CStr, Byte, Char, Int, Float, Bool}
 use Rattle.std.specs.Str.{chars}
-use Rattle.rl_tokens.specs.Texts.{xid_ok, SpannedText}
+use Rattle.rl_text.specs.Texts.{xid_ok, SpannedText}
 use Rattle.rl_tokens.specs.Trees.{Tree}
 use Rattle.rl_tokens.specs.Lexing.{Lexes}
 use Rattle.rl_grammar.specs.Fronts.{IsFront}
-use Rattle.rl_tokens.specs.Numbers.{FloatReads, float_digits}
-use Rattle.rl_tokens.specs.Reading.{Contents, Characters, Bytes, Digits, Truth, truth_text, Reads, HasNoReading}
-use Rattle.rl_tokens.specs.Written.{written_text}
+use Rattle.rl_forms.specs.Numbers.{FloatReads, float_digits}
+use Rattle.rl_forms.specs.Reading.{Contents, Characters, Bytes, Digits, Truth, truth_text, Reads, HasNoReading}
+use Rattle.rl_forms.specs.Written.{written_text}
 use Rattle.rust_literals.specs.Literals.{IsReadAs}
 use Rattle.rust_literals.specs.declared.lit.Lit.{Lit}
 use Rattle.rust_literals.specs.declared.lit.Lit.TheVariants.{Str as StrLit, ByteStr as ByteStrLit, CStr as CStrLit, Byte as ByteLit, Char as CharLit, Int as IntLit, Float as FloatLit, Bool as BoolLit, Verbatim}

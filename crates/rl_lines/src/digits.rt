@@ -2,7 +2,7 @@
 
 ghost use Rattle.std.specs.Prelude.{◌≡◌, ◌&&◌, ◌∷◌, ◌<◌, length, IfOk, IfSome, IfNone, IsTrue, IsFalse};
 ghost use Rattle.std.specs.Char.{digit_value};
-ghost use Rattle.rl_tokens.specs.Quoted.{is_hex_digit, hex_value};
+ghost use Rattle.rl_forms.specs.Quoted.{is_hex_digit, hex_value};
 ghost use Rattle.rl_lines.specs.Digits.{bytes_of, bytes_if_any};
 
 use std::alloc::{AllocError, Allocator};

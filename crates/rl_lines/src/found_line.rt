@@ -2,9 +2,9 @@
 
 ghost use Rattle.std.specs.Prelude.{◌≡◌, ◌⊎◌, OnOk, IfOk, IfNone, IfSome, string_bytes};
 ghost use Rattle.std.specs.Str.{chars};
-ghost use Rattle.rl_tokens.specs.declared.kind.Kind.TheVariants.{Str, ByteStr, CStr, Int, Float};
-ghost use Rattle.rl_tokens.specs.Reading.{HasNoReading, HasSuffix, truth_text};
-ghost use Rattle.rl_grammar.specs.Founds.{IsFound};
+ghost use Rattle.rl_forms.specs.declared.kind.Kind.TheVariants.{Str, ByteStr, CStr, Int, Float};
+ghost use Rattle.rl_forms.specs.Reading.{HasNoReading, HasSuffix, truth_text};
+ghost use Rattle.rl_reading.specs.Founds.{IsFound};
 ghost use Rattle.rl_lines.specs.FoundLines.{IsShownOf};
 ghost use Rattle.rl_lines.specs.Lines.{Appends, IsLineOf, IsLineOfKind};
 

@@ -3,9 +3,9 @@
 ghost use Rattle.std.specs.Prelude.{◌≡◌, ◌++◌, ◌==◌, length, IsFalse, OnOk, string_bytes};
 ghost use Rattle.std.specs.List.{list_all};
 ghost use Rattle.std.specs.Str.{chars};
-ghost use Rattle.rl_tokens.specs.declared.kind.Kind.TheVariants.{Str};
-ghost use Rattle.rl_tokens.specs.Reading.{Characters};
-ghost use Rattle.rl_tokens.specs.Written.{written_text};
+ghost use Rattle.rl_forms.specs.declared.kind.Kind.TheVariants.{Str};
+ghost use Rattle.rl_forms.specs.Reading.{Characters};
+ghost use Rattle.rl_forms.specs.Written.{written_text};
 ghost use Rattle.rl_lines.specs.Bare.{is_bare};
 ghost use Rattle.rl_lines.specs.Lines.{line, line_end, suffix_word, kind_label, label_of, literal_line, verbatim_line, Appends};
 

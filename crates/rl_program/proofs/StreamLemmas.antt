@@ -1,5 +1,5 @@
 -- Turns of reading and writing.
-use Rattle.rl_tokens.proofs.Common.{List, None, Option, Some, [], ap, append-nil, append_assoc, arith, drop, length, refl, subst, sym, take, take-append-drop, take-append_seam, take_all, ℕ, ◌++◌, ◌-◌, ◌<◌, ◌∙◌, ◌≡◌}
+use Rattle.rl_text.proofs.Common.{List, None, Option, Some, [], ap, append-nil, append_assoc, arith, drop, length, refl, subst, sym, take, take-append-drop, take-append_seam, take_all, ℕ, ◌++◌, ◌-◌, ◌<◌, ◌∙◌, ◌≡◌}
 use Rattle.std.proofs.Common.{length-drop}
 use Rattle.std.specs.Prelude.{IfSome}
 use Rattle.std.specs.Io.KnownBytes.{Appends, Consumes, IsAtEnd, Keeps}

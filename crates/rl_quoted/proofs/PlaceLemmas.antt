@@ -1,19 +1,19 @@
 -- The places of parts, as reading finds them, and what stands there.
-use Rattle.rl_grammar.proofs.Names.{ByteStr, Bytes, CStr, HasContents, Kind, ReadsAs, is_single, is_string}
-use Rattle.rl_tokens.proofs.Common.{Bool, Err, IsUtf8, List, Ok, Result, Some, chars, or_left, or_right, refl, subst, sym, true, ℕ, ◌∙◌, ◌≡◌, ◌⊎◌}
+use Rattle.rl_reading.proofs.Names.{ByteStr, Bytes, CStr, HasContents, Kind, ReadsAs, is_single, is_string}
+use Rattle.rl_text.proofs.Common.{Bool, Err, IsUtf8, List, Ok, Result, Some, chars, or_left, or_right, refl, subst, sym, true, ℕ, ◌∙◌, ◌≡◌, ◌⊎◌}
 use Rattle.std.specs.Prelude.{IfErr, position}
 use Rattle.std.specs.Result.{IsOk}
-use Rattle.rl_tokens.specs.CStrings.{has_no_zero, is_zero}
-use Rattle.rl_tokens.proofs.OneReading.{one_reading}
+use Rattle.rl_forms.specs.Agreeing.{has_no_zero, is_zero}
+use Rattle.rl_forms.proofs.OneReading.{one_reading}
 use Rattle.rl_tokens.proofs.CStringLemmas.{zero_is_found}
-use Rattle.rl_tokens.proofs.CStringContents.{c_string_no_zero}
-use Rattle.rl_grammar.specs.declared.found.Body.{Body}
-use Rattle.rl_grammar.specs.declared.found.Found.{Found}
-use Rattle.rl_grammar.specs.Bodies.{HasBody, HasSingleBody}
-use Rattle.rl_grammar.specs.Founds.{IsFound, body_in}
-use Rattle.rl_grammar.proofs.BodyContents.{bytes_of_has}
-use Rattle.rl_grammar.proofs.ContentLemmas.{plain_bytes}
-use Rattle.rl_grammar.proofs.SingleBodies.{single_at}
+use Rattle.rl_forms.proofs.CStringContents.{c_string_no_zero}
+use Rattle.rl_reading.specs.declared.found.Body.{Body}
+use Rattle.rl_reading.specs.declared.found.Found.{Found}
+use Rattle.rl_reading.specs.Bodies.{HasBody, HasSingleBody}
+use Rattle.rl_reading.specs.Founds.{IsFound, body_in}
+use Rattle.rl_reading.proofs.BodyContents.{bytes_of_has}
+use Rattle.rl_reading.proofs.ContentLemmas.{plain_bytes}
+use Rattle.rl_reading.proofs.SingleBodies.{single_at}
 use Rattle.rl_quoted.specs.Places.{StandsAt}
 
 -- what is found is of the kind that the text reads as

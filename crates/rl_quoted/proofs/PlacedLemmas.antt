@@ -1,14 +1,14 @@
 -- Places in the file of what a literal stands for.
-use Rattle.rl_grammar.proofs.Names.{Kind, SpannedText, Str}
-use Rattle.rl_tokens.proofs.Common.{Bool, IsUtf8, List, [], ap, arith, chars, cond, encodes-chars, false, get_or, length, ltb, ltb-false, ltb-true, map, refl, subst, sym, true, ℕ, ◌+◌, ◌-◌, ◌∙◌, ◌∷◌, ◌≡◌, ◌≤◌}
+use Rattle.rl_reading.proofs.Names.{Kind, SpannedText, Str}
+use Rattle.rl_text.proofs.Common.{Bool, IsUtf8, List, [], ap, arith, chars, cond, encodes-chars, false, get_or, length, ltb, ltb-false, ltb-true, map, refl, subst, sym, true, ℕ, ◌+◌, ◌-◌, ◌∙◌, ◌∷◌, ◌≡◌, ◌≤◌}
 use Rattle.std.proofs.Common.{min}
-use Rattle.rl_tokens.specs.declared.span.Span.{Span}
-use Rattle.rl_tokens.specs.Errors.{nowhere}
-use Rattle.rl_tokens.specs.Trees.{Tree, Trees, GroupTree, IdentTree, PunctTree, LiteralTree, NoTrees, MoreTrees, all_relocated, all_respanned, entry_at, looked_up, relocated, respanned}
-use Rattle.rl_grammar.specs.Segments.{IsByteEnd, IsBytePlace, IsSegmentsOf, IsSpanTable, SegmentsState, begins_in, ends_in, unit_place, span_from, units_bytes}
-use Rattle.rl_grammar.proofs.SegmentLemmas.{place_at_end, unit_span}
-use Rattle.rl_grammar.proofs.SegmentLawLemmas.{end_in_text, place_in_text}
-use Rattle.rl_grammar.proofs.SegmentStarts.{given_in_whole}
+use Rattle.rl_text.specs.declared.span.Span.{Span}
+use Rattle.rl_text.specs.Spans.{nowhere, entry_at, looked_up}
+use Rattle.rl_tokens.specs.Trees.{Tree, Trees, GroupTree, IdentTree, PunctTree, LiteralTree, NoTrees, MoreTrees, all_relocated, all_respanned, relocated, respanned}
+use Rattle.rl_reading.specs.Segments.{IsByteEnd, IsBytePlace, IsSegmentsOf, IsSpanTable, SegmentsState, begins_in, ends_in, unit_place, span_from, units_bytes}
+use Rattle.rl_reading.proofs.SegmentLemmas.{place_at_end, unit_span}
+use Rattle.rl_reading.proofs.SegmentLawLemmas.{end_in_text, place_in_text}
+use Rattle.rl_reading.proofs.SegmentStarts.{given_in_whole}
 use Rattle.rl_quoted.specs.Places.{IsRangeOf}
 use Rattle.rl_quoted.specs.declared.inside.Placing.{Placing}
 use Rattle.rl_quoted.specs.declared.inside.Placing.TheVariants.{AtLiteral, InFile}

@@ -1,21 +1,21 @@
 -- Where the parts stand of a literal that the writer wrote.
-use Rattle.rl_grammar.proofs.Names.{Byte, ByteStr, CStr, Char, Contents, Cooked, Float, Int, Kind, Reads, ReadsQuoted, Single, Str, is_single, is_string, opener, quoted_contents, texts, unit_text}
-use Rattle.rl_tokens.proofs.Common.{Bool, IsCharBoundary, IsTrue, IsUtf8, List, [], ap, append_assoc, arith, both_ways, chars, chars-nil, drop, encodes-append, encodes-chars, false, inl, inr, length, length-append, length-encode, refl, subst, sym, take, take-append_seam, true, ℕ, ◌++◌, ◌+◌, ◌-◌, ◌<◌, ◌∙◌, ◌∷◌, ◌≡◌, ◌≤◌}
+use Rattle.rl_reading.proofs.Names.{Byte, ByteStr, CStr, Char, Contents, Cooked, Float, Int, Kind, Reads, ReadsQuoted, Single, Str, is_single, is_string, opener, quoted_contents, texts, unit_text}
+use Rattle.rl_text.proofs.Common.{Bool, IsCharBoundary, IsTrue, IsUtf8, List, [], ap, append_assoc, arith, both_ways, chars, chars-nil, drop, encodes-append, encodes-chars, false, inl, inr, length, length-append, length-encode, refl, subst, sym, take, take-append_seam, true, ℕ, ◌++◌, ◌+◌, ◌-◌, ◌<◌, ◌∙◌, ◌∷◌, ◌≡◌, ◌≤◌}
 use Rattle.std.proofs.Math.Seq.{drop-append_seam, drop-length}
 use Rattle.std.proofs.Math.Utf8.{scalars}
 use Rattle.std.specs.Prelude.{◌↔◌, encode_utf8_all}
 use Rattle.std.proofs.lemmas.Str.{IsCharBoundary-at_seam, IsCharBoundary-end, IsUtf8-append, chars-encodes, scalars-chars, len_utf8_ascii}
-use Rattle.rl_tokens.specs.declared.kind.Kind.TheVariants.{Bool as BoolKind}
-use Rattle.rl_tokens.specs.Written.{IsWrittenForm}
-use Rattle.rl_tokens.proofs.CutTrees.{scalars_parts}
-use Rattle.rl_grammar.specs.declared.found.Body.{Body}
-use Rattle.rl_grammar.specs.Decoded.{in_bytes}
-use Rattle.rl_grammar.specs.Founds.{IsQuotedAt, StandsIn, body_in, suffix_in, is_quoted}
-use Rattle.rl_grammar.specs.Forms.{PartsAre, front_len, is_plain_body}
-use Rattle.rl_grammar.proofs.BodyLemmas.{openers_differ, cooked_other, cooked_shortens}
-use Rattle.rl_grammar.proofs.ContentLemmas.{plain_bytes}
-use Rattle.rl_grammar.proofs.FormLemmas.{HasParts, cooked_has, single_has}
-use Rattle.rl_grammar.proofs.FoundLemmas.{body_text, quoted_whole}
+use Rattle.rl_forms.specs.declared.kind.Kind.TheVariants.{Bool as BoolKind}
+use Rattle.rl_forms.specs.Written.{IsWrittenForm}
+use Rattle.rl_text.proofs.Basics.{scalars_parts}
+use Rattle.rl_reading.specs.declared.found.Body.{Body}
+use Rattle.rl_reading.specs.Decoded.{in_bytes}
+use Rattle.rl_reading.specs.Founds.{IsQuotedAt, StandsIn, body_in, suffix_in, is_quoted}
+use Rattle.rl_reading.specs.Forms.{PartsAre, front_len, is_plain_body}
+use Rattle.rl_reading.proofs.BodyLemmas.{openers_differ, cooked_other, cooked_shortens}
+use Rattle.rl_reading.proofs.ContentLemmas.{plain_bytes}
+use Rattle.rl_reading.proofs.FormLemmas.{HasParts, cooked_has, single_has}
+use Rattle.rl_reading.proofs.FoundLemmas.{body_text, quoted_whole}
 use Rattle.rl_quoted.specs.Places.{IsWrittenAs, StandsAt}
 
 -- ---- by characters

@@ -3,18 +3,19 @@
 -- runs on them with the literal's span as its scope.
 use Rattle.std.specs.Prelude.{◌≡◌, ◌≢◌, ◌⊎◌, ℕ, List, [], ◌∷◌, Result, Ok, Err, string_bytes}
 use Rattle.std.specs.Str.{chars}
-use Rattle.rl_tokens.specs.declared.span.Span.{Span}
-use Rattle.rl_tokens.specs.declared.kind.Kind.TheVariants.{Str}
-use Rattle.rl_tokens.specs.declared.lex_error.LexKind.{LexKind}
+use Rattle.rl_text.specs.declared.span.Span.{Span}
+use Rattle.rl_forms.specs.declared.kind.Kind.TheVariants.{Str}
+use Rattle.rl_lexer.specs.declared.lex_error.LexKind.{LexKind}
 use Rattle.rl_tokens.specs.declared.error.ErrorKind.{ErrorKind}
 use Rattle.rl_tokens.specs.declared.error.ErrorKind.TheVariants.{Unexpected, Suffix}
 use Rattle.rl_tokens.specs.declared.error.Error.{Error}
 use Rattle.rl_tokens.specs.Errors.{memory_at, lex_rejection}
 use Rattle.rl_tokens.specs.Buffers.{first_span}
-use Rattle.rl_tokens.specs.Texts.{SpannedText}
+use Rattle.rl_text.specs.Texts.{SpannedText}
 use Rattle.rl_tokens.specs.Trees.{Tree, Trees, GroupTree, IdentTree, PunctTree, LiteralTree, NoTrees, MoreTrees}
-use Rattle.rl_tokens.specs.Reading.{Characters, HasContents, HasSuffix}
-use Rattle.rl_tokens.specs.Lexing.{Lexes, Rejects}
+use Rattle.rl_forms.specs.Reading.{Characters, HasContents, HasSuffix}
+use Rattle.rl_tokens.specs.Lexing.{Lexes}
+use Rattle.rl_lexer.specs.Cuts.{Rejects}
 use Rattle.rl_tokens.specs.Whole.{place_at}
 use Rattle.rl_quoted.specs.declared.inside.Placing.{Placing}
 use Rattle.rl_quoted.specs.declared.inside.Placing.TheVariants.{AtLiteral, InFile}

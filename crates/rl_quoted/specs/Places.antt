@@ -1,16 +1,16 @@
 -- What the quoted structs hold beside their token: the places of its parts.
 use Rattle.std.specs.Prelude.{◌≡◌, ◌≢◌, ◌+◌, ◌-◌, ◌<◌, ◌≤◌, ◌↔◌, ℕ, List, length, IsTrue}
 use Rattle.std.specs.Str.{chars}
-use Rattle.rl_tokens.specs.declared.kind.Kind.{Kind}
-use Rattle.rl_tokens.specs.Reading.{HasSuffix}
-use Rattle.rl_tokens.specs.Written.{IsWrittenForm}
-use Rattle.rl_grammar.specs.declared.found.Body.{Body}
-use Rattle.rl_grammar.specs.Decoded.{in_bytes}
-use Rattle.rl_grammar.specs.Founds.{IsQuotedAt, StandsIn, is_quoted, suffix_in}
-use Rattle.rl_grammar.specs.Segments.{IsByteEnd, IsBytePlace, span_from}
-use Rattle.rl_grammar.specs.WholeShapes.{IsPlain}
-use Rattle.rl_tokens.specs.declared.span.Span.{Span}
-use Rattle.rl_tokens.specs.Texts.{SpannedText}
+use Rattle.rl_forms.specs.declared.kind.Kind.{Kind}
+use Rattle.rl_forms.specs.Reading.{HasSuffix}
+use Rattle.rl_forms.specs.Written.{IsWrittenForm}
+use Rattle.rl_reading.specs.declared.found.Body.{Body}
+use Rattle.rl_reading.specs.Decoded.{in_bytes}
+use Rattle.rl_reading.specs.Founds.{IsQuotedAt, StandsIn, is_quoted, suffix_in}
+use Rattle.rl_reading.specs.Segments.{IsByteEnd, IsBytePlace, span_from}
+use Rattle.rl_reading.specs.WholeShapes.{IsPlain}
+use Rattle.rl_text.specs.declared.span.Span.{Span}
+use Rattle.rl_text.specs.Texts.{SpannedText}
 
 -- The text, in bytes, is a literal of the kind whose parts stand at these places, and it is reported
 -- whether it is plain.

@@ -2,10 +2,10 @@
 
 ghost use Rattle.std.specs.Prelude.{◌≡◌, ◌≢◌, ◌⊎◌, [], OnOk, IfOk, IfErr, Ok};
 ghost use Rattle.std.specs.Str.{chars};
-ghost use Rattle.rl_tokens.specs.declared.kind.Kind.TheVariants.{Str};
+ghost use Rattle.rl_forms.specs.declared.kind.Kind.TheVariants.{Str};
 ghost use Rattle.rl_tokens.specs.Buffers.{trees_in};
 ghost use Rattle.rl_tokens.specs.Errors.{memory_at};
-ghost use Rattle.rl_tokens.specs.Reading.{HasSuffix};
+ghost use Rattle.rl_forms.specs.Reading.{HasSuffix};
 ghost use Rattle.rl_tokens.specs.Trees.{stream_view};
 ghost use Rattle.rl_quoted.specs.declared.inside.Placing.TheVariants.{InFile};
 ghost use Rattle.rl_quoted.specs.Inside.{
@@ -25,6 +25,7 @@ ghost use Rattle.rl_quoted.specs.Inside.{
 };
 
 use crate::lit_str::LitStr;
+use rl_grammar::spans_of;
 use rl_tokens::{
     ByParse, Error, ErrorKind, Parse, ParseBuffer, Parser, Span, TokenStream, trees_of_text,
 };
@@ -77,7 +78,7 @@ impl<A: Allocator> LitStr<A> {
             stream.respan(span);
             return Ok(());
         }
-        match self.segments().spans(alloc, span) {
+        match spans_of(alloc, self.segments(), span) {
             Ok(table) => {
                 stream.relocate(table.as_slice());
                 Ok(())

@@ -2,10 +2,10 @@
 
 ghost use Rattle.std.specs.Prelude.{◌≡◌, ◌∷◌, [], IfOk, IfErr};
 ghost use Rattle.std.specs.Str.{chars};
-ghost use Rattle.rl_tokens.specs.declared.kind.Kind.TheVariants.{Byte};
+ghost use Rattle.rl_forms.specs.declared.kind.Kind.TheVariants.{Byte};
 ghost use Rattle.rl_tokens.specs.Errors.{memory_at};
-ghost use Rattle.rl_tokens.specs.Reading.{Bytes, HasContents};
-ghost use Rattle.rl_tokens.specs.Written.{IsWrittenForm};
+ghost use Rattle.rl_forms.specs.Reading.{Bytes, HasContents};
+ghost use Rattle.rl_forms.specs.Written.{IsWrittenForm};
 
 use crate::quoted::{Quoted, QuotedKind};
 use rl_grammar::{Kind, byte_of_body};

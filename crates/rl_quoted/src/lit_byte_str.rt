@@ -2,11 +2,11 @@
 
 ghost use Rattle.std.specs.Prelude.{◌≡◌, IfOk, IfErr, IfSome, OnSome, IfNone};
 ghost use Rattle.std.specs.Str.{chars};
-ghost use Rattle.rl_tokens.specs.declared.kind.Kind.TheVariants.{ByteStr};
+ghost use Rattle.rl_forms.specs.declared.kind.Kind.TheVariants.{ByteStr};
 ghost use Rattle.rl_tokens.specs.Errors.{memory_at};
-ghost use Rattle.rl_tokens.specs.Reading.{Bytes, HasContents};
-ghost use Rattle.rl_tokens.specs.Written.{IsWrittenForm};
-ghost use Rattle.rl_grammar.specs.WholeShapes.{IsPlain};
+ghost use Rattle.rl_forms.specs.Reading.{Bytes, HasContents};
+ghost use Rattle.rl_forms.specs.Written.{IsWrittenForm};
+ghost use Rattle.rl_reading.specs.WholeShapes.{IsPlain};
 
 use crate::quoted::{Quoted, QuotedKind};
 use rl_grammar::{Kind, bytes_of_body};

@@ -9,18 +9,18 @@ ghost use Rattle.std.specs.Hash as fed;
 ghost use Rattle.std.specs.Ordering.{on};
 ghost use Rattle.std.proofs.Common.{rules};
 ghost use Rattle.std.specs.Str.{chars, IsUtf8};
-ghost use Rattle.rl_tokens.specs.declared.kind.Kind.{Kind};
+ghost use Rattle.rl_forms.specs.declared.kind.Kind.{Kind};
 ghost use Rattle.rl_tokens.specs.Errors.{memory_at};
-ghost use Rattle.rl_tokens.specs.Reading.{HasSuffix, ReadsAs};
+ghost use Rattle.rl_forms.specs.Reading.{HasSuffix, ReadsAs};
 ghost use Rattle.rl_tokens.specs.Trees.{LiteralTree, stream_view};
-ghost use Rattle.rl_tokens.specs.Quoted.{is_single, is_string};
-ghost use Rattle.rl_grammar.specs.Bodies.{HasBody, HasSingleBody};
-ghost use Rattle.rl_grammar.specs.Founds.{IsFound, is_quoted};
-ghost use Rattle.rl_grammar.specs.Segments.{IsByteEnd, IsBytePlace, IsSegmentsOf};
-ghost use Rattle.rl_grammar.specs.WholeShapes.{IsPlain};
+ghost use Rattle.rl_forms.specs.Quoted.{is_single, is_string};
+ghost use Rattle.rl_reading.specs.Bodies.{HasBody, HasSingleBody};
+ghost use Rattle.rl_reading.specs.Founds.{IsFound, is_quoted};
+ghost use Rattle.rl_reading.specs.Segments.{IsByteEnd, IsBytePlace, IsSegmentsOf};
+ghost use Rattle.rl_reading.specs.WholeShapes.{IsPlain};
 ghost use Rattle.rl_quoted.specs.Places.{IsRangeOf, IsSpanOf, IsWrittenAs, StandsAt};
 ghost use Rattle.rl_quoted.specs.Suffixes.{HasSomeSuffix};
-ghost use Rattle.rl_tokens.specs.Words.{kind_name};
+ghost use Rattle.rl_forms.specs.Words.{kind_name};
 
 use crate::written::written_body;
 use rl_grammar::{Body, Found, Kind, Segments, find, next_is, take_kind};
@@ -58,7 +58,7 @@ pub struct Quoted<K: QuotedKind, A: Allocator = Global> {
 
 /// The token's text reads as the kind, and its parts stand at the places that are kept.
 impl<K: QuotedKind, A: Allocator> Model for Quoted<K, A> {
-    ghost use Rattle.rl_tokens.specs.Texts.{SpannedText};
+    ghost use Rattle.rl_text.specs.Texts.{SpannedText};
     ghost use Rattle.rl_quoted.specs.Places.{StandsAt};
 
     ghost Value = { SpannedText };
@@ -290,7 +290,7 @@ impl<K: QuotedKind, A: Allocator> Quoted<K, A> {
 /// Takes the literal of the kind that stands next. It is rejected as [`take_kind`] says.
 impl<K: QuotedKind, A: Allocator> Parse<A> for Quoted<K, A> {
     ghost use Rattle.rl_grammar.specs.Fronts.{RunsAs};
-    ghost use Rattle.rl_tokens.specs.Words.{kind_word};
+    ghost use Rattle.rl_forms.specs.Words.{kind_word};
 
     ghost runs = { RunsAs K.KIND (kind_word K.KIND) };
 
@@ -305,7 +305,7 @@ impl<K: QuotedKind, A: Allocator> Parse<A> for Quoted<K, A> {
 /// True exactly where the parser succeeds, if memory is found.
 impl<K: QuotedKind, A: Allocator> Token for Quoted<K, A> {
     ghost use Rattle.rl_grammar.specs.Fronts.{HasFrontOf};
-    ghost use Rattle.rl_tokens.specs.Words.{kind_shown};
+    ghost use Rattle.rl_forms.specs.Words.{kind_shown};
 
     ghost peeks = { HasFrontOf K.KIND };
 

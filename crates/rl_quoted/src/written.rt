@@ -2,8 +2,8 @@
 
 ghost use Rattle.std.specs.Prelude.{◌≡◌, ◌↔◌, IsTrue, length};
 ghost use Rattle.std.specs.Str.{chars};
-ghost use Rattle.rl_tokens.specs.Quoted.{is_string};
-ghost use Rattle.rl_grammar.specs.Founds.{is_quoted};
+ghost use Rattle.rl_forms.specs.Quoted.{is_string};
+ghost use Rattle.rl_reading.specs.Founds.{is_quoted};
 ghost use Rattle.rl_quoted.specs.Places.{IsWrittenAs, StandsAt};
 
 use rl_grammar::{Body, Kind};

@@ -1,7 +1,7 @@
 //! Calls of `rl_grammar`.
 
 use crate::trial::{Scarce, Trial, UNFIT};
-use rl_grammar::{Kind, Segments, bytes_of, digits_of, shape, str_of};
+use rl_grammar::{Kind, Segments, bytes_of, digits_of, shape, spans_of, str_of};
 use rl_refusing::Page;
 use rl_tokens::Span;
 
@@ -25,7 +25,7 @@ pub fn spans<A: Scarce>(trial: &Trial<'_, A>, text: &str, page: &mut Page) {
     match Segments::of(text) {
         Some(segments) => {
             let base = Span::new(7, 0, text.len());
-            trial.ends(segments.spans(trial.begins(), base), page)
+            trial.ends(spans_of(trial.begins(), segments, base), page)
         }
         None => page.put(UNFIT),
     }

@@ -1,7 +1,7 @@
 //! The segments of quoted literals, and where what they stand for comes from.
 
 use crate::tell::place;
-use rl_grammar::{SegmentValue, Segments, place_of};
+use rl_grammar::{SegmentValue, Segments, place_of, spans_of};
 use rl_refusing::Page;
 use rl_tokens::Span;
 use std::alloc::Global;
@@ -43,7 +43,7 @@ fn table(alloc: Global, text: &str, out: &mut Page) {
     let Some(segments) = Segments::of(text) else {
         return;
     };
-    match segments.spans(alloc, Span::new(7, 0, text.len())) {
+    match spans_of(alloc, segments, Span::new(7, 0, text.len())) {
         Ok(spans) => {
             for span in spans.as_slice() {
                 place(*span, out);

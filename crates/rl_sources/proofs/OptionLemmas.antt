@@ -1,8 +1,7 @@
 -- Words of a list, and words of the command line.
-use Rattle.rl_tokens.proofs.Common.{Bool, IsTrue, List, [], ap, arith, common_steps, drop, false, get_or, length, map, refl, string_bytes, subst, sym, take, take_all, true, ℕ, ◌+◌, ◌-◌, ◌<◌, ◌∙◌, ◌∷◌, ◌≡◌, ◌≢◌}
+use Rattle.rl_text.proofs.Common.{Bool, IsTrue, List, [], ap, arith, common_steps, drop, false, get_or, length, map, refl, string_bytes, subst, sym, take, take_all, true, ℕ, ◌+◌, ◌-◌, ◌<◌, ◌∙◌, ◌∷◌, ◌≡◌, ◌≢◌}
 use Rattle.std.proofs.Common.{MatchBool}
-use Rattle.std.specs.Prelude.{◌↔◌}
-use Rattle.std.specs.Prelude.{String}
+use Rattle.std.specs.Prelude.{◌↔◌, String}
 use Rattle.rl_sources.specs.Words.{Wishes, Asks, first_wishes}
 use Rattle.rl_sources.specs.Endings.{AskForOptions}
 use Rattle.std.specs.List.{All, AllWithin, HoldsAt, Contains}

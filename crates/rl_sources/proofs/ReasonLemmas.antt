@@ -1,20 +1,20 @@
 -- The place of a flaw in the source, and its line.
-use Rattle.rl_grammar.proofs.Names.{HasReading, IsTail, byte_len}
-use Rattle.rl_tokens.proofs.Common.{IsAscii, IsCharBoundary, IsTrue, IsUtf8, List, [], and_parts, ap, append_assoc, arith, chars, chars-IsAscii, codes, drop, encode_utf8, encodes-append, encodes-chars, inl, inr, is_ascii, length, length-append, list_all, ltb-true, refl, subst, sym, true, ℕ, ◌++◌, ◌+◌, ◌∙◌, ◌∷◌, ◌≡◌, ◌≤◌}
+use Rattle.rl_reading.proofs.Names.{HasReading, IsTail, byte_len}
+use Rattle.rl_text.proofs.Common.{IsAscii, IsCharBoundary, IsTrue, IsUtf8, List, [], and_parts, ap, append_assoc, arith, chars, chars-IsAscii, codes, drop, encode_utf8, encodes-append, encodes-chars, inl, inr, is_ascii, length, length-append, list_all, ltb-true, refl, subst, sym, true, ℕ, ◌++◌, ◌+◌, ◌∙◌, ◌∷◌, ◌≡◌, ◌≤◌}
 use Rattle.std.specs.Prelude.{encode_utf8_all}
 use Rattle.std.proofs.Math.Seq.{drop-append_seam}
 use Rattle.std.proofs.lemmas.List.{append-nil}
 use Rattle.std.proofs.lemmas.Str.{IsUtf8-past_char, IsCharBoundary-from_drop, IsAscii-append}
 use Rattle.std.proofs.lemmas.Str.Ascii.{IsAscii-nil, IsAscii-cons}
-use Rattle.rl_tokens.specs.Cursors.{CursorState, IsCursorState}
-use Rattle.rl_tokens.specs.declared.sources.SourceToken.{SourceToken}
-use Rattle.rl_tokens.proofs.TailLemmas.{tail_step}
-use Rattle.rl_tokens.proofs.CutLemmas.{byte_len-append}
-use Rattle.rl_grammar.specs.declared.flaws.Flaw.{Flaw}
-use Rattle.rl_grammar.specs.declared.flaws.FlawKind.{FlawKind}
-use Rattle.rl_grammar.specs.declared.flaws.FlawKind.TheVariants.{Empty, NoLiteral, Unfinished, NoQuote, NoNumber, Unclosed, UnknownEscape, NoUnicode, NoHexDigit, NoBrace, EmptyBraces, TooManyDigits, PastAscii, PastUnicode, Surrogate, Nul, NotAscii, LateQuote, LoneCr, MustEscape, NoCharacter, TwoCharacters, NoExponentDigit, BadSuffix, TooLarge}
-use Rattle.rl_grammar.specs.Flaws.{Explains, first_len}
-use Rattle.rl_grammar.specs.FlawWords.{flaw_message}
+use Rattle.rl_lexer.specs.Cursors.{CursorState, IsCursorState}
+use Rattle.rl_lexer.specs.declared.sources.SourceToken.{SourceToken}
+use Rattle.rl_text.proofs.TailLemmas.{tail_step}
+use Rattle.rl_lexer.proofs.CutLemmas.{byte_len-append}
+use Rattle.rl_reasons.specs.declared.flaws.Flaw.{Flaw}
+use Rattle.rl_reasons.specs.declared.flaws.FlawKind.{FlawKind}
+use Rattle.rl_reasons.specs.declared.flaws.FlawKind.TheVariants.{Empty, NoLiteral, Unfinished, NoQuote, NoNumber, Unclosed, UnknownEscape, NoUnicode, NoHexDigit, NoBrace, EmptyBraces, TooManyDigits, PastAscii, PastUnicode, Surrogate, Nul, NotAscii, LateQuote, LoneCr, MustEscape, NoCharacter, TwoCharacters, NoExponentDigit, BadSuffix, TooLarge}
+use Rattle.rl_reasons.specs.Flaws.{Explains, first_len}
+use Rattle.rl_reasons.specs.FlawWords.{flaw_message}
 use Rattle.rl_lines.specs.Lines.{Appends}
 use Rattle.rl_lines.proofs.LineLemmas.{pushed}
 use Rattle.rl_sources.specs.declared.options.Options.{Options}

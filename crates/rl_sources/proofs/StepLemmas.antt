@@ -1,15 +1,15 @@
 -- What is appended for one token.
-use Rattle.rl_grammar.proofs.Names.{HasNoReading, Kind}
-use Rattle.rl_tokens.proofs.Common.{Bool, IsAscii, IsUtf8, List, None, Option, Some, [], ap, append_assoc, arith, chars, chars-IsAscii, cond, false, inl, inr, lit<, nat_tests, refl, subst, suc, sym, true, zero, ℕ, ◌%◌, ◌++◌, ◌/◌, ◌<◌, ◌==◌, ◌∙◌, ◌∷◌, ◌≡◌, ◌⊎◌}
+use Rattle.rl_reading.proofs.Names.{HasNoReading, Kind}
+use Rattle.rl_text.proofs.Common.{Bool, IsAscii, IsUtf8, List, None, Option, Some, [], ap, append_assoc, arith, chars, chars-IsAscii, cond, false, inl, inr, lit<, nat_tests, refl, subst, suc, sym, true, zero, ℕ, ◌%◌, ◌++◌, ◌/◌, ◌<◌, ◌==◌, ◌∙◌, ◌∷◌, ◌≡◌, ◌⊎◌}
 use Rattle.std.specs.Fmt.{digits, decimal, digits_onto, digit_glyph}
 use Rattle.std.proofs.lemmas.List.{append-nil}
 use Rattle.std.proofs.lemmas.Str.{IsAscii-append}
 use Rattle.std.proofs.lemmas.Str.Ascii.{IsAscii-nil, IsAscii-cons}
 use Rattle.std.specs.Prelude.{IfNone, IfSome, MatchOption}
-use Rattle.rl_tokens.specs.Sources.{SourceKind, SourceBefore, BeginsNoSource}
-use Rattle.rl_tokens.specs.Cursors.{CursorState}
-use Rattle.rl_grammar.specs.declared.found.Found.{Found}
-use Rattle.rl_grammar.specs.Founds.{IsFound, suffix_in}
+use Rattle.rl_lexer.specs.Sources.{SourceKind, SourceBefore, BeginsNoSource}
+use Rattle.rl_lexer.specs.Cursors.{CursorState}
+use Rattle.rl_reading.specs.declared.found.Found.{Found}
+use Rattle.rl_reading.specs.Founds.{IsFound, suffix_in}
 use Rattle.rl_lines.specs.Lines.{label_of, IsLabelOf, IsLineOf, Appends}
 use Rattle.rl_lines.proofs.LineLemmas.{pushed}
 use Rattle.rl_sources.specs.declared.options.Options.{Options}

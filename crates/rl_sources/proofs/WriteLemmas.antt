@@ -1,9 +1,9 @@
 -- What a scan has written after a step.
-use Rattle.rl_tokens.proofs.Common.{Bool, IsUtf8, List, Option, [], ap, chars, length, not, subst, sym, ℕ, ◌==◌, ◌||◌, ◌∙◌, ◌≡◌}
+use Rattle.rl_text.proofs.Common.{Bool, IsUtf8, List, Option, [], ap, chars, length, not, subst, sym, ℕ, ◌==◌, ◌||◌, ◌∙◌, ◌≡◌}
 use Rattle.std.specs.Io.KnownBytes.{Appends}
-use Rattle.rl_tokens.specs.Texts.{byte_len}
-use Rattle.rl_tokens.specs.Cursors.{CursorState}
-use Rattle.rl_tokens.specs.declared.lex_error.LexKind.{LexKind}
+use Rattle.rl_text.specs.Texts.{byte_len}
+use Rattle.rl_lexer.specs.Cursors.{CursorState}
+use Rattle.rl_lexer.specs.declared.lex_error.LexKind.{LexKind}
 use Rattle.rl_program.specs.Streams.{AppendsBeginning}
 use Rattle.rl_program.specs.declared.fault.Fault.{Fault as RunFault}
 use Rattle.rl_program.specs.declared.fault.Fault.TheVariants.{Write}

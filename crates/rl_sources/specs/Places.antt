@@ -1,9 +1,9 @@
 -- Places of a source, as they are printed.
 use Rattle.std.specs.Prelude.{◌≡◌, ℕ, ◌+◌, Bool, false, true, List, ◌++◌, codes}
 use Rattle.std.specs.Fmt.{decimal}
-use Rattle.rl_tokens.specs.Texts.{byte_len}
-use Rattle.rl_tokens.specs.Cursors.{CursorState, IsCursorState}
-use Rattle.rl_tokens.specs.Lines.{BeginsAt}
+use Rattle.rl_text.specs.Texts.{byte_len}
+use Rattle.rl_lexer.specs.Cursors.{CursorState, IsCursorState}
+use Rattle.rl_lexer.specs.Lines.{BeginsAt}
 use Rattle.rl_sources.specs.declared.place.Place.{Place}
 use Rattle.rl_sources.specs.declared.place.Place.TheVariants.{Bytes, Line}
 

@@ -5,15 +5,15 @@ use Rattle.std.specs.Prelude.{◌≡◌, ◌≢◌, ◌⊎◌, ◌↔◌, ℕ, �
 use Prim.Native.Char.{code}
 use Rattle.std.specs.List.{All}
 use Rattle.std.specs.Io.KnownBytes.{Appends}
-use Rattle.rl_tokens.specs.Texts.{byte_len}
-use Rattle.rl_tokens.specs.Lexemes.{LiteralForm, IdentifierForm}
-use Rattle.rl_tokens.specs.Reading.{HasReading, truth_text}
-use Rattle.rl_tokens.specs.Sources.{source_text, SourceKind, PlainKind, StrayKind, source_kind, CutSource, source_end, IsCutUpTo, SourceBefore, SourceErrorAt}
-use Rattle.rl_tokens.specs.declared.lex_error.LexKind.{LexKind}
-use Rattle.rl_tokens.specs.declared.lex_error.LexKind.TheVariants.{StrayCharacter}
-use Rattle.rl_grammar.specs.declared.flaws.Flaw.{Flaw}
-use Rattle.rl_grammar.specs.Flaws.{Explains}
-use Rattle.rl_grammar.specs.FlawWords.{flaw_message}
+use Rattle.rl_text.specs.Texts.{byte_len}
+use Rattle.rl_lexer.specs.Lexemes.{LiteralForm, IdentifierForm}
+use Rattle.rl_forms.specs.Reading.{HasReading, truth_text}
+use Rattle.rl_lexer.specs.Sources.{source_text, SourceKind, PlainKind, StrayKind, source_kind, CutSource, source_end, IsCutUpTo, SourceBefore, SourceErrorAt}
+use Rattle.rl_lexer.specs.declared.lex_error.LexKind.{LexKind}
+use Rattle.rl_lexer.specs.declared.lex_error.LexKind.TheVariants.{StrayCharacter}
+use Rattle.rl_reasons.specs.declared.flaws.Flaw.{Flaw}
+use Rattle.rl_reasons.specs.Flaws.{Explains}
+use Rattle.rl_reasons.specs.FlawWords.{flaw_message}
 use Rattle.rl_lines.specs.Lines.{IsLineOf, IsLabelOf, Joins}
 use Rattle.rl_program.specs.Streams.{AppendsBeginning}
 use Rattle.rl_program.specs.declared.fault.Fault.TheVariants.{Write, Memory}

@@ -1,11 +1,11 @@
 -- Steps of a scan.
 use Rattle.std.specs.Prelude.{◌≡◌, ◌≢◌, ℕ, ◌+◌, ◌<◌, Bool, List, [], ◌∷◌, ◌++◌, length, IsTrue, Option, IfSome}
 use Rattle.std.specs.Str.{chars}
-use Rattle.rl_tokens.specs.Texts.{byte_len, IsTail}
-use Rattle.rl_tokens.specs.Cursors.{CursorState, IsCursorState}
-use Rattle.rl_tokens.specs.Sources.{CutSource, StrayKind, source_view, TakesSource, IsLiteralText}
-use Rattle.rl_tokens.specs.declared.lex_error.LexError.{LexError}
-use Rattle.rl_tokens.specs.declared.sources.SourceToken.{SourceToken}
+use Rattle.rl_text.specs.Texts.{byte_len, IsTail}
+use Rattle.rl_lexer.specs.Cursors.{CursorState, IsCursorState}
+use Rattle.rl_lexer.specs.Sources.{CutSource, StrayKind, source_view, TakesSource, IsLiteralText}
+use Rattle.rl_lexer.specs.declared.lex_error.LexError.{LexError}
+use Rattle.rl_lexer.specs.declared.sources.SourceToken.{SourceToken}
 use Rattle.rl_lines.specs.Lines.{IsLineOf}
 use Prim.Native.Char.{code}
 use Rattle.rl_sources.specs.declared.options.Options.{Options}

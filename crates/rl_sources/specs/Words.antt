@@ -2,7 +2,7 @@
 use Rattle.std.specs.Prelude.{◌≡◌, ℕ, Bool, true, false, ◌==◌, List, [], ◌∷◌, codes, ⊤, Option}
 use Prim.Native.Char.{code}
 use Rattle.std.specs.List.{slice_split, All}
-use Rattle.rl_tokens.specs.declared.kind.Kind.{Kind}
+use Rattle.rl_forms.specs.declared.kind.Kind.{Kind}
 use Rattle.rl_lines.specs.Lines.{label_of}
 use Rattle.rl_sources.specs.declared.options.Options.{Options}
 use Rattle.rl_sources.specs.declared.options.Shown.{Shown}

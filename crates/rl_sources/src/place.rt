@@ -2,8 +2,8 @@
 
 ghost use Rattle.std.specs.Prelude.{◌≡◌, ◌+◌, drop, length, Some};
 ghost use Rattle.std.specs.Str.{chars, IsCharBoundary};
-ghost use Rattle.rl_tokens.specs.Cursors.{IsCursorState};
-ghost use Rattle.rl_tokens.specs.Lines.{BeginsAt};
+ghost use Rattle.rl_lexer.specs.Cursors.{IsCursorState};
+ghost use Rattle.rl_lexer.specs.Lines.{BeginsAt};
 ghost use Rattle.rl_sources.specs.Places.{place_text, IsPlaceIn};
 
 use rl_tokens::{LineColumn, Lines};

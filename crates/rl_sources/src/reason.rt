@@ -3,7 +3,7 @@
 ghost use Rattle.std.specs.Prelude.{◌≡◌, ◌+◌, OnOk, string_bytes};
 ghost use Rattle.std.specs.Str.{chars};
 ghost use Rattle.rl_lines.specs.Lines.{Appends};
-ghost use Rattle.rl_grammar.specs.Flaws.{Explains};
+ghost use Rattle.rl_reasons.specs.Flaws.{Explains};
 ghost use Rattle.rl_sources.specs.Places.{IsPlaceIn};
 ghost use Rattle.rl_sources.specs.Scans.{IsReasonLine};
 ghost use Rattle.rl_sources.specs.Steps.{BeginsRest};

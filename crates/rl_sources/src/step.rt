@@ -2,10 +2,10 @@
 
 ghost use Rattle.std.specs.Prelude.{◌≡◌, ◌+◌, ◌<◌, [], length, Some, None, IfSome, IfNone, IfOk, IfErr, OnOk, MatchOption, string_bytes};
 ghost use Rattle.std.specs.Str.{chars};
-ghost use Rattle.rl_tokens.specs.Reading.{HasNoReading};
-ghost use Rattle.rl_tokens.specs.Cursors.{IsCursorState};
-ghost use Rattle.rl_tokens.specs.Sources.{TakesSource};
-ghost use Rattle.rl_grammar.specs.Founds.{IsFound};
+ghost use Rattle.rl_forms.specs.Reading.{HasNoReading};
+ghost use Rattle.rl_lexer.specs.Cursors.{IsCursorState};
+ghost use Rattle.rl_lexer.specs.Sources.{TakesSource};
+ghost use Rattle.rl_reading.specs.Founds.{IsFound};
 ghost use Rattle.rl_lines.specs.Lines.{Appends};
 ghost use Rattle.rl_sources.specs.Scans.{IsShownLiteral, IsErrorAt};
 ghost use Rattle.rl_sources.specs.Steps.{IsPlacedText, IsAcceptedToken, BeginsRest, IsCursorOver, TakesShown, EndsUnshown, StopsUnshown, IsStepOf};

@@ -1,7 +1,7 @@
 //! The options of the command line.
 
 ghost use Rattle.std.specs.Prelude.{◌≡◌, ◌≢◌, ◌↔◌, ◌∷◌, ℕ, false, List, Option, map, IsTrue, IfSome, IfNone, string_bytes};
-ghost use Rattle.rl_tokens.specs.declared.kind.Kind.{Kind};
+ghost use Rattle.rl_forms.specs.declared.kind.Kind.{Kind};
 ghost use Rattle.rl_lines.specs.Lines.{label_of};
 ghost use Rattle.rl_sources.specs.declared.words.Flag.{Flag};
 ghost use Rattle.rl_sources.specs.Words.{IsKindWord, AreKindWords, Wishes, wishes_of, flag_word, first_wishes, IsAllowed, with_flag, wants_list, Asks};

@@ -1,8 +1,8 @@
 -- Where no zero is found, there is none.
-use Rattle.rl_tokens.proofs.Common.{◌≡◌, ℕ, ◌+◌, ◌&&◌, Bool, true, false, not, cond, List, [], ◌∷◌, Some, None, refl, sym, ◌∙◌, both_ways}
+use Rattle.rl_text.proofs.Common.{◌≡◌, ℕ, ◌+◌, ◌&&◌, Bool, true, false, not, cond, List, [], ◌∷◌, Some, None, refl, sym, ◌∙◌, both_ways}
 use Rattle.std.specs.List.{position_from, position}
 use Rattle.std.proofs.lemmas.Iterator.Adapters.{position_from-zero}
-use Rattle.rl_tokens.specs.CStrings.{is_zero, has_no_zero}
+use Rattle.rl_forms.specs.Agreeing.{is_zero, has_no_zero}
 
 -- a search from any place on
 none_from : (i : ℕ) (xs : List ℕ) → position_from is_zero i xs ≡ None → has_no_zero xs ≡ true

@@ -1,13 +1,14 @@
 -- A text is cut in one way, as far as it goes.
-use Rattle.rl_tokens.proofs.Common.{◌≡◌, ℕ, ◌+◌, List, [], ◌∷◌, ◌++◌, map, Option, Some, None, refl, sym, ◌∙◌, ap, subst, arith, option_and_then, encode_utf8_all, none-some}
-use Rattle.rl_tokens.specs.Skipping.{Skipped}
-use Rattle.rl_tokens.specs.Lexemes.{Lexeme, lexeme_text, IsLexeme, LexemeForm, form_of}
-use Rattle.rl_tokens.specs.Mirrors.LexemeAt.{lexeme_at}
-use Rattle.rl_tokens.specs.Lexing.{LexedToken, end_of, LexesUpTo, OpenGroup, after_form, after_lexeme, open_groups, flat_form, flat_token}
-use Rattle.rl_tokens.specs.Texts.{byte_len}
-use Rattle.rl_tokens.proofs.Comments.{same_Some}
-use Rattle.rl_tokens.proofs.Pieces.{one_rest}
-use Rattle.rl_tokens.proofs.LexemeFronts.{lexeme_at-past, one_front}
+use Rattle.rl_text.proofs.Common.{◌≡◌, ℕ, ◌+◌, List, [], ◌∷◌, ◌++◌, map, Option, Some, None, refl, sym, ◌∙◌, ap, subst, arith, option_and_then, encode_utf8_all, none-some}
+use Rattle.rl_lexer.specs.Skipping.{Skipped}
+use Rattle.rl_lexer.specs.Lexemes.{Lexeme, lexeme_text, IsLexeme, LexemeForm, form_of}
+use Rattle.rl_lexer.specs.Mirrors.LexemeAt.{lexeme_at}
+use Rattle.rl_lexer.specs.Cuts.{LexedToken, end_of, LexesUpTo, OpenGroup, after_form, after_lexeme, open_groups}
+use Rattle.rl_tokens.specs.Lexing.{flat_form, flat_token}
+use Rattle.rl_text.specs.Texts.{byte_len}
+use Rattle.rl_lexer.proofs.Comments.{same_Some}
+use Rattle.rl_lexer.proofs.Pieces.{one_rest}
+use Rattle.rl_lexer.proofs.LexemeFronts.{lexeme_at-past, one_front}
 
 -- with these groups open, no token goes on here
 abbrev pub IsStuck : List OpenGroup → List ℕ → Type 0

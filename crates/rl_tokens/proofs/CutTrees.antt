@@ -1,22 +1,16 @@
 -- The tokens among the trees of a text are as they were cut.
-use Rattle.rl_tokens.proofs.Common.{◌≡◌, ℕ, Bool, true, false, List, [], ◌∷◌, ◌++◌, map, inl, inr, refl, sym, ◌∙◌, ap, subst, ⊤, if◌then◌else◌, AllByRecursion, chars, encode_utf8_all, scalar, and_parts, and_from}
+use Rattle.rl_text.proofs.Common.{◌≡◌, ℕ, Bool, true, false, List, [], ◌∷◌, ◌++◌, map, inl, inr, refl, sym, ◌∙◌, ap, subst, ⊤, if◌then◌else◌, AllByRecursion, chars, encode_utf8_all, scalar}
 use Rattle.std.proofs.Math.Utf8.{scalars}
 use Rattle.std.proofs.lemmas.Str.{chars-encodes}
-use Rattle.rl_tokens.specs.declared.span.Span.{Span}
-use Rattle.rl_tokens.specs.Texts.{SpannedText}
-use Rattle.rl_tokens.specs.Skipping.{Skipped}
+use Rattle.rl_text.specs.declared.span.Span.{Span}
+use Rattle.rl_text.specs.Texts.{SpannedText}
+use Rattle.rl_lexer.specs.Skipping.{Skipped}
 use Rattle.rl_tokens.specs.Trees.{Tree, GroupTree, IdentTree, PunctTree, LiteralTree, FlatToken, Opening, Closing, FlatIdent, FlatLiteral, flat, flat_trees}
-use Rattle.rl_tokens.specs.Lexemes.{lexeme_text, IsLexeme, LexemeForm, LiteralForm, IdentifierForm, DelimiterForm, MarkForm, form_of}
-use Rattle.rl_tokens.specs.Lexing.{LexedToken, end_of, LexesUpTo, is_opener, delimiter_for, flat_form, flat_token, Lexes}
+use Rattle.rl_lexer.specs.Lexemes.{lexeme_text, IsLexeme, LexemeForm, LiteralForm, IdentifierForm, DelimiterForm, MarkForm, form_of}
+use Rattle.rl_lexer.specs.Cuts.{LexedToken, end_of, LexesUpTo, is_opener}
+use Rattle.rl_tokens.specs.Lexing.{delimiter_for, flat_form, flat_token, Lexes}
 use Rattle.rl_tokens.specs.PrintedTrees.{IsLexedLiteral}
-
--- The parts of a text are characters too.
-pub scalars_parts : (a b : List ℕ) → scalars (a ++ b) ≡ true → (scalars a ≡ true) × (scalars b ≡ true)
-scalars_parts [] b h = (refl, h)
-scalars_parts (c ∷ a) b h =
-    let first = and_parts (scalar c) (scalars (a ++ b)) h in
-    let more = scalars_parts a b first.1 in
-    (and_from (scalar c) (scalars a) first.0 more.0, more.1)
+use Rattle.rl_text.proofs.Basics.{scalars_parts}
 
 -- The token's bytes are those of the text, and its characters are the text.
 pub record IsTokenOf (text : List ℕ) (token : SpannedText) : Type 0 where

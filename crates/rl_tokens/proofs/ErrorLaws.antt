@@ -1,19 +1,20 @@
 -- Where an error stands no token goes on, and it is one error.
-use Rattle.rl_tokens.proofs.Common.{◌≡◌, ◌≢◌, ℕ, Bool, true, false, not, ◌&&◌, ◌||◌, ◌==◌, cond, List, [], ◌∷◌, ◌++◌, length, slice_index, Option, Some, None, refl, sym, ◌∙◌, ap, subst, lit<, and_parts, or_parts, none-some, codes, nat_lt, if◌then◌else◌}
-use Rattle.rl_tokens.specs.declared.lex_error.LexKind.{LexKind}
-use Rattle.rl_tokens.specs.declared.lex_error.LexKind.TheVariants.{DocComment, UnclosedComment, UnclosedQuote, Lifetime, RawIdentifier, StrayCharacter, UnmatchedClose, UnclosedGroup, TooDeep, Memory}
-use Rattle.rl_tokens.specs.Texts.{is_among, first_passes, begins}
-use Rattle.rl_tokens.specs.Lexemes.{Lexeme, lexeme_text, IsLexeme, LexemeForm, form_of, DelimiterForm, MarkForm, delimiters, is_start, begins_raw_identifier}
-use Rattle.rl_tokens.specs.Mirrors.LexemeAt.{lexeme_at, SlashHead, begins_quote}
-use Rattle.rl_tokens.specs.Classes.{after_run, is_hash}
-use Rattle.rl_tokens.specs.Lexing.{OpenGroup, is_opener, is_closer, closes, popped, after_form, begins_doc_comment, begins_lifetime, BeginsNoLexeme, ErrorAt}
-use Rattle.rl_tokens.specs.Mirrors.TreeBuilders.{error_kind}
-use Rattle.rl_tokens.proofs.Comments.{false_unless, same_Some}
-use Rattle.rl_tokens.proofs.Pieces.{is_equal}
-use Rattle.rl_tokens.proofs.LexemeRows.{not_true, not_among}
-use Rattle.rl_tokens.proofs.LexemeFronts.{lexeme_at-past, start_ascii, front_delimiter, class47, at_class, among}
-use Rattle.rl_tokens.proofs.LexemeOpeners.{quote_here, no_quote_here, raw_split, passes_split}
-use Rattle.rl_tokens.proofs.LexemeFound.{lexeme_at-found}
+use Rattle.rl_text.proofs.Common.{◌≡◌, ◌≢◌, ℕ, Bool, true, false, not, ◌&&◌, ◌||◌, ◌==◌, cond, List, [], ◌∷◌, ◌++◌, length, slice_index, Option, Some, None, refl, sym, ◌∙◌, ap, subst, lit<, and_parts, or_parts, none-some, codes, nat_lt, if◌then◌else◌}
+use Rattle.rl_lexer.specs.declared.lex_error.LexKind.{LexKind}
+use Rattle.rl_lexer.specs.declared.lex_error.LexKind.TheVariants.{DocComment, UnclosedComment, UnclosedQuote, Lifetime, RawIdentifier, StrayCharacter, UnmatchedClose, UnclosedGroup, TooDeep, Memory}
+use Rattle.rl_text.specs.Texts.{is_among, first_passes, begins, is_start}
+use Rattle.rl_lexer.specs.Lexemes.{Lexeme, lexeme_text, IsLexeme, LexemeForm, form_of, DelimiterForm, MarkForm, delimiters, begins_raw_identifier}
+use Rattle.rl_lexer.specs.Mirrors.LexemeAt.{lexeme_at, SlashHead, begins_quote}
+use Rattle.rl_text.specs.Classes.{after_run, is_hash}
+use Rattle.rl_lexer.specs.Cuts.{OpenGroup, is_opener, is_closer, closes, popped, after_form, begins_doc_comment, begins_lifetime, BeginsNoLexeme, ErrorAt}
+use Rattle.rl_lexer.specs.Mirrors.ErrorAt.{error_kind}
+use Rattle.rl_text.proofs.Basics.{false_unless}
+use Rattle.rl_lexer.proofs.Comments.{same_Some}
+use Rattle.rl_lexer.proofs.Pieces.{is_equal}
+use Rattle.rl_lexer.proofs.LexemeRows.{not_true, not_among}
+use Rattle.rl_lexer.proofs.LexemeFronts.{lexeme_at-past, start_ascii, front_delimiter, class47, at_class, among}
+use Rattle.rl_lexer.proofs.LexemeOpeners.{quote_here, no_quote_here, raw_split, passes_split}
+use Rattle.rl_lexer.proofs.LexemeFound.{lexeme_at-found}
 use Rattle.rl_tokens.proofs.CutLaws.{IsStuck}
 
 -- a lexeme at the front is what `lexeme_at` finds

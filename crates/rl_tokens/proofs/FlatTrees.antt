@@ -1,6 +1,6 @@
 -- Trees written flat can be told apart.
-use Rattle.rl_tokens.proofs.Common.{◌≡◌, List, [], ◌∷◌, ◌++◌, refl, sym, ◌∙◌, ap, append_assoc}
-use Rattle.rl_tokens.specs.declared.span.Span.{Span}
+use Rattle.rl_text.proofs.Common.{◌≡◌, List, [], ◌∷◌, ◌++◌, refl, sym, ◌∙◌, ap, append_assoc}
+use Rattle.rl_text.specs.declared.span.Span.{Span}
 use Rattle.rl_tokens.specs.declared.token.Delimiter.{Delimiter}
 use Rattle.rl_tokens.specs.Trees.{Tree, Trees, GroupTree, IdentTree, PunctTree, LiteralTree, NoTrees, MoreTrees, inside_of, FlatToken, Opening, Closing, FlatIdent, FlatPunct, FlatLiteral, opener_span, closer_span, flat, flat_inside, flat_trees}
 

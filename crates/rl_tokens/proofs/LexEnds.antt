@@ -1,18 +1,19 @@
 -- How the lexer's loop ends: all is cut, or the first error stands here.
-use Rattle.rl_tokens.proofs.Common.{◌≡◌, ℕ, ◌+◌, ◌⊎◌, inl, inr, List, [], ◌++◌, length, Some, Result, Ok, Err, refl, sym, ◌∙◌, ap, subst, arith, chars-nil, IfOk, chars, IsUtf8}
+use Rattle.rl_text.proofs.Common.{◌≡◌, ℕ, ◌+◌, ◌⊎◌, inl, inr, List, [], ◌++◌, length, Some, Result, Ok, Err, refl, sym, ◌∙◌, ap, subst, arith, chars-nil, IfOk, chars, IsUtf8}
 use Rattle.rl_tokens.specs.declared.token.TokenStream.{TokenStream}
 use Rattle.rl_tokens.specs.declared.nest.TreeBuilder.{TreeBuilder}
-use Rattle.rl_tokens.specs.declared.lex_error.LexKind.{LexKind}
-use Rattle.rl_tokens.specs.declared.lex_error.LexKind.TheVariants.{UnmatchedClose, UnclosedGroup, TooDeep, Memory}
-use Rattle.rl_tokens.specs.declared.lex_error.LexError.{LexError}
-use Rattle.rl_tokens.specs.Lexemes.{LexemeBefore, Lexeme, QuotedLexeme, RawLexeme, CharacterLexeme, BasedLexeme, DecimalLexeme, IdentifierLexeme, DelimiterLexeme, MarkLexeme, lexeme_text, IsLexeme, LexemeForm, form_of}
-use Rattle.rl_tokens.specs.Cursors.{form_view, CursorState, TakesNext, IsFirstError}
-use Rattle.rl_tokens.specs.declared.cursor.Lexeme.{Lexeme as Borrowed}
+use Rattle.rl_lexer.specs.declared.lex_error.LexKind.{LexKind}
+use Rattle.rl_lexer.specs.declared.lex_error.LexKind.TheVariants.{UnmatchedClose, UnclosedGroup, TooDeep, Memory}
+use Rattle.rl_lexer.specs.declared.lex_error.LexError.{LexError}
+use Rattle.rl_lexer.specs.Lexemes.{LexemeBefore, Lexeme, QuotedLexeme, RawLexeme, CharacterLexeme, BasedLexeme, DecimalLexeme, IdentifierLexeme, DelimiterLexeme, MarkLexeme, lexeme_text, IsLexeme, LexemeForm, form_of}
+use Rattle.rl_lexer.specs.Cursors.{form_view, CursorState, TakesNext, IsFirstError}
+use Rattle.rl_lexer.specs.declared.cursor.Lexeme.{Lexeme as Borrowed}
 use Rattle.rl_tokens.specs.Trees.{Tree, stream_view, flat_trees}
-use Rattle.rl_tokens.specs.Lexing.{OpenGroup, LexesUpTo, error_place, BeginsLexeme, BeginsNoLexeme, ErrorAt, HasFirstError, LeavesRestAt, Rejects, Lexes}
+use Rattle.rl_lexer.specs.Cuts.{OpenGroup, LexesUpTo, error_place, BeginsLexeme, BeginsNoLexeme, ErrorAt, HasFirstError, LeavesRestAt, Rejects}
+use Rattle.rl_tokens.specs.Lexing.{Lexes}
 use Rattle.rl_tokens.specs.Mirrors.TreeBuilders.{groups_of, flat_builder, EndsInGroup, ClosesWrong, OpensTooDeep, RejectsForm}
 use Rattle.rl_tokens.proofs.LexLoop.{HasCut}
-use Rattle.rl_tokens.proofs.ErrorKinds.{rest_place, error_rejects}
+use Rattle.rl_lexer.proofs.ErrorKinds.{rest_place, error_rejects}
 
 error_found : {A : Type 0} (text rest : List ℕ) (file : ℕ) (nest : TreeBuilder A) (kind : LexKind) (at place : ℕ)
     → IsUtf8 text → IsUtf8 rest → HasCut text rest file nest → place + length rest ≡ length text

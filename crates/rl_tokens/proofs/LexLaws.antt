@@ -1,8 +1,9 @@
 -- A text has one list of trees at most, or one first error, and never both.
-use Rattle.rl_tokens.proofs.Common.{◌≡◌, ℕ, List, [], refl, sym, ◌∙◌, ap, subst, arith}
-use Rattle.rl_tokens.specs.Mirrors.LexemeAt.{lexeme_at}
-use Rattle.rl_tokens.specs.Texts.{byte_len}
-use Rattle.rl_tokens.specs.Lexing.{OpenGroup, ErrorAt, error_place, OneList, OneError, NeverBoth}
+use Rattle.rl_text.proofs.Common.{◌≡◌, ℕ, List, [], refl, sym, ◌∙◌, ap, subst, arith}
+use Rattle.rl_lexer.specs.Mirrors.LexemeAt.{lexeme_at}
+use Rattle.rl_text.specs.Texts.{byte_len}
+use Rattle.rl_lexer.specs.Cuts.{OpenGroup, ErrorAt, error_place, OneError}
+use Rattle.rl_tokens.specs.Lexing.{OneList, NeverBoth}
 use Rattle.rl_tokens.proofs.FlatTrees.{flat_trees_same}
 use Rattle.rl_tokens.proofs.CutLaws.{same_cut}
 use Rattle.rl_tokens.proofs.ErrorLaws.{nothing_stuck, error_stuck, kind_at, error_kind_at, no_error}

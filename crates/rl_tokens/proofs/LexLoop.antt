@@ -1,18 +1,18 @@
 -- What the lexer's loop keeps.
-use Rattle.rl_tokens.proofs.Common.{◌≡◌, ℕ, ◌+◌, inl, inr, true, not, ◌&&◌, ◌||◌, ◌==◌, List, [], ◌∷◌, ◌++◌, length, map, Some, refl, sym, ◌∙◌, ap, subst, arith, and_parts, map-append, encode_ascii, list_all, chars, encode_utf8_all, is_xid_start, is_xid_continue}
-use Rattle.rl_tokens.specs.Texts.{is_white, xid_ok, IsTail}
-use Rattle.rl_tokens.specs.Skipping.{Skipped}
-use Rattle.rl_tokens.specs.Puncts.{is_punct}
-use Rattle.rl_tokens.specs.Lexemes.{Lexeme, QuotedLexeme, RawLexeme, CharacterLexeme, BasedLexeme, DecimalLexeme, IdentifierLexeme, DelimiterLexeme, MarkLexeme, lexeme_text, IsLexeme, LexemeForm, form_of, delimiters, is_start, is_continue}
-use Rattle.rl_tokens.specs.Cursors.{form_view, CursorState, TakesNext}
+use Rattle.rl_text.proofs.Common.{◌≡◌, ℕ, ◌+◌, inl, inr, true, not, ◌&&◌, ◌||◌, ◌==◌, List, [], ◌∷◌, ◌++◌, length, map, Some, refl, sym, ◌∙◌, ap, subst, arith, and_parts, map-append, encode_ascii, list_all, chars, encode_utf8_all, is_xid_start, is_xid_continue}
+use Rattle.rl_text.specs.Texts.{is_white, xid_ok, IsTail, is_start, is_continue}
+use Rattle.rl_lexer.specs.Skipping.{Skipped}
+use Rattle.rl_lexer.specs.Lexemes.{is_punct, Lexeme, QuotedLexeme, RawLexeme, CharacterLexeme, BasedLexeme, DecimalLexeme, IdentifierLexeme, DelimiterLexeme, MarkLexeme, lexeme_text, IsLexeme, LexemeForm, form_of, delimiters}
+use Rattle.rl_lexer.specs.Cursors.{form_view, CursorState, TakesNext}
 use Rattle.rl_tokens.specs.declared.nest.TreeBuilder.{TreeBuilder}
-use Rattle.rl_tokens.specs.declared.cursor.Lexeme.{Lexeme as Borrowed}
-use Rattle.rl_tokens.specs.Lexing.{LexedToken, LexesUpTo, open_groups, after_form, flat_form, flat_token}
+use Rattle.rl_lexer.specs.declared.cursor.Lexeme.{Lexeme as Borrowed}
+use Rattle.rl_lexer.specs.Cuts.{LexedToken, LexesUpTo, open_groups, after_form}
+use Rattle.rl_tokens.specs.Lexing.{flat_form, flat_token}
 use Rattle.rl_tokens.specs.Mirrors.TreeBuilders.{groups_of, flat_builder, IsFitting, TakesToken}
-use Rattle.rl_tokens.proofs.TailLemmas.{tail_step}
-use Rattle.rl_tokens.proofs.LexemeFronts.{low_among}
-use Rattle.rl_tokens.proofs.CutLemmas.{open_more}
-use Rattle.rl_tokens.proofs.CursorLemmas.{flat_borrowed}
+use Rattle.rl_text.proofs.TailLemmas.{tail_step}
+use Rattle.rl_lexer.proofs.LexemeFronts.{low_among}
+use Rattle.rl_lexer.proofs.CutLemmas.{open_more}
+use Rattle.rl_tokens.proofs.BorrowedTokens.{flat_borrowed}
 
 -- The text is cut up to the rest, and the nest holds what was cut.
 pub record HasCut {A : Type 0} (text rest : List ℕ) (file : ℕ) (nest : TreeBuilder A) : Type 0 where

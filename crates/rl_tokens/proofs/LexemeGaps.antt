@@ -1,15 +1,15 @@
 -- A lexeme but a mark stays one before a gap and at the end.
-use Rattle.rl_tokens.proofs.Common.{◌≡◌, ℕ, ◌<◌, Bool, true, false, not, ◌&&◌, ◌||◌, ◌==◌, cond, List, [], ◌∷◌, ◌++◌, slice_index, drop, replicate, refl, sym, ◌∙◌, ap, subst, arith, append_assoc, lit<, and_parts, nat_tests, list_all, is_xid_start, is_xid_continue, is_ascii_alphanumeric, is_ascii_digit, is_xid_continue-ascii}
-use Rattle.rl_tokens.specs.Texts.{is_white, is_underscore, first_passes, is_row_part}
-use Rattle.rl_tokens.specs.Lexemes.{is_base_letter, begins_dot, LexedFraction, NoLexedFraction, LexedDot, lexed_fraction_text, lexed_sign_text, LexedExponent, NoLexedExponent, LexedPower, lexed_exponent_text, IsRow, IsLexedSuffix, IsLexedFraction, IsLexedExponent, QuotedLexeme, RawLexeme, CharacterLexeme, BasedLexeme, DecimalLexeme, IdentifierLexeme, DelimiterLexeme, MarkLexeme, IsLexeme, is_start, is_continue}
-use Rattle.rl_tokens.proofs.Gaps.{BeginsGap, StaysBeforeGap}
-use Rattle.rl_tokens.proofs.Comments.{false_unless}
-use Rattle.rl_tokens.proofs.Pieces.{is_equal}
-use Rattle.rl_tokens.proofs.LexemeRows.{not_true, not_among}
-use Rattle.rl_tokens.proofs.LexemeOpeners.{no_exponent_here, no_exponent_begins, none_otherwise}
-use Rattle.rl_tokens.proofs.LexemeFronts.{start_ascii}
-use Rattle.rl_tokens.specs.Mirrors.LexemeAt.{begins_hashed_quote, begins_exponent, after_sign, begins_otherwise}
-use Rattle.rl_tokens.specs.Classes.{is_hash, after_run}
+use Rattle.rl_text.proofs.Common.{◌≡◌, ℕ, ◌<◌, Bool, true, false, not, ◌&&◌, ◌||◌, ◌==◌, cond, List, [], ◌∷◌, ◌++◌, slice_index, drop, replicate, refl, sym, ◌∙◌, ap, subst, arith, append_assoc, lit<, and_parts, nat_tests, list_all, is_xid_start, is_xid_continue, is_ascii_alphanumeric, is_ascii_digit, is_xid_continue-ascii}
+use Rattle.rl_text.specs.Texts.{is_white, is_underscore, first_passes, is_row_part, is_start, is_continue}
+use Rattle.rl_lexer.specs.Lexemes.{is_base_letter, begins_dot, LexedFraction, NoLexedFraction, LexedDot, lexed_fraction_text, lexed_sign_text, LexedExponent, NoLexedExponent, LexedPower, lexed_exponent_text, IsRow, IsLexedSuffix, IsLexedFraction, IsLexedExponent, QuotedLexeme, RawLexeme, CharacterLexeme, BasedLexeme, DecimalLexeme, IdentifierLexeme, DelimiterLexeme, MarkLexeme, IsLexeme}
+use Rattle.rl_lexer.proofs.Gaps.{BeginsGap, StaysBeforeGap}
+use Rattle.rl_text.proofs.Basics.{false_unless}
+use Rattle.rl_lexer.proofs.Pieces.{is_equal}
+use Rattle.rl_lexer.proofs.LexemeRows.{not_true, not_among}
+use Rattle.rl_lexer.proofs.LexemeOpeners.{no_exponent_here, no_exponent_begins, none_otherwise}
+use Rattle.rl_lexer.proofs.LexemeFronts.{start_ascii}
+use Rattle.rl_lexer.specs.Mirrors.LexemeAt.{begins_hashed_quote, begins_exponent, after_sign, begins_otherwise}
+use Rattle.rl_text.specs.Classes.{is_hash, after_run}
 
 -- Tests that no gap passes: each fails at white characters and at the slash.
 abbrev pub Solid : (ℕ → Bool) → Type 0

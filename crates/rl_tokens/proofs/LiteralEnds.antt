@@ -1,13 +1,13 @@
 -- What may follow a literal in a print, and what no such text begins with.
-use Rattle.rl_tokens.proofs.Common.{◌≡◌, ℕ, ◌<◌, inl, inr, Bool, true, false, not, ◌&&◌, ◌||◌, ◌==◌, List, [], ◌∷◌, ◌++◌, refl, ◌∙◌, ap, lit<, and_parts, IsTrue, ⊤, codes, list_all, is_ascii_digit, is_ascii_alphanumeric, and_from, or_from, is_xid_start, is_xid_continue}
-use Rattle.rl_tokens.specs.Texts.{is_white, is_among, first_passes, is_row_part}
-use Rattle.rl_tokens.specs.Lexemes.{is_base_letter, IsLexedSuffix, IsLexeme, is_start, is_continue}
-use Rattle.rl_tokens.proofs.Gaps.{BeginsGap}
-use Rattle.rl_tokens.specs.Strict.{IsStrictSuffix}
-use Rattle.rl_tokens.proofs.Basics.{word_continues}
-use Rattle.rl_tokens.proofs.LexemeRows.{not_true, not_among}
-use Rattle.rl_tokens.proofs.LexemeOpeners.{none_otherwise}
-use Rattle.rl_tokens.proofs.LexemeFronts.{start_ascii, among, low_among, not_start_among}
+use Rattle.rl_text.proofs.Common.{◌≡◌, ℕ, ◌<◌, inl, inr, Bool, true, false, not, ◌&&◌, ◌||◌, ◌==◌, List, [], ◌∷◌, ◌++◌, refl, ◌∙◌, ap, lit<, and_parts, IsTrue, ⊤, codes, list_all, is_ascii_digit, is_ascii_alphanumeric, and_from, or_from, is_xid_start, is_xid_continue}
+use Rattle.rl_text.specs.Texts.{is_white, is_among, first_passes, is_row_part, is_start, is_continue}
+use Rattle.rl_lexer.specs.Lexemes.{is_base_letter, IsLexedSuffix, IsLexeme}
+use Rattle.rl_lexer.proofs.Gaps.{BeginsGap}
+use Rattle.rl_forms.specs.Strict.{IsStrictSuffix}
+use Rattle.rl_text.proofs.Basics.{word_continues}
+use Rattle.rl_lexer.proofs.LexemeRows.{not_true, not_among}
+use Rattle.rl_lexer.proofs.LexemeOpeners.{none_otherwise}
+use Rattle.rl_lexer.proofs.LexemeFronts.{start_ascii, among, low_among, not_start_among}
 use Rattle.rl_tokens.proofs.LexemeGaps.{and_false, digit_solid, continue_ascii}
 use Rattle.rl_tokens.proofs.PrintedCuts.{word_lexeme}
 

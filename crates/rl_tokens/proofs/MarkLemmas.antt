@@ -1,5 +1,5 @@
 -- Characters of punctuation at the front of trees.
-use Rattle.rl_tokens.proofs.Common.{◌≡◌, ℕ, false, List, [], ◌∷◌, refl, IsFalse}
+use Rattle.rl_text.proofs.Common.{◌≡◌, ℕ, false, List, [], ◌∷◌, refl, IsFalse}
 use Rattle.rl_tokens.specs.Trees.{Tree, GroupTree, IdentTree, PunctTree, LiteralTree}
 use Rattle.rl_tokens.specs.Buffers.{begins_punct, begins_mark}
 

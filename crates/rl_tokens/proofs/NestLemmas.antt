@@ -1,8 +1,8 @@
 -- The groups that are open, and what was read with them, as trees and groups come and go.
-use Rattle.rl_tokens.proofs.Common.{◌≡◌, ◌≢◌, ℕ, suc, ◌+◌, ◌-◌, ◌<◌, true, false, List, [], ◌∷◌, ◌++◌, length, map, Some, refl, sym, ◌∙◌, ap, arith, append_assoc, map-append}
+use Rattle.rl_text.proofs.Common.{◌≡◌, ◌≢◌, ℕ, suc, ◌+◌, ◌-◌, ◌<◌, true, false, List, [], ◌∷◌, ◌++◌, length, map, Some, refl, sym, ◌∙◌, ap, arith, append_assoc, map-append}
 use Rattle.std.proofs.Common.{reverse}
 use Rattle.std.proofs.lemmas.List.{reverse-append, length-reverse}
-use Rattle.rl_tokens.specs.declared.span.Span.{Span}
+use Rattle.rl_text.specs.declared.span.Span.{Span}
 use Rattle.rl_tokens.specs.declared.nest.GroupBuilder.{GroupBuilder}
 use Rattle.rl_tokens.specs.declared.nest.TreeBuilder.{TreeBuilder}
 use Rattle.rl_tokens.specs.declared.token.TokenTree.{TokenTree}
@@ -10,13 +10,14 @@ use Rattle.rl_tokens.specs.declared.token.TokenTree.TheVariants as tree
 use Rattle.rl_tokens.specs.declared.token.Group.{Group}
 use Rattle.rl_tokens.specs.declared.token.Delimiter.{Delimiter}
 use Rattle.rl_tokens.specs.declared.token.Delimiter.TheVariants.{Parenthesis, Brace, Bracket}
-use Rattle.rl_tokens.specs.declared.lex_error.LexKind.TheVariants.{UnclosedGroup}
+use Rattle.rl_lexer.specs.declared.lex_error.LexKind.TheVariants.{UnclosedGroup}
 use Rattle.rl_tokens.specs.Trees.{Tree, FlatToken, Opening, Closing, FlatPunct, FlatLiteral, FlatIdent, opener_span, closer_span, trees_of, delimiter_of, stream_of, group_span, tree_view, stream_view, flat, flat_trees}
-use Rattle.rl_tokens.specs.Lexing.{is_pair, closes, popped, innermost, after_form, flat_form}
+use Rattle.rl_lexer.specs.Cuts.{is_pair, closes, popped, innermost, after_form}
+use Rattle.rl_tokens.specs.Lexing.{flat_form}
 use Rattle.rl_tokens.specs.Mirrors.TreeBuilders.{opener_of, closer_of, group_of, groups_of, flat_open, flat_builder, TakesToken, TakesTree, OpensGroup, ClosesGroup, EndsInGroup}
 use Rattle.rl_tokens.specs.Puncts.{Mark}
-use Rattle.rl_tokens.specs.Texts.{SpannedText}
-use Rattle.rl_tokens.specs.Lexemes.{LexemeForm, MarkForm, LiteralForm, IdentifierForm}
+use Rattle.rl_text.specs.Texts.{SpannedText}
+use Rattle.rl_lexer.specs.Lexemes.{LexemeForm, MarkForm, LiteralForm, IdentifierForm}
 use Rattle.rl_tokens.proofs.TreeLemmas.{tree_view-group, tree_view-punct, tree_view-literal, tree_view-ident}
 
 pub flat_trees-append : (xs ys : List Tree) → flat_trees (xs ++ ys) ≡ flat_trees xs ++ flat_trees ys

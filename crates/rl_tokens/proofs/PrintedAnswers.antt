@@ -1,13 +1,14 @@
 -- The lexer answers a print with the trees of its items, or fails by an allocation.
-use Rattle.rl_tokens.proofs.Common.{◌≡◌, ℕ, List, Result, Ok, Err, refl, chars, IfOk}
+use Rattle.rl_text.proofs.Common.{◌≡◌, ℕ, List, Result, Ok, Err, refl, chars, IfOk}
 use Rattle.std.specs.Result.{IfErr}
 use Rattle.rl_tokens.specs.declared.token.TokenStream.{TokenStream}
-use Rattle.rl_tokens.specs.declared.lex_error.LexKind.{LexKind}
-use Rattle.rl_tokens.specs.declared.lex_error.LexKind.TheVariants.{DocComment, UnclosedComment, UnclosedQuote, Lifetime, RawIdentifier, StrayCharacter, UnmatchedClose, UnclosedGroup, TooDeep, Memory}
-use Rattle.rl_tokens.specs.declared.lex_error.LexError.{LexError}
+use Rattle.rl_lexer.specs.declared.lex_error.LexKind.{LexKind}
+use Rattle.rl_lexer.specs.declared.lex_error.LexKind.TheVariants.{DocComment, UnclosedComment, UnclosedQuote, Lifetime, RawIdentifier, StrayCharacter, UnmatchedClose, UnclosedGroup, TooDeep, Memory}
+use Rattle.rl_lexer.specs.declared.lex_error.LexError.{LexError}
 use Rattle.rl_tokens.specs.Trees.{Tree, stream_view}
-use Rattle.rl_tokens.specs.Lexing.{Lexes, HasFirstError, Rejects}
-use Rattle.rl_tokens.specs.Printed.{Entry, Printed}
+use Rattle.rl_tokens.specs.Lexing.{Lexes}
+use Rattle.rl_lexer.specs.Cuts.{HasFirstError, Rejects}
+use Rattle.rl_forms.specs.Printed.{Entry, Printed}
 use Rattle.rl_tokens.specs.PrintedTrees.{Reprinted, printed_trees}
 use Rattle.rl_tokens.proofs.LexLaws.{one_list, never_both}
 use Rattle.rl_tokens.proofs.PrintedLaws.{printed_lexes, reprinted_lexes}

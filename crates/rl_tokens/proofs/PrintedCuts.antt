@@ -1,20 +1,21 @@
 -- A text of gaps and items is cut where they meet.
-use Rattle.rl_tokens.proofs.Common.{◌≡◌, ℕ, ◌+◌, inl, inr, Bool, true, false, not, ◌&&◌, ◌||◌, ◌==◌, List, [], ◌∷◌, ◌++◌, map, length, Some, None, refl, sym, ◌∙◌, ap, subst, arith, append-nil, lit<, ⊤, option_and_then, encode_utf8_all, AllByRecursion, list_all, none-some, encode_ascii, is_xid_start}
-use Rattle.rl_tokens.specs.Texts.{is_white, is_among, byte_len}
-use Rattle.rl_tokens.specs.Trivia.{White, Line, Block, IsTrivia}
-use Rattle.rl_tokens.specs.Skipping.{BeginsTrivia}
-use Rattle.rl_tokens.specs.Lexemes.{delimiters, marks, Lexeme, IdentifierLexeme, MarkLexeme, lexeme_text, IsLexeme, LiteralForm, form_of}
-use Rattle.rl_tokens.specs.Mirrors.LexemeAt.{SlashHead, StrayHead, head_class, lexeme_at}
+use Rattle.rl_text.proofs.Common.{◌≡◌, ℕ, ◌+◌, inl, inr, Bool, true, false, not, ◌&&◌, ◌||◌, ◌==◌, List, [], ◌∷◌, ◌++◌, map, length, Some, None, refl, sym, ◌∙◌, ap, subst, arith, append-nil, lit<, ⊤, option_and_then, encode_utf8_all, AllByRecursion, list_all, none-some, encode_ascii, is_xid_start}
+use Rattle.rl_text.specs.Texts.{is_white, is_among, byte_len}
+use Rattle.rl_forms.specs.Trivia.{White, Line, Block, IsTrivia}
+use Rattle.rl_lexer.specs.Skipping.{BeginsTrivia}
+use Rattle.rl_lexer.specs.Lexemes.{delimiters, marks, Lexeme, IdentifierLexeme, MarkLexeme, lexeme_text, IsLexeme, LiteralForm, form_of}
+use Rattle.rl_lexer.specs.Mirrors.LexemeAt.{SlashHead, StrayHead, head_class, lexeme_at}
 use Rattle.rl_tokens.specs.Trees.{Tree, PunctTree, LiteralTree, flat, flat_trees}
-use Rattle.rl_tokens.specs.Lexing.{LexedToken, LexesUpTo, OpenGroup, after_form, open_groups, flat_form, flat_token, Lexes}
-use Rattle.rl_tokens.specs.Printed.{Item, WordItem, LiteralItem, MinusItem, item_text, Entry, printed_text, token_at}
+use Rattle.rl_lexer.specs.Cuts.{LexedToken, LexesUpTo, OpenGroup, after_form, open_groups}
+use Rattle.rl_tokens.specs.Lexing.{flat_form, flat_token, Lexes}
+use Rattle.rl_forms.specs.Printed.{Item, WordItem, LiteralItem, MinusItem, item_text, Entry, printed_text, token_at}
 use Rattle.rl_tokens.specs.PrintedTrees.{item_trees, printed_trees}
-use Rattle.rl_tokens.proofs.Comments.{false_unless}
-use Rattle.rl_tokens.proofs.Pieces.{stops-from_none, no_trivia}
-use Rattle.rl_tokens.proofs.LexemeRows.{not_true, not_among}
-use Rattle.rl_tokens.proofs.LexemeFronts.{lexeme_at-past, stray_class, class47, at_class, among}
+use Rattle.rl_text.proofs.Basics.{false_unless}
+use Rattle.rl_lexer.proofs.Pieces.{stops-from_none, no_trivia}
+use Rattle.rl_lexer.proofs.LexemeRows.{not_true, not_among}
+use Rattle.rl_lexer.proofs.LexemeFronts.{lexeme_at-past, stray_class, class47, at_class, among}
 use Rattle.rl_tokens.proofs.LexemeGaps.{and_false, digit_solid}
-use Rattle.rl_tokens.proofs.CutLemmas.{byte_len-append}
+use Rattle.rl_lexer.proofs.CutLemmas.{byte_len-append}
 
 -- Where trivia begins no lexeme does.
 not_white_among : (codes : List ℕ) (c : ℕ) → list_all (λ k. not (is_white k)) codes ≡ true → is_white c ≡ true

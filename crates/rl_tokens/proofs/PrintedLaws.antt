@@ -1,15 +1,15 @@
 -- Printed lists are cut into their items.
-use Rattle.rl_tokens.proofs.Common.{◌≡◌, ◌≢◌, ℕ, inl, inr, ◌||◌, ◌==◌, true, List, [], ◌∷◌, ◌++◌, drop, refl, sym, ◌∙◌, ap, subst, append_assoc, append-nil, codes, AllByRecursion, or_right}
-use Rattle.rl_tokens.specs.declared.kind.Kind.{Kind}
-use Rattle.rl_tokens.specs.declared.kind.Kind.TheVariants.{Str, ByteStr, CStr, Byte, Char, Int, Float, Bool as BoolKind}
-use Rattle.rl_tokens.specs.Texts.{is_white, first_passes, is_among}
-use Rattle.rl_tokens.specs.Trivia.{TriviaPiece, White, Line, Block, trivia_piece_text, IsTriviaPiece, trivia_text, IsTrivia}
-use Rattle.rl_tokens.specs.Lexemes.{Lexeme, QuotedLexeme, RawLexeme, CharacterLexeme, BasedLexeme, DecimalLexeme, IdentifierLexeme, DelimiterLexeme, MarkLexeme, LiteralForm, form_of}
-use Rattle.rl_tokens.proofs.Gaps.{KeepsItsEnd, BeginsGap}
-use Rattle.rl_tokens.specs.Reading.{Contents}
-use Rattle.rl_tokens.specs.Strict.{Strict}
-use Rattle.rl_tokens.specs.Quoted.{is_number}
-use Rattle.rl_tokens.specs.Printed.{Item, WordItem, LiteralItem, MinusItem, item_text, Entry, printed_text, IsStrictItem, IsApart}
+use Rattle.rl_text.proofs.Common.{◌≡◌, ◌≢◌, ℕ, inl, inr, ◌||◌, ◌==◌, true, List, [], ◌∷◌, ◌++◌, drop, refl, sym, ◌∙◌, ap, subst, append_assoc, append-nil, codes, AllByRecursion, or_right}
+use Rattle.rl_forms.specs.declared.kind.Kind.{Kind}
+use Rattle.rl_forms.specs.declared.kind.Kind.TheVariants.{Str, ByteStr, CStr, Byte, Char, Int, Float, Bool as BoolKind}
+use Rattle.rl_text.specs.Texts.{is_white, first_passes, is_among}
+use Rattle.rl_forms.specs.Trivia.{TriviaPiece, White, Line, Block, trivia_piece_text, IsTriviaPiece, trivia_text, IsTrivia}
+use Rattle.rl_lexer.specs.Lexemes.{Lexeme, QuotedLexeme, RawLexeme, CharacterLexeme, BasedLexeme, DecimalLexeme, IdentifierLexeme, DelimiterLexeme, MarkLexeme, LiteralForm, form_of}
+use Rattle.rl_lexer.proofs.Gaps.{KeepsItsEnd, BeginsGap}
+use Rattle.rl_forms.specs.Reading.{Contents}
+use Rattle.rl_forms.specs.Strict.{Strict}
+use Rattle.rl_forms.specs.Quoted.{is_number}
+use Rattle.rl_forms.specs.Printed.{Item, WordItem, LiteralItem, MinusItem, item_text, Entry, printed_text, IsStrictItem, IsApart}
 use Rattle.rl_tokens.specs.PrintedTrees.{IsLexedLiteral, IsLexedItem, PrintedLexes, ReprintedLexes}
 use Rattle.rl_tokens.proofs.LexemeGaps.{stays_before_gap}
 use Rattle.rl_tokens.proofs.PrintedCuts.{LexedBefore, LexedItem, EndsEach, entries_lex}

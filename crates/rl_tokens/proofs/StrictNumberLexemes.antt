@@ -1,20 +1,20 @@
 -- A strict number is one lexeme before what may follow a literal.
-use Rattle.rl_tokens.proofs.Common.{◌≡◌, ℕ, ◌<◌, ◌≤◌, ◌⊎◌, inl, inr, suc, Bool, true, false, not, ◌&&◌, ◌||◌, ◌==◌, List, [], ◌∷◌, ◌++◌, replicate, refl, sym, ◌∙◌, ap, subst, arith, append_assoc, append-nil, lit<, nat_lt, list_all, list_any, digit_value, is_ascii_digit, is_ascii_hexdigit, is_ascii_alphanumeric, and_parts, and_from, or_from, or_cases, eqb-true, ltb-true, lt-ltb, agree_below_at, nat_tests, list_all-append}
-use Rattle.rl_tokens.specs.Texts.{is_white, first_passes, begins, is_row_part}
-use Rattle.rl_tokens.specs.Numbers.{Decimal, is_digit}
-use Rattle.rl_tokens.specs.Lexemes.{is_base_letter, begins_dot, LexedFraction, NoLexedFraction, LexedDot, lexed_fraction_text, LexedSign, NoLexedSign, LexedPlus, LexedMinus, lexed_sign_text, LexedExponent, NoLexedExponent, LexedPower, lexed_exponent_text, IsLexedFraction, IsLexedExponent, BasedLexeme, DecimalLexeme, is_start, is_continue}
-use Rattle.rl_tokens.specs.Reading.{Contents}
-use Rattle.rl_tokens.specs.Strict.{is_row, IsDigits, IsDecimalText, IsStrictSuffix, IsNumberSuffix, StrictInt, StrictFloat, IsStrictExponent}
-use Rattle.rl_tokens.proofs.Basics.{all_weaker, passes_same, digit_is_ten, hex_is_sixteen}
-use Rattle.rl_tokens.proofs.StrictNumbers.{suffix_of_strict, suffix_no_part}
-use Rattle.rl_tokens.proofs.LexemeRows.{not_among}
-use Rattle.rl_tokens.proofs.LexemeOpeners.{no_exponent_begins}
-use Rattle.rl_tokens.proofs.LexemeFronts.{start_ascii, digit_not_start, decimal_text}
+use Rattle.rl_text.proofs.Common.{◌≡◌, ℕ, ◌<◌, ◌≤◌, ◌⊎◌, inl, inr, suc, Bool, true, false, not, ◌&&◌, ◌||◌, ◌==◌, List, [], ◌∷◌, ◌++◌, replicate, refl, sym, ◌∙◌, ap, subst, arith, append_assoc, append-nil, lit<, nat_lt, list_all, list_any, digit_value, is_ascii_digit, is_ascii_hexdigit, is_ascii_alphanumeric, and_parts, and_from, or_from, or_cases, eqb-true, ltb-true, lt-ltb, agree_below_at, nat_tests, list_all-append}
+use Rattle.rl_text.specs.Texts.{is_white, first_passes, begins, is_row_part, is_start, is_continue}
+use Rattle.rl_forms.specs.Numbers.{Decimal, is_digit}
+use Rattle.rl_lexer.specs.Lexemes.{is_base_letter, begins_dot, LexedFraction, NoLexedFraction, LexedDot, lexed_fraction_text, LexedSign, NoLexedSign, LexedPlus, LexedMinus, lexed_sign_text, LexedExponent, NoLexedExponent, LexedPower, lexed_exponent_text, IsLexedFraction, IsLexedExponent, BasedLexeme, DecimalLexeme}
+use Rattle.rl_forms.specs.Reading.{Contents}
+use Rattle.rl_forms.specs.Strict.{is_row, IsDigits, IsDecimalText, IsStrictSuffix, IsNumberSuffix, StrictInt, StrictFloat, IsStrictExponent}
+use Rattle.rl_text.proofs.Basics.{all_weaker, passes_same, digit_is_ten, hex_is_sixteen}
+use Rattle.rl_forms.proofs.StrictNumbers.{suffix_of_strict, suffix_no_part}
+use Rattle.rl_lexer.proofs.LexemeRows.{not_among}
+use Rattle.rl_lexer.proofs.LexemeOpeners.{no_exponent_begins}
+use Rattle.rl_lexer.proofs.LexemeFronts.{start_ascii, digit_not_start, decimal_text}
 use Rattle.rl_tokens.proofs.LexemeGaps.{and_false, and_more, continue_ascii, assoc3}
 use Rattle.rl_tokens.proofs.PrintedCuts.{LexedBefore}
 use Rattle.rl_tokens.proofs.LiteralEnds.{EndsLiteral, Clear, clear_continue, clear_part, clear_dot, clear_base, clear_exponent, clear_code, ends_fails, front_fails, suffix_starts, suffix_continues, strict_suffix_lexed}
-use Rattle.rl_tokens.specs.Mirrors.LexemeAt.{begins_exponent, after_sign}
-use Rattle.rl_tokens.specs.Classes.{after_run}
+use Rattle.rl_lexer.specs.Mirrors.LexemeAt.{begins_exponent, after_sign}
+use Rattle.rl_text.specs.Classes.{after_run}
 
 -- Decimals. What the parts of one are, apart from the text that follows.
 abbrev is_dot_or_start : ℕ → Bool

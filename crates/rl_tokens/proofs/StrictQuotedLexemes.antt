@@ -1,16 +1,16 @@
 -- A strict quoted literal is one lexeme before what may follow a literal.
-use Rattle.rl_tokens.proofs.Common.{◌≡◌, ◌≢◌, ℕ, ◌⊎◌, inl, inr, zero, suc, Bool, true, false, not, ◌&&◌, ◌||◌, ◌==◌, List, [], ◌∷◌, ◌++◌, length, replicate, refl, sym, ◌∙◌, ap, subst, append-nil, drop, nat_lt, if◌then◌else◌, list_all, flat_map, is_ascii_hexdigit, all_scalars, and_parts, and_from, or_from, not_from_false, list_all-append}
+use Rattle.rl_text.proofs.Common.{◌≡◌, ◌≢◌, ℕ, ◌⊎◌, inl, inr, zero, suc, Bool, true, false, not, ◌&&◌, ◌||◌, ◌==◌, List, [], ◌∷◌, ◌++◌, length, replicate, refl, sym, ◌∙◌, ap, subst, append-nil, drop, nat_lt, if◌then◌else◌, list_all, flat_map, is_ascii_hexdigit, all_scalars, and_parts, and_from, or_from, not_from_false, list_all-append}
 use Rattle.std.specs.Prelude.{nat_le}
-use Rattle.rl_tokens.specs.declared.kind.Kind.{Kind}
-use Rattle.rl_tokens.specs.declared.kind.Kind.TheVariants.{Str, ByteStr, CStr, Byte, Char, Int, Float, Bool as BoolKind}
-use Rattle.rl_tokens.specs.Lexemes.{LiteralPrefix, NoPrefix, BytePrefix, CPrefix, prefix_text, BodyPart, PlainPart, EscapedPart, body_text, IsBody, CharacterBody, OneCharacter, EscapedCharacter, character_body_text, IsCharacterBody, begins_hashes, IsRawBody, QuotedLexeme, RawLexeme, CharacterLexeme}
-use Rattle.rl_tokens.specs.Reading.{Contents}
-use Rattle.rl_tokens.specs.Strict.{StrictUnit, Itself, QuoteEscape, PlainEscape, AsciiEscape, ByteEscape, UnicodeEscape, LineBreak, spaced_digit, spaced_value, strict_text, spelled_number, is_octal, is_dropped_blank, is_unicode_escape, is_bare_character, is_bare_in_string, is_strict_unit, strict_opener, strict_closer, HasUnits, StrictCooked, StrictRaw}
-use Rattle.rl_tokens.proofs.HashLemmas.{hashes_split}
-use Rattle.rl_tokens.proofs.Comments.{false_unless}
-use Rattle.rl_tokens.proofs.Pieces.{is_equal}
-use Rattle.rl_tokens.proofs.Basics.{apart, all_weaker, hex_is_sixteen}
-use Rattle.rl_tokens.proofs.StrictQuoted.{hex_first, octal_hex, one_unit, bare_not_backslash, between}
+use Rattle.rl_forms.specs.declared.kind.Kind.{Kind}
+use Rattle.rl_forms.specs.declared.kind.Kind.TheVariants.{Str, ByteStr, CStr, Byte, Char, Int, Float, Bool as BoolKind}
+use Rattle.rl_lexer.specs.Lexemes.{LiteralPrefix, NoPrefix, BytePrefix, CPrefix, prefix_text, BodyPart, PlainPart, EscapedPart, body_text, IsBody, CharacterBody, OneCharacter, EscapedCharacter, character_body_text, IsCharacterBody, begins_hashes, IsRawBody, QuotedLexeme, RawLexeme, CharacterLexeme}
+use Rattle.rl_forms.specs.Reading.{Contents}
+use Rattle.rl_forms.specs.Strict.{StrictUnit, Itself, QuoteEscape, PlainEscape, AsciiEscape, ByteEscape, UnicodeEscape, LineBreak, spaced_digit, spaced_value, strict_text, spelled_number, is_octal, is_unicode_escape, is_bare_character, is_bare_in_string, is_strict_unit, strict_opener, strict_closer, HasUnits, StrictCooked, StrictRaw}
+use Rattle.rl_text.specs.Texts.{is_dropped_blank}
+use Rattle.rl_lexer.proofs.HashLemmas.{hashes_split}
+use Rattle.rl_text.proofs.Basics.{false_unless, apart, all_weaker, hex_is_sixteen}
+use Rattle.rl_lexer.proofs.Pieces.{is_equal}
+use Rattle.rl_forms.proofs.StrictQuoted.{hex_first, octal_hex, one_unit, bare_not_backslash, between}
 use Rattle.rl_tokens.proofs.PrintedCuts.{LexedBefore}
 use Rattle.rl_tokens.proofs.LiteralEnds.{EndsLiteral, strict_suffix_lexed}
 

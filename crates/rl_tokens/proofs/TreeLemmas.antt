@@ -1,14 +1,15 @@
 -- Views of trees and streams.
-use Rattle.rl_tokens.proofs.Common.{◌≡◌, List, [], ◌∷◌, map, refl, sym, ◌∙◌, ap, ◌++◌, map-append}
-use Rattle.rl_tokens.specs.declared.span.Span.{Span}
+use Rattle.rl_text.proofs.Common.{◌≡◌, List, [], ◌∷◌, map, refl, sym, ◌∙◌, ap, ◌++◌, map-append}
+use Rattle.rl_text.specs.declared.span.Span.{Span}
 use Rattle.rl_tokens.specs.declared.token.TokenTree.{fold-roll-TokenTree, TokenTree}
 use Rattle.rl_tokens.specs.declared.token.TokenTree.TheOpen as layer
 use Rattle.rl_tokens.specs.declared.token.TokenTree.TheVariants as tree
 use Rattle.rl_tokens.specs.declared.token.Group.{Group, fold_out-Group}
 use Rattle.rl_tokens.specs.declared.token.TokenStream.{TokenStream, fold-TokenStream, fold_out-TokenStream}
 use Rattle.rl_tokens.specs.Puncts.{Mark}
-use Rattle.rl_tokens.specs.Texts.{SpannedText}
-use Rattle.rl_tokens.specs.Trees.{Tree, GroupTree, PunctTree, LiteralTree, IdentTree, trees_of, MoreTrees, GroupParts, delimiter_of, stream_of, group_span, inside_of, tree_step, group_step, stream_step, tree_view, stream_view, respanned, all_respanned, relocated, all_relocated, looked_up, group_tree}
+use Rattle.rl_text.specs.Texts.{SpannedText}
+use Rattle.rl_tokens.specs.Trees.{Tree, GroupTree, PunctTree, LiteralTree, IdentTree, trees_of, MoreTrees, GroupParts, delimiter_of, stream_of, group_span, inside_of, tree_step, group_step, stream_step, tree_view, stream_view, respanned, all_respanned, relocated, all_relocated, group_tree}
+use Rattle.rl_text.specs.Spans.{looked_up}
 
 abbrev stream_fold : {A : Type 0} → TokenStream A → List Tree
 stream_fold {A} = fold-TokenStream A Tree GroupParts (List Tree) tree_step group_step stream_step

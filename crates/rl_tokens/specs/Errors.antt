@@ -1,12 +1,13 @@
 -- What errors say.
+pub use Rattle.rl_text.specs.Spans.{nowhere}
 use Rattle.std.specs.Prelude.{ℕ, List, ◌++◌, codes, string_bytes}
-use Rattle.rl_tokens.specs.declared.span.Span.{Span}
-use Rattle.rl_tokens.specs.declared.lex_error.LexKind.{LexKind}
-use Rattle.rl_tokens.specs.declared.lex_error.LexKind.TheVariants.{Memory as LexMemory}
+use Rattle.rl_text.specs.declared.span.Span.{Span}
+use Rattle.rl_lexer.specs.declared.lex_error.LexKind.{LexKind}
+use Rattle.rl_lexer.specs.declared.lex_error.LexKind.TheVariants.{Memory as LexMemory}
 use Rattle.rl_tokens.specs.declared.error.ErrorKind.{ErrorKind}
 use Rattle.rl_tokens.specs.declared.error.ErrorKind.TheVariants.{Expected, EndOfInput, Unexpected, Lex, Suffix, NotInteger, TooLarge, NotFloat, Repeated, Number, Memory}
 use Rattle.rl_tokens.specs.declared.error.Error.{Error}
-use Rattle.rl_tokens.specs.LexErrors.{lex_message}
+use Rattle.rl_lexer.specs.LexErrors.{lex_message}
 
 -- the text of an error
 abbrev pub message_of : {A : Type 0} → ErrorKind A → List ℕ
@@ -31,7 +32,3 @@ memory_at at = record { span = at; kind = Memory }
 abbrev pub lex_rejection : {A : Type 0} → LexKind → Span → Error A
 lex_rejection LexMemory at = memory_at at
 lex_rejection kind at = record { span = at; kind = Lex kind }
-
--- the span of what stands in no text
-abbrev pub nowhere : Span
-nowhere = record { file = 0; lo = 0; hi = 0 }

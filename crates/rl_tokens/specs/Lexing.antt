@@ -1,79 +1,13 @@
--- How a whole text is cut into tokens, and the first error of a text that can't be.
-use Rattle.std.specs.Prelude.{◌≡◌, ◌≢◌, ◌⊎◌, ℕ, ◌+◌, Bool, false, not, ◌&&◌, ◌||◌, ◌==◌, nat_lt, List, [], ◌∷◌, ◌++◌, length, map, IsTrue, IsFalse, codes, encode_utf8_all, Option, Some, None, option_and_then, if◌then◌else◌}
+-- The trees that a text is cut into: its tokens, and the groups that they make.
+pub use Rattle.rl_lexer.specs.Cuts.{LexedToken, end_of, LexesUpTo, is_pair, is_opener, is_closer, OpenGroup, closes, popped, after_delimiter, after_form, after_lexeme, open_groups, begins_doc_comment, begins_lifetime, BeginsQuote, BeginsLexeme, BeginsNoLexeme, ErrorAt, innermost, error_place, HasFirstError, LeavesRestAt, Rejects, OneError}
+use Rattle.std.specs.Prelude.{◌≡◌, ℕ, ◌||◌, ◌==◌, List, [], map, encode_utf8_all, Some, if◌then◌else◌}
 use Prim.Native.Char.{code}
-use Rattle.rl_tokens.specs.Texts.{is_among, first_passes, begins, byte_len}
-use Rattle.rl_tokens.specs.Skipping.{Skipped}
-use Rattle.rl_tokens.specs.declared.span.Span.{Span}
+use Rattle.rl_text.specs.declared.span.Span.{Span}
 use Rattle.rl_tokens.specs.declared.token.Delimiter.{Delimiter}
 use Rattle.rl_tokens.specs.declared.token.Delimiter.TheVariants.{Parenthesis, Brace, Bracket}
-use Rattle.rl_tokens.specs.declared.lex_error.LexKind.{LexKind}
-use Rattle.rl_tokens.specs.declared.lex_error.LexKind.TheVariants.{DocComment, UnclosedComment, UnclosedQuote, Lifetime, RawIdentifier, StrayCharacter, UnmatchedClose, UnclosedGroup, TooDeep, Memory}
+use Rattle.rl_lexer.specs.declared.lex_error.LexKind.{LexKind}
 use Rattle.rl_tokens.specs.Trees.{Tree, FlatToken, Opening, Closing, FlatIdent, FlatPunct, FlatLiteral, flat_trees}
-use Rattle.rl_tokens.specs.Lexemes.{Lexeme, lexeme_text, IsLexeme, LexemeBefore, LexemeForm, LiteralForm, IdentifierForm, DelimiterForm, MarkForm, form_of, is_start, BeginsRaw, begins_prefixed_quote, begins_raw_identifier}
-
--- A token that was cut, and the byte where it begins.
-pub record LexedToken : Type 0 where
-  pub lexeme : Lexeme
-  pub at : ℕ
-
-abbrev pub end_of : LexedToken → ℕ
-end_of w = w.at + byte_len (lexeme_text w.lexeme)
-
--- The text t, which begins at a byte, is these tokens with white space and comments before each,
--- and after the last one's it goes on with r.
-abbrev pub LexesUpTo : ℕ → List ℕ → List LexedToken → List ℕ → Type 0
-LexesUpTo at t [] r = Skipped t r
-LexesUpTo at t (w ∷ ws) r =
-    (after : List ℕ) × Skipped t (lexeme_text w.lexeme ++ after) × IsLexeme w.lexeme after
-    × (w.at + byte_len (lexeme_text w.lexeme ++ after) ≡ at + byte_len t)
-    × LexesUpTo (end_of w) after ws r
-
--- the opener and the closer of a group
-abbrev pub is_pair : ℕ → ℕ → Bool
-is_pair opener closer =
-    (opener == code "(" && closer == code ")") || (opener == code "[" && closer == code "]")
-    || (opener == code "{" && closer == code "}")
-
-abbrev pub is_opener : ℕ → Bool
-is_opener c = is_among (codes "([{") c
-
-abbrev pub is_closer : ℕ → Bool
-is_closer c = is_among (codes ")]}") c
-
--- an open group: its opener, and the byte where that stands
-pub record OpenGroup : Type 0 where
-  pub opener : ℕ
-  pub at : ℕ
-
-abbrev pub closes : List OpenGroup → ℕ → Bool
-closes [] c = false
-closes (o ∷ os) c = is_pair o.opener c
-
-abbrev pub popped : List OpenGroup → List OpenGroup
-popped [] = []
-popped (o ∷ os) = os
-
--- the groups that are open after a delimiter, the innermost first; none where it closes wrongly or
--- opens too deep
-abbrev pub after_delimiter : List OpenGroup → ℕ → ℕ → Option (List OpenGroup)
-after_delimiter groups c at =
-    if is_opener c
-    then (if nat_lt (length groups) 128 then Some (record { opener = c; at = at } ∷ groups)
-    else None)
-    else (if closes groups c then Some (popped groups) else None)
-
-abbrev pub after_form : List OpenGroup → LexemeForm → ℕ → Option (List OpenGroup)
-after_form groups (DelimiterForm c) at = after_delimiter groups c at
-after_form groups _ at = Some groups
-
-abbrev pub after_lexeme : List OpenGroup → Lexeme → ℕ → Option (List OpenGroup)
-after_lexeme groups l at = after_form groups (form_of l) at
-
--- the groups that are open after all these tokens
-abbrev pub open_groups : List OpenGroup → List LexedToken → Option (List OpenGroup)
-open_groups groups [] = Some groups
-open_groups groups (w ∷ ws) =
-    option_and_then (λ g. open_groups g ws) (after_lexeme groups w.lexeme w.at)
+use Rattle.rl_lexer.specs.Lexemes.{lexeme_text, LexemeForm, LiteralForm, IdentifierForm, DelimiterForm, MarkForm, form_of}
 
 -- which delimiter it is
 abbrev pub delimiter_for : ℕ → Delimiter
@@ -103,92 +37,9 @@ pub record Lexes (t : List ℕ) (file : ℕ) (trees : List Tree) : Type 0 where
   pub none_open : open_groups [] cuts ≡ Some []
   pub flat_is : map (flat_token file) cuts ≡ flat_trees trees
 
--- `///` but not `////`, `//!`, `/**` but neither `/**/` nor `/***`, `/*!`
-abbrev pub begins_doc_comment : List ℕ → Bool
-begins_doc_comment r =
-    (begins (codes "///") r && not (begins (codes "////") r)) || begins (codes "//!") r
-    || (begins (codes "/**") r && not (begins (codes "/**/") r || begins (codes "/***") r))
-    || begins (codes "/*!") r
-
-abbrev pub begins_lifetime : List ℕ → Bool
-begins_lifetime [] = false
-begins_lifetime (c ∷ cs) = c == code "'" && first_passes is_start cs
-
--- a quote that begins a literal: alone, after a prefix, after a raw literal's opener, or a
--- character's, which begins no lifetime
-abbrev pub BeginsQuote : List ℕ → Type 0
-BeginsQuote r =
-    IsTrue (begins (codes "\"") r) ⊎ (IsTrue (begins_prefixed_quote r)
-    ⊎ (BeginsRaw r ⊎ (IsTrue (begins (codes "'") r) × IsFalse (begins_lifetime r))))
-
--- a token begins the text; none does
-abbrev pub BeginsLexeme : List ℕ → Type 0
-BeginsLexeme r = (after : List ℕ) × LexemeBefore r after
-
-abbrev pub BeginsNoLexeme : List ℕ → Type 0
-BeginsNoLexeme r = (after : List ℕ) → LexemeBefore r after → ⊥
-
--- The error of this kind stands at the rest r, with these groups open. An allocation failure is
--- none of the text.
-abbrev pub ErrorAt : LexKind → List OpenGroup → List ℕ → Type 0
-ErrorAt DocComment groups r = IsTrue (begins_doc_comment r)
-ErrorAt UnclosedComment groups r = IsTrue (begins (codes "/*") r) × IsFalse (begins_doc_comment r)
-ErrorAt UnclosedQuote groups r = BeginsNoLexeme r × BeginsQuote r
-ErrorAt Lifetime groups r = BeginsNoLexeme r × IsTrue (begins_lifetime r)
-ErrorAt RawIdentifier groups r = BeginsNoLexeme r × IsTrue (begins_raw_identifier r)
-ErrorAt StrayCharacter groups r =
-    (r ≢ []) × BeginsNoLexeme r × (BeginsQuote r → ⊥)
-    × IsFalse (begins_doc_comment r || begins (codes "/*") r || begins_lifetime r
-    || begins_raw_identifier r)
-ErrorAt UnmatchedClose groups r =
-    IsTrue (first_passes (λ c. is_closer c && not (closes groups c)) r)
-ErrorAt UnclosedGroup groups r = (r ≡ []) × (groups ≢ [])
-ErrorAt TooDeep groups r = IsTrue (first_passes is_opener r) × (length groups ≡ 128)
-ErrorAt Memory groups r = ⊥
-
-abbrev pub innermost : List OpenGroup → ℕ → ℕ
-innermost [] at = at
-innermost (o ∷ os) at = o.at
-
--- at the innermost opener for a group that isn't closed, else where the rest begins
-abbrev pub error_place : LexKind → List OpenGroup → ℕ → ℕ
-error_place UnclosedGroup groups at = innermost groups at
-error_place _ groups at = at
-
--- The first error of the text: it is cut as far as it goes, and the error stands there.
-pub record HasFirstError (t : List ℕ) (kind : LexKind) (at : ℕ) : Type 0 where
-  pub cuts : List LexedToken
-  pub rest : List ℕ
-  pub groups : List OpenGroup
-  pub rest_at : ℕ
-  pub are_cuts : LexesUpTo 0 t cuts rest
-  pub are_open : open_groups [] cuts ≡ Some groups
-  pub error : ErrorAt kind groups rest
-  pub rest_place : rest_at + byte_len rest ≡ byte_len t
-  pub at_is : at ≡ error_place kind groups rest_at
-
--- The text is cut into tokens up to the rest that begins at this byte, and a token begins that
--- rest.
-pub record LeavesRestAt (t : List ℕ) (at : ℕ) : Type 0 where
-  pub cuts : List LexedToken
-  pub rest : List ℕ
-  pub are_cuts : LexesUpTo 0 t cuts rest
-  pub begins : BeginsLexeme rest
-  pub rest_place : at + byte_len rest ≡ byte_len t
-
--- What an error says of the text: its first error, or the token for which an allocation failed, a
--- group's closer too.
-abbrev pub Rejects : List ℕ → LexKind → ℕ → Type 0
-Rejects t Memory at = LeavesRestAt t at
-Rejects t kind at = HasFirstError t kind at
-
 -- A text has at most one list of trees.
 abbrev pub OneList : Type 0
 OneList = (t : List ℕ) (file : ℕ) (xs ys : List Tree) → Lexes t file xs → Lexes t file ys → xs ≡ ys
-
--- A text has at most one first error.
-abbrev pub OneError : Type 0
-OneError = (t : List ℕ) (k l : LexKind) (m n : ℕ) → HasFirstError t k m → HasFirstError t l n → (k ≡ l) × (m ≡ n)
 
 -- No text has both.
 abbrev pub NeverBoth : Type 0

@@ -3,13 +3,13 @@
 use Rattle.std.specs.Prelude.{◌≡◌, ◌≢◌, ℕ, ◌+◌, List, [], ◌∷◌, ◌++◌, ⊤, drop}
 use Rattle.std.specs.List.{AllByRecursion}
 use Prim.Native.Char.{code}
-use Rattle.rl_tokens.specs.Trivia.{IsTrivia}
+use Rattle.rl_forms.specs.Trivia.{IsTrivia}
 use Rattle.rl_tokens.specs.Trees.{Tree, IdentTree, PunctTree, LiteralTree}
-use Rattle.rl_tokens.specs.Lexemes.{Lexeme, lexeme_text, IsLexeme, LiteralForm, form_of}
-use Rattle.rl_tokens.specs.Texts.{byte_len}
+use Rattle.rl_lexer.specs.Lexemes.{Lexeme, lexeme_text, IsLexeme, LiteralForm, form_of}
+use Rattle.rl_text.specs.Texts.{byte_len}
 use Rattle.rl_tokens.specs.Lexing.{Lexes}
-use Rattle.rl_tokens.specs.Reading.{truth_text}
-use Rattle.rl_tokens.specs.Printed.{Entry, Item, LiteralItem, MinusItem, Printed, WordItem, item_text, printed_text, token_at}
+use Rattle.rl_forms.specs.Reading.{truth_text}
+use Rattle.rl_forms.specs.Printed.{Entry, Item, LiteralItem, MinusItem, Printed, WordItem, item_text, printed_text, token_at}
 
 -- the trees of an item that begins at this byte
 abbrev pub item_trees : ℕ → ℕ → Item → List Tree

@@ -1,13 +1,8 @@
 -- Punctuation.
-use Rattle.std.specs.Prelude.{ℕ, Bool, ◌||◌, ◌==◌, List, [], ◌∷◌}
+pub use Rattle.rl_lexer.specs.Lexemes.{is_punct}
+use Rattle.std.specs.Prelude.{ℕ, List, [], ◌∷◌}
 use Prim.Native.Char.{code}
-use Rattle.rl_tokens.specs.declared.span.Span.{Span}
-use Rattle.rl_tokens.specs.Texts.{is_among}
-use Rattle.rl_tokens.specs.Lexemes.{marks}
-
--- which characters are punctuation: the marks, and the slash
-abbrev pub is_punct : ℕ → Bool
-is_punct c = is_among marks c || c == code "/"
+use Rattle.rl_text.specs.declared.span.Span.{Span}
 
 -- what a character of punctuation is called in errors: itself between two backticks
 abbrev pub mark_word : ℕ → List ℕ

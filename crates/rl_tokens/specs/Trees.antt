@@ -1,13 +1,13 @@
 -- What contracts see of token trees: their parts, a tree as plain data, and a tree written flat.
-use Rattle.std.specs.Prelude.{ℕ, ◌+◌, ◌-◌, min, nat_lt, length, slice_index_or, List, [], ◌∷◌, ◌++◌, map, if◌then◌else◌}
-use Rattle.rl_tokens.specs.declared.span.Span.{Span}
+pub use Rattle.rl_text.specs.Spans.{entry_at, looked_up}
+use Rattle.std.specs.Prelude.{◌+◌, ◌-◌, List, [], ◌∷◌, ◌++◌, map}
+use Rattle.rl_text.specs.declared.span.Span.{Span}
 use Rattle.rl_tokens.specs.declared.token.Delimiter.{Delimiter}
 use Rattle.rl_tokens.specs.declared.token.TokenTree.{TokenTree, fold-TokenTree, out-TokenTree}
 use Rattle.rl_tokens.specs.declared.token.TokenTree.TheOpen.{TokenTree-F, Group-F, TokenStream-F}
 use Rattle.rl_tokens.specs.declared.token.Group.{Group, out-Group}
 use Rattle.rl_tokens.specs.declared.token.TokenStream.{TokenStream, out-TokenStream}
-use Rattle.rl_tokens.specs.Errors.{nowhere}
-use Rattle.rl_tokens.specs.Texts.{SpannedText}
+use Rattle.rl_text.specs.Texts.{SpannedText}
 use Rattle.rl_tokens.specs.Puncts.{Mark}
 
 -- the trees of a stream
@@ -95,20 +95,6 @@ abbrev mutual
   pub all_respanned : Span → Trees → Trees
   all_respanned span NoTrees = NoTrees
   all_respanned span (MoreTrees t ts) = MoreTrees (respanned span t) (all_respanned span ts)
-
--- what a table of spans says of the byte at this place; past its end, what its last entry does
-abbrev pub entry_at : List Span → ℕ → Span
-entry_at table at = slice_index_or table (min at (length table - 1)) nowhere
-
--- The span in a file of the bytes of a text, by a table that says of each byte where it comes from:
--- from where the first begins to where the last ends. Of no bytes, no bytes where the next begins.
-abbrev pub looked_up : List Span → Span → Span
-looked_up table span = record {
-  file = (entry_at table span.lo).file;
-  lo = (entry_at table span.lo).lo;
-  hi = if nat_lt span.lo span.hi then (entry_at table (span.hi - 1)).hi
-      else (entry_at table span.lo).lo;
-}
 
 -- every span is what the table gives, also inside groups
 abbrev mutual

@@ -2,13 +2,14 @@
 -- text's end as its scope. A text is its bytes here.
 use Rattle.std.specs.Prelude.{◌≡◌, ◌≢◌, ◌⊎◌, ℕ, List, [], length, Result, Ok, Err}
 use Rattle.std.specs.Str.{chars}
-use Rattle.rl_tokens.specs.declared.span.Span.{Span}
-use Rattle.rl_tokens.specs.declared.lex_error.LexKind.{LexKind}
+use Rattle.rl_text.specs.declared.span.Span.{Span}
+use Rattle.rl_lexer.specs.declared.lex_error.LexKind.{LexKind}
 use Rattle.rl_tokens.specs.declared.error.ErrorKind.TheVariants.{Unexpected}
 use Rattle.rl_tokens.specs.declared.error.Error.{Error}
 use Rattle.rl_tokens.specs.Errors.{lex_rejection}
 use Rattle.rl_tokens.specs.Trees.{Tree}
-use Rattle.rl_tokens.specs.Lexing.{Lexes, Rejects}
+use Rattle.rl_tokens.specs.Lexing.{Lexes}
+use Rattle.rl_lexer.specs.Cuts.{Rejects}
 use Rattle.rl_tokens.specs.Buffers.{first_span}
 
 -- the span of no bytes at a place

@@ -6,8 +6,8 @@ use crate::error::{Error, ErrorKind};
 use crate::ident::Ident;
 use crate::literal::Literal;
 use crate::punct::{Punct, word_of};
-use crate::span::Span;
 use crate::token::{Group, TokenTree};
+use rl_text::Span;
 use std::alloc::{Allocator, Global};
 
 /// Trees that are borrowed, and a scope: the span at which their end is reported. Parsers take trees from
@@ -65,7 +65,8 @@ impl<'a, A: Allocator> ParseBuffer<'a, A> {
       IsRest,
       StaysRest,
     };
-    ghost use Rattle.rl_tokens.specs.Puncts.{is_punct, mark_word};
+    ghost use Rattle.rl_lexer.specs.Lexemes.{is_punct};
+    ghost use Rattle.rl_tokens.specs.Puncts.{mark_word};
 
     /// The buffer of these trees. The scope is best where they end: the text's end, or a group's
     /// closer.

@@ -6,7 +6,7 @@ ghost use Rattle.std.specs.Cmp.{partial_equiv_from_equiv, and_equiv, on_equiv};
 ghost use Rattle.std.specs.Cmp.Rules.{comparing};
 ghost use Rattle.std.specs.Ordering.{on, eq_of_both};
 ghost use Rattle.std.specs.Cmp.Lexicographic.{pointwise, nat_list_eq_equiv};
-ghost use Rattle.rl_tokens.specs.CStrings.{is_zero, has_no_zero};
+ghost use Rattle.rl_forms.specs.Agreeing.{is_zero, has_no_zero};
 
 use std::alloc::{Allocator, Global};
 use std::fmt;
@@ -22,7 +22,7 @@ pub struct CString<A: Allocator = Global> {
 
 impl<A: Allocator> Model for CString<A> {
     ghost use Rattle.std.specs.Prelude.{List, ℕ, IsTrue};
-    ghost use Rattle.rl_tokens.specs.CStrings.{has_no_zero};
+    ghost use Rattle.rl_forms.specs.Agreeing.{has_no_zero};
 
     ghost Value = { List ℕ };
 
@@ -42,7 +42,8 @@ pub struct NulError<A: Allocator = Global> {
 
 impl<A: Allocator> Model for NulError<A> {
     ghost use Rattle.std.specs.Prelude.{◌≡◌, Some, position};
-    ghost use Rattle.rl_tokens.specs.CStrings.{is_zero, ZeroInside};
+    ghost use Rattle.rl_forms.specs.Agreeing.{is_zero};
+    ghost use Rattle.rl_tokens.specs.CStrings.{ZeroInside};
 
     ghost Value = { ZeroInside };
 

@@ -3,8 +3,8 @@
 ghost use Rattle.std.specs.Prelude.{◌≡◌, Some};
 ghost use Rattle.rl_tokens.specs.Errors.{message_of};
 
-use crate::lex_error::LexKind;
-use crate::span::Span;
+use rl_lexer::LexKind;
+use rl_text::Span;
 use std::alloc::{AllocError, AllocFailed, Allocator, Global};
 use std::fmt;
 
@@ -89,7 +89,8 @@ impl<A: Allocator> Error<A> {
 /// std's error for an allocation failure, which has no place: `Memory` at [`Span::call_site`].
 impl<A: Allocator> From<AllocError> for Error<A> {
     ghost use Rattle.std.specs.Prelude.{◌≡◌};
-    ghost use Rattle.rl_tokens.specs.Errors.{memory_at, nowhere};
+    ghost use Rattle.rl_tokens.specs.Errors.{memory_at};
+    ghost use Rattle.rl_text.specs.Spans.{nowhere};
 
     ghost from_gives = { λ rejected error. error ≡ memory_at nowhere };
 
@@ -102,7 +103,8 @@ impl<A: Allocator> From<AllocError> for Error<A> {
 /// go.
 impl<T: Drop, A: Allocator> From<AllocFailed<T>> for Error<A> {
     ghost use Rattle.std.specs.Prelude.{◌≡◌};
-    ghost use Rattle.rl_tokens.specs.Errors.{memory_at, nowhere};
+    ghost use Rattle.rl_tokens.specs.Errors.{memory_at};
+    ghost use Rattle.rl_text.specs.Spans.{nowhere};
 
     ghost from_gives = { λ failed error. error ≡ memory_at nowhere };
 

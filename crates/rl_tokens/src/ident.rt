@@ -2,47 +2,14 @@
 
 ghost use Rattle.std.specs.Prelude.{◌≡◌, IsTrue, IfOk, IfErr, string_bytes};
 ghost use Rattle.std.specs.Str.{chars};
-ghost use Rattle.unicode_ident.specs.Ident.{is_xid_start, is_xid_continue};
-ghost use Rattle.std.specs.List.{list_all};
-ghost use Rattle.rl_tokens.specs.Texts.{xid_ok};
+ghost use Rattle.rl_text.specs.Texts.{xid_ok};
 ghost use Rattle.rl_tokens.specs.Errors.{memory_at};
 
-use crate::characters::{is_xid_continue, is_xid_start};
 use crate::error::Error;
-use crate::span::Span;
-use crate::text::split_char;
+use rl_text::Span;
+pub use rl_text::ident::xid_ok;
 use std::alloc::{Allocator, Global};
 use std::marker::Model;
-
-/// Whether the text is an identifier: its first character is `_` or has Unicode's property
-/// XID_Start, and all others have XID_Continue. The empty text is none, and `_` alone is one.
-///
-/// # Example
-///
-/// ```
-/// use rl_tokens::ident::xid_ok;
-///
-/// pub fn is_name(text: &str) -> bool {
-///     xid_ok(text)
-/// }
-/// // is_name("port") == true
-/// ```
-#[inline(always)]
-pub fn xid_ok(text: &str) -> bool
-    ensures { result ≡ xid_ok (chars text.now) }
-{
-    match split_char(text) {
-        Some((first, rest)) => { (first == '_' || is_xid_start(first)) && all_continue(rest) }
-        None => false,
-    }
-}
-
-/// Whether each character may go on with an identifier.
-fn all_continue(text: &str) -> bool
-    ensures { result ≡ list_all is_xid_continue (chars text.now) }
-{
-    text.chars().all(|c| is_xid_continue(c))
-}
 
 /// An identifier token, `true` and `false` among them, and where it stands.
 ///

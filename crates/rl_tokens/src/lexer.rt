@@ -2,16 +2,16 @@
 
 ghost use Rattle.std.specs.Prelude.{List, ℕ, ◌≡◌, IfOk, IfErr};
 ghost use Rattle.std.specs.Str.{chars};
-ghost use Rattle.rl_tokens.specs.declared.lex_error.LexKind.{LexKind};
-ghost use Rattle.rl_tokens.specs.Lexing.{Lexes, Rejects, OneList, OneError, NeverBoth};
-ghost use Rattle.rl_tokens.specs.Printed.{Entry, Printed};
+ghost use Rattle.rl_lexer.specs.declared.lex_error.LexKind.{LexKind};
+ghost use Rattle.rl_tokens.specs.Lexing.{Lexes, OneList, NeverBoth};
+ghost use Rattle.rl_lexer.specs.Cuts.{Rejects, OneError};
+ghost use Rattle.rl_forms.specs.Printed.{Entry, Printed};
 ghost use Rattle.rl_tokens.specs.PrintedTrees.{Reprinted, printed_trees};
 ghost use Rattle.rl_tokens.specs.Trees.{stream_view};
 
-use crate::cursor::Tokens;
-use crate::lex_error::LexError;
 use crate::nest::TreeBuilder;
 use crate::token::TokenStream;
+use rl_lexer::{LexError, Tokens};
 use std::alloc::Allocator;
 
 /// Cuts a text into token trees. Each span is the file and the bytes of its text; a group's runs

@@ -2,11 +2,11 @@
 
 ghost use Rattle.std.specs.Prelude.{◌≡◌, ◌∷◌, IfOk, IfErr, Some, string_bytes};
 ghost use Rattle.std.specs.Fmt.{padded};
-ghost use Rattle.rl_tokens.specs.Texts.{code};
+ghost use Rattle.rl_text.specs.Texts.{code};
 ghost use Rattle.rl_tokens.specs.Errors.{memory_at};
 
 use crate::error::Error;
-use crate::span::Span;
+use rl_text::Span;
 use std::alloc::{AllocError, Allocator, Global};
 use std::fmt;
 use std::marker::Model;
@@ -41,7 +41,7 @@ pub struct Literal<A: Allocator = Global> {
 
 impl<A: Allocator> Model for Literal<A> {
     ghost use Rattle.std.specs.Prelude.{string_bytes};
-    ghost use Rattle.rl_tokens.specs.Texts.{SpannedText};
+    ghost use Rattle.rl_text.specs.Texts.{SpannedText};
 
     ghost Value = { SpannedText };
 

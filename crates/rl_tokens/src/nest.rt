@@ -1,16 +1,16 @@
 //! The trees of a text as they grow.
 
 ghost use Rattle.std.specs.Prelude.{◌≡◌, ◌≤◌, ◌+◌, [], vec_len, OnOk, IfErr, IfOk};
-ghost use Rattle.rl_tokens.specs.Cursors.{form_view};
-ghost use Rattle.rl_tokens.specs.Lexing.{is_opener, delimiter_for};
+ghost use Rattle.rl_lexer.specs.Cursors.{form_view};
+ghost use Rattle.rl_lexer.specs.Cuts.{is_opener};
+ghost use Rattle.rl_tokens.specs.Lexing.{delimiter_for};
 
 use crate::ident::Ident;
-use crate::lex_error::{LexError, LexKind};
-use crate::lexeme::Form;
 use crate::literal::Literal;
 use crate::punct::Punct;
-use crate::span::Span;
 use crate::token::{Delimiter, Group, TokenStream, TokenTree};
+use rl_lexer::{Form, LexError, LexKind};
+use rl_text::Span;
 use std::alloc::Allocator;
 use std::mem;
 

@@ -1,7 +1,7 @@
 //! What can be parsed from a buffer, peeked at, and appended to a stream.
 
 ghost use Rattle.std.specs.Prelude.{◌≡◌, List, ℕ, Result, ◌↔◌, ◌++◌, IsTrue, IfErr, OnOk, OnErr};
-ghost use Rattle.rl_tokens.specs.declared.span.Span.{Span};
+ghost use Rattle.rl_text.specs.declared.span.Span.{Span};
 ghost use Rattle.rl_tokens.specs.declared.error.Error.{Error};
 ghost use Rattle.rl_tokens.specs.declared.error.ErrorKind.TheVariants.{Memory};
 ghost use Rattle.rl_tokens.specs.Trees.{Tree, stream_view};

@@ -1,9 +1,10 @@
 //! Punctuation tokens.
 
 ghost use Rattle.std.specs.Prelude.{◌≡◌, IsTrue};
-ghost use Rattle.rl_tokens.specs.Puncts.{is_punct, mark_word};
+ghost use Rattle.rl_lexer.specs.Lexemes.{is_punct};
+ghost use Rattle.rl_tokens.specs.Puncts.{mark_word};
 
-use crate::span::Span;
+use rl_text::Span;
 use std::marker::Model;
 
 /// One character of punctuation, and where it stands. `==` is two of them.
@@ -30,7 +31,8 @@ pub struct Punct {
 
 impl Model for Punct {
     ghost use Rattle.std.specs.Prelude.{IsTrue};
-    ghost use Rattle.rl_tokens.specs.Puncts.{Mark, is_punct};
+    ghost use Rattle.rl_tokens.specs.Puncts.{Mark};
+    ghost use Rattle.rl_lexer.specs.Lexemes.{is_punct};
 
     ghost Value = { Mark };
 

@@ -8,7 +8,7 @@ use crate::ident::Ident;
 use crate::kept::Kept;
 use crate::literal::Literal;
 use crate::punct::Punct;
-use crate::span::Span;
+use rl_text::Span;
 use std::alloc::{AllocFailed, Allocator, Global};
 
 /// How a group is delimited.

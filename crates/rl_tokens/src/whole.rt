@@ -10,8 +10,8 @@ use crate::buffer::ParseBuffer;
 use crate::error::{Error, ErrorKind};
 use crate::lexer::lex;
 use crate::parse::Parse;
-use crate::span::Span;
 use crate::token::TokenStream;
+use rl_text::Span;
 use std::alloc::Allocator;
 
 /// The token trees of a text, as [`lex`] cuts them, with the lexer's error as an [`Error`] at its place.

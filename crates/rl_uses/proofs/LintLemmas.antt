@@ -1,6 +1,6 @@
 -- The spans of strings with control characters, one literal after another.
 use Rattle.std.proofs.Common.{inl, inr, true, false, List, [], ◌∷◌, ◌++◌, refl, ap}
-use Rattle.rl_tokens.specs.declared.span.Span.{Span}
+use Rattle.rl_text.specs.declared.span.Span.{Span}
 use Rattle.rust_literals.specs.declared.lit.Lit.{Lit}
 use Rattle.rust_literals.specs.LitParts.{lit_span}
 use Rattle.rl_uses.specs.Lints.{ReportsLintError, AreErrors}

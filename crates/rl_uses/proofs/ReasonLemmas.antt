@@ -1,6 +1,6 @@
 -- The reasons of literals, one literal after another.
-use Rattle.rl_tokens.proofs.Common.{List, [], ap, chars, inl, inr, refl, ◌++◌, ◌∷◌}
-use Rattle.rl_tokens.specs.Reading.{HasReading}
+use Rattle.rl_text.proofs.Common.{List, [], ap, chars, inl, inr, refl, ◌++◌, ◌∷◌}
+use Rattle.rl_forms.specs.Reading.{HasReading}
 use Rattle.rust_literals.specs.declared.lit.Lit.{Lit}
 use Rattle.rust_literals.specs.Literals.{token_of}
 use Rattle.rl_uses.specs.declared.reasons.Reason.{Reason}

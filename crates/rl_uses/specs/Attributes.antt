@@ -1,11 +1,11 @@
 -- What the parser of attributes does.
 use Rattle.std.specs.Prelude.{◌≡◌, ◌⊎◌, List, ◌∷◌, IsFalse, codes, Result, Ok, Err}
 use Prim.Native.Char.{code}
-use Rattle.rl_tokens.specs.declared.span.Span.{Span}
-use Rattle.rl_tokens.specs.declared.kind.Kind.TheVariants.{Str}
+use Rattle.rl_text.specs.declared.span.Span.{Span}
+use Rattle.rl_forms.specs.declared.kind.Kind.TheVariants.{Str}
 use Rattle.rl_tokens.specs.declared.error.Error.{Error}
 use Rattle.rl_tokens.specs.Errors.{memory_at}
-use Rattle.rl_tokens.specs.Texts.{SpannedText}
+use Rattle.rl_text.specs.Texts.{SpannedText}
 use Rattle.rl_tokens.specs.Trees.{Tree, IdentTree}
 use Rattle.rl_tokens.specs.Buffers.{begins_ident, begins_mark, IsAfterMark, IsRejection}
 use Rattle.rl_grammar.specs.Fronts.{IsFrontOf, RunsAs}

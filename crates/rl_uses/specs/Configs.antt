@@ -2,8 +2,8 @@
 use Rattle.std.specs.Prelude.{◌≡◌, ℕ, Bool as Truth, List, [], All, codes}
 use Rattle.std.specs.Str.{chars}
 use Rattle.std.specs.Str.Parse.{digits_value, without_leading_plus}
-use Rattle.rl_tokens.specs.declared.kind.Kind.TheVariants.{Str as StrKind, Int as IntKind}
-use Rattle.rl_tokens.specs.Reading.{Characters, HasContents}
+use Rattle.rl_forms.specs.declared.kind.Kind.TheVariants.{Str as StrKind, Int as IntKind}
+use Rattle.rl_forms.specs.Reading.{Characters, HasContents}
 use Rattle.rust_literals.specs.declared.lit.Lit.{Lit}
 use Rattle.rust_literals.specs.declared.lit.Lit.TheVariants.{Str, Int, Bool}
 use Rattle.rust_literals.specs.Base10.{AreBase10Digits}

@@ -1,8 +1,8 @@
 -- What the parsers of items and lists do.
 use Rattle.std.specs.Prelude.{◌≡◌, ◌≢◌, ◌⊎◌, ◌<◌, IsFalse, List, [], ◌∷◌, length, codes, Result, Ok, Err}
 use Prim.Native.Char.{code}
-use Rattle.rl_tokens.specs.declared.span.Span.{Span}
-use Rattle.rl_tokens.specs.declared.kind.Kind.TheVariants.{Str as StrKind, Int as IntKind}
+use Rattle.rl_text.specs.declared.span.Span.{Span}
+use Rattle.rl_forms.specs.declared.kind.Kind.TheVariants.{Str as StrKind, Int as IntKind}
 use Rattle.rl_tokens.specs.declared.token.Delimiter.TheVariants.{Bracket}
 use Rattle.rl_tokens.specs.declared.error.Error.{Error}
 use Rattle.rl_tokens.specs.Errors.{memory_at}

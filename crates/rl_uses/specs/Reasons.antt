@@ -1,9 +1,9 @@
 -- Why literals without a reading have none.
 use Rattle.std.specs.Prelude.{◌≡◌, ◌⊎◌, List, [], ◌∷◌}
 use Rattle.std.specs.Str.{chars}
-use Rattle.rl_tokens.specs.Reading.{HasReading}
-use Rattle.rl_grammar.specs.declared.flaws.Flaw.{Flaw}
-use Rattle.rl_grammar.specs.Flaws.{Explains, place_in}
+use Rattle.rl_forms.specs.Reading.{HasReading}
+use Rattle.rl_reasons.specs.declared.flaws.Flaw.{Flaw}
+use Rattle.rl_reasons.specs.Flaws.{Explains, place_in}
 use Rattle.rust_literals.specs.declared.lit.Lit.{Lit}
 use Rattle.rust_literals.specs.Literals.{token_of}
 use Rattle.rust_literals.specs.LitParts.{lit_span}

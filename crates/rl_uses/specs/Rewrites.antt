@@ -2,11 +2,11 @@
 use Rattle.std.specs.Prelude.{◌≡◌, ◌⊎◌, ℕ, List, [], ◌∷◌, ◌++◌}
 use Prim.Native.Char.{code}
 use Rattle.std.specs.Str.{chars}
-use Rattle.rl_tokens.specs.declared.kind.Kind.{Kind}
-use Rattle.rl_tokens.specs.declared.kind.Kind.TheVariants.{Str as StrKind, ByteStr as ByteStrKind, CStr as CStrKind, Byte as ByteKind, Char as CharKind}
-use Rattle.rl_tokens.specs.Texts.{SpannedText}
-use Rattle.rl_tokens.specs.Reading.{quoted_contents, HasContents, HasSuffix}
-use Rattle.rl_tokens.specs.Written.{IsWrittenForm}
+use Rattle.rl_forms.specs.declared.kind.Kind.{Kind}
+use Rattle.rl_forms.specs.declared.kind.Kind.TheVariants.{Str as StrKind, ByteStr as ByteStrKind, CStr as CStrKind, Byte as ByteKind, Char as CharKind}
+use Rattle.rl_text.specs.Texts.{SpannedText}
+use Rattle.rl_forms.specs.Reading.{quoted_contents, HasContents, HasSuffix}
+use Rattle.rl_forms.specs.Written.{IsWrittenForm}
 use Rattle.rl_quoted.specs.Suffixes.{HasSomeSuffix}
 use Rattle.rust_literals.specs.declared.lit.Lit.{Lit}
 use Rattle.rust_literals.specs.declared.lit.Lit.TheVariants.{Str, ByteStr, CStr, Byte, Char}

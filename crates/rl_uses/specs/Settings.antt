@@ -1,9 +1,9 @@
 -- What number a text sets. A text is its bytes here.
 use Rattle.std.specs.Prelude.{◌⊎◌, ℕ, List, [], Option, Result, codes}
 use Rattle.std.specs.Str.{chars}
-use Rattle.rl_tokens.specs.declared.kind.Kind.TheVariants.{Int}
+use Rattle.rl_forms.specs.declared.kind.Kind.TheVariants.{Int}
 use Rattle.rl_tokens.specs.declared.error.Error.{Error}
-use Rattle.rl_tokens.specs.Texts.{SpannedText}
+use Rattle.rl_text.specs.Texts.{SpannedText}
 use Rattle.rl_tokens.specs.Trees.{Tree}
 use Rattle.rl_tokens.specs.Lexing.{Lexes}
 use Rattle.rl_grammar.specs.Fronts.{IsFrontOf, RunsAs}

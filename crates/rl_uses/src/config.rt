@@ -2,7 +2,7 @@
 
 ghost use Rattle.std.specs.Prelude.{◌≡◌, List, [], ℕ, All, IfOk, string_bytes};
 ghost use Rattle.std.specs.Str.Parse.{digits_value, without_leading_plus};
-ghost use Rattle.rl_tokens.specs.declared.kind.Kind.TheVariants.{Int};
+ghost use Rattle.rl_forms.specs.declared.kind.Kind.TheVariants.{Int};
 ghost use Rattle.rust_literals.specs.Base10.{AreBase10Digits};
 ghost use Rattle.rust_literals.specs.LitParts.{HasLitSuffix};
 ghost use Rattle.rl_attributes.specs.AttributeParsing.{entries_of};

@@ -2,7 +2,7 @@
 
 ghost use Rattle.std.specs.Prelude.{List, IfOk, IfErr, IfSome, IfNone};
 ghost use Rattle.std.specs.Str.{chars};
-ghost use Rattle.rl_tokens.specs.Reading.{HasReading};
+ghost use Rattle.rl_forms.specs.Reading.{HasReading};
 ghost use Rattle.rust_literals.specs.declared.lit.Lit.{Lit};
 ghost use Rattle.rust_literals.specs.Literals.{token_of};
 ghost use Rattle.rust_literals.specs.Parsing.{AreRead};

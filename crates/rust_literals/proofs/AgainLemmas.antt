@@ -1,17 +1,17 @@
 -- The texts of literals that were read once read as the same, whatever stands between them.
-use Rattle.rl_grammar.proofs.Names.{HasReading, SpannedText, byte_len}
-use Rattle.rl_tokens.proofs.Common.{AllByRecursion, List, Result, [], ap, chars, drop, encode_utf8_all, refl, subst, sym, ℕ, ◌++◌, ◌+◌, ◌∙◌, ◌∷◌, ◌≡◌, ◌≢◌}
+use Rattle.rl_reading.proofs.Names.{HasReading, SpannedText, byte_len}
+use Rattle.rl_text.proofs.Common.{AllByRecursion, List, Result, [], ap, chars, drop, encode_utf8_all, refl, subst, sym, ℕ, ◌++◌, ◌+◌, ◌∙◌, ◌∷◌, ◌≡◌, ◌≢◌}
 use Rattle.std.specs.Prelude.{Vec}
 use Rattle.std.proofs.lemmas.Str.{scalars-chars}
 use Rattle.rl_tokens.specs.declared.error.Error.{Error}
-use Rattle.rl_tokens.specs.Trivia.{IsTrivia}
+use Rattle.rl_forms.specs.Trivia.{IsTrivia}
 use Rattle.rl_tokens.specs.Trees.{Tree, GroupTree, IdentTree, PunctTree, LiteralTree}
 use Rattle.rl_grammar.specs.Fronts.{IsFront}
-use Rattle.rl_tokens.specs.Printed.{Item, WordItem, LiteralItem, MinusItem, item_text, Entry, printed_text, token_at}
+use Rattle.rl_forms.specs.Printed.{Item, WordItem, LiteralItem, MinusItem, item_text, Entry, printed_text, token_at}
 use Rattle.rl_tokens.specs.PrintedTrees.{printed_trees, IsLexedItem, Reprinted}
 use Rattle.rl_tokens.proofs.CutTrees.{IsCutTree, lexed_trees}
 use Rattle.rl_tokens.proofs.PrintedLaws.{reprinted_lexes}
-use Rattle.rl_grammar.proofs.FrontLemmas.{minus_chars}
+use Rattle.rl_reading.proofs.MinusLemmas.{minus_chars}
 use Rattle.rust_literals.specs.declared.lit.Lit.{Lit}
 use Rattle.rust_literals.specs.Literals.{kind_of, token_of, IsReadAs, IsReadFrom}
 use Rattle.rust_literals.specs.LitParts.{IsSameAt}

@@ -1,25 +1,26 @@
 -- A literal more of a text without groups, and all of them.
-use Rattle.rl_grammar.proofs.Names.{HasNoReading, HasNoTruth, HasReading, SpannedText, truth_text}
-use Rattle.rl_tokens.proofs.Common.{AllByRecursion, Bool, List, None, Option, Some, [], ap, append_assoc, arith, chars, if◌then◌else◌, inr, length, map-append, nat_tests, refl, subst, sym, true, ℕ, ◌++◌, ◌==◌, ◌∙◌, ◌∷◌, ◌≡◌, ◌≢◌, ◌⊎◌}
+use Rattle.rl_reading.proofs.Names.{HasNoReading, HasNoTruth, HasReading, SpannedText, truth_text}
+use Rattle.rl_text.proofs.Common.{AllByRecursion, Bool, List, None, Option, Some, [], ap, append_assoc, arith, chars, if◌then◌else◌, inr, length, map-append, nat_tests, refl, subst, sym, true, ℕ, ◌++◌, ◌==◌, ◌∙◌, ◌∷◌, ◌≡◌, ◌≢◌, ◌⊎◌}
 use Rattle.std.proofs.lemmas.List.{nil_from_length}
 use Rattle.std.specs.Prelude.{min, max, IfNone, IfSome, OnSome}
-use Rattle.rl_tokens.specs.declared.span.Span.{Span}
-use Rattle.rl_tokens.specs.declared.cursor.Lexeme.{Lexeme as Lent}
-use Rattle.rl_tokens.specs.Lexemes.{LexemeForm, LiteralForm, IdentifierForm, MarkForm}
-use Rattle.rl_tokens.specs.Cursors.{form_view, CursorState, TakesNext}
+use Rattle.rl_text.specs.declared.span.Span.{Span}
+use Rattle.rl_lexer.specs.declared.cursor.Lexeme.{Lexeme as Lent}
+use Rattle.rl_lexer.specs.Lexemes.{LexemeForm, LiteralForm, IdentifierForm, MarkForm}
+use Rattle.rl_lexer.specs.Cursors.{form_view, CursorState, TakesNext}
 use Rattle.rl_tokens.specs.Puncts.{Mark}
 use Rattle.rl_tokens.specs.Trees.{Tree, IdentTree, PunctTree, LiteralTree, flat_trees}
-use Rattle.rl_tokens.specs.Skipping.{Skipped}
-use Rattle.rl_tokens.specs.Lexing.{LexesUpTo, after_form, flat_form, flat_token}
+use Rattle.rl_lexer.specs.Skipping.{Skipped}
+use Rattle.rl_lexer.specs.Cuts.{LexesUpTo, after_form}
+use Rattle.rl_tokens.specs.Lexing.{flat_form, flat_token}
 use Rattle.rl_grammar.specs.Fronts.{joined, joined_span}
-use Rattle.rl_tokens.proofs.CutLemmas.{open_more}
-use Rattle.rl_tokens.proofs.CursorLemmas.{flat_borrowed}
+use Rattle.rl_lexer.proofs.CutLemmas.{open_more}
+use Rattle.rl_tokens.proofs.BorrowedTokens.{flat_borrowed}
 use Rattle.rl_tokens.proofs.NestLemmas.{flat_trees-append}
 use Rattle.rust_literals.specs.declared.lit.Lit.{Lit}
 use Rattle.rust_literals.specs.declared.lit.Lit.TheVariants.{Bool as BoolLit}
 use Rattle.rust_literals.specs.Literals.{IsReadFrom}
 use Rattle.rust_literals.specs.Parsing.{ReadsLiterals, AreRead}
-use Rattle.rl_grammar.specs.NextLiterals.{BeginsNone, HasNoNumber, HasNoNextLiteral}
+use Rattle.rl_reading.specs.NextLiterals.{BeginsNone, HasNoNumber, HasNoNextLiteral}
 use Rattle.rust_literals.specs.Flat.{IsNoGroup, LexesTreesUpTo, ReadsNext, AddsNext, AreReadUpTo}
 use Rattle.rl_tokens.proofs.LexLaws.{one_list}
 use Rattle.rust_literals.proofs.LitLemmas.{read_truth}

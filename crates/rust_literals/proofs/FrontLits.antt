@@ -1,8 +1,8 @@
 -- What a parser makes of the literal that begins a buffer's trees, as it was taken from a copy of the buffer.
-use Rattle.rl_grammar.proofs.Names.{Kind, Reads, ReadsAs, SpannedText, Truth}
-use Rattle.rl_tokens.proofs.Common.{Bool, Err, List, [], ap, chars, inl, inr, refl, subst, sym, ℕ, ◌∙◌, ◌≡◌}
-use Rattle.rl_tokens.specs.declared.span.Span.{Span}
-use Rattle.rl_tokens.specs.declared.kind.Kind.TheVariants.{Bool as BoolKind}
+use Rattle.rl_reading.proofs.Names.{Kind, Reads, ReadsAs, SpannedText, Truth}
+use Rattle.rl_text.proofs.Common.{Bool, Err, List, [], ap, chars, inl, inr, refl, subst, sym, ℕ, ◌∙◌, ◌≡◌}
+use Rattle.rl_text.specs.declared.span.Span.{Span}
+use Rattle.rl_forms.specs.declared.kind.Kind.TheVariants.{Bool as BoolKind}
 use Rattle.rl_tokens.specs.declared.error.Error.{Error}
 use Rattle.rl_tokens.specs.Errors.{memory_at}
 use Rattle.rl_tokens.specs.Trees.{Tree}

@@ -1,19 +1,19 @@
 -- What a number struct holds.
-use Rattle.rl_grammar.proofs.Names.{Byte, ByteStr, CStr, Char, Float, HasSuffix, Int, Kind, Reads, SpannedText, Str}
-use Rattle.rl_tokens.proofs.Common.{Err, IsUtf8, List, Ok, Result, append_cancel_right, arith, chars, inl, inr, refl, subst, sym, take, take-append-drop, true, ℕ, ◌++◌, ◌∙◌, ◌≡◌, ◌≢◌, ◌⊎◌}
+use Rattle.rl_reading.proofs.Names.{Byte, ByteStr, CStr, Char, Float, HasSuffix, Int, Kind, Reads, SpannedText, Str}
+use Rattle.rl_text.proofs.Common.{Err, IsUtf8, List, Ok, Result, append_cancel_right, arith, chars, inl, inr, refl, subst, sym, take, take-append-drop, true, ℕ, ◌++◌, ◌∙◌, ◌≡◌, ◌≢◌, ◌⊎◌}
 use Rattle.std.specs.Prelude.{IfErr}
-use Rattle.rl_tokens.specs.declared.kind.Kind.TheVariants.{Bool}
+use Rattle.rl_forms.specs.declared.kind.Kind.TheVariants.{Bool}
 use Rattle.rl_tokens.specs.declared.error.ErrorKind.{ErrorKind}
 use Rattle.rl_tokens.specs.declared.error.ErrorKind.TheVariants.{Expected, EndOfInput, Unexpected, Lex, Suffix, NotInteger, TooLarge, NotFloat, Repeated, Number, Memory}
 use Rattle.rl_tokens.specs.declared.error.Error.{Error}
 use Rattle.rl_tokens.specs.declared.kept.Kept.{Kept}
-use Rattle.rl_tokens.specs.declared.span.Span.{Span}
+use Rattle.rl_text.specs.declared.span.Span.{Span}
 use Rattle.rl_tokens.specs.Errors.{memory_at}
-use Rattle.rl_tokens.proofs.OneNumber.{int_once}
-use Rattle.rl_grammar.specs.declared.found.Found.{Found}
-use Rattle.rl_grammar.specs.Founds.{IsFound, IsFoundFloat, IsFoundNumber, body_in, suffix_in}
-use Rattle.rl_grammar.specs.NumberShapes.{AreDigits, IsNumber}
-use Rattle.rl_grammar.specs.WholeShapes.{IsSplit, IsPlain}
+use Rattle.rl_forms.proofs.OneNumber.{int_once}
+use Rattle.rl_reading.specs.declared.found.Found.{Found}
+use Rattle.rl_reading.specs.Founds.{IsFound, IsFoundFloat, IsFoundNumber, body_in, suffix_in}
+use Rattle.rl_reading.specs.NumberShapes.{AreDigits, IsNumber}
+use Rattle.rl_reading.specs.WholeShapes.{IsSplit, IsPlain}
 use Rattle.rl_grammar.proofs.NumberFoundLemmas.{number_integer, number_float, number_stands, plain_digits}
 use Rattle.rust_literals.specs.Held.{HasDigits, HasOwnSuffix, HoldsNumber}
 use Rattle.rust_literals.specs.Refusals.{IsNoNumber, IsRejectedAs}

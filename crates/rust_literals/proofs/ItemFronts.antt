@@ -1,15 +1,15 @@
 -- The trees of an item begin with it as one literal.
-use Rattle.rl_grammar.proofs.Names.{HasReading, ReadsAs, SpannedText, byte_len, truth_text}
-use Rattle.rl_tokens.proofs.Common.{AllByRecursion, Bool, List, [], ap, arith, chars, encode_utf8_all, false, if◌then◌else◌, length, lit<, nat_tests, refl, subst, suc, sym, true, ℕ, ⊤, ◌++◌, ◌+◌, ◌==◌, ◌∙◌, ◌∷◌, ◌≡◌}
+use Rattle.rl_reading.proofs.Names.{HasReading, ReadsAs, SpannedText, byte_len, truth_text}
+use Rattle.rl_text.proofs.Common.{AllByRecursion, Bool, List, [], ap, arith, chars, encode_utf8_all, false, if◌then◌else◌, length, lit<, nat_tests, refl, subst, suc, sym, true, ℕ, ⊤, ◌++◌, ◌+◌, ◌==◌, ◌∙◌, ◌∷◌, ◌≡◌}
 use Rattle.std.proofs.Common.{min, max}
 use Rattle.std.proofs.lemmas.Str.{chars-encodes}
-use Rattle.rl_tokens.specs.declared.span.Span.{Span}
-use Rattle.rl_tokens.specs.declared.kind.Kind.TheVariants.{Bool as BoolKind}
+use Rattle.rl_text.specs.declared.span.Span.{Span}
+use Rattle.rl_forms.specs.declared.kind.Kind.TheVariants.{Bool as BoolKind}
 use Rattle.rl_tokens.specs.Trees.{Tree}
 use Rattle.rl_grammar.specs.Fronts.{joined_span, joined, IsFront}
-use Rattle.rl_tokens.specs.Printed.{Item, WordItem, LiteralItem, MinusItem, item_text, Entry, token_at}
+use Rattle.rl_forms.specs.Printed.{Item, WordItem, LiteralItem, MinusItem, item_text, Entry, token_at}
 use Rattle.rl_tokens.specs.PrintedTrees.{item_trees, printed_trees}
-use Rattle.rl_tokens.proofs.CommentBytes.{low_front}
+use Rattle.rl_text.proofs.LowBytes.{low_front}
 use Rattle.rl_grammar.proofs.FrontLemmas.{truth_reads}
 use Rattle.rust_literals.proofs.LitLemmas.{SpellsWords}
 use Rattle.rust_literals.specs.declared.lit.Lit.{Lit}

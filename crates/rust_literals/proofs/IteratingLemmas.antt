@@ -1,11 +1,11 @@
 -- What an iterator over the literals of a text returns.
-use Rattle.rl_tokens.proofs.Common.{List, None, Ok, Option, Some, [], ap, append_assoc, arith, chars, chars-nil, length, length-append, refl, subst, sym, ℕ, ◌++◌, ◌+◌, ◌<◌, ◌^◌, ◌∙◌, ◌∷◌, ◌≡◌}
+use Rattle.rl_text.proofs.Common.{List, None, Ok, Option, Some, [], ap, append_assoc, arith, chars, chars-nil, length, length-append, refl, subst, sym, ℕ, ◌++◌, ◌+◌, ◌<◌, ◌^◌, ◌∙◌, ◌∷◌, ◌≡◌}
 use Rattle.std.proofs.lemmas.List.{append-nil, nil_from_length}
 use Rattle.std.specs.Option.{option_to_list, OnSome}
 use Rattle.std.specs.Vec.Iter.{into_iter_items, into_iter_len, into_iter_steps}
 use Rattle.std.specs.declared.vec.IntoIter.{IntoIter}
-use Rattle.rl_tokens.specs.Cursors.{CursorState}
-use Rattle.rl_tokens.specs.Skipping.{Skipped}
+use Rattle.rl_lexer.specs.Cursors.{CursorState}
+use Rattle.rl_lexer.specs.Skipping.{Skipped}
 use Rattle.rust_literals.specs.declared.lit.Lit.{Lit}
 use Rattle.rust_literals.specs.declared.literals.Literals.{Literals}
 use Rattle.rust_literals.specs.Parsing.{AreRead}

@@ -1,6 +1,6 @@
 -- Trees are the literals of one list at most.
 use Rattle.std.proofs.Common.{◌≡◌, ◌≢◌, ◌<◌, List, [], ◌∷◌, ◌++◌, length, refl, sym, ◌∙◌, ap, subst}
-use Rattle.rl_tokens.specs.Texts.{SpannedText}
+use Rattle.rl_text.specs.Texts.{SpannedText}
 use Rattle.rl_tokens.specs.Trees.{Tree}
 use Rattle.rl_grammar.specs.Fronts.{HasNoFront}
 use Rattle.rl_grammar.proofs.FrontLemmas.{one_front, front_shorter}

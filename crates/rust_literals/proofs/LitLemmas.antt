@@ -1,17 +1,17 @@
 -- Literals by their kind and token.
-use Rattle.rl_grammar.proofs.Names.{HasReading, HasSuffix, Kind, Reads, ReadsAs, SpannedText, Truth, first_passes, truth_text}
+use Rattle.rl_reading.proofs.Names.{HasReading, HasSuffix, Kind, Reads, ReadsAs, SpannedText, Truth, first_passes, truth_text}
 use Rattle.std.proofs.Common.{◌≡◌, ℕ, ◌==◌, Bool as Truths, true, false, List, [], ◌∷◌, Option, Some, None, refl, sym, ◌∙◌, ap, subst}
 use Rattle.std.specs.Prelude.{Result, Ok, Err, IfSome, OnOk, OnErr}
 use Rattle.std.proofs.lemmas.Option.{MatchOption-at_some}
 use Rattle.std.specs.Str.{chars}
-use Rattle.rl_tokens.specs.declared.kind.Kind.TheVariants.{Str as StrKind, ByteStr as ByteStrKind, CStr as CStrKind, Byte as ByteKind, Char as CharKind, Int as IntKind, Float as FloatKind, Bool as BoolKind}
-use Rattle.rl_tokens.specs.declared.span.Span.{Span}
-use Rattle.rl_tokens.proofs.OneReading.{one_reading}
-use Rattle.rl_grammar.specs.declared.found.Found.{Found}
-use Rattle.rl_grammar.specs.Founds.{IsFound, suffix_in}
-use Rattle.rl_grammar.specs.WholeShapes.{IsPlain}
-use Rattle.rl_tokens.proofs.TruthWords.{truth_chars}
-use Rattle.rl_grammar.proofs.FrontLemmas.{minus_chars}
+use Rattle.rl_forms.specs.declared.kind.Kind.TheVariants.{Str as StrKind, ByteStr as ByteStrKind, CStr as CStrKind, Byte as ByteKind, Char as CharKind, Int as IntKind, Float as FloatKind, Bool as BoolKind}
+use Rattle.rl_text.specs.declared.span.Span.{Span}
+use Rattle.rl_forms.proofs.OneReading.{one_reading}
+use Rattle.rl_reading.specs.declared.found.Found.{Found}
+use Rattle.rl_reading.specs.Founds.{IsFound, suffix_in}
+use Rattle.rl_reading.specs.WholeShapes.{IsPlain}
+use Rattle.rl_lexer.proofs.TruthWords.{truth_chars}
+use Rattle.rl_reading.proofs.MinusLemmas.{minus_chars}
 use Rattle.rust_literals.specs.declared.lit.Lit.{Lit}
 use Rattle.rust_literals.specs.declared.lit.Lit.TheVariants.{Str, ByteStr, CStr, Byte, Char, Int, Float, Bool, Verbatim}
 use Rattle.rust_literals.specs.Literals.{kind_of, token_of, IsReadAs, IsReadFrom}

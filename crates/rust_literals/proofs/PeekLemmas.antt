@@ -1,8 +1,8 @@
 -- A peek is true exactly where the parser succeeds, if memory is found.
-use Rattle.rl_grammar.proofs.Names.{Kind, SpannedText, Truth}
-use Rattle.rl_tokens.proofs.Common.{Err, List, Ok, Result, [], ap, inl, inr, subst, ℕ, ◌∷◌, ◌≡◌}
-use Rattle.rl_tokens.specs.declared.span.Span.{Span}
-use Rattle.rl_tokens.specs.declared.kind.Kind.TheVariants.{Bool as BoolKind}
+use Rattle.rl_reading.proofs.Names.{Kind, SpannedText, Truth}
+use Rattle.rl_text.proofs.Common.{Err, List, Ok, Result, [], ap, inl, inr, subst, ℕ, ◌∷◌, ◌≡◌}
+use Rattle.rl_text.specs.declared.span.Span.{Span}
+use Rattle.rl_forms.specs.declared.kind.Kind.TheVariants.{Bool as BoolKind}
 use Rattle.rl_tokens.specs.declared.error.Error.{Error}
 use Rattle.rl_tokens.specs.declared.error.ErrorKind.{ErrorKind}
 use Rattle.rl_tokens.specs.declared.error.ErrorKind.TheVariants.{Memory}

@@ -1,15 +1,15 @@
 -- A print of strict literals is read as the readings of its items.
-use Rattle.rl_grammar.proofs.Names.{HasReading, Reads, ReadsAs, byte_len, truth_text}
-use Rattle.rl_tokens.proofs.Common.{AllByRecursion, Err, IsUtf8, List, Ok, Result, Some, [], ap, chars, encode_utf8_all, refl, subst, sym, true, ℕ, ◌++◌, ◌+◌, ◌∙◌, ◌∷◌, ◌≡◌}
+use Rattle.rl_reading.proofs.Names.{HasReading, Reads, ReadsAs, byte_len, truth_text}
+use Rattle.rl_text.proofs.Common.{AllByRecursion, Err, IsUtf8, List, Ok, Result, Some, [], ap, chars, encode_utf8_all, refl, subst, sym, true, ℕ, ◌++◌, ◌+◌, ◌∙◌, ◌∷◌, ◌≡◌}
 use Rattle.std.specs.Prelude.{Vec}
 use Rattle.std.proofs.Math.Utf8.{scalars}
 use Rattle.std.proofs.lemmas.Str.{chars-encodes, scalars-chars}
-use Rattle.rl_tokens.specs.declared.kind.Kind.TheVariants.{Bool as BoolKind}
+use Rattle.rl_forms.specs.declared.kind.Kind.TheVariants.{Bool as BoolKind}
 use Rattle.rl_tokens.specs.declared.error.Error.{Error}
-use Rattle.rl_tokens.specs.Trivia.{IsTrivia}
-use Rattle.rl_tokens.specs.Printed.{Item, WordItem, LiteralItem, MinusItem, item_text, Entry, printed_text, token_at, IsStrictItem, Printed}
+use Rattle.rl_forms.specs.Trivia.{IsTrivia}
+use Rattle.rl_forms.specs.Printed.{Item, WordItem, LiteralItem, MinusItem, item_text, Entry, printed_text, token_at, IsStrictItem, Printed}
 use Rattle.rl_tokens.specs.PrintedTrees.{printed_trees}
-use Rattle.rl_tokens.proofs.CutTrees.{scalars_parts}
+use Rattle.rl_text.proofs.Basics.{scalars_parts}
 use Rattle.rl_tokens.proofs.PrintedLaws.{printed_lexes}
 use Rattle.rl_grammar.proofs.FrontLemmas.{truth_reads}
 use Rattle.rust_literals.specs.declared.lit.Lit.{Lit}

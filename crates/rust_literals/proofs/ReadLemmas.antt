@@ -1,14 +1,15 @@
 -- What a text is read as, from the lexer's answer and what its trees are read as.
 use Rattle.std.proofs.Common.{◌≡◌, ◌≢◌, ◌⊎◌, inl, inr, ℕ, List, [], ◌++◌, ap, subst}
 use Rattle.std.specs.Prelude.{Result, Ok, Err, IfOk, IfErr, Vec}
-use Rattle.rl_tokens.specs.declared.span.Span.{Span}
+use Rattle.rl_text.specs.declared.span.Span.{Span}
 use Rattle.rl_tokens.specs.declared.error.Error.{Error}
 use Rattle.rl_tokens.specs.declared.error.ErrorKind.TheVariants.{Memory as MemoryError}
-use Rattle.rl_tokens.specs.declared.lex_error.LexKind.{LexKind}
-use Rattle.rl_tokens.specs.declared.lex_error.LexKind.TheVariants.{DocComment, UnclosedComment, UnclosedQuote, Lifetime, RawIdentifier, StrayCharacter, UnmatchedClose, UnclosedGroup, TooDeep, Memory}
+use Rattle.rl_lexer.specs.declared.lex_error.LexKind.{LexKind}
+use Rattle.rl_lexer.specs.declared.lex_error.LexKind.TheVariants.{DocComment, UnclosedComment, UnclosedQuote, Lifetime, RawIdentifier, StrayCharacter, UnmatchedClose, UnclosedGroup, TooDeep, Memory}
 use Rattle.rl_tokens.specs.Errors.{lex_rejection}
 use Rattle.rl_tokens.specs.Trees.{Tree}
-use Rattle.rl_tokens.specs.Lexing.{Lexes, Rejects, NeverBoth}
+use Rattle.rl_tokens.specs.Lexing.{Lexes, NeverBoth}
+use Rattle.rl_lexer.specs.Cuts.{Rejects}
 use Rattle.rust_literals.specs.declared.lit.Lit.{Lit}
 use Rattle.rust_literals.specs.Parsing.{RunsLit, ReadsLiterals, RejectsNextLiteral, LacksMemory, AreRead, RejectsText}
 use Rattle.rl_tokens.proofs.LexLaws.{one_list, never_both}

@@ -1,18 +1,18 @@
 -- The literal of a strict text is of the kind, contents and suffix that the text has.
-use Rattle.rl_grammar.proofs.Names.{Byte, ByteStr, CStr, Char, Contents, Digits, Float, HasReading, Int, IntReads, IsPast, Kind, Minus, NoSign, Reads, Sign, SpannedText, Str, first_passes, limit, truth_text}
-use Rattle.rl_tokens.proofs.Common.{Bool, List, Result, Some, [], cases_lt, chars, false, inl, inr, is_ascii_digit, refl, subst, sym, true, ℕ, ◌<◌, ◌==◌, ◌||◌, ◌∷◌, ◌≡◌, ◌≤◌, ◌⊎◌}
+use Rattle.rl_reading.proofs.Names.{Byte, ByteStr, CStr, Char, Contents, Digits, Float, HasReading, Int, IntReads, IsPast, Kind, Minus, NoSign, Reads, Sign, SpannedText, Str, first_passes, limit, truth_text}
+use Rattle.rl_text.proofs.Common.{Bool, List, Result, Some, [], cases_lt, chars, false, inl, inr, is_ascii_digit, refl, subst, sym, true, ℕ, ◌<◌, ◌==◌, ◌||◌, ◌∷◌, ◌≡◌, ◌≤◌, ◌⊎◌}
 use Rattle.std.specs.Prelude.{IfOk}
 use Rattle.std.proofs.lemmas.Result.{IfOk-weaker}
-use Rattle.rl_tokens.specs.declared.kind.Kind.TheVariants.{Bool as BoolKind}
-use Rattle.rl_tokens.specs.Strict.{Strict}
-use Rattle.rl_tokens.specs.Agreeing.{IsWithinLimit}
-use Rattle.rl_tokens.specs.Printed.{Item, WordItem, LiteralItem, MinusItem, item_text, IsStrictItem}
-use Rattle.rl_tokens.proofs.Agreeing.{strict_reads, strict_minus}
-use Rattle.rl_tokens.proofs.OneNumber.{int_once, int_front, begins_number}
-use Rattle.rl_tokens.proofs.StrictNumbers.{strict_int, minus_int}
-use Rattle.rl_grammar.specs.WholeShapes.{is_number_front}
-use Rattle.rl_grammar.proofs.NumberLemmas.{past_number}
-use Rattle.rl_grammar.proofs.ReadingLemmas.{only_number}
+use Rattle.rl_forms.specs.declared.kind.Kind.TheVariants.{Bool as BoolKind}
+use Rattle.rl_forms.specs.Strict.{Strict}
+use Rattle.rl_forms.specs.Agreeing.{IsWithinLimit}
+use Rattle.rl_forms.specs.Printed.{Item, WordItem, LiteralItem, MinusItem, item_text, IsStrictItem}
+use Rattle.rl_forms.proofs.Agreeing.{strict_reads, strict_minus}
+use Rattle.rl_forms.proofs.OneNumber.{int_once, int_front, begins_number}
+use Rattle.rl_forms.proofs.StrictNumbers.{strict_int, minus_int}
+use Rattle.rl_reading.specs.WholeShapes.{is_number_front}
+use Rattle.rl_reading.proofs.NumberLemmas.{past_number}
+use Rattle.rl_reading.proofs.ReadingLemmas.{only_number}
 use Rattle.rl_grammar.proofs.FrontLemmas.{truth_reads}
 use Rattle.rust_literals.specs.declared.lit.Lit.{Lit}
 use Rattle.rust_literals.specs.Literals.{kind_of, IsReadFrom, IsLitOf}

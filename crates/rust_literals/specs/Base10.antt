@@ -1,11 +1,11 @@
 -- What a number type makes of the digits of a literal.
 use Rattle.std.specs.Prelude.{◌≡◌, ℕ, List, Option, Result, Ok, Err, IfSome, string_bytes, ⊤}
 use Rattle.std.specs.Str.{chars, IsUtf8}
-use Rattle.rl_tokens.specs.declared.span.Span.{Span}
+use Rattle.rl_text.specs.declared.span.Span.{Span}
 use Rattle.rl_tokens.specs.declared.error.ErrorKind.{ErrorKind}
 use Rattle.rl_tokens.specs.declared.error.ErrorKind.TheVariants.{Number, Memory}
 use Rattle.rl_tokens.specs.declared.error.Error.{Error}
-use Rattle.rl_tokens.specs.declared.kind.Kind.{Kind}
+use Rattle.rl_forms.specs.declared.kind.Kind.{Kind}
 use Rattle.rust_literals.specs.Held.{HasDigits}
 
 -- These are the digits, in bytes, of the number of the kind that the text is.

@@ -3,8 +3,9 @@ use Rattle.std.specs.Prelude.{◌≡◌, ℕ, List, [], ◌∷◌, ◌++◌, len
 use Rattle.std.specs.List.{AllByRecursion}
 use Rattle.std.specs.Str.{chars}
 use Rattle.rl_tokens.specs.Trees.{Tree, GroupTree, flat_trees}
-use Rattle.rl_tokens.specs.Lexing.{LexedToken, LexesUpTo, open_groups, flat_token}
-use Rattle.rl_tokens.specs.Cursors.{CursorState}
+use Rattle.rl_lexer.specs.Cuts.{LexedToken, LexesUpTo, open_groups}
+use Rattle.rl_tokens.specs.Lexing.{flat_token}
+use Rattle.rl_lexer.specs.Cursors.{CursorState}
 use Rattle.rust_literals.specs.declared.lit.Lit.{Lit}
 use Rattle.rust_literals.specs.Parsing.{IsLitFront, ReadsLiterals}
 

@@ -2,10 +2,10 @@
 -- begins.
 use Rattle.std.specs.Prelude.{◌≡◌, ℕ, List, Option, Some, None, take, drop}
 use Rattle.std.specs.Str.{chars, IsCharBoundary}
-use Rattle.rl_tokens.specs.declared.kind.Kind.{Kind}
-use Rattle.rl_tokens.specs.declared.kind.Kind.TheVariants.{Int, Float}
-use Rattle.rl_tokens.specs.Numbers.{FloatReads, float_digits}
-use Rattle.rl_tokens.specs.Reading.{Digits, ReadsInt, HasSuffix}
+use Rattle.rl_forms.specs.declared.kind.Kind.{Kind}
+use Rattle.rl_forms.specs.declared.kind.Kind.TheVariants.{Int, Float}
+use Rattle.rl_forms.specs.Numbers.{FloatReads, float_digits}
+use Rattle.rl_forms.specs.Reading.{Digits, ReadsInt, HasSuffix}
 
 -- The digits of a text, which is a number of the kind. A float is one by the float rule alone,
 -- whether or not an integer stands there too.

@@ -2,14 +2,14 @@
 use Rattle.std.specs.Prelude.{◌≡◌, ◌⊎◌, ℕ, List, [], ◌∷◌, Option, Some, None, IsTrue}
 use Prim.Native.Char.{code}
 use Rattle.std.specs.Str.{chars}
-use Rattle.rl_tokens.specs.declared.kind.Kind.TheVariants.{Int as IntKind, Float as FloatKind, Bool as BoolKind}
-use Rattle.rl_tokens.specs.declared.kind.Kind.{Kind}
-use Rattle.rl_tokens.specs.Reading.{Contents, Digits, Reads, ReadsAs}
-use Rattle.rl_tokens.specs.Strict.{Strict}
-use Rattle.rl_tokens.specs.Agreeing.{IsWithinLimit}
-use Rattle.rl_tokens.specs.Quoted.{is_number}
-use Rattle.rl_tokens.specs.declared.span.Span.{Span}
-use Rattle.rl_grammar.specs.WholeShapes.{IsPlain}
+use Rattle.rl_forms.specs.declared.kind.Kind.TheVariants.{Int as IntKind, Float as FloatKind, Bool as BoolKind}
+use Rattle.rl_forms.specs.declared.kind.Kind.{Kind}
+use Rattle.rl_forms.specs.Reading.{Contents, Digits, Reads, ReadsAs}
+use Rattle.rl_forms.specs.Strict.{Strict}
+use Rattle.rl_forms.specs.Agreeing.{IsWithinLimit}
+use Rattle.rl_forms.specs.Quoted.{is_number}
+use Rattle.rl_text.specs.declared.span.Span.{Span}
+use Rattle.rl_reading.specs.WholeShapes.{IsPlain}
 use Rattle.rust_literals.specs.Held.{HasOwnSuffix}
 use Rattle.rust_literals.specs.declared.lit.Lit.{Lit}
 use Rattle.rust_literals.specs.Literals.{kind_of, token_of, IsLitOf}

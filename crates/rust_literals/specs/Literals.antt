@@ -1,10 +1,10 @@
 -- What a literal is to a text: the text's one reading, or none.
 use Rattle.std.specs.Prelude.{◌≡◌, ℕ, List, Option, Some, None}
 use Rattle.std.specs.Str.{chars}
-use Rattle.rl_tokens.specs.Texts.{SpannedText}
-use Rattle.rl_tokens.specs.declared.kind.Kind.TheVariants.{Str as StrKind, ByteStr as ByteStrKind, CStr as CStrKind, Byte as ByteKind, Char as CharKind, Int as IntKind, Float as FloatKind, Bool as BoolKind}
-use Rattle.rl_tokens.specs.declared.kind.Kind.{Kind}
-use Rattle.rl_tokens.specs.Reading.{ReadsAs, truth_text, HasNoReading, Contents, Reads}
+use Rattle.rl_text.specs.Texts.{SpannedText}
+use Rattle.rl_forms.specs.declared.kind.Kind.TheVariants.{Str as StrKind, ByteStr as ByteStrKind, CStr as CStrKind, Byte as ByteKind, Char as CharKind, Int as IntKind, Float as FloatKind, Bool as BoolKind}
+use Rattle.rl_forms.specs.declared.kind.Kind.{Kind}
+use Rattle.rl_forms.specs.Reading.{ReadsAs, truth_text, HasNoReading, Contents, Reads}
 use Rattle.rust_literals.specs.declared.lit.Lit.{Lit}
 use Rattle.rust_literals.specs.declared.lit.Lit.TheVariants.{Str, ByteStr, CStr, Byte, Char, Int, Float, Bool, Verbatim}
 

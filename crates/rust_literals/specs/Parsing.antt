@@ -1,13 +1,14 @@
 -- What the parsers of this crate do, and which literals the trees of a text are.
 use Rattle.std.specs.Prelude.{◌≡◌, ◌≢◌, ◌⊎◌, ℕ, List, [], ◌∷◌, codes, Result, Ok, Err}
 use Rattle.std.specs.Str.{chars}
-use Rattle.rl_tokens.specs.declared.span.Span.{Span}
-use Rattle.rl_tokens.specs.declared.kind.Kind.TheVariants.{Bool as BoolKind}
+use Rattle.rl_text.specs.declared.span.Span.{Span}
+use Rattle.rl_forms.specs.declared.kind.Kind.TheVariants.{Bool as BoolKind}
 use Rattle.rl_tokens.specs.declared.error.Error.{Error}
-use Rattle.rl_tokens.specs.Errors.{memory_at, nowhere}
-use Rattle.rl_tokens.specs.Texts.{SpannedText}
+use Rattle.rl_tokens.specs.Errors.{memory_at}
+use Rattle.rl_text.specs.Spans.{nowhere}
+use Rattle.rl_text.specs.Texts.{SpannedText}
 use Rattle.rl_tokens.specs.Trees.{Tree}
-use Rattle.rl_tokens.specs.Reading.{Reads, Truth}
+use Rattle.rl_forms.specs.Reading.{Reads, Truth}
 use Rattle.rl_tokens.specs.Lexing.{Lexes}
 use Rattle.rl_tokens.specs.Buffers.{first_span, IsRejection}
 use Rattle.rl_grammar.specs.Fronts.{IsFront, HasFront, HasNoFront, PassesOther, LacksMemoryAtFront}

@@ -3,16 +3,16 @@
 use Rattle.std.specs.Prelude.{◌≡◌, ℕ, ◌+◌, List, [], ◌∷◌, Some, IsTrue, Result, Ok, Err, Vec}
 use Prim.Native.Char.{code}
 use Rattle.std.specs.Str.{chars, encode_utf8_all}
-use Rattle.rl_tokens.specs.declared.kind.Kind.{Kind}
+use Rattle.rl_forms.specs.declared.kind.Kind.{Kind}
 use Rattle.rl_tokens.specs.declared.error.Error.{Error}
 use Rattle.rl_tokens.specs.declared.error.ErrorKind.TheVariants.{Memory}
-use Rattle.rl_tokens.specs.Reading.{ReadsAs, Contents, Digits, truth_text}
-use Rattle.rl_tokens.specs.Texts.{byte_len}
-use Rattle.rl_tokens.specs.Printed.{Item, item_text, Entry, token_at, WordItem, LiteralItem, MinusItem}
+use Rattle.rl_forms.specs.Reading.{ReadsAs, Contents, Digits, truth_text}
+use Rattle.rl_text.specs.Texts.{byte_len}
+use Rattle.rl_forms.specs.Printed.{Item, item_text, Entry, token_at, WordItem, LiteralItem, MinusItem}
 use Rattle.rust_literals.specs.declared.lit.Lit.{Lit}
 use Rattle.rust_literals.specs.Literals.{kind_of, IsReadFrom, IsLitOf}
-use Rattle.rl_tokens.specs.Strict.{Strict}
-use Rattle.rl_tokens.specs.Quoted.{is_number}
+use Rattle.rl_forms.specs.Strict.{Strict}
+use Rattle.rl_forms.specs.Quoted.{is_number}
 
 -- the answer is a list of which this holds, or an allocation failed
 abbrev pub HoldsOrMemory : {A B : Type 0} → (List (Lit A) → Type 0)

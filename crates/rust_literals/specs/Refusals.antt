@@ -2,10 +2,10 @@
 use Rattle.std.specs.Prelude.{ℕ, List}
 use Rattle.rl_tokens.specs.declared.error.ErrorKind.{ErrorKind}
 use Rattle.rl_tokens.specs.declared.error.ErrorKind.TheVariants.{NotInteger, TooLarge, NotFloat, Memory}
-use Rattle.rl_tokens.specs.declared.kind.Kind.{Kind}
-use Rattle.rl_tokens.specs.declared.kind.Kind.TheVariants.{Int, Float}
-use Rattle.rl_tokens.specs.Reading.{HasNoInteger, IsPast, HasNoFloat}
-use Rattle.rl_grammar.specs.NumberShapes.{IsNumber}
+use Rattle.rl_forms.specs.declared.kind.Kind.{Kind}
+use Rattle.rl_forms.specs.declared.kind.Kind.TheVariants.{Int, Float}
+use Rattle.rl_forms.specs.Reading.{HasNoInteger, IsPast, HasNoFloat}
+use Rattle.rl_reading.specs.NumberShapes.{IsNumber}
 
 -- why the text is no number of the kind: no integer stands there, or one past 128 bits does; no
 -- float stands there

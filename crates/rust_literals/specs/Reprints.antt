@@ -2,8 +2,8 @@
 use Rattle.std.specs.Prelude.{◌≡◌, ◌≢◌, ℕ, List, [], ◌∷◌, ◌++◌, map, drop}
 use Rattle.std.specs.Str.{chars, IsUtf8}
 use Rattle.std.specs.List.{AllByRecursion}
-use Rattle.rl_tokens.specs.declared.span.Span.{Span}
-use Rattle.rl_tokens.specs.Trivia.{IsTrivia}
+use Rattle.rl_text.specs.declared.span.Span.{Span}
+use Rattle.rl_forms.specs.Trivia.{IsTrivia}
 use Rattle.rust_literals.specs.declared.lit.Lit.{Lit}
 use Rattle.rust_literals.specs.Literals.{token_of}
 use Rattle.rust_literals.specs.LitParts.{IsSameAt}

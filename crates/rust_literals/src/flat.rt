@@ -17,10 +17,10 @@ ghost use Rattle.std.specs.Prelude.{
   MatchResult,
 };
 ghost use Rattle.std.specs.Str.{chars};
-ghost use Rattle.rl_tokens.specs.Reading.{HasReading, HasNoReading};
+ghost use Rattle.rl_forms.specs.Reading.{HasReading, HasNoReading};
 ghost use Rattle.rust_literals.specs.Literals.{IsReadFrom};
 ghost use Rattle.rust_literals.specs.Parsing.{AreRead};
-ghost use Rattle.rl_grammar.specs.NextLiterals.{HasNoNextLiteral};
+ghost use Rattle.rl_reading.specs.NextLiterals.{HasNoNextLiteral};
 ghost use Rattle.rust_literals.specs.Flat.{ReadsNext, AddsNext, AreBegun};
 
 use crate::lit::Lit;

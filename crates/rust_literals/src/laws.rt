@@ -1,8 +1,8 @@
 //! Laws of the definitions: each function does nothing, and its contract is the law.
 
 ghost use Rattle.std.specs.Prelude.{◌≡◌, ◌<◌, List, ℕ, length};
-ghost use Rattle.rl_tokens.specs.declared.kind.Kind.{Kind};
-ghost use Rattle.rl_tokens.specs.declared.kind.Kind.TheVariants.{Bool as BoolKind};
+ghost use Rattle.rl_forms.specs.declared.kind.Kind.{Kind};
+ghost use Rattle.rl_forms.specs.declared.kind.Kind.TheVariants.{Bool as BoolKind};
 ghost use Rattle.rl_grammar.specs.Fronts.{HasFront, HasFrontOf, RunsAs};
 ghost use Rattle.rust_literals.specs.declared.lit.Lit.{Lit};
 ghost use Rattle.rust_literals.specs.Literals.{kind_of, token_of};

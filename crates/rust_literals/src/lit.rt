@@ -3,9 +3,9 @@
 ghost use Rattle.std.specs.Prelude.{◌≡◌, IfOk, IfErr, IfSome, IfNone, Some};
 ghost use Rattle.std.specs.Str.{chars};
 ghost use Rattle.rl_tokens.specs.Errors.{memory_at};
-ghost use Rattle.rl_tokens.specs.Reading.{HasNoReading, HasReading, HasSuffix};
-ghost use Rattle.rl_grammar.specs.Flaws.{Explains};
-ghost use Rattle.rl_grammar.specs.Founds.{IsFound};
+ghost use Rattle.rl_forms.specs.Reading.{HasNoReading, HasReading, HasSuffix};
+ghost use Rattle.rl_reasons.specs.Flaws.{Explains};
+ghost use Rattle.rl_reading.specs.Founds.{IsFound};
 ghost use Rattle.rl_grammar.specs.FrontTokens.{front_token};
 ghost use Rattle.rust_literals.specs.Held.{HasOwnSuffix};
 ghost use Rattle.rust_literals.specs.Literals.{IsReadFrom};
@@ -111,7 +111,7 @@ impl<'a> View<'a> {
 impl<A: Allocator> Lit<A> {
     ghost use Rattle.rust_literals.specs.Literals.{IsReadFrom};
     ghost use Rattle.rust_literals.specs.LitParts.{ReadsAsNumber, ReadsPlain, KeepsStrict, KeepsStrictAfterMinus, AgreesWithStrict};
-    ghost use Rattle.rl_grammar.specs.StrictBytes.{KeepsBytesStrict};
+    ghost use Rattle.rl_reading.specs.StrictBytes.{KeepsBytesStrict};
 
     /// The literal that the token's text reads as; `Verbatim` exactly where it has no reading. The
     /// token stays as it is, text and span.

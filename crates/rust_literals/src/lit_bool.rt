@@ -2,7 +2,7 @@
 
 ghost use Rattle.std.specs.Prelude.{◌≡◌, IfOk, IfErr};
 ghost use Rattle.rl_tokens.specs.Errors.{memory_at};
-ghost use Rattle.rl_tokens.specs.Reading.{truth_text};
+ghost use Rattle.rl_forms.specs.Reading.{truth_text};
 
 mod copies;
 
@@ -96,7 +96,7 @@ impl<A: Allocator> Parse<A> for LitBool {
 /// True exactly where the parser succeeds.
 impl Token for LitBool {
     ghost use Rattle.std.specs.Prelude.{codes};
-    ghost use Rattle.rl_tokens.specs.declared.kind.Kind.TheVariants.{Bool as BoolKind};
+    ghost use Rattle.rl_forms.specs.declared.kind.Kind.TheVariants.{Bool as BoolKind};
     ghost use Rattle.rl_grammar.specs.Fronts.{HasFrontOf};
 
     ghost peeks = { HasFrontOf BoolKind };

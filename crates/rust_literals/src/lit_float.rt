@@ -3,8 +3,8 @@
 ghost use Rattle.std.specs.Prelude.{◌≡◌, IfOk, IfErr, refl};
 ghost use Rattle.std.proofs.Common.{inr};
 ghost use Rattle.std.specs.Str.{chars};
-ghost use Rattle.rl_tokens.specs.declared.kind.Kind.TheVariants.{Float};
-ghost use Rattle.rl_grammar.specs.Founds.{IsFoundNumber};
+ghost use Rattle.rl_forms.specs.declared.kind.Kind.TheVariants.{Float};
+ghost use Rattle.rl_reading.specs.Founds.{IsFoundNumber};
 ghost use Rattle.rust_literals.specs.Refusals.{IsNoNumber};
 
 use crate::number::{Number, NumberKind};

@@ -3,12 +3,12 @@
 ghost use Rattle.std.specs.Fmt.{padded};
 ghost use Rattle.std.specs.Prelude.{◌≡◌, ◌⊎◌, OnOk, IfOk, IfErr, Some, option_map, string_bytes};
 ghost use Rattle.std.specs.Str.{chars};
-ghost use Rattle.rl_tokens.specs.declared.kind.Kind.{Kind};
-ghost use Rattle.rl_tokens.specs.declared.kind.Kind.TheVariants.{Float, Int};
+ghost use Rattle.rl_forms.specs.declared.kind.Kind.{Kind};
+ghost use Rattle.rl_forms.specs.declared.kind.Kind.TheVariants.{Float, Int};
 ghost use Rattle.rl_tokens.specs.Errors.{memory_at};
-ghost use Rattle.rl_grammar.specs.Founds.{IsFoundNumber};
-ghost use Rattle.rl_grammar.specs.NumberShapes.{IsNumber};
-ghost use Rattle.rl_grammar.specs.WholeShapes.{IsPlain};
+ghost use Rattle.rl_reading.specs.Founds.{IsFoundNumber};
+ghost use Rattle.rl_reading.specs.NumberShapes.{IsNumber};
+ghost use Rattle.rl_reading.specs.WholeShapes.{IsPlain};
 ghost use Rattle.rust_literals.specs.Held.{HasDigits, HasOwnSuffix, HoldsNumber, digits_in};
 ghost use Rattle.rust_literals.specs.Refusals.{IsNoNumber, IsRejectedAs};
 
@@ -76,7 +76,7 @@ pub struct Number<K: NumberKind, A: Allocator = Global> {
 /// The token's text is a number of the kind.
 impl<K: NumberKind, A: Allocator> Model for Number<K, A> {
     ghost use Rattle.std.specs.Prelude.{string_bytes, option_map};
-    ghost use Rattle.rl_tokens.specs.Texts.{SpannedText};
+    ghost use Rattle.rl_text.specs.Texts.{SpannedText};
     ghost use Rattle.rust_literals.specs.Held.{HoldsNumber, digits_in};
 
     ghost Value = { SpannedText };
@@ -251,7 +251,7 @@ impl<K: NumberKind, A: Allocator> fmt::Display for Number<K, A> {
 /// Takes the number of the kind that stands next. It is rejected as [`take_kind`] says.
 impl<K: NumberKind, A: Allocator + Copy> Parse<A> for Number<K, A> {
     ghost use Rattle.rl_grammar.specs.Fronts.{RunsAs};
-    ghost use Rattle.rl_tokens.specs.Words.{kind_word};
+    ghost use Rattle.rl_forms.specs.Words.{kind_word};
 
     ghost runs = { RunsAs K.KIND (kind_word K.KIND) };
 
@@ -274,7 +274,7 @@ impl<K: NumberKind, A: Allocator + Copy> Parse<A> for Number<K, A> {
 /// True exactly where the parser succeeds, if memory is found.
 impl<K: NumberKind, A: Allocator> Token for Number<K, A> {
     ghost use Rattle.rl_grammar.specs.Fronts.{HasFrontOf};
-    ghost use Rattle.rl_tokens.specs.Words.{kind_shown};
+    ghost use Rattle.rl_forms.specs.Words.{kind_shown};
 
     ghost peeks = { HasFrontOf K.KIND };
 

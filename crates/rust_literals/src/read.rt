@@ -4,7 +4,7 @@ ghost use Rattle.std.specs.Prelude.{◌≡◌, ◌⊎◌, ℕ, List, [], ◌++�
 ghost use Rattle.std.specs.Str.{chars};
 ghost use Rattle.rl_tokens.specs.Buffers.{trees_in, scope_of};
 ghost use Rattle.rl_tokens.specs.Trees.{Tree};
-ghost use Rattle.rl_tokens.specs.Printed.{Entry, Printed};
+ghost use Rattle.rl_forms.specs.Printed.{Entry, Printed};
 ghost use Rattle.rust_literals.specs.declared.lit.Lit.{Lit};
 ghost use Rattle.rust_literals.specs.Parsing.{ReadsLiterals, RejectsNextLiteral, LacksMemory, AreRead, RejectsText};
 ghost use Rattle.rust_literals.specs.Flat.{AreFirst};

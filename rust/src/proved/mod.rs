@@ -1,4 +1,8 @@
-//! What `tools/render` makes of the proved crates `rl_tokens` and `rl_grammar`: their functions without the contracts.
+//! What `tools/render` makes of the core crates: their functions without the contracts.
 
-pub(crate) mod grammar;
-pub(crate) mod tokens;
+pub(crate) mod rl_forms;
+pub(crate) mod rl_lexer;
+pub(crate) mod rl_reading;
+pub(crate) mod rl_reasons;
+pub(crate) mod rl_strict;
+pub(crate) mod rl_text;

@@ -1,5 +1,5 @@
-use Rattle.rl_grammar.proofs.Names.{Digits, Float, HasContents}
-use Rattle.rl_tokens.proofs.Common.{chars, subst, take}
+use Rattle.rl_reading.proofs.Names.{Digits, Float, HasContents}
+use Rattle.rl_text.proofs.Common.{chars, subst, take}
 use Rattle.rl_c.proofs.rl_float_digits.Goals as goal
 
 pub returns-clause-value : goal.returns-clause-value

@@ -1,22 +1,21 @@
 -- A mirror of the code, for proofs alone: the trees of a text as they grow, and the groups that are
 -- open.
-use Rattle.std.specs.Prelude.{◌≡◌, ◌≢◌, ◌<◌, ℕ, ◌+◌, true, false, codes, if◌then◌else◌, List, [], ◌∷◌, ◌++◌, IsTrue, Some, length, map, reverse, not, ◌&&◌, ⊤}
+use Rattle.std.specs.Prelude.{◌≡◌, ◌≢◌, ◌<◌, ℕ, ◌+◌, true, false, List, [], ◌∷◌, ◌++◌, IsTrue, Some, length, map, reverse, not, ◌&&◌, ⊤}
 use Rattle.std.specs.Str.{chars}
 use Prim.Native.Char.{code}
 use Rattle.rl_tokens.specs.declared.token.Delimiter.{Delimiter}
 use Rattle.rl_tokens.specs.declared.token.Delimiter.TheVariants.{Parenthesis, Brace, Bracket}
-use Rattle.rl_tokens.specs.declared.lex_error.LexKind.{LexKind}
-use Rattle.rl_tokens.specs.declared.lex_error.LexKind.TheVariants.{DocComment, UnclosedComment, UnclosedQuote, Lifetime, RawIdentifier, StrayCharacter, UnmatchedClose, UnclosedGroup, TooDeep, Memory}
-use Rattle.rl_tokens.specs.declared.lex_error.LexError.{LexError}
+use Rattle.rl_lexer.specs.declared.lex_error.LexKind.{LexKind}
+use Rattle.rl_lexer.specs.declared.lex_error.LexKind.TheVariants.{UnmatchedClose, UnclosedGroup, TooDeep, Memory}
+use Rattle.rl_lexer.specs.declared.lex_error.LexError.{LexError}
 use Rattle.rl_tokens.specs.declared.nest.GroupBuilder.{GroupBuilder}
 use Rattle.rl_tokens.specs.declared.nest.TreeBuilder.{TreeBuilder}
 use Rattle.rl_tokens.specs.declared.token.TokenTree.{TokenTree}
-use Rattle.rl_tokens.specs.Texts.{is_among, begins, xid_ok}
-use Rattle.rl_tokens.specs.Puncts.{is_punct}
-use Rattle.rl_tokens.specs.Lexemes.{LexemeForm, LiteralForm, IdentifierForm, DelimiterForm, MarkForm, delimiters, begins_raw_identifier}
+use Rattle.rl_text.specs.Texts.{is_among, xid_ok}
+use Rattle.rl_lexer.specs.Lexemes.{is_punct, LexemeForm, LiteralForm, IdentifierForm, DelimiterForm, MarkForm, delimiters}
 use Rattle.rl_tokens.specs.Trees.{FlatToken, Opening, Closing, tree_view, stream_view, flat, flat_trees}
-use Rattle.rl_tokens.specs.Lexing.{OpenGroup, is_opener, is_closer, closes, popped, innermost, after_form, flat_form, begins_doc_comment, begins_lifetime}
-use Rattle.rl_tokens.specs.Mirrors.LexemeAt.{begins_quote}
+use Rattle.rl_lexer.specs.Cuts.{OpenGroup, is_opener, is_closer, closes, popped, innermost, after_form}
+use Rattle.rl_tokens.specs.Lexing.{flat_form}
 
 abbrev pub opener_of : Delimiter → ℕ
 opener_of Parenthesis = code "("
@@ -118,12 +117,3 @@ RejectsForm groups form UnmatchedClose = ClosesWrong groups form
 RejectsForm groups form TooDeep = OpensTooDeep groups form
 RejectsForm groups form Memory = ⊤
 RejectsForm groups form _ = ⊥
-
--- why no lexeme begins the text
-abbrev pub error_kind : List ℕ → LexKind
-error_kind r =
-    if begins_doc_comment r then DocComment else
-    (if begins (codes "/*") r then UnclosedComment else
-    (if begins_quote r then UnclosedQuote else
-    (if begins_lifetime r then Lifetime else
-    (if begins_raw_identifier r then RawIdentifier else StrayCharacter))))

@@ -9,7 +9,7 @@ ghost use Rattle.std.specs.Ordering.{on};
 ghost use Rattle.std.specs.Bool.{beq};
 ghost use Rattle.std.proofs.Common.{rules};
 ghost use Rattle.rl_tokens.specs.Errors.{memory_at};
-ghost use Rattle.rl_tokens.specs.Reading.{truth_text};
+ghost use Rattle.rl_forms.specs.Reading.{truth_text};
 ghost use Rattle.rl_tokens.specs.Trees.{IdentTree, stream_view};
 
 use crate::lit_bool::{LitBool, word};

@@ -9,7 +9,7 @@ ghost use Rattle.std.specs.Ordering.{on};
 ghost use Rattle.std.proofs.Common.{rules};
 ghost use Rattle.rl_tokens.specs.Errors.{memory_at};
 ghost use Rattle.rl_tokens.specs.Trees.{LiteralTree, stream_view};
-ghost use Rattle.rl_tokens.specs.Words.{kind_name};
+ghost use Rattle.rl_forms.specs.Words.{kind_name};
 
 use crate::number::{Number, NumberKind};
 use rl_tokens::{Error, ToTokens, TokenStream, append_literal};

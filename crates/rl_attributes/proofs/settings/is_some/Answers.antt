@@ -1,4 +1,4 @@
-use Rattle.rl_tokens.proofs.Common.{Bool, IsUtf8, List, [], ap, arith, both_ways, chars, chars-nil, encodes-chars, eqb, eqb-true, false, length, not, sym, true, ℕ, ◌∙◌, ◌∷◌, ◌≡◌, ◌≢◌}
+use Rattle.rl_text.proofs.Common.{Bool, IsUtf8, List, [], ap, arith, both_ways, chars, chars-nil, encodes-chars, eqb, eqb-true, false, length, not, sym, true, ℕ, ◌∙◌, ◌∷◌, ◌≡◌, ◌≢◌}
 use Rattle.std.proofs.Common.{MatchBool}
 use Rattle.std.specs.Prelude.{encode_utf8_all}
 use Rattle.rl_attributes.proofs.settings.is_some.Goals as goal

@@ -1,5 +1,5 @@
-use Rattle.rl_tokens.proofs.Common.{chars, rules, subst, ◌≡◌}
-use Rattle.rl_grammar.specs.Shapes.{HasNoQuoted}
+use Rattle.rl_text.proofs.Common.{chars, rules, subst, ◌≡◌}
+use Rattle.rl_reading.specs.Shapes.{HasNoQuoted}
 use Rattle.rl_c.proofs.place.rl_place_of.Goals as goal
 
 pub returns-in-None-end_of-clause-none : goal.returns-in-None-end_of-clause-none

@@ -1,6 +1,6 @@
 use Rattle.std.proofs.Common.{refl}
-use Rattle.rl_tokens.specs.Texts.{IsTail}
-use Rattle.rl_tokens.proofs.Rests.{tail_drop}
+use Rattle.rl_text.specs.Texts.{IsTail}
+use Rattle.rl_text.proofs.Rests.{tail_drop}
 use Rattle.rl_c.proofs.SourceLemmas.{cut_on, found_token}
 use Rattle.rl_c.proofs.NextLemmas.{reported_some, reported_none}
 use Rattle.rl_c.proofs.source.rl_source_next.Goals as goal

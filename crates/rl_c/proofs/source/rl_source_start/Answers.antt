@@ -1,5 +1,5 @@
-use Rattle.rl_tokens.proofs.Common.{IsCharBoundary, length, subst, sym, ◌-◌}
-use Rattle.rl_tokens.proofs.TailLemmas.{cut_boundary}
+use Rattle.rl_text.proofs.Common.{IsCharBoundary, length, subst, sym, ◌-◌}
+use Rattle.rl_text.proofs.TailLemmas.{cut_boundary}
 use Rattle.rl_c.proofs.source.rl_source_start.Goals as goal
 
 pub returns-clause-place : goal.returns-clause-place

@@ -1,4 +1,4 @@
-use Rattle.rl_grammar.proofs.BodyContents.{bytes_of_has}
+use Rattle.rl_reading.proofs.BodyContents.{bytes_of_has}
 use Rattle.rl_grammar.proofs.contents.bytes_of_body.Goals as goal
 
 pub returns-clause-value : goal.returns-clause-value

@@ -1,5 +1,6 @@
-use Rattle.rl_grammar.proofs.Names.{refl, IfOk-weaker, Str}
-use Rattle.rl_grammar.proofs.FoundContents.{string_body}
+use Rattle.rl_text.proofs.Common.{refl}
+use Rattle.rl_reading.proofs.Names.{IfOk-weaker, Str}
+use Rattle.rl_reading.proofs.FoundContents.{string_body}
 use Rattle.rl_grammar.proofs.contents.str_of.Goals as goal
 
 pub found_in-found-requires : goal.found_in-found-requires

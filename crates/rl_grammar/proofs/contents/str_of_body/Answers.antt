@@ -1,7 +1,8 @@
-use Rattle.rl_grammar.proofs.Names.{◌≡◌, subst, rules, Str, Characters, HasContents}
+use Rattle.rl_text.proofs.Common.{◌≡◌, subst, rules}
+use Rattle.rl_reading.proofs.Names.{Str, Characters, HasContents}
 use Rattle.std.proofs.Common.{string_bytes}
 use Rattle.std.specs.Str.{chars}
-use Rattle.rl_grammar.proofs.BodyContents.{str_of_has}
+use Rattle.rl_reading.proofs.BodyContents.{str_of_has}
 use Rattle.rl_grammar.proofs.contents.str_of_body.Goals as goal
 
 pub from_utf8_unchecked-requires : goal.from_utf8_unchecked-requires

@@ -1,4 +1,5 @@
-use Rattle.rl_grammar.proofs.Names.{inl, sym, ◌∙◌, inr, Int}
+use Rattle.rl_text.proofs.Common.{inl, sym, ◌∙◌, inr}
+use Rattle.rl_reading.proofs.Names.{Int}
 use Rattle.rl_grammar.proofs.NumberFoundLemmas.{int_number, is_float, float_kind}
 use Rattle.rl_grammar.proofs.digits.found_number.Goals as goal
 

@@ -1,6 +1,6 @@
-use Rattle.rl_grammar.specs.Fronts.{HasNoFront}
-use Rattle.rl_grammar.proofs.Names.{subst, trees_in}
-use Rattle.rl_grammar.specs.Fronts.{IsFront}
+use Rattle.rl_grammar.specs.Fronts.{HasNoFront, IsFront}
+use Rattle.rl_text.proofs.Common.{subst}
+use Rattle.rl_tokens.specs.Buffers.{trees_in}
 use Rattle.rl_grammar.specs.FrontTokens.{front_token}
 use Rattle.rl_grammar.proofs.FrontLemmas.{front_of, none_of_kind, same_front}
 use Rattle.rl_grammar.proofs.front.next_is.Goals as goal

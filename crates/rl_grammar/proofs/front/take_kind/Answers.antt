@@ -1,10 +1,10 @@
 use Rattle.std.specs.Str.{chars}
-use Rattle.rl_grammar.proofs.Names.{ReadsAs, SpannedText, refl, subst, sym, common_steps, inl, inr, arith, trees_in}
-use Rattle.rl_grammar.specs.Fronts.{IsFrontOf}
-use Rattle.rl_grammar.specs.Founds.{IsFound}
-use Rattle.rl_grammar.proofs.FoundLemmas.{found_reads}
-use Rattle.rl_grammar.specs.Fronts.{HasNoFront}
-use Rattle.rl_grammar.specs.Fronts.{IsFront}
+use Rattle.rl_reading.proofs.Names.{ReadsAs, SpannedText}
+use Rattle.rl_text.proofs.Common.{refl, subst, sym, common_steps, inl, inr, arith}
+use Rattle.rl_tokens.specs.Buffers.{trees_in}
+use Rattle.rl_grammar.specs.Fronts.{IsFrontOf, HasNoFront, IsFront}
+use Rattle.rl_reading.specs.Founds.{IsFound}
+use Rattle.rl_reading.proofs.FoundLemmas.{found_reads}
 use Rattle.rl_grammar.specs.FrontTokens.{front_token}
 use Rattle.rl_grammar.proofs.FrontLemmas.{front_of, memory_moved, other_of}
 use Rattle.rl_grammar.proofs.front.take_kind.Goals as goal

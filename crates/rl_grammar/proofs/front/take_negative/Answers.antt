@@ -1,7 +1,6 @@
-use Rattle.rl_tokens.proofs.TailLemmas.{if_none}
-use Rattle.rl_grammar.proofs.FrontLemmas.{no_minus_at}
-use Rattle.rl_grammar.proofs.Names.{◌≡◌, sym, ◌∙◌, arith, common_steps}
-use Rattle.rl_grammar.proofs.FrontLemmas.{negative_front}
+use Rattle.rl_text.proofs.TailLemmas.{if_none}
+use Rattle.rl_grammar.proofs.FrontLemmas.{no_minus_at, negative_front}
+use Rattle.rl_text.proofs.Common.{◌≡◌, sym, ◌∙◌, arith, common_steps}
 use Rattle.rl_grammar.proofs.front.take_negative.Goals as goal
 
 pub returns-clause-taken : goal.returns-clause-taken

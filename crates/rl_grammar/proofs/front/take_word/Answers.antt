@@ -1,8 +1,7 @@
-use Rattle.rl_tokens.proofs.TailLemmas.{if_none}
-use Rattle.rl_grammar.proofs.FrontLemmas.{no_word_at}
-use Rattle.rl_grammar.proofs.Names.{common_steps, sym, ◌∙◌, ap, arith}
+use Rattle.rl_text.proofs.TailLemmas.{if_none}
+use Rattle.rl_grammar.proofs.FrontLemmas.{no_word_at, truth_reads}
+use Rattle.rl_text.proofs.Common.{common_steps, sym, ◌∙◌, ap, arith}
 use Rattle.std.specs.Str.{chars}
-use Rattle.rl_grammar.proofs.FrontLemmas.{truth_reads}
 use Rattle.rl_grammar.proofs.front.take_word.Goals as goal
 
 pub returns-clause-taken : goal.returns-clause-taken

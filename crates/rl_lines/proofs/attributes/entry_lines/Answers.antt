@@ -1,4 +1,4 @@
-use Rattle.rl_tokens.proofs.Common.{[], ap, arith, chars, chars-nil, common_steps, string_bytes, subst, sym, take, ◌++◌, ◌+◌, ◌∙◌, ◌∷◌, ◌≡◌}
+use Rattle.rl_text.proofs.Common.{[], ap, arith, chars, chars-nil, common_steps, string_bytes, subst, sym, take, ◌++◌, ◌+◌, ◌∙◌, ◌∷◌, ◌≡◌}
 use Rattle.rl_lines.specs.EntryLines.{IsLineOfEntry, AreLinesOfEntries}
 use Rattle.rl_lines.proofs.JoinLemmas.{joins_more}
 use Rattle.rl_lines.proofs.attributes.entry_lines.Goals as goal

@@ -1,4 +1,4 @@
-use Rattle.rl_tokens.proofs.Common.{chars, string_bytes, take}
+use Rattle.rl_text.proofs.Common.{chars, string_bytes, take}
 use Rattle.rl_lines.specs.EntryLines.{AreLinesOfEntries}
 use Rattle.rl_lines.proofs.attributes.entry_lines.Given as goal
 

@@ -1,5 +1,5 @@
 use Rattle.std.proofs.Common.{◌≡◌, refl, rules}
-use Rattle.rl_tokens.specs.declared.kind.Kind.TheVariants.{Byte, Char}
+use Rattle.rl_forms.specs.declared.kind.Kind.TheVariants.{Byte, Char}
 use Rattle.rl_lines.proofs.FoundLineLemmas.{unit_shown}
 use Rattle.rl_lines.proofs.found_line.push_read.Goals as goal
 

@@ -1,4 +1,4 @@
-use Rattle.rl_tokens.proofs.Common.{chars, on_ok_weaker}
+use Rattle.rl_text.proofs.Common.{chars, on_ok_weaker}
 use Rattle.rl_lines.proofs.FoundLineLemmas.{shows_line}
 use Rattle.rl_lines.proofs.found_line.push_shown.Goals as goal
 

@@ -1,6 +1,6 @@
-use Rattle.rl_tokens.proofs.Common.{ap, chars, on_ok_weaker}
-use Rattle.rl_tokens.specs.Quoted.{is_string}
-use Rattle.rl_grammar.proofs.BodyContents.{plain_contents}
+use Rattle.rl_text.proofs.Common.{ap, chars, on_ok_weaker}
+use Rattle.rl_forms.specs.Quoted.{is_string}
+use Rattle.rl_reading.proofs.BodyContents.{plain_contents}
 use Rattle.rl_lines.proofs.FoundLineLemmas.{string_line}
 use Rattle.rl_lines.proofs.found_line.push_string.Goals as goal
 

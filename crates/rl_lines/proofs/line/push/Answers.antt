@@ -1,4 +1,4 @@
-use Rattle.rl_tokens.proofs.Common.{IsUtf8-string_bytes, rules}
+use Rattle.rl_text.proofs.Common.{IsUtf8-string_bytes, rules}
 use Rattle.rl_lines.proofs.LineLemmas.{pushed}
 use Rattle.rl_lines.proofs.line.push.Goals as goal
 

@@ -1,4 +1,4 @@
-use Rattle.rl_tokens.proofs.Common.{chars, on_ok_weaker, sym, ◌∙◌}
+use Rattle.rl_text.proofs.Common.{chars, on_ok_weaker, sym, ◌∙◌}
 use Rattle.rl_lines.proofs.LineLemmas.{empty_end, end_joined}
 use Rattle.rl_lines.proofs.line.push_end.Goals as goal
 

@@ -1,4 +1,4 @@
-use Rattle.rl_tokens.proofs.Common.{ap, chars, ◌∙◌, ◌≡◌}
+use Rattle.rl_text.proofs.Common.{ap, chars, ◌∙◌, ◌≡◌}
 use Rattle.rl_lines.specs.Lines.{kind_label}
 use Rattle.rl_lines.proofs.PrintLemmas.{word_chars}
 use Rattle.rl_lines.proofs.line.push_kind.Goals as goal

@@ -1,4 +1,4 @@
-use Rattle.rl_tokens.proofs.Common.{chars, on_ok_weaker}
+use Rattle.rl_text.proofs.Common.{chars, on_ok_weaker}
 use Rattle.rl_lines.proofs.LineLemmas.{line_joined}
 use Rattle.rl_lines.proofs.line.push_line.Goals as goal
 

@@ -1,6 +1,6 @@
-use Rattle.rl_tokens.proofs.Common.{chars, on_ok_weaker}
-use Rattle.rl_tokens.specs.declared.kind.Kind.TheVariants.{Str}
-use Rattle.rl_tokens.specs.Written.{written_text}
+use Rattle.rl_text.proofs.Common.{chars, on_ok_weaker}
+use Rattle.rl_forms.specs.declared.kind.Kind.TheVariants.{Str}
+use Rattle.rl_forms.specs.Written.{written_text}
 use Rattle.rl_lines.proofs.LineLemmas.{line_joined}
 use Rattle.rl_lines.proofs.line.push_quoted.Goals as goal
 

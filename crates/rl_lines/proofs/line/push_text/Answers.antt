@@ -1,5 +1,5 @@
-use Rattle.rl_tokens.proofs.Common.{ap, chars, list_all, on_ok_weaker, sym, ◌∙◌, ◌≡◌}
-use Rattle.rl_tokens.specs.declared.kind.Kind.TheVariants.{Str}
+use Rattle.rl_text.proofs.Common.{ap, chars, list_all, on_ok_weaker, sym, ◌∙◌, ◌≡◌}
+use Rattle.rl_forms.specs.declared.kind.Kind.TheVariants.{Str}
 use Rattle.rl_lines.specs.Bare.{is_bare}
 use Rattle.rl_lines.specs.Lines.{kind_label}
 use Rattle.rl_lines.proofs.BareLemmas.{bare_line}

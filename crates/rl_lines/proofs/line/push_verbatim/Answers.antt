@@ -1,4 +1,4 @@
-use Rattle.rl_tokens.proofs.Common.{chars, on_ok_weaker}
+use Rattle.rl_text.proofs.Common.{chars, on_ok_weaker}
 use Rattle.rl_lines.specs.Lines.{verbatim_line}
 use Rattle.rl_lines.proofs.PrintLemmas.{verbatim_chars, no_chars, appends_is}
 use Rattle.rl_lines.proofs.line.push_verbatim.Goals as goal

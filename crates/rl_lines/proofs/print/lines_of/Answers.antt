@@ -1,4 +1,4 @@
-use Rattle.rl_tokens.proofs.Common.{[], ap, chars, chars-nil, string_bytes, ◌∙◌, ◌≡◌}
+use Rattle.rl_text.proofs.Common.{[], ap, chars, chars-nil, string_bytes, ◌∙◌, ◌≡◌}
 use Rattle.rl_lines.specs.Lines.{AreLinesOfLits}
 use Rattle.rl_lines.proofs.JoinLemmas.{appends_to_none}
 use Rattle.rl_lines.proofs.print.lines_of.Goals as goal

@@ -1,4 +1,4 @@
-use Rattle.rl_tokens.proofs.Common.{[], arith, chars, common_steps, string_bytes, subst, sym, take, ◌++◌, ◌+◌, ◌∷◌, ◌≡◌}
+use Rattle.rl_text.proofs.Common.{[], arith, chars, common_steps, string_bytes, subst, sym, take, ◌++◌, ◌+◌, ◌∷◌, ◌≡◌}
 use Rattle.rl_lines.specs.Lines.{IsLineOfLit, AreLinesOfLits, Appends}
 use Rattle.rl_lines.proofs.JoinLemmas.{appends_none, appends_more}
 use Rattle.rl_lines.proofs.print.push_literals.Goals as goal

@@ -1,4 +1,4 @@
-use Rattle.rl_tokens.proofs.Common.{chars, string_bytes, take}
+use Rattle.rl_text.proofs.Common.{chars, string_bytes, take}
 use Rattle.rl_lines.specs.Lines.{AreLinesOfLits, Appends}
 use Rattle.rl_lines.proofs.print.push_literals.Given as goal
 

@@ -1,5 +1,5 @@
 use Rattle.std.proofs.lemmas.Option.{MatchOption-at_some}
-use Rattle.rl_grammar.specs.Founds.{IsFound}
+use Rattle.rl_reading.specs.Founds.{IsFound}
 use Rattle.rl_lines.proofs.FoundLineLemmas.{kind_of_suffix}
 use Rattle.rl_lines.proofs.print.push_quoted_literal.Goals as goal
 

@@ -1,5 +1,5 @@
-use Rattle.rl_tokens.proofs.Common.{arith, chars}
-use Rattle.rl_tokens.proofs.ErrorKinds.{char_len}
+use Rattle.rl_text.proofs.Common.{arith, chars}
+use Rattle.rl_lexer.proofs.ErrorKinds.{char_len}
 use Rattle.rl_sources.proofs.place.place_of.Goals as goal
 
 pub returns-then-by_line-clause-place : goal.returns-then-by_line-clause-place

@@ -1,4 +1,4 @@
-use Rattle.rl_tokens.proofs.Common.{IsUtf8-string_bytes, chars, on_ok_weaker, string_bytes, sym, ◌∙◌}
+use Rattle.rl_text.proofs.Common.{IsUtf8-string_bytes, chars, on_ok_weaker, string_bytes, sym, ◌∙◌}
 use Rattle.std.proofs.lemmas.Bool.{false≢true}
 use Rattle.rl_sources.proofs.ReasonLemmas.{explains_why, explains_nothing}
 use Rattle.rl_sources.proofs.reason.push_reason.Goals as goal

@@ -1,5 +1,5 @@
-use Rattle.rl_tokens.proofs.Common.{List, ap, arith, chars, chars-nil, inl, inr, refl, string_bytes, subst, sym, ℕ, ◌∙◌}
-use Rattle.rl_tokens.specs.Cursors.{IsCursorState}
+use Rattle.rl_text.proofs.Common.{List, ap, arith, chars, chars-nil, inl, inr, refl, string_bytes, subst, sym, ℕ, ◌∙◌}
+use Rattle.rl_lexer.specs.Cursors.{IsCursorState}
 use Rattle.rl_sources.specs.Steps.{Adds}
 use Rattle.rl_sources.proofs.ScanLemmas.{adds_literal, adds_none, adds_unshown, begins_rest, rest_boundary, rest_is, stands_before, stands_on, stops}
 use Rattle.rl_sources.proofs.step.gather.Goals as goal

@@ -1,4 +1,4 @@
-use Rattle.rl_tokens.proofs.Common.{chars, on_ok_weaker, refl, string_bytes}
+use Rattle.rl_text.proofs.Common.{chars, on_ok_weaker, refl, string_bytes}
 use Rattle.std.proofs.lemmas.Bool.{false≢true}
 use Rattle.rl_sources.proofs.StepLemmas.{found_label, explained, not_picked}
 use Rattle.rl_sources.proofs.step.push_literal_token.Goals as goal

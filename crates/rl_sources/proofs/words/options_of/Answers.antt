@@ -1,5 +1,5 @@
-use Rattle.rl_tokens.proofs.Common.{false, map, string_bytes}
-use Rattle.rl_tokens.proofs.TailLemmas.{if_none}
+use Rattle.rl_text.proofs.Common.{false, map, string_bytes}
+use Rattle.rl_text.proofs.TailLemmas.{if_none}
 use Rattle.rl_sources.specs.Words.{wishes_of, first_wishes, Asks}
 use Rattle.rl_sources.proofs.OptionLemmas.{word_taken, word_refused}
 use Rattle.rl_sources.proofs.words.options_of.Goals as goal

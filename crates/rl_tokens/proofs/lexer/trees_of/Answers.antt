@@ -1,5 +1,5 @@
 -- Each turn goes one token further; at the end all is cut, or the first error stands here.
-use Rattle.rl_tokens.proofs.Common.{◌≡◌, [], ◌∙◌, IfErr-weaker}
+use Rattle.rl_text.proofs.Common.{◌≡◌, [], ◌∙◌, IfErr-weaker}
 use Rattle.std.proofs.lemmas.Result.{err_from_is_err_and}
 use Rattle.rl_tokens.specs.Mirrors.TreeBuilders.{groups_of, EndsInGroup}
 use Rattle.rl_tokens.proofs.LexLoop.{token_fits, has_none, has_more}

@@ -1,4 +1,4 @@
-use Rattle.rl_tokens.proofs.Common.{arith, common_steps}
+use Rattle.rl_text.proofs.Common.{arith, common_steps}
 use Rattle.rl_tokens.proofs.whole.trees_of_text.Goals as goal
 
 pub returns-in-Ok-clause-ok : goal.returns-in-Ok-clause-ok

@@ -1,9 +1,9 @@
-use Rattle.rl_tokens.proofs.Common.{◌≡◌, ◌++◌, ◌∙◌, sym, ap, take, length, string_bytes, rules, arith, inl, common_steps, chars, encode_utf8, IsUtf8-string_bytes}
+use Rattle.rl_text.proofs.Common.{◌≡◌, ◌++◌, ◌∙◌, sym, ap, take, length, string_bytes, rules, arith, inl, common_steps, chars, encode_utf8, IsUtf8-string_bytes}
 use Rattle.std.proofs.lemmas.Iterator.{YieldsList-from_chars}
 use Rattle.std.proofs.lemmas.Iterator.Consumers.{YieldsList-end}
 use Rattle.std.proofs.lemmas.List.{map-id}
-use Rattle.rl_tokens.specs.Written.{closer}
-use Rattle.rl_tokens.proofs.WritingLemmas.{begun_start, begun_more_after, begun_whole_after, begun_front}
+use Rattle.rl_forms.specs.Written.{closer}
+use Rattle.rl_forms.proofs.WritingLemmas.{begun_start, begun_more_after, begun_whole_after, begun_front}
 use Rattle.rl_tokens.proofs.writer.push_characters.Goals as goal
 
 pub loop-c-init : goal.loop-c-init

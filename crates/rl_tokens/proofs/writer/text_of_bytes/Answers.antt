@@ -1,9 +1,9 @@
-use Rattle.rl_tokens.proofs.Common.{◌≡◌, ◌++◌, ◌∙◌, sym, ap, subst, List, ℕ, string_bytes, take, get_or, rules, arith, encode_utf8, take_more, take_all, IsUtf8-string_bytes}
+use Rattle.rl_text.proofs.Common.{◌≡◌, ◌++◌, ◌∙◌, sym, ap, subst, List, ℕ, string_bytes, take, get_or, rules, arith, encode_utf8, take_more, take_all, IsUtf8-string_bytes}
 use Rattle.std.specs.Prelude.{encode_utf8_all}
-use Rattle.rl_tokens.specs.Quoted.{unit_text}
-use Rattle.rl_tokens.specs.Written.{closer, written_unit}
-use Rattle.rl_tokens.proofs.WrittenForms.{written_form, all_bytes, bytes_value}
-use Rattle.rl_tokens.proofs.WritingLemmas.{begun, begun_start, begun_more, begun_whole}
+use Rattle.rl_forms.specs.Quoted.{unit_text}
+use Rattle.rl_forms.specs.Written.{closer, written_unit}
+use Rattle.rl_forms.proofs.WrittenForms.{written_form, all_bytes, bytes_value}
+use Rattle.rl_forms.proofs.WritingLemmas.{begun, begun_start, begun_more, begun_whole}
 use Rattle.rl_tokens.proofs.writer.text_of_bytes.Goals as goal
 
 pub loop-byte-init : goal.loop-byte-init

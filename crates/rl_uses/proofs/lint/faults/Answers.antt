@@ -1,4 +1,4 @@
-use Rattle.rl_tokens.proofs.Common.{[], arith, common_steps, take, ◌++◌, ◌+◌, ◌∷◌, ◌≡◌}
+use Rattle.rl_text.proofs.Common.{[], arith, common_steps, take, ◌++◌, ◌+◌, ◌∷◌, ◌≡◌}
 use Rattle.rust_literals.specs.LitParts.{lit_span}
 use Rattle.rl_uses.proofs.LintLemmas.{faults_same, faults_more}
 use Rattle.rl_uses.proofs.ShortageLemmas.{short_at}

@@ -1,5 +1,5 @@
-use Rattle.rl_tokens.proofs.Common.{[], arith, chars, common_steps, rules, take, ◌++◌, ◌+◌, ◌∷◌, ◌≡◌}
-use Rattle.rl_tokens.specs.Reading.{HasReading}
+use Rattle.rl_text.proofs.Common.{[], arith, chars, common_steps, rules, take, ◌++◌, ◌+◌, ◌∷◌, ◌≡◌}
+use Rattle.rl_forms.specs.Reading.{HasReading}
 use Rattle.rust_literals.specs.Literals.{token_of}
 use Rattle.rl_uses.specs.Reasons.{IsReasonOf}
 use Rattle.rl_uses.proofs.ReasonLemmas.{reasons_same, reasons_more}

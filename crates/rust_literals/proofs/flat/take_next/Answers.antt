@@ -1,11 +1,11 @@
 use Rattle.std.proofs.Common.{ap, rules, ◌≡◌, ◌∷◌, ◌∙◌, subst, inl, inr}
-use Rattle.rl_tokens.specs.declared.span.Span.{Span}
-use Rattle.rl_tokens.specs.Cursors.{form_view}
-use Rattle.rl_tokens.specs.Lexemes.{MarkForm}
+use Rattle.rl_text.specs.declared.span.Span.{Span}
+use Rattle.rl_lexer.specs.Cursors.{form_view}
+use Rattle.rl_lexer.specs.Lexemes.{MarkForm}
 use Rattle.rust_literals.specs.declared.lit.Lit.TheVariants.{Bool as BoolLit}
 use Rattle.rust_literals.specs.Literals.{IsReadFrom}
 use Rattle.rust_literals.proofs.FlatLemmas.{literal_next, truth_next, joined_at, read_negative, none_number, none_word, no_some, the_some, when_some}
-use Rattle.rl_grammar.proofs.NextLiteralLemmas.{no_number, other_form}
+use Rattle.rl_reading.proofs.NextLiteralLemmas.{no_number, other_form}
 use Rattle.rust_literals.proofs.flat.take_next.Goals as goal
 
 pub returns-in_default-form-2 : goal.returns-in_default-form-2

@@ -1,4 +1,4 @@
-use Rattle.rl_tokens.proofs.Common.{List, ap, chars, subst, sym, ◌++◌, ◌∙◌, ◌≡◌}
+use Rattle.rl_text.proofs.Common.{List, ap, chars, subst, sym, ◌++◌, ◌∙◌, ◌≡◌}
 use Rattle.std.proofs.lemmas.List.{append-nil}
 use Rattle.rust_literals.specs.declared.lit.Lit.{Lit}
 use Rattle.rust_literals.specs.Flat.{AreFirst}

@@ -1,4 +1,4 @@
-use Rattle.rl_tokens.proofs.Common.{[], ap, arith, common_steps, drop, length, subst, sym, take, take_all, ◌++◌, ◌+◌, ◌∷◌, ◌≡◌}
+use Rattle.rl_text.proofs.Common.{[], ap, arith, common_steps, drop, length, subst, sym, take, take_all, ◌++◌, ◌+◌, ◌∷◌, ◌≡◌}
 use Rattle.std.proofs.Common.{All}
 use Rattle.std.proofs.lemmas.List.Elements.{All-push}
 use Rattle.std.proofs.lemmas.Result.{err_from_is_err_and}

@@ -1,4 +1,4 @@
-use Rattle.rl_tokens.proofs.Common.{IfErr-weaker, chars, length}
+use Rattle.rl_text.proofs.Common.{IfErr-weaker, chars, length}
 use Rattle.std.proofs.lemmas.Result.{IfOk-weaker}
 use Rattle.rl_attributes.proofs.EntryLemmas.{text_refused, exactly}
 use Rattle.rl_attributes.proofs.attributes.take.read.Goals as goal

@@ -1,9 +1,8 @@
-use Rattle.rl_grammar.proofs.FoundLemmas.{kinds_same, kinds_differ}
-use Rattle.rl_grammar.proofs.Names.{common_steps, arith}
+use Rattle.rl_reading.proofs.FoundLemmas.{kinds_same, kinds_differ, found_reads}
+use Rattle.rl_text.proofs.Common.{common_steps, arith}
 use Rattle.std.specs.Str.{chars}
 use Rattle.rl_grammar.specs.FrontTokens.{front_token}
 use Rattle.rl_grammar.proofs.FrontLemmas.{one_kind}
-use Rattle.rl_grammar.proofs.FoundLemmas.{found_reads}
 use Rattle.rl_grammar.proofs.front.Front.find_as.Goals as goal
 
 pub returns-else-eq-clause-none : goal.returns-else-eq-clause-none

@@ -1,4 +1,4 @@
-use Rattle.rl_grammar.proofs.Names.{rules}
+use Rattle.rl_text.proofs.Common.{rules}
 use Rattle.rl_grammar.proofs.front.Front.span.Goals as goal
 
 pub returns-in-Negative : goal.returns-in-Negative

@@ -1,5 +1,5 @@
-use Rattle.rl_grammar.proofs.Names.{common_steps, trees_in, subst, sym, ◌∙◌, arith}
-use Rattle.rl_tokens.specs.Buffers.{IsRest}
+use Rattle.rl_text.proofs.Common.{common_steps, subst, sym, ◌∙◌, arith}
+use Rattle.rl_tokens.specs.Buffers.{trees_in, IsRest}
 use Rattle.rl_grammar.proofs.FrontLemmas.{front_rest}
 use Rattle.rl_tokens.proofs.TreeRests.{rest_one}
 use Rattle.rl_grammar.proofs.front.Front.take.Goals as goal

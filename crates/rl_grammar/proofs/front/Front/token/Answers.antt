@@ -1,4 +1,4 @@
-use Rattle.rl_grammar.proofs.Names.{rules}
+use Rattle.rl_text.proofs.Common.{rules}
 use Rattle.rl_grammar.proofs.front.Front.token.Goals as goal
 
 pub returns-in-Negative-clause-ok : goal.returns-in-Negative-clause-ok

@@ -1,6 +1,7 @@
-use Rattle.rl_grammar.proofs.Names.{rules}
+use Rattle.rl_text.proofs.Common.{rules}
 use Rattle.std.specs.Str.{chars}
-use Rattle.rl_grammar.proofs.FrontLemmas.{minus_chars, no_negative_truth}
+use Rattle.rl_reading.proofs.MinusLemmas.{minus_chars}
+use Rattle.rl_grammar.proofs.FrontLemmas.{no_negative_truth}
 use Rattle.rl_grammar.proofs.front.Front.truth.Goals as goal
 
 pub returns-in-Negative-clause-none : goal.returns-in-Negative-clause-none

@@ -1,4 +1,4 @@
-use Rattle.rl_tokens.proofs.Common.{Err, Ok, [], ap, false, map, refl, true, ◌∙◌, ◌≡◌}
+use Rattle.rl_text.proofs.Common.{Err, Ok, [], ap, false, map, refl, true, ◌∙◌, ◌≡◌}
 use Rattle.std.proofs.lemmas.Result.{err_from_is_err_and}
 use Rattle.rl_tokens.specs.Trees.{stream_view, tree_view}
 use Rattle.rl_tokens.specs.Buffers.{trees_in, scope_of}

@@ -1,6 +1,6 @@
-use Rattle.rl_tokens.proofs.Common.{ap, chars, rules, subst, sym, ◌∙◌, ◌≡◌}
-use Rattle.rl_grammar.specs.Bodies.{HasSingleBody}
-use Rattle.rl_grammar.specs.Founds.{body_in}
+use Rattle.rl_text.proofs.Common.{ap, chars, rules, subst, sym, ◌∙◌, ◌≡◌}
+use Rattle.rl_reading.specs.Bodies.{HasSingleBody}
+use Rattle.rl_reading.specs.Founds.{body_in}
 use Rattle.rl_quoted.proofs.PlaceLemmas.{single_body}
 use Rattle.rl_quoted.proofs.quoted.Quoted.single_body.Goals as goal
 

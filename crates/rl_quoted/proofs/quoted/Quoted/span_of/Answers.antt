@@ -1,5 +1,5 @@
 use Rattle.std.proofs.Common.{◌<◌, ap, arith, rules}
-use Rattle.rl_tokens.specs.declared.span.Span.{Span}
+use Rattle.rl_text.specs.declared.span.Span.{Span}
 use Rattle.rl_quoted.proofs.PlacedLemmas.{range_fits}
 use Rattle.rl_quoted.proofs.quoted.Quoted.span_of.Goals as goal
 

@@ -1,4 +1,4 @@
-use Rattle.rl_tokens.proofs.Common.{arith, length, nat_tests, ◌≤◌}
+use Rattle.rl_text.proofs.Common.{arith, length, nat_tests, ◌≤◌}
 use Rattle.rl_sources.proofs.ReasonLemmas.{places_on}
 use Rattle.rl_sources.proofs.place.Places.at.Goals as goal
 

@@ -1,0 +1,13 @@
+pub mod Dec
+pub mod StrictQuoted
+pub mod StrictNumbers
+pub mod Agreeing
+pub mod WrittenLaws
+pub mod OneQuoted
+pub mod OneNumber
+pub mod OneReading
+pub mod WritingLemmas
+pub mod WrittenForms
+pub mod StrictReturns
+pub mod TruthLemmas
+pub mod CStringContents

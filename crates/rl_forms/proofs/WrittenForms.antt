@@ -1,0 +1,37 @@
+-- What is written is the written form of the value.
+use Rattle.rl_text.proofs.Common.{◌≡◌, ℕ, suc, ◌<◌, ◌&&◌, true, not, eqb, List, [], ◌∷◌, length, refl, sym, subst, get_or, arith, nat_lt, list_all, and_from, and_parts, lt-ltb}
+use Rattle.rl_forms.specs.declared.kind.Kind.{Kind}
+use Rattle.rl_forms.specs.declared.kind.Kind.TheVariants.{Str, ByteStr, CStr, Byte, Char, Int, Float, Bool as BoolKind}
+use Rattle.rl_forms.specs.Reading.{Reads, quoted_contents}
+use Rattle.rl_forms.specs.Strict.{Strict, strict_quoted_contents}
+use Rattle.rl_forms.specs.Written.{written_text, IsWrittenForm}
+use Rattle.rl_forms.specs.Agreeing.{has_no_zero, IsQuotedValue, AreBytesOf}
+use Rattle.rl_forms.proofs.WrittenLaws.{written_reads, written_strict}
+
+-- a value's written text has that form
+pub written_form : (k : Kind) (v t : List ℕ) → IsQuotedValue k v → t ≡ written_text k v → IsWrittenForm k v t
+written_form k v t h e = record {
+  text_is = e;
+  reads = subst (λ z. Reads z k (quoted_contents k v) []) (sym e) (written_reads k v h);
+  strict = subst (λ z. Strict z k (strict_quoted_contents k v) []) (sym e) (written_strict k v h);
+}
+
+-- bytes fit eight bits
+pub all_bytes : (v : List ℕ) → ((i : ℕ) → i < length v → get_or v i 0 < 256) → list_all (λ c. nat_lt c 256) v ≡ true
+all_bytes [] h = refl
+all_bytes (c ∷ v) h = and_from _ _ (lt-ltb c 256 (h 0 (omega arith))) (all_bytes v (λ i l. h (suc i) (omega arith)))
+
+both_tests : (v : List ℕ) → list_all (λ c. nat_lt c 256) v ≡ true → has_no_zero v ≡ true
+    → list_all (λ c. nat_lt c 256 && not (eqb c 0)) v ≡ true
+both_tests [] h n = refl
+both_tests (c ∷ v) h n =
+    let p = and_parts _ _ h in
+    let q = and_parts _ _ n in
+    and_from _ _ (and_from _ _ p.0 q.0) (both_tests v p.1 q.1)
+
+-- what the kind asks, and that they are bytes, is what a value is
+pub bytes_value : (k : Kind) (v : List ℕ) → AreBytesOf k v → list_all (λ c. nat_lt c 256) v ≡ true → IsQuotedValue k v
+bytes_value ByteStr v h b = b
+bytes_value Byte v h b = (h, b)
+bytes_value CStr v h b = both_tests v b h
+bytes_value kind v h b = absurd h

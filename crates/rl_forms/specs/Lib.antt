@@ -1,0 +1,9 @@
+pub mod Quoted
+pub mod Numbers
+pub mod Reading
+pub mod Words
+pub mod Written
+pub mod Strict
+pub mod Agreeing
+pub mod Trivia
+pub mod Printed

@@ -1,0 +1,158 @@
+-- Integers and floats of the lenient reading: those of `syn` 3.0.9, src/lit.rs, each named at its
+-- form. Which suffixes a number may have, and the limit of an integer, are this project's own
+-- choice.
+use Rattle.std.specs.Prelude.{◌≡◌, ◌⊎◌, ℕ, ◌^◌, ◌-◌, Bool, true, false, not, ◌||◌, ◌==◌, nat_lt, List, [], codes, ◌∷◌, ◌++◌, filter, map, IsTrue, IsFalse, ⊤, if◌then◌else◌}
+use Rattle.std.specs.Char.{digit_value, is_ascii_digit}
+use Rattle.std.specs.List.{list_all, list_any}
+use Prim.Native.Char.{code}
+use Rattle.rl_text.specs.Texts.{first_passes, begins, is_underscore, xid_ok, is_row_part}
+use Rattle.rl_forms.specs.Quoted.{place_value, without_underscores}
+
+pub data Base : Type 0 where
+  Binary : Base
+  Octal : Base
+  Decimal : Base
+  Hexadecimal : Base
+
+abbrev pub radix : Base → ℕ
+radix Binary = 2
+radix Octal = 8
+radix Decimal = 10
+radix Hexadecimal = 16
+
+abbrev pub prefix : Base → List ℕ
+prefix Binary = codes "0b"
+prefix Octal = codes "0o"
+prefix Decimal = []
+prefix Hexadecimal = codes "0x"
+
+abbrev pub is_digit : Base → ℕ → Bool
+is_digit base c = nat_lt (digit_value c) (radix base)
+
+pub data Sign : Type 0 where
+  NoSign : Sign
+  Minus : Sign
+
+abbrev pub sign_text : Sign → List ℕ
+sign_text NoSign = []
+sign_text Minus = codes "-"
+
+-- the text begins as the bases with a prefix do
+abbrev pub begins_base : List ℕ → Bool
+begins_base t = begins (prefix Binary) t || begins (prefix Octal) t || begins (prefix Hexadecimal) t
+
+-- Base 10 has no prefix: there a digit comes first, and no prefix of another base.
+abbrev pub IsAfterPrefix : Base → List ℕ → Type 0
+IsAfterPrefix Decimal t = IsTrue (first_passes is_ascii_digit t) × IsFalse (begins_base t)
+IsAfterPrefix _ t = ⊤
+
+-- nothing, or an identifier that doesn't begin with `_`
+abbrev pub IsSuffix : List ℕ → Type 0
+IsSuffix x = ((x ≡ []) ⊎ IsTrue (xid_ok x)) × IsFalse (first_passes is_underscore x)
+
+abbrev pub is_exponent_letter : ℕ → Bool
+is_exponent_letter c = c == code "e" || c == code "E"
+
+-- What makes a suffix of a decimal integer an exponent: `e`, a whole run of digits and underscores
+-- with a digit among them, and then nothing or an identifier.
+pub record IsExponentSuffix (x : List ℕ) : Type 0 where
+  pub letter : ℕ
+  pub run : List ℕ
+  pub rest : List ℕ
+  pub is_letter : IsTrue (is_exponent_letter letter)
+  pub each : IsTrue (list_all (is_row_part (is_digit Decimal)) run)
+  pub some : IsTrue (list_any is_ascii_digit run)
+  pub whole : IsFalse (first_passes (is_row_part (is_digit Decimal)) rest)
+  pub is_rest : (rest ≡ []) ⊎ IsTrue (xid_ok rest)
+  pub text_is : x ≡ letter ∷ (run ++ rest)
+
+-- what more a base asks of the suffix
+abbrev pub AllowsSuffix : Base → List ℕ → Type 0
+AllowsSuffix Decimal x = IsExponentSuffix x → ⊥
+AllowsSuffix Hexadecimal x = IsFalse (first_passes (is_digit Hexadecimal) x)
+AllowsSuffix _ x = ⊤
+
+-- An integer with this sign, magnitude and suffix: `parse_lit_int`.
+pub record IntReads (text : List ℕ) (sign : Sign) (magnitude : ℕ) (suffix : List ℕ) : Type 0 where
+  pub base : Base
+  pub digits : List ℕ
+  pub front : IsAfterPrefix base (digits ++ suffix)
+  pub each : IsTrue (list_all (is_row_part (is_digit base)) digits)
+  pub some : IsTrue (list_any (is_digit base) digits)
+  pub is_suffix : IsSuffix suffix
+  pub is_suffix_of : AllowsSuffix base suffix
+  pub text_is : text ≡ sign_text sign ++ (prefix base ++ (digits ++ suffix))
+  pub magnitude_is : magnitude ≡ place_value (radix base) (without_underscores digits)
+
+-- the greatest integer that has a reading: its magnitude fits 128 bits
+abbrev pub limit : ℕ
+limit = 2 ^ 128 - 1
+
+-- after the whole part: nothing, or a dot and digits and underscores, perhaps none
+pub data Fraction : Type 0 where
+  NoFraction : Fraction
+  Dot : (row : List ℕ) → Fraction
+
+abbrev pub fraction_text : Fraction → List ℕ
+fraction_text NoFraction = []
+fraction_text (Dot row) = code "." ∷ row
+
+abbrev pub IsFraction : Fraction → Type 0
+IsFraction NoFraction = ⊤
+IsFraction (Dot row) = IsTrue (list_all (is_row_part (is_digit Decimal)) row)
+
+-- `e`, underscores, at most one sign, and digits and underscores with a digit among them; or
+-- nothing
+pub data Exponent : Type 0 where
+  NoExponent : Exponent
+  Power : (letter : ℕ) (underscores sign row : List ℕ) → Exponent
+
+abbrev pub exponent_text : Exponent → List ℕ
+exponent_text NoExponent = []
+exponent_text (Power letter underscores sign row) = letter ∷ (underscores ++ (sign ++ row))
+
+abbrev pub is_power_sign : List ℕ → Bool
+is_power_sign [] = true
+is_power_sign (c ∷ []) = c == code "+" || c == code "-"
+is_power_sign _ = false
+
+-- `e` or `E`, underscores, a digit, and whatever follows: what the suffix of a number without
+-- exponent isn't
+pub record BeginsExponent (x : List ℕ) : Type 0 where
+  pub letter : ℕ
+  pub underscores : List ℕ
+  pub digit : ℕ
+  pub rest : List ℕ
+  pub is_letter : IsTrue (is_exponent_letter letter)
+  pub all_underscores : IsTrue (list_all is_underscore underscores)
+  pub is_digit : IsTrue (is_ascii_digit digit)
+  pub text_is : x ≡ letter ∷ (underscores ++ (digit ∷ rest))
+
+-- the exponent is well made, or there is none and the suffix doesn't begin like one
+abbrev pub IsExponent : Exponent → List ℕ → Type 0
+IsExponent NoExponent suffix = BeginsExponent suffix → ⊥
+IsExponent (Power letter underscores sign row) suffix =
+    IsTrue (is_exponent_letter letter) × IsTrue (list_all is_underscore underscores)
+    × IsTrue (is_power_sign sign)
+    × IsTrue (list_all (is_row_part (is_digit Decimal)) row) × IsTrue (list_any is_ascii_digit row)
+
+-- A float with this numeral and suffix: `parse_lit_float`.
+pub record FloatReads (text numeral suffix : List ℕ) : Type 0 where
+  pub sign : Sign
+  pub whole : List ℕ
+  pub fraction : Fraction
+  pub exponent : Exponent
+  pub first : IsTrue (first_passes is_ascii_digit whole)
+  pub each : IsTrue (list_all (is_row_part (is_digit Decimal)) whole)
+  pub is_fraction : IsFraction fraction
+  pub is_exponent : IsExponent exponent suffix
+  pub is_suffix : IsSuffix suffix
+  pub numeral_is :
+      numeral ≡ sign_text sign ++ (whole ++ (fraction_text fraction ++ exponent_text exponent))
+  pub text_is : text ≡ numeral ++ suffix
+
+-- a float's digits: the numeral without `_` and `+`, with `E` as `e`
+abbrev pub float_digits : List ℕ → List ℕ
+float_digits numeral =
+    map (λ c. if c == code "E" then code "e" else c)
+    (filter (λ c. not (c == code "_" || c == code "+")) numeral)

@@ -1,0 +1,75 @@
+-- White space and plain comments, and the rest of a text after them: `skip` of `syn` 3.0.9,
+-- src/whitespace.rs, and of the Rust Reference the chapters Comments and Whitespace. A text is a
+-- list of characters, each its code.
+use Rattle.std.specs.Prelude.{◌≡◌, ℕ, Bool, not, ◌&&◌, ◌||◌, ◌==◌, List, [], ◌∷◌, ◌++◌, IsTrue, ⊤, slice_index}
+use Rattle.std.specs.List.{AllByRecursion, list_all}
+use Prim.Native.Char.{code}
+use Rattle.rl_text.specs.Texts.{is_white}
+
+-- What stands after the `/*` of a block comment, its `*/` with it. Each block inside it is one in
+-- turn.
+pub data Inside : Type 0 where
+  End : Inside
+  Other : (c : ℕ) (rest : Inside) → Inside
+  Nested : (inner rest : Inside) → Inside
+
+abbrev pub inside_text : Inside → List ℕ
+inside_text End = code "*" ∷ code "/" ∷ []
+inside_text (Other c rest) = c ∷ inside_text rest
+inside_text (Nested inner rest) = code "/" ∷ code "*" ∷ inside_text inner ++ inside_text rest
+
+-- Neither `/*` nor `*/` begins the text.
+pub record BeginsNoMark (t : List ℕ) : Type 0 where
+  pub no_opener : (rest : List ℕ) → t ≡ code "/" ∷ code "*" ∷ rest → ⊥
+  pub no_closer : (rest : List ℕ) → t ≡ code "*" ∷ code "/" ∷ rest → ⊥
+
+-- At no character that is on its own does a mark begin.
+abbrev pub IsInside : Inside → Type 0
+IsInside End = ⊤
+IsInside (Other c rest) = BeginsNoMark (c ∷ inside_text rest) × IsInside rest
+IsInside (Nested inner rest) = IsInside inner × IsInside rest
+
+-- By what follows its `//`, a line comment is plain: not `///`, unless it is `////`, and not `//!`.
+abbrev pub is_comment_line : List ℕ → Bool
+is_comment_line body =
+    not (slice_index body 0 == code "!"
+    || (slice_index body 0 == code "/" && not (slice_index body 1 == code "/")))
+
+-- By what follows its `/*`, a block is plain: `/**/`, or not `/**`, unless it is `/***`, and not
+-- `/*!`.
+abbrev pub is_comment_block : List ℕ → Bool
+is_comment_block inside =
+    not (slice_index inside 0 == code "!"
+    || (slice_index inside 0 == code "*"
+    && not (slice_index inside 1 == code "/" || slice_index inside 1 == code "*")))
+
+-- A white character, a plain line comment with its LF, or a plain block.
+pub data TriviaPiece : Type 0 where
+  White : (c : ℕ) → TriviaPiece
+  Line : (body : List ℕ) → TriviaPiece
+  Block : (inside : Inside) → TriviaPiece
+
+abbrev pub trivia_piece_text : TriviaPiece → List ℕ
+trivia_piece_text (White c) = c ∷ []
+trivia_piece_text (Line body) = code "/" ∷ code "/" ∷ body ++ code "\n" ∷ []
+trivia_piece_text (Block inside) = code "/" ∷ code "*" ∷ inside_text inside
+
+-- What may stand after the `//` of a plain line comment, up to its LF.
+pub record IsLineBody (body : List ℕ) : Type 0 where
+  pub plain : IsTrue (is_comment_line body)
+  pub one_line : IsTrue (list_all (λ c. not (c == code "\n")) body)
+
+abbrev pub IsTriviaPiece : TriviaPiece → Type 0
+IsTriviaPiece (White c) = IsTrue (is_white c)
+IsTriviaPiece (Line body) = IsLineBody body
+IsTriviaPiece (Block inside) = IsInside inside × IsTrue (is_comment_block (inside_text inside))
+
+abbrev pub trivia_text : List TriviaPiece → List ℕ
+trivia_text [] = []
+trivia_text (p ∷ ps) = trivia_piece_text p ++ trivia_text ps
+
+-- The text is a joining of pieces.
+pub record IsTrivia (s : List ℕ) : Type 0 where
+  pub pieces : List TriviaPiece
+  pub each : AllByRecursion IsTriviaPiece pieces
+  pub text : s ≡ trivia_text pieces

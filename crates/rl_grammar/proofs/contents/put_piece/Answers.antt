@@ -1,5 +1,0 @@
-use Rattle.rl_grammar.proofs.Names.{rules}
-use Rattle.rl_grammar.proofs.contents.put_piece.Goals as goal
-
-pub returns-in-Byte-clause-bytes : goal.returns-in-Byte-clause-bytes
-returns-in-Byte-clause-bytes c = search rules steps 300000

@@ -1,5 +1,0 @@
-use Rattle.rl_grammar.proofs.OneFlawLemmas.{one_flaw}
-use Rattle.rl_grammar.proofs.laws.a_text_has_one_flaw.Goals as goal
-
-pub returns : goal.returns
-returns c = one_flaw

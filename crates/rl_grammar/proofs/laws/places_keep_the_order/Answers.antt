@@ -1,5 +1,0 @@
-use Rattle.rl_grammar.proofs.SegmentLawLemmas.{keep_order}
-use Rattle.rl_grammar.proofs.laws.places_keep_the_order.Goals as goal
-
-pub returns : goal.returns
-returns c = keep_order

@@ -1,5 +1,0 @@
-use Rattle.rl_grammar.proofs.SegmentLawLemmas.{stands_in}
-use Rattle.rl_grammar.proofs.laws.places_stand_in_the_body.Goals as goal
-
-pub returns : goal.returns
-returns c = stands_in

@@ -1,6 +1,0 @@
-use Rattle.rl_grammar.proofs.Names.{◌∙◌}
-use Rattle.rl_grammar.proofs.CodeDigitLemmas.{first_flaw_is}
-use Rattle.rl_grammar.proofs.quoted_flaws.first_digit_flaw.Goals as goal
-
-pub returns-in-Some : goal.returns-in-Some
-returns-in-Some c = c.digits_flaw.ensures ∙ first_flaw_is _ _ _ c.in-Some.ensures.value

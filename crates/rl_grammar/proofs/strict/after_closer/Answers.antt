@@ -1,8 +1,0 @@
-use Rattle.std.specs.Str.{chars}
-use Rattle.rl_grammar.proofs.OptionLemmas.{none_then}
-use Rattle.rl_grammar.proofs.StrictRawLemmas.{quote_without_hashes}
-use Rattle.rl_grammar.proofs.strict.after_closer.Goals as goal
-
-pub returns-then-c-eq34-clause-none : goal.returns-then-c-eq34-clause-none
-returns-then-c-eq34-clause-none c = none_then c.after_prefix.result
-    (quote_without_hashes (chars c.args.hashes.now) c.args.c (chars c.args.after.now)) c.after_prefix.ensures.none

@@ -1,0 +1,219 @@
+-- A source is cut in one way, and what the lexer cuts of a text is cut of it as a source too.
+use Rattle.rl_text.proofs.Common.{◌≡◌, ℕ, inl, inr, true, false, not, ◌&&◌, ◌==◌, cond, List, [], ◌∷◌, ◌++◌, map, Option, Some, None, slice_index, drop, refl, sym, ◌∙◌, ap, subst, arith, lit<, and_parts, append_cancel_right, none-some, list_all, option_map, is_xid_continue-ascii}
+use Rattle.rl_text.specs.Texts.{first_passes, is_white, byte_len, is_start, is_continue}
+use Rattle.rl_forms.specs.Trivia.{inside_text}
+use Rattle.rl_lexer.specs.Lexemes.{Lexeme, lexeme_text, IsLexeme, IsRow, LexemeForm, form_of}
+use Rattle.rl_lexer.specs.Cuts.{LexedToken, end_of, LexesUpTo}
+use Rattle.rl_lexer.specs.Mirrors.LexemeAt.{after_apostrophe, after_suffix, after_single, literal_at, raw_at, word_at, LetterRHead, ApostropheHead, SlashHead, lexeme_at}
+use Rattle.rl_text.specs.Classes.{after_run, is_hash}
+use Rattle.rl_lexer.specs.Mirrors.SourceAt.{other_at}
+use Rattle.rl_lexer.specs.Sources.{is_in_line, is_apostrophe, SourceLexeme, PlainToken, RawIdentifierToken, LifetimeToken, RawLifetimeToken, DocLineToken, DocBlockToken, StrayToken, source_text, IsProper, IsSource, SourceKind, PlainKind, source_kind, BeginsNoSource, without_mark, IsScriptLine, IsWithoutLine, CutSource, source_end, SourcesUpTo, told, OneCutting, plain_cut, HoldsLexemes}
+use Rattle.rl_lexer.proofs.Comments.{same_Some}
+use Rattle.rl_lexer.proofs.LexemeFronts.{at_class, class39, class47, class114, lexeme_at-past, same_pair, start_ascii}
+use Rattle.rl_lexer.proofs.LexemeRows.{not_among, run_past}
+use Rattle.rl_lexer.proofs.Pieces.{one_rest}
+use Rattle.rl_lexer.proofs.SourceFronts.{IsOther, other_at-past}
+
+-- ---- no lexeme begins where another token does
+
+continue_39 : is_continue 39 ≡ false
+continue_39 = ap (λ b. b && not (is_white 39)) (is_xid_continue-ascii 39 (lit< tt))
+
+raw_no_lexeme : (c : ℕ) (u : List ℕ) → is_start c ≡ true → lexeme_at (114 ∷ 35 ∷ c ∷ u) ≡ None
+raw_no_lexeme c u is =
+    let hash : (c == 35) ≡ false = not_among c 35 is_start is (start_ascii 35 (lit< tt)) in
+    let quote : (c == 34) ≡ false = not_among c 34 is_start is (start_ascii 34 (lit< tt)) in
+    let raw : Option (LexemeForm × List ℕ) = literal_at (raw_at (35 ∷ c ∷ u)) in
+    let word : Option (LexemeForm × List ℕ) = word_at (35 ∷ c ∷ u) in
+    at_class 114 (35 ∷ c ∷ u) LetterRHead class114
+    ∙ ap (λ b. cond (slice_index (cond b (after_run is_hash u) (c ∷ u)) 0 == 34) raw (cond (is_start c) None word)) hash
+    ∙ ap (λ b. cond b raw (cond (is_start c) None word)) quote
+    ∙ ap (λ b. cond b None word) is
+
+no_single : (c : ℕ) (s : List ℕ) → (c == 92) ≡ false → first_passes is_apostrophe s ≡ false → after_single (c ∷ s)
+    ≡ None
+no_single c [] plain free = refl
+no_single c (e ∷ u) plain free = ap (λ b. cond b (after_apostrophe u) (cond (e == 39) (Some u) None)) plain
+    ∙ ap (λ b. cond b (Some u) None) free
+
+row_free : (more t : List ℕ) → IsRow is_continue more t → first_passes is_apostrophe t ≡ false
+    → first_passes is_apostrophe (more ++ t) ≡ false
+row_free [] t row free = free
+row_free (d ∷ more) t row free = not_among d 39 is_continue (and_parts (is_continue d) (list_all is_continue more)
+    row.each).0 continue_39
+
+lifetime_no_lexeme : (c : ℕ) (s : List ℕ) → is_start c ≡ true → first_passes is_apostrophe s ≡ false
+    → lexeme_at (39 ∷ c ∷ s) ≡ None
+lifetime_no_lexeme c s is free =
+    at_class 39 (c ∷ s) ApostropheHead class39
+    ∙ ap (λ o. literal_at (option_map after_suffix o)) (no_single c s
+    (not_among c 92 is_start is (start_ascii 92 (lit< tt))) free)
+
+other_no_lexeme : (w : SourceLexeme) (t : List ℕ) → IsOther w → IsSource w t → lexeme_at (source_text w ++ t) ≡ None
+other_no_lexeme (PlainToken l) t other is = absurd other
+other_no_lexeme (RawIdentifierToken c more) t other is = raw_no_lexeme c (more ++ t) is.0
+other_no_lexeme (LifetimeToken c more) t other (is, free, plain) = lifetime_no_lexeme c (more ++ t) is.0
+    (row_free more t is.1 free)
+other_no_lexeme (RawLifetimeToken c more) t other is = at_class 39 (114 ∷ 35 ∷ c ∷ more ++ t) ApostropheHead class39
+other_no_lexeme (DocLineToken body) t other is = at_class 47 (47 ∷ body ++ t) SlashHead class47
+other_no_lexeme (DocBlockToken i) t other is = at_class 47 (42 ∷ inside_text i ++ t) SlashHead class47
+other_no_lexeme (StrayToken c) t other is = absurd other
+
+-- ---- at most one token begins a text
+
+record SameToken (v w : SourceLexeme) (x y : List ℕ) : Type 0 where
+  pub kind : source_kind v ≡ source_kind w
+  pub rest : x ≡ y
+
+-- a lexeme, another token, a stray
+data Sort (w : SourceLexeme) : Type 0 where
+  IsPlainSort : (l : Lexeme) (is : w ≡ PlainToken l) → Sort w
+  IsOtherSort : (is : IsOther w) → Sort w
+  IsStraySort : (c : ℕ) (is : w ≡ StrayToken c) → Sort w
+
+sort_of : (w : SourceLexeme) → Sort w
+sort_of (PlainToken l) = IsPlainSort l refl
+sort_of (RawIdentifierToken c more) = IsOtherSort tt
+sort_of (LifetimeToken c more) = IsOtherSort tt
+sort_of (RawLifetimeToken c more) = IsOtherSort tt
+sort_of (DocLineToken body) = IsOtherSort tt
+sort_of (DocBlockToken i) = IsOtherSort tt
+sort_of (StrayToken c) = IsStraySort c refl
+
+other_proper : (w : SourceLexeme) (t : List ℕ) → IsOther w → IsSource w t → IsProper w t
+other_proper (PlainToken l) t other is = absurd other
+other_proper (RawIdentifierToken c more) t other is = is
+other_proper (LifetimeToken c more) t other is = is
+other_proper (RawLifetimeToken c more) t other is = is
+other_proper (DocLineToken body) t other is = is
+other_proper (DocBlockToken i) t other is = is
+other_proper (StrayToken c) t other is = absurd other
+
+both_plain : (l m : Lexeme) (x y : List ℕ) → IsLexeme l x → IsLexeme m y → lexeme_text l ++ x ≡ lexeme_text m ++ y
+    → SameToken (PlainToken l) (PlainToken m) x y
+both_plain l m x y is js e =
+    let p = same_pair (form_of l) (form_of m) x y (sym (lexeme_at-past l x is) ∙ ap lexeme_at e ∙ lexeme_at-past m y js)
+    in
+    record { kind = ap PlainKind p.0; rest = p.1 }
+
+both_other : (v w : SourceLexeme) (x y : List ℕ) → IsOther v → IsOther w → IsSource v x → IsSource w y → source_text v
+    ++ x ≡ source_text w ++ y → SameToken v w x y
+both_other v w x y a b is js e =
+    let p : ◌≡◌ {A = Option (SourceKind × List ℕ)} (Some (source_kind v, x)) (Some (source_kind w, y)) = sym
+    (other_at-past v x a is) ∙ ap other_at e ∙ other_at-past w y b js in
+    let q : ◌≡◌ {A = SourceKind × List ℕ} (source_kind v, x) (source_kind w, y) = same_Some (source_kind v, x)
+    (source_kind w, y) p in
+    record { kind = ap (λ (z : SourceKind × List ℕ). z.0) q; rest = ap (λ (z : SourceKind × List ℕ). z.1) q }
+
+not_mixed : (l : Lexeme) (w : SourceLexeme) (x y : List ℕ) → IsOther w → IsLexeme l x → IsSource w y → lexeme_text l
+    ++ x ≡ source_text w ++ y → ⊥
+not_mixed l w x y b is js e = none-some (form_of l, x) (sym (other_no_lexeme w y b js) ∙ ap lexeme_at (sym e)
+    ∙ lexeme_at-past l x is)
+
+not_stray : (c : ℕ) (w : SourceLexeme) (x y : List ℕ) → IsProper w y → IsSource (StrayToken c) x → c ∷ x ≡ source_text w
+    ++ y → ⊥
+not_stray c w x y is stray e = stray.0 (w, y, is, e)
+
+both_stray : (c d : ℕ) (x y : List ℕ) → c ∷ x ≡ d ∷ y → SameToken (StrayToken c) (StrayToken d) x y
+both_stray c d x y e = record { kind = refl; rest = ap (drop 1) e }
+
+one_token : (v w : SourceLexeme) (x y : List ℕ) → IsSource v x → IsSource w y → source_text v ++ x ≡ source_text w ++ y
+    → SameToken v w x y
+one_token v w x y is js e = go (sort_of v) (sort_of w)
+  where
+    as_plain : (u : SourceLexeme) (z : List ℕ) (l : Lexeme) → u ≡ PlainToken l → IsSource u z → IsLexeme l z
+    as_plain u z l same is = subst (λ (k : SourceLexeme). IsSource k z) same is
+
+    as_stray : (u : SourceLexeme) (z : List ℕ) (c : ℕ) → u ≡ StrayToken c → IsSource u z → IsSource (StrayToken c) z
+    as_stray u z c same is = subst (λ (k : SourceLexeme). IsSource k z) same is
+
+    text : (u k : SourceLexeme) (z : List ℕ) → u ≡ k → source_text u ++ z ≡ source_text k ++ z
+    text u k z same = ap (λ q. source_text q ++ z) same
+
+    moved : (a b : SourceLexeme) → v ≡ a → w ≡ b → SameToken a b x y → SameToken v w x y
+    moved a b p q same = subst (λ (z : SourceLexeme). SameToken z w x y) (sym p)
+        (subst (λ (z : SourceLexeme). SameToken a z x y) (sym q) same)
+
+    go : Sort v → Sort w → SameToken v w x y
+    go (IsPlainSort l p) (IsPlainSort m q) =
+        moved (PlainToken l) (PlainToken m) p q (both_plain l m x y (as_plain v x l p is) (as_plain w y m q js)
+        (sym (text v (PlainToken l) x p) ∙ e ∙ text w (PlainToken m) y q))
+    go (IsPlainSort l p) (IsOtherSort b) = absurd (not_mixed l w x y b (as_plain v x l p is) js
+        (sym (text v (PlainToken l) x p) ∙ e))
+    go (IsPlainSort l p) (IsStraySort d q) = absurd (not_stray d (PlainToken l) y x (as_plain v x l p is)
+        (as_stray w y d q js) (sym (text w (StrayToken d) y q) ∙ sym e ∙ text v (PlainToken l) x p))
+    go (IsOtherSort a) (IsPlainSort m q) = absurd (not_mixed m v y x a (as_plain w y m q js) is
+        (sym (text w (PlainToken m) y q) ∙ sym e))
+    go (IsOtherSort a) (IsOtherSort b) = both_other v w x y a b is js e
+    go (IsOtherSort a) (IsStraySort d q) = absurd (not_stray d v y x (other_proper v x a is) (as_stray w y d q js)
+        (sym (text w (StrayToken d) y q) ∙ sym e))
+    go (IsStraySort c p) (IsPlainSort m q) = absurd (not_stray c (PlainToken m) x y (as_plain w y m q js)
+        (as_stray v x c p is) (sym (text v (StrayToken c) x p) ∙ e ∙ text w (PlainToken m) y q))
+    go (IsStraySort c p) (IsOtherSort b) = absurd (not_stray c w x y (other_proper w y b js) (as_stray v x c p is)
+        (sym (text v (StrayToken c) x p) ∙ e))
+    go (IsStraySort c p) (IsStraySort d q) = moved (StrayToken c) (StrayToken d) p q
+        (both_stray c d x y (sym (text v (StrayToken c) x p) ∙ e ∙ text w (StrayToken d) y q))
+
+-- ---- cuts
+
+begins_source : (w : SourceLexeme) (r after : List ℕ) → BeginsNoSource r → r ≡ source_text w ++ after → IsSource w after
+    → ⊥
+begins_source w r after none e is = none (source_kind w) after
+    (record { token = w; is_source = is; text_is = e; kind_is = refl })
+
+told_same : (v w : CutSource) → source_kind v.token ≡ source_kind w.token → source_text v.token ≡ source_text w.token
+    → v.at ≡ w.at → told v ≡ told w
+told_same v w a b d =
+    ap (λ z. (z, source_text v.token, v.at)) a ∙ ap (λ z. (source_kind w.token, z, v.at)) b
+    ∙ ap (λ z. (source_kind w.token, source_text w.token, z)) d
+
+one_cut : (at : ℕ) (t : List ℕ) (vs ws : List CutSource) (r s : List ℕ) → SourcesUpTo at t vs r → BeginsNoSource r
+    → SourcesUpTo at t ws s → BeginsNoSource s → (map told vs ≡ map told ws) × (r ≡ s)
+one_cut at t [] [] r s a none b none' = (refl, one_rest t r s a b)
+one_cut at t [] (w ∷ ws) r s a none (y, b, js, n, more) none' = absurd
+    (begins_source w.token r y none (one_rest t r (source_text w.token ++ y) a b) js)
+one_cut at t (v ∷ vs) [] r s (x, a, is, m, more) none b none' = absurd
+    (begins_source v.token s x none' (one_rest t s (source_text v.token ++ x) b a) is)
+one_cut at t (v ∷ vs) (w ∷ ws) r s (x, a, is, m, more) none (y, b, js, n, more') none' =
+    let e : source_text v.token ++ x ≡ source_text w.token ++ y = one_rest t (source_text v.token ++ x)
+    (source_text w.token ++ y) a b in
+    let same : SameToken v.token w.token x y = one_token v.token w.token x y is js e in
+    let text : source_text v.token ≡ source_text w.token = append_cancel_right (source_text v.token)
+    (source_text w.token) x (e ∙ ap (λ z. source_text w.token ++ z) (sym same.rest)) in
+    let place : v.at ≡ w.at = omega (arith, m, n, ap byte_len e) in
+    let ends : source_end v ≡ source_end w = omega (arith, place, ap byte_len text) in
+    let more1 : SourcesUpTo (source_end v) x ws s =
+    subst (λ (k : ℕ). SourcesUpTo k x ws s) (sym ends) (subst (λ (z : List ℕ). SourcesUpTo (source_end w) z ws s)
+    (sym same.rest) more') in
+    let rec = one_cut (source_end v) x vs ws r s more none more1 none' in
+    (ap (λ z. z ∷ map told vs) (told_same v w same.kind text place) ∙ ap (λ z. told w ∷ z) rec.0, rec.1)
+
+-- ---- what stands before the first token
+
+line_rest : (t r : List ℕ) → IsScriptLine t r → r ≡ after_run is_in_line (drop 2 t)
+line_rest t r is = sym (run_past is_in_line is.line r is.is_line)
+    ∙ ap (λ z. after_run is_in_line (drop 2 z)) (sym is.text_is)
+
+one_line_front : (t r s : List ℕ) → IsWithoutLine t r → IsWithoutLine t s → r ≡ s
+one_line_front t r s (inl a) (inl b) = line_rest t r a ∙ sym (line_rest t s b)
+one_line_front t r s (inl a) (inr (e, none)) = absurd (none r a)
+one_line_front t r s (inr (e, none)) (inl b) = absurd (none s b)
+one_line_front t r s (inr (e, none)) (inr (d, none')) = e ∙ sym d
+
+pub one_cutting : OneCutting
+one_cutting t vs ws r s a none b none' =
+    let body : a.body ≡ b.body = one_line_front (without_mark t) a.body b.body a.front b.front in
+    let at : a.at ≡ b.at = omega (arith, a.place, b.place, ap byte_len body) in
+    let cuts : SourcesUpTo a.at a.body ws s = subst (λ (k : ℕ). SourcesUpTo k a.body ws s) (sym at)
+    (subst (λ (z : List ℕ). SourcesUpTo b.at z ws s) (sym body) b.are_cuts) in
+    one_cut a.at a.body vs ws r s a.are_cuts none cuts none'
+
+-- ---- what the lexer cuts
+
+lexed : (at : ℕ) (t : List ℕ) (cuts : List LexedToken) (r : List ℕ) → LexesUpTo at t cuts r
+    → SourcesUpTo at t (map plain_cut cuts) r
+lexed at t [] r h = h
+lexed at t (w ∷ ws) r (after, skipped, is, place, more) = (after, skipped, is, place, lexed (end_of w) after ws r more)
+
+pub holds_lexemes : HoldsLexemes
+holds_lexemes t cuts r front are = record { at = 0; body = t; front = front; place = omega arith; are_cuts = lexed 0 t cuts r are }

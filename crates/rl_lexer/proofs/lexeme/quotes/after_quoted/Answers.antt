@@ -1,0 +1,6 @@
+use Rattle.rl_text.proofs.TailLemmas.{tail_step}
+use Rattle.rl_lexer.proofs.lexeme.quotes.after_quoted.Goals as goal
+
+pub returns-clause-following : goal.returns-clause-following
+returns-clause-following c = tail_step c.args.text.now c.in_ok-rest.rest.now c.after_suffix.result.now
+    c.in_ok-rest.ensures.following c.after_suffix.ensures.following

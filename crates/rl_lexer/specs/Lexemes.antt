@@ -1,0 +1,253 @@
+-- The lexemes of a text, each a tree with its spelling, and as long as what follows it allows. A
+-- character is its code. They are the tokens of the Rust Reference, chapters Tokens (sections
+-- Literals, Punctuation, Delimiters) and Identifiers. What stands in a literal isn't judged, and
+-- doc comments, lifetimes and raw identifiers are none of them.
+pub use Rattle.rl_text.specs.Texts.{is_start, is_continue}
+use Rattle.std.specs.Prelude.{◌≡◌, ℕ, ◌⊎◌, Bool, true, false, not, ◌&&◌, ◌||◌, ◌==◌, List, [], codes, ◌∷◌, ◌++◌, IsTrue, ⊤, replicate, if◌then◌else◌}
+use Rattle.std.proofs.Common.{suc, zero}
+use Rattle.std.specs.Char.{is_ascii_digit}
+use Rattle.std.specs.List.{list_all}
+use Prim.Native.Char.{code}
+use Rattle.rl_text.specs.Texts.{is_among, first_passes, begins, is_row_part}
+use Rattle.rl_forms.specs.Numbers.{is_exponent_letter}
+
+-- after a zero: x, o or b
+abbrev pub is_base_letter : ℕ → Bool
+is_base_letter c = c == code "x" || c == code "o" || c == code "b"
+
+abbrev pub delimiters : List ℕ
+delimiters = codes "()[]{}"
+
+-- punctuation, without the slash
+abbrev pub marks : List ℕ
+marks = codes "~!@#$%^&*-=+|;:,<.>?"
+
+-- n hashes begin the text.
+abbrev pub begins_hashes : ℕ → List ℕ → Bool
+begins_hashes zero t = true
+begins_hashes (suc n) [] = false
+begins_hashes (suc n) (c ∷ t) = c == code "#" && begins_hashes n t
+
+-- A dot part begins the text: a dot, and after it neither a dot nor an identifier.
+abbrev pub begins_dot : List ℕ → Bool
+begins_dot [] = false
+begins_dot (c ∷ t) = c == code "." && not (first_passes (λ d. d == code "." || is_start d) t)
+
+-- What stands before the quote, or before the `r`: nothing, `b` or `c`.
+pub data LiteralPrefix : Type 0 where
+  NoPrefix : LiteralPrefix
+  BytePrefix : LiteralPrefix
+  CPrefix : LiteralPrefix
+
+abbrev pub prefix_text : LiteralPrefix → List ℕ
+prefix_text NoPrefix = []
+prefix_text BytePrefix = codes "b"
+prefix_text CPrefix = codes "c"
+
+-- Hashes, perhaps none, and a quote begin the text.
+pub record BeginsHashedQuote (t : List ℕ) : Type 0 where
+  pub hashes : ℕ
+  pub rest : List ℕ
+  pub text_is : t ≡ replicate hashes (code "#") ++ (code "\"" ∷ rest)
+
+-- A raw literal's opener begins the text: perhaps a prefix, `r`, hashes and a quote.
+pub record BeginsRaw (t : List ℕ) : Type 0 where
+  pub prefix : LiteralPrefix
+  pub rest : List ℕ
+  pub opens : BeginsHashedQuote rest
+  pub text_is : t ≡ prefix_text prefix ++ (code "r" ∷ rest)
+
+-- A prefix and a quote begin the text.
+abbrev pub begins_prefixed_quote : List ℕ → Bool
+begins_prefixed_quote t =
+    begins (codes "b\"") t || (begins (codes "c\"") t || begins (codes "b'") t)
+
+-- `r#` and the start of an identifier begin the text.
+abbrev pub begins_raw_identifier : List ℕ → Bool
+begins_raw_identifier [] = false
+begins_raw_identifier (c ∷ []) = false
+begins_raw_identifier (c ∷ d ∷ cs) = c == code "r" && d == code "#" && first_passes is_start cs
+
+-- The text begins like a literal with a prefix, or like a raw identifier.
+abbrev pub BeginsOtherwise : List ℕ → Type 0
+BeginsOtherwise t =
+    IsTrue (begins_prefixed_quote t) ⊎ (BeginsRaw t ⊎ IsTrue (begins_raw_identifier t))
+
+-- A part of a quoted body: a character on its own, or a backslash and any character.
+pub data BodyPart : Type 0 where
+  PlainPart : (c : ℕ) → BodyPart
+  EscapedPart : (c : ℕ) → BodyPart
+
+abbrev pub body_text : List BodyPart → List ℕ
+body_text [] = []
+body_text (PlainPart c ∷ parts) = c ∷ body_text parts
+body_text (EscapedPart c ∷ parts) = code "\\" ∷ c ∷ body_text parts
+
+abbrev pub IsBody : List BodyPart → Type 0
+IsBody [] = ⊤
+IsBody (PlainPart c ∷ parts) = IsTrue (not (c == code "\"" || c == code "\\")) × IsBody parts
+IsBody (EscapedPart c ∷ parts) = IsBody parts
+
+-- Between the quotes of a character: one character, or a backslash, any character, and more.
+pub data CharacterBody : Type 0 where
+  OneCharacter : (c : ℕ) → CharacterBody
+  EscapedCharacter : (c : ℕ) (more : List ℕ) → CharacterBody
+
+abbrev pub character_body_text : CharacterBody → List ℕ
+character_body_text (OneCharacter c) = c ∷ []
+character_body_text (EscapedCharacter c more) = code "\\" ∷ c ∷ more
+
+abbrev pub IsCharacterBody : CharacterBody → Type 0
+IsCharacterBody (OneCharacter c) = IsTrue (not (c == code "\\"))
+IsCharacterBody (EscapedCharacter c more) =
+    IsTrue (list_all (λ d. not (d == code "'" || d == code "\n")) more)
+
+-- The dot part of a decimal, where there is one.
+pub data LexedFraction : Type 0 where
+  NoLexedFraction : LexedFraction
+  LexedDot : (digits : List ℕ) → LexedFraction
+
+abbrev pub lexed_fraction_text : LexedFraction → List ℕ
+lexed_fraction_text NoLexedFraction = []
+lexed_fraction_text (LexedDot digits) = code "." ∷ digits
+
+pub data LexedSign : Type 0 where
+  NoLexedSign : LexedSign
+  LexedPlus : LexedSign
+  LexedMinus : LexedSign
+
+abbrev pub lexed_sign_text : LexedSign → List ℕ
+lexed_sign_text NoLexedSign = []
+lexed_sign_text LexedPlus = codes "+"
+lexed_sign_text LexedMinus = codes "-"
+
+-- The exponent of a decimal, where there is one: a letter, perhaps a sign, underscores, a digit and
+-- what follows it.
+pub data LexedExponent : Type 0 where
+  NoLexedExponent : LexedExponent
+  LexedPower : (letter : ℕ) (sign : LexedSign) (underscores digit : ℕ) (more : List ℕ)
+      → LexedExponent
+
+abbrev pub lexed_exponent_text : LexedExponent → List ℕ
+lexed_exponent_text NoLexedExponent = []
+lexed_exponent_text (LexedPower letter sign n d more) =
+    letter ∷ lexed_sign_text sign ++ (replicate n (code "_") ++ d ∷ more)
+
+-- An exponent begins the text: `e` or `E`, perhaps a sign, underscores and a digit.
+pub record BeginsLexedExponent (t : List ℕ) : Type 0 where
+  pub letter : ℕ
+  pub sign : LexedSign
+  pub underscores : ℕ
+  pub digit : ℕ
+  pub rest : List ℕ
+  pub is_letter : IsTrue (is_exponent_letter letter)
+  pub is_digit : IsTrue (is_ascii_digit digit)
+  pub text_is :
+      t ≡ letter ∷ (lexed_sign_text sign ++ (replicate underscores (code "_") ++ (digit ∷ rest)))
+
+pub data Lexeme : Type 0 where
+  -- a string with escapes
+  QuotedLexeme : (p : LiteralPrefix) (parts : List BodyPart) (suffix : List ℕ) → Lexeme
+  RawLexeme : (p : LiteralPrefix) (hashes : ℕ) (body suffix : List ℕ) → Lexeme
+  -- a character or a byte
+  CharacterLexeme : (is_byte : Bool) (inside : CharacterBody) (suffix : List ℕ) → Lexeme
+  -- `0x`, `0o` or `0b`, and what goes on with it, a suffix too
+  BasedLexeme : (letter : ℕ) (digits : List ℕ) → Lexeme
+  DecimalLexeme : (digit : ℕ) (more : List ℕ) (fraction : LexedFraction)
+      (exponent : LexedExponent) (suffix : List ℕ) → Lexeme
+  IdentifierLexeme : (first : ℕ) (more : List ℕ) → Lexeme
+  DelimiterLexeme : (c : ℕ) → Lexeme
+  MarkLexeme : (c : ℕ) → Lexeme
+
+abbrev pub lexeme_text : Lexeme → List ℕ
+lexeme_text (QuotedLexeme p parts suffix) =
+    prefix_text p ++ code "\"" ∷ body_text parts ++ code "\"" ∷ suffix
+lexeme_text (RawLexeme p n body suffix) =
+    prefix_text p ++ code "r" ∷ replicate n (code "#") ++ code "\"" ∷ body
+    ++ code "\"" ∷ replicate n (code "#") ++ suffix
+lexeme_text (CharacterLexeme is_byte inside suffix) =
+    (if is_byte then codes "b" else []) ++ code "'" ∷ character_body_text inside
+    ++ code "'" ∷ suffix
+lexeme_text (BasedLexeme letter digits) = code "0" ∷ letter ∷ digits
+lexeme_text (DecimalLexeme d more fraction exponent suffix) =
+    d ∷ more ++ (lexed_fraction_text fraction ++ (lexed_exponent_text exponent ++ suffix))
+lexeme_text (IdentifierLexeme c more) = c ∷ more
+lexeme_text (DelimiterLexeme c) = c ∷ []
+lexeme_text (MarkLexeme c) = c ∷ []
+
+-- A row of such characters, as long as what follows allows.
+pub record IsRow (test : ℕ → Bool) (row after : List ℕ) : Type 0 where
+  pub each : IsTrue (list_all test row)
+  pub ends : first_passes test after ≡ false
+
+-- An identifier run, or nothing where none follows.
+abbrev pub IsLexedSuffix : List ℕ → List ℕ → Type 0
+IsLexedSuffix [] after = first_passes is_start after ≡ false
+IsLexedSuffix (c ∷ more) after = IsTrue (is_start c) × IsRow is_continue more after
+
+-- No quote in the body has n hashes after it.
+abbrev pub IsRawBody : ℕ → List ℕ → Type 0
+IsRawBody n [] = ⊤
+IsRawBody n (c ∷ body) = ((c == code "\"" && begins_hashes n body) ≡ false) × IsRawBody n body
+
+abbrev pub IsLexedFraction : LexedFraction → List ℕ → Type 0
+IsLexedFraction NoLexedFraction after = begins_dot after ≡ false
+IsLexedFraction (LexedDot digits) after =
+    IsTrue (begins_dot (code "." ∷ digits ++ after))
+    × IsRow (is_row_part is_ascii_digit) digits after
+
+abbrev pub IsLexedExponent : LexedExponent → List ℕ → Type 0
+IsLexedExponent NoLexedExponent after = BeginsLexedExponent after → ⊥
+IsLexedExponent (LexedPower letter sign n d more) after =
+    IsTrue (is_exponent_letter letter) × IsTrue (is_ascii_digit d)
+    × IsRow (is_row_part is_ascii_digit) more after
+
+-- The lexeme is well made, and as long as the text after it allows.
+abbrev pub IsLexeme : Lexeme → List ℕ → Type 0
+IsLexeme (QuotedLexeme p parts suffix) after = IsBody parts × IsLexedSuffix suffix after
+IsLexeme (RawLexeme p n body suffix) after = IsRawBody n body × IsLexedSuffix suffix after
+IsLexeme (CharacterLexeme is_byte inside suffix) after =
+    IsCharacterBody inside × IsLexedSuffix suffix after
+IsLexeme (BasedLexeme letter digits) after =
+    IsTrue (is_base_letter letter) × IsRow is_continue digits after
+IsLexeme (DecimalLexeme d more fraction exponent suffix) after =
+    let after_fraction = lexed_exponent_text exponent ++ (suffix ++ after) in
+    let after_digits = lexed_fraction_text fraction ++ after_fraction in
+    IsTrue (is_ascii_digit d)
+    × ((d == code "0" && first_passes is_base_letter (more ++ after_digits)) ≡ false)
+    × IsRow (is_row_part is_ascii_digit) more after_digits
+    × IsLexedFraction fraction after_fraction
+    × IsLexedExponent exponent (suffix ++ after)
+    × IsLexedSuffix suffix after
+IsLexeme (IdentifierLexeme c more) after =
+    IsTrue (is_start c) × IsRow is_continue more after × (BeginsOtherwise (c ∷ more ++ after) → ⊥)
+IsLexeme (DelimiterLexeme c) after = IsTrue (is_among delimiters c)
+IsLexeme (MarkLexeme c) after =
+    IsTrue (is_among marks c)
+    ⊎ ((c ≡ code "/") × (first_passes (λ d. d == code "/" || d == code "*") after ≡ false))
+
+-- w is a lexeme with after after it.
+abbrev pub LexemeWith : List ℕ → List ℕ → Type 0
+LexemeWith w after = (l : Lexeme) × IsLexeme l after × (w ≡ lexeme_text l)
+
+-- What a lexeme is to a parser: a literal, an identifier, one of the six delimiters, or another
+-- mark.
+pub data LexemeForm : Type 0 where
+  LiteralForm : LexemeForm
+  IdentifierForm : LexemeForm
+  DelimiterForm : (c : ℕ) → LexemeForm
+  MarkForm : (c : ℕ) → LexemeForm
+
+abbrev pub form_of : Lexeme → LexemeForm
+form_of (IdentifierLexeme first more) = IdentifierForm
+form_of (DelimiterLexeme c) = DelimiterForm c
+form_of (MarkLexeme c) = MarkForm c
+form_of _ = LiteralForm
+
+-- A lexeme stands at the front of the text, and the rest after it.
+abbrev pub LexemeBefore : List ℕ → List ℕ → Type 0
+LexemeBefore t after = (w : List ℕ) × LexemeWith w after × (t ≡ w ++ after)
+
+-- which characters are punctuation: the marks, and the slash
+abbrev pub is_punct : ℕ → Bool
+is_punct c = is_among marks c || c == code "/"

@@ -1,0 +1,35 @@
+-- A mirror of the code, for proofs alone: skipping as the code does it, one piece after the other,
+-- blocks by their depth.
+use Rattle.std.specs.Prelude.{ℕ, ◌&&◌, ◌==◌, List, [], ◌∷◌, cond}
+use Rattle.std.proofs.Common.{suc, zero, Option, Some, None}
+use Prim.Native.Char.{code}
+use Rattle.rl_text.specs.Texts.{is_white}
+use Rattle.rl_forms.specs.Trivia.{is_comment_line, is_comment_block}
+
+-- What follows the end of a block comment at this depth.
+abbrev pub after_block : ℕ → List ℕ → Option (List ℕ)
+after_block depth [] = None
+after_block depth (c ∷ []) = None
+after_block zero (c ∷ e ∷ t) =
+    cond (c == code "*" && e == code "/") (Some t)
+    (cond (c == code "/" && e == code "*") (after_block 1 t) (after_block 0 (e ∷ t)))
+after_block (suc d) (c ∷ e ∷ t) =
+    cond (c == code "*" && e == code "/") (after_block d t)
+    (cond (c == code "/" && e == code "*") (after_block (suc (suc d)) t)
+    (after_block (suc d) (e ∷ t)))
+
+-- What follows the first LF.
+abbrev pub after_line : List ℕ → List ℕ
+after_line [] = []
+after_line (c ∷ t) = cond (c == code "\n") t (after_line t)
+
+-- What follows a comment, by what stands after its first slash.
+abbrev pub after_comment : List ℕ → Option (List ℕ)
+after_comment [] = None
+after_comment (c ∷ t) =
+    cond (c == code "/") (cond (is_comment_line t) (Some (after_line t)) None)
+    (cond (c == code "*") (cond (is_comment_block t) (after_block 0 t) None) None)
+
+abbrev pub after_piece : List ℕ → Option (List ℕ)
+after_piece [] = None
+after_piece (c ∷ t) = cond (c == code "/") (after_comment t) (cond (is_white c) (Some t) None)

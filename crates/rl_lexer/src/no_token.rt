@@ -1,0 +1,121 @@
+//! Why no token begins a text.
+
+ghost use Rattle.std.specs.Prelude.{◌≡◌, nat_lt, IsTrue};
+ghost use Rattle.std.specs.Str.{chars};
+ghost use Rattle.std.specs.List.{list_all};
+ghost use Rattle.rl_text.specs.Texts.{begins};
+ghost use Rattle.rl_lexer.specs.Mirrors.ErrorAt.{error_kind};
+ghost use Rattle.rl_lexer.specs.Mirrors.SourceAt.{source_error_kind, opens};
+ghost use Rattle.rl_lexer.specs.Cuts.{begins_doc_comment, begins_lifetime};
+ghost use Rattle.rl_lexer.specs.Mirrors.LexemeAt.{begins_quote, begins_raw};
+ghost use Rattle.rl_lexer.specs.Lexemes.{begins_raw_identifier};
+
+use crate::lex_error::LexKind;
+use crate::lexeme::{begins_hashed_quote, begins_marked_identifier};
+use rl_forms::kind::{BYTE_OPENER, BYTE_STR_OPENER, C_STR_OPENER, CHAR_OPENER, STR_OPENER};
+use rl_text::characters::is_start;
+use rl_text::text::{begins_with, split_char};
+
+/// Why no token begins the text, by its first characters.
+pub(crate) fn error_kind(rest: &str) -> LexKind
+    ensures { result ≡ error_kind (chars rest.now) }
+{
+    if begins_doc_comment(rest) {
+        LexKind::DocComment
+    } else if begins(rest, "/*") {
+        LexKind::UnclosedComment
+    } else if begins_quote(rest) {
+        LexKind::UnclosedQuote
+    } else if begins_lifetime(rest) {
+        LexKind::Lifetime
+    } else if begins_raw_identifier(rest) {
+        LexKind::RawIdentifier
+    } else {
+        LexKind::StrayCharacter
+    }
+}
+
+/// Why no token of a source begins the text, by its first characters.
+pub(crate) fn source_error_kind(rest: &str) -> LexKind
+    ensures { result ≡ source_error_kind (chars rest.now) }
+{
+    if begins(rest, "/*") {
+        LexKind::UnclosedComment
+    } else {
+        LexKind::UnclosedQuote
+    }
+}
+
+/// Whether the text begins as a quoted literal, or as a block comment.
+pub(crate) fn opens(text: &str) -> bool
+    ensures { result ≡ opens (chars text.now) }
+{
+    begins(text, "/*") || (begins_quote(text) || begins_with(text, '\''))
+}
+
+/// Whether the text begins with these characters, which are ASCII.
+fn begins(text: &str, word: &str) -> bool
+    requires { IsTrue (list_all (λ c. nat_lt c 128) word.now) }
+    ensures { result ≡ begins word.now (chars text.now) }
+{
+    text.starts_with(word)
+}
+
+fn begins_doc_comment(text: &str) -> bool
+    ensures { result ≡ begins_doc_comment (chars text.now) }
+{
+    (begins(text, "///") && !begins(text, "////"))
+        || begins(text, "//!")
+        || (begins(text, "/**") && !(begins(text, "/**/") || begins(text, "/***")))
+        || begins(text, "/*!")
+}
+
+/// Whether a quoted or raw opener begins the text, a byte's opener, or an apostrophe that begins no
+/// lifetime.
+fn begins_quote(text: &str) -> bool
+    ensures { result ≡ begins_quote (chars text.now) }
+{
+    begins(text, STR_OPENER)
+        || begins(text, BYTE_STR_OPENER)
+        || begins(text, C_STR_OPENER)
+        || begins_raw(text)
+        || begins(text, BYTE_OPENER)
+        || (begins(text, CHAR_OPENER) && !begins_lifetime(text))
+}
+
+/// Whether the opener of a raw literal begins the text.
+fn begins_raw(text: &str) -> bool
+    ensures { result ≡ begins_raw (chars text.now) }
+{
+    match split_char(text) {
+        Some(('r', following)) => begins_hashed_quote(following),
+        Some(('b' | 'c', following)) => match split_char(following) {
+            Some(('r', hashes)) => begins_hashed_quote(hashes),
+            _ => false,
+        },
+        _ => false,
+    }
+}
+
+/// Whether an apostrophe and an identifier's start begin the text.
+fn begins_lifetime(text: &str) -> bool
+    ensures { result ≡ begins_lifetime (chars text.now) }
+{
+    match split_char(text) {
+        Some(('\'', following)) => match split_char(following) {
+            Some((c, _)) => is_start(c),
+            None => false,
+        },
+        _ => false,
+    }
+}
+
+/// Whether `r#` and an identifier's start begin the text.
+pub(crate) fn begins_raw_identifier(text: &str) -> bool
+    ensures { result ≡ begins_raw_identifier (chars text.now) }
+{
+    match split_char(text) {
+        Some(('r', following)) => begins_marked_identifier(following),
+        _ => false,
+    }
+}

@@ -1,0 +1,31 @@
+-- Tests of the first character of a text, and of all.
+use Rattle.rl_text.proofs.Common.{◌≡◌, ◌∙◌, ◌&&◌, ℕ, Bool, true, false, List, [], ◌∷◌, ◌++◌, refl, sym, ap, list_all}
+use Rattle.rl_reading.proofs.Names.{first_passes}
+use Rattle.std.proofs.lemmas.Bool.{and_left, and_right}
+use Rattle.std.proofs.lemmas.List.Folds.{list_all-append}
+
+-- what a text begins with, it begins with whatever follows
+pub passes_more : (test : ℕ → Bool) (a b : List ℕ) → first_passes test a ≡ true → first_passes test (a ++ b) ≡ true
+passes_more test [] b h = absurd (cc)
+passes_more test (c ∷ cs) b h = h
+
+-- what goes on as the text does begins as it does
+pub goes_on : (test : ℕ → Bool) (front rest t : List ℕ) (c : ℕ) (cs e : List ℕ) → t ≡ front ++ rest → rest ≡ c ∷ cs
+    → first_passes test t ≡ false → first_passes test (front ++ (c ∷ e)) ≡ false
+goes_on test [] rest t c cs e a b k = sym (ap (first_passes test) (a ∙ b)) ∙ k
+goes_on test (x ∷ xs) rest t c cs e a b k = sym (ap (first_passes test) a) ∙ k
+
+-- the front of a text begins as the text does, or is empty
+pub front_passes : (test : ℕ → Bool) (front rest t : List ℕ) → t ≡ front ++ rest → first_passes test t ≡ false
+    → first_passes test front ≡ false
+front_passes test [] rest t e h = refl
+front_passes test (x ∷ xs) rest t e h = sym (ap (first_passes test) e) ∙ h
+
+-- a character that doesn't pass
+pub all_breaks : (f : ℕ → Bool) (xs : List ℕ) (c : ℕ) (e : List ℕ) → f c ≡ false → list_all f (xs ++ (c ∷ e)) ≡ false
+all_breaks f [] c e h = and_left (f c) (list_all f e) h
+all_breaks f (x ∷ xs) c e h = and_right (f x) (list_all f (xs ++ (c ∷ e))) (all_breaks f xs c e h)
+
+-- what passes in front adds nothing
+pub all_off : (f : ℕ → Bool) (xs t : List ℕ) → list_all f xs ≡ true → list_all f (xs ++ t) ≡ list_all f t
+all_off f xs t h = list_all-append f xs t ∙ ap (λ b. b && list_all f t) h

@@ -1,0 +1,16 @@
+-- What was passed stands in the buffer, and the rest has room after it.
+use Rattle.rl_text.proofs.Common.{◌≡◌, length}
+use denote.Text.{Utf8}
+use denote.Shadow.{shadow}
+use Rattle.rl_reading.proofs.RoomLemmas.{IsFilled}
+use Rattle.rl_reading.proofs.contents.decode_into.Given as goal
+
+abbrev pub invariant-loop-piece : goal.invariant-loop-piece
+invariant-loop-piece l = record {
+  utf8 : shadow (Utf8 l.rest);
+  filled : IsFilled l.kind l.text l.rest l.out l.at;
+  len : length l.out ≡ length l.initial.out;
+}
+
+abbrev pub decreases-loop-piece : goal.decreases-loop-piece
+decreases-loop-piece l = length l.rest

@@ -1,0 +1,15 @@
+pub mod NumberShapes
+pub mod NumbersRead
+pub mod Rows
+pub mod Forms
+pub mod Shapes
+pub mod Decoded
+pub mod WholeShapes
+pub mod StrictBytes
+pub mod Bodies
+pub mod Founds
+pub mod Segments
+pub mod SegmentLaws
+pub mod NextLiterals
+pub mod SourceLiterals
+pub mod Mirrors

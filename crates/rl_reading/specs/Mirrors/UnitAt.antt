@@ -1,0 +1,134 @@
+-- A mirror of the code, for proofs alone: the unit at the front of a text between quotes, as a
+-- program on characters.
+use Rattle.std.specs.Prelude.{ℕ, ◌+◌, ◌*◌, ◌==◌, ◌||◌, ◌&&◌, Bool, not, List, [], ◌∷◌, Option, Some, None, option_and_then, nat_lt, if◌then◌else◌, IsTrue, ⊤}
+use Rattle.std.specs.Char.{digit_value}
+use Rattle.std.proofs.Math.Utf8.{scalar}
+use Prim.Native.Char.{code}
+use Rattle.rl_forms.specs.declared.kind.Kind.{Kind}
+use Rattle.rl_forms.specs.Quoted.{content_of, holds_characters, is_line_end, is_string, is_plain, allows_code, may_be_hex, has_unicode}
+use Rattle.rl_text.specs.Texts.{is_blank}
+use Rattle.rl_reading.specs.declared.units.Piece.{Piece}
+use Rattle.rl_reading.specs.declared.units.Piece.TheVariants.{Character, Byte, Nothing}
+
+-- what a piece is in a literal of the kind
+abbrev pub piece_value : Kind → Piece → List ℕ
+piece_value kind (Character c) = content_of kind (c ∷ [])
+piece_value kind (Byte b) = b ∷ []
+piece_value kind Nothing = []
+
+-- where characters are held, a byte is one of ASCII
+abbrev pub IsHeldBy : Kind → Piece → Type 0
+IsHeldBy kind (Byte b) = IsTrue (not (holds_characters kind) || nat_lt b 128)
+IsHeldBy kind _ = ⊤
+
+infixl 10 ◌>>=◌
+abbrev pub ◌>>=◌ : {A B : Type 0} → Option A → (A → Option B) → Option B
+o >>= f = option_and_then f o
+
+-- a number and the text after it, where the number is allowed
+abbrev pub number_if : Bool → ℕ → List ℕ → Option (ℕ × List ℕ)
+number_if allowed n rest = if allowed then Some (n, rest) else None
+
+-- what a unit stands for, and the text after it
+abbrev pub found : List ℕ → List ℕ → Option (List ℕ × List ℕ)
+found value rest = Some (value, rest)
+
+-- what a backslash and one letter stand for
+abbrev pub named_of : ℕ → Option ℕ
+named_of c =
+    if c == code "n" then Some (code "\n")
+    else (if c == code "r" then Some (code "\r")
+    else (if c == code "t" then Some (code "\t")
+    else (if c == code "\\" then Some (code "\\")
+    else (if c == code "'" then Some (code "'")
+    else (if c == code "\"" then Some (code "\"")
+    else (if c == code "0" then Some 0 else None))))))
+
+-- and where the kind holds it
+abbrev pub named_in : Kind → ℕ → Option ℕ
+named_in kind c = named_of c >>= λ n. if allows_code kind n then Some n else None
+
+abbrev pub named_at : Kind → ℕ → List ℕ → Option (List ℕ × List ℕ)
+named_at kind c rest = named_in kind c >>= λ n. found (n ∷ []) rest
+
+-- a digit of base 16 at the front
+abbrev pub digit_at : List ℕ → Option (ℕ × List ℕ)
+digit_at [] = None
+digit_at (c ∷ cs) = if nat_lt (digit_value c) 16 then Some (digit_value c, cs) else None
+
+-- the two digits of \x
+unfoldable pub hex_at : Kind → List ℕ → Option (ℕ × List ℕ)
+hex_at kind t = do
+  high ← digit_at t
+  low ← digit_at high.1
+  number_if (may_be_hex kind (high.0 * 16 + low.0)) (high.0 * 16 + low.0) low.1
+
+-- the number that digits spell, how many they are, the text from the last one on, and the text after them
+abbrev pub CodeDigits : Type 0
+CodeDigits = ℕ × ℕ × List ℕ × List ℕ
+
+abbrev pub code_digits : ℕ → ℕ → List ℕ → List ℕ → CodeDigits
+code_digits v n last rest = (v, n, last, rest)
+
+-- these, with those at the front up to the sixth, and underscores
+unfoldable pub code_digits_at : ℕ → ℕ → List ℕ → List ℕ → CodeDigits
+code_digits_at v n last [] = code_digits v n last []
+code_digits_at v n last (c ∷ cs) =
+    if nat_lt (digit_value c) 16 then
+    (if n == 6 then code_digits v n last (c ∷ cs)
+    else code_digits_at (v * 16 + digit_value c) (n + 1) (c ∷ cs) cs)
+    else (if c == code "_" then code_digits_at v n last cs else code_digits v n last (c ∷ cs))
+
+-- from the first one on
+abbrev pub first_code_digits_at : List ℕ → Option CodeDigits
+first_code_digits_at t = digit_at t >>= λ p. Some (code_digits_at p.0 1 t p.1)
+
+-- a closing brace at the front
+abbrev pub close_at : List ℕ → Option (List ℕ)
+close_at [] = None
+close_at (c ∷ cs) = if c == code "}" then Some cs else None
+
+-- the number of the digits, where a character has it and the brace follows
+abbrev pub closed_at : CodeDigits → Option (ℕ × List ℕ)
+closed_at (v, n, last, rest) = close_at rest >>= λ after. number_if (scalar v) v after
+
+-- an opening brace at the front
+abbrev pub brace_at : List ℕ → Option (List ℕ)
+brace_at [] = None
+brace_at (c ∷ cs) = if c == code "{" then Some cs else None
+
+-- what follows \u
+unfoldable pub unicode_at : Kind → List ℕ → Option (ℕ × List ℕ)
+unicode_at kind t = do
+  inside ← brace_at t
+  digits ← first_code_digits_at inside
+  whole ← closed_at digits
+  number_if (has_unicode kind && allows_code kind whole.0) whole.0 whole.1
+
+-- what is left after the blanks at the front
+unfoldable pub after_blanks : List ℕ → List ℕ
+after_blanks [] = []
+after_blanks (c ∷ cs) = if is_blank c then after_blanks cs else (c ∷ cs)
+
+-- what stands after a backslash
+unfoldable pub escape_at : Kind → List ℕ → Option (List ℕ × List ℕ)
+escape_at kind [] = None
+escape_at kind (c ∷ cs) =
+    if c == code "x" then (hex_at kind cs >>= λ p. found (p.0 ∷ []) p.1)
+    else (if c == code "u" then (unicode_at kind cs >>= λ p. found (content_of kind (p.0 ∷ [])) p.1)
+    else (if is_line_end c then (if is_string kind then found [] (after_blanks cs) else None)
+    else named_at kind c cs))
+
+-- the LF of a line end of two characters
+abbrev pub line_feed_at : Kind → List ℕ → Option (List ℕ × List ℕ)
+line_feed_at kind [] = None
+line_feed_at kind (c ∷ cs) =
+    if is_string kind && c == code "\n" then found (code "\n" ∷ []) cs else None
+
+-- the unit at the front: what it stands for in a literal of the kind, and the text after it
+unfoldable pub unit_at : Kind → List ℕ → Option (List ℕ × List ℕ)
+unit_at kind [] = None
+unit_at kind (c ∷ cs) =
+    if c == code "\\" then escape_at kind cs
+    else (if is_plain kind c then found (content_of kind (c ∷ [])) cs
+    else (if c == code "\r" then line_feed_at kind cs else None))

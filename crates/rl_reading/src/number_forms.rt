@@ -1,0 +1,279 @@
+//! Numbers: integers with their base, floats, and an integer before a float.
+
+ghost use Rattle.std.specs.Prelude.{◌≡◌, ◌++◌, ◌≤◌, false, IsTrue, IfNone, IfSome, List, Option, option_map, ℕ, ◌∷◌, ◌⊎◌};
+ghost use Rattle.std.specs.Char.{is_ascii_digit};
+ghost use Rattle.std.specs.Str.{chars};
+ghost use Rattle.rl_forms.specs.declared.kind.Kind.TheVariants.{Int, Float};
+ghost use Rattle.rl_text.specs.Texts.{IsTail, first_passes, code};
+ghost use Rattle.rl_forms.specs.Reading.{Contents, HasNoInteger, ReadsInt, IsPast, HasNoFloat, HasNoReading, Reads};
+ghost use Rattle.rl_reading.specs.Mirrors.NumberAt.{after_minus, capped_int, ended_at, int_at, IsHead, radix_at, after_exponent, after_fraction, float_at, float_tail_at, power_at};
+ghost use Rattle.rl_reading.specs.NumberShapes.{HasOneInteger, HasOneFloat, ReadsNoNumber};
+ghost use Rattle.rl_forms.specs.Numbers.{FloatReads};
+ghost use Rattle.rl_reading.specs.NumbersRead.{IsNumberOf};
+
+use crate::digit_rows::{
+    DigitRow, after_minus, begins_digit, is_exponent_suffix, is_suffix, read_row, skip_row,
+};
+use crate::found::{Parts, find_float, find_int, find_unsigned};
+use rl_text::classes::{CharClass, skip_class};
+use rl_text::text::{split_ascii, split_char};
+
+/// The base, and what follows its prefix.
+#[inline(always)]
+#[tactic(auto, using(rl_text::proofs::TailLemmas::tail_step, rl_text::proofs::TailLemmas::tail_self, crate::proofs::AsciiLemmas::no_zero, crate::proofs::AsciiLemmas::no_radix_letter), unfolding(crate::specs::Mirrors::NumberAt::radix_at))]
+pub fn split_radix(text: &str) -> (u32, &str)
+    ensures value { (result.0, chars result.1.now) ≡ radix_at (chars text.now) }
+    ensures within { (2 ≤ result.0) × (result.0 ≤ 16) }
+    ensures following { IsTail text.now result.1.now }
+{
+    if let Some((b'0', letter)) = split_ascii(text) {
+        match split_ascii(letter) {
+            Some((b'b', digits)) => return (2, digits),
+            Some((b'o', digits)) => return (8, digits),
+            Some((b'x', digits)) => return (16, digits),
+            _ => {}
+        }
+    }
+    (10, text)
+}
+
+/// What a number begins with: its base, and the row of digits after sign and prefix.
+#[derive(Clone, Copy)]
+pub struct Head<'t> {
+    pub radix: u32,
+    pub row: DigitRow<'t>,
+}
+
+/// What a number begins with, from the text after its sign.
+#[inline(always)]
+#[tactic(auto, using(rl_text::proofs::TailLemmas::tail_step))]
+fn head_of(unsigned: &str) -> Head<'_>
+    requires { IsTrue (first_passes is_ascii_digit (chars unsigned.now)) }
+    ensures head { IsHead (chars unsigned.now) result.radix
+        result.row.has_digit result.row.magnitude (chars result.row.rest.now) }
+    ensures following { IsTail unsigned.now result.row.rest.now }
+{
+    let (radix, digits) = split_radix(unsigned);
+    let row = read_row(digits, radix);
+    Head { radix, row }
+}
+
+/// What a number begins with; `None` where no digit stands after the sign. That test is written into the callers.
+#[inline(always)]
+#[tactic(auto, using(rl_text::proofs::TailLemmas::tail_step))]
+pub(crate) fn read_head(text: &str) -> Option<Head<'_>>
+    ensures none { IfNone result
+        (first_passes is_ascii_digit (after_minus (chars text.now)) ≡ false) }
+    ensures head { IfSome result (λ h. IsHead (after_minus (chars text.now)) h.radix
+        h.row.has_digit h.row.magnitude (chars h.row.rest.now)) }
+    ensures following { IfSome result (λ h. IsTail text.now h.row.rest.now) }
+{
+    let unsigned = after_minus(text);
+    if begins_digit(unsigned) {
+        Some(head_of(unsigned))
+    } else {
+        None
+    }
+}
+
+/// An integer, read.
+#[derive(Clone, Copy)]
+pub struct Integer<'t> {
+    /// The magnitude, if 128 bits hold it.
+    pub magnitude: Option<u128>,
+    pub suffix: &'t str,
+}
+
+/// The integer that begins so, if what follows its row may be its suffix.
+#[inline(always)]
+pub(crate) fn integer_of(head: Head<'_>) -> Option<Integer<'_>>
+    ensures value { option_map {U = Option ℕ × List ℕ}
+        (λ i. (i.magnitude, chars i.suffix.now)) result
+        ≡ ended_at head.entry.radix head.entry.row.has_digit head.entry.row.magnitude
+        (chars head.entry.row.rest.now) }
+    ensures suffix { IfSome result (λ i. i.suffix.now ≡ head.entry.row.rest.now) }
+{
+    let suffix = head.row.rest;
+    let is_integer = head.row.has_digit
+        && is_suffix(suffix)
+        && (head.radix != 10 || !is_exponent_suffix(suffix));
+    if is_integer {
+        Some(Integer {
+            magnitude: head.row.magnitude,
+            suffix,
+        })
+    } else {
+        None
+    }
+}
+
+/// The integer that the text is.
+pub(crate) fn read_integer(text: &str) -> Option<Integer<'_>>
+    ensures value { option_map {U = Option ℕ × List ℕ}
+        (λ i. (i.magnitude, chars i.suffix.now)) result
+        ≡ capped_int (int_at (chars text.now)) }
+    ensures following { IfSome result (λ i. IsTail text.now i.suffix.now) }
+{
+    match read_head(text) {
+        Some(head) => integer_of(head),
+        None => None,
+    }
+}
+
+/// The parts of an integer literal: `None` where the text is none, `Some(None)` where its magnitude is past 128 bits.
+///
+/// The body is all that stands before the suffix, sign and prefix included. Both are slices of the text.
+pub fn int_shape(text: &str) -> Option<Option<Parts<'_>>>
+    ensures none { IfNone result (HasNoInteger (chars text.now)) }
+    ensures past { IfSome result (λ o. IfNone o (IsPast (chars text.now))) }
+    ensures reads { IfSome result (λ o. IfSome o
+        (λ p. (v : Contents) × ReadsInt (chars text.now) v (chars p.suffix.now))) }
+    ensures kind { IfSome result (λ o. IfSome o (λ p. p.kind ≡ Int)) }
+    ensures cut { IfSome result (λ o. IfSome o (λ p. text.now ≡ p.body.now ++ p.suffix.now)) }
+    ensures following { IfSome result (λ o. IfSome o (λ p. IsTail text.now p.suffix.now)) }
+    ensures once { HasOneInteger (chars text.now) }
+{
+    match find_int(text) {
+        Some(Some(found)) => Some(Some(found.parts(text))),
+        Some(None) => Some(None),
+        None => None,
+    }
+}
+
+/// The text after the dot and digits at its front, if a dot stands there.
+#[inline(always)]
+#[tactic(auto, using(rl_text::proofs::TailLemmas::tail_step, rl_text::proofs::TailLemmas::tail_self))]
+fn after_fraction(text: &str) -> &str
+    ensures value { chars result.now ≡ after_fraction (chars text.now) }
+    ensures following { IsTail text.now result.now }
+{
+    match split_char(text) {
+        Some(('.', digits)) => skip_row(digits).rest,
+        _ => text,
+    }
+}
+
+/// The digits of a power, after its letter.
+#[inline(always)]
+#[tactic(auto, using(rl_text::proofs::TailLemmas::tail_step, rl_text::proofs::TailLemmas::tail_self), unfolding(crate::specs::Mirrors::NumberAt::power_at))]
+fn power_digits(text: &str) -> &str
+    ensures value { chars result.now ≡ power_at (chars text.now) }
+    ensures following { IsTail text.now result.now }
+{
+    let signed = skip_class(CharClass::Underscore, text);
+    match split_char(signed) {
+        Some(('+' | '-', digits)) => digits,
+        _ => signed,
+    }
+}
+
+/// The text after the exponent at its front, if one stands there.
+#[inline(always)]
+#[tactic(auto, using(rl_text::proofs::TailLemmas::tail_step, rl_text::proofs::TailLemmas::tail_self), unfolding(crate::specs::Mirrors::NumberAt::after_exponent))]
+fn after_exponent(text: &str) -> &str
+    ensures value { chars result.now ≡ after_exponent (chars text.now) }
+    ensures following { IsTail text.now result.now }
+{
+    if let Some(('e' | 'E', power)) = split_char(text) {
+        let row = skip_row(power_digits(power));
+        if row.has_digit {
+            return row.rest;
+        }
+    }
+    text
+}
+
+/// The suffix of the float whose whole part this follows.
+#[inline(always)]
+#[tactic(auto, using(rl_text::proofs::TailLemmas::tail_step, rl_text::proofs::TailLemmas::tail_self))]
+fn tail_suffix(text: &str) -> Option<&str>
+    ensures value { option_map (λ x. chars x.now) result ≡ float_tail_at (chars text.now) }
+    ensures following { IfSome result (λ x. IsTail text.now x.now) }
+{
+    let suffix = after_exponent(after_fraction(text));
+    if is_suffix(suffix) {
+        Some(suffix)
+    } else {
+        None
+    }
+}
+
+/// The suffix of the float that the text is.
+#[tactic(auto, using(rl_text::proofs::TailLemmas::tail_step, rl_text::proofs::TailLemmas::tail_self), unfolding(crate::specs::Mirrors::NumberAt::float_at))]
+pub(crate) fn float_suffix(text: &str) -> Option<&str>
+    ensures value { option_map (λ x. chars x.now) result ≡ float_at (chars text.now) }
+    ensures following { IfSome result (λ x. IsTail text.now x.now) }
+{
+    let whole = after_minus(text);
+    if !begins_digit(whole) {
+        return None;
+    }
+    tail_suffix(skip_row(whole).rest)
+}
+
+/// The suffix of the float that begins so: after another base's prefix the whole part is its zero.
+#[inline(always)]
+pub(crate) fn head_suffix<'t>(text: &'t str, head: Head<'t>) -> Option<&'t str>
+    requires head { IsHead (after_minus (chars text.now)) head.radix
+        head.row.has_digit head.row.magnitude (chars head.row.rest.now) }
+    requires following { IsTail text.now head.row.rest.now }
+    ensures value { option_map (λ x. chars x.now) result ≡ float_at (chars text.now) }
+    ensures following { IfSome result (λ x. IsTail text.now x.now) }
+{
+    if head.radix == 10 {
+        tail_suffix(head.row.rest)
+    } else {
+        float_suffix(text)
+    }
+}
+
+/// The parts of a float literal, whether or not an integer stands there too.
+///
+/// The body is all that stands before the suffix, the sign included. Both are slices of the text.
+pub fn float_shape(text: &str) -> Option<Parts<'_>>
+    ensures none { IfNone result (HasNoFloat (chars text.now)) }
+    ensures reads { IfSome result
+        (λ p. FloatReads (chars text.now) (chars p.body.now) (chars p.suffix.now)) }
+    ensures kind { IfSome result (λ p. p.kind ≡ Float) }
+    ensures cut { IfSome result (λ p. text.now ≡ p.body.now ++ p.suffix.now) }
+    ensures following { IfSome result (λ p. IsTail text.now p.suffix.now) }
+    ensures once { HasOneFloat (chars text.now) }
+{
+    let found = find_float(text)?;
+    Some(found.parts(text))
+}
+
+/// A number, read: an integer within 128 bits, or a float where no integer of any magnitude stands.
+#[derive(Clone, Copy)]
+pub enum Number<'t> {
+    Integer(u128, &'t str),
+    Float(&'t str),
+}
+
+/// The number that the text is.
+#[inline(always)]
+pub(crate) fn read_number(text: &str) -> Option<Number<'_>>
+    ensures none { IfNone result (ReadsNoNumber (chars text.now)) }
+    ensures reads { IfSome result (IsNumberOf text.now) }
+{
+    let head = read_head(text)?;
+    match integer_of(head) {
+        Some(integer) => Some(Number::Integer(integer.magnitude?, integer.suffix)),
+        None => Some(Number::Float(head_suffix(text, head)?)),
+    }
+}
+
+/// The parts of the number that a minus and the text make.
+///
+/// `Some` exactly where the text with a minus before it reads as a literal; it is then an integer or a float. Body and
+/// suffix are slices of the text, without the minus.
+pub fn shape_negative(text: &str) -> Option<Parts<'_>>
+    ensures none { IfNone result (HasNoReading (code "-" ∷ chars text.now)) }
+    ensures reads { IfSome result
+        (λ p. (v : Contents) × Reads (code "-" ∷ chars text.now) p.kind v (chars p.suffix.now)) }
+    ensures number { IfSome result (λ p. (p.kind ≡ Int) ⊎ (p.kind ≡ Float)) }
+    ensures cut { IfSome result (λ p. text.now ≡ p.body.now ++ p.suffix.now) }
+{
+    let found = find_unsigned(text)?;
+    Some(found.parts(text))
+}

@@ -1,0 +1,15 @@
+pub mod NumberReads
+pub mod NumberTailFlaws
+pub mod NumberFlawLemmas
+pub mod ExplainLemmas
+pub mod EscapeLemmas
+pub mod UnitFlawLemmas
+pub mod RawFlawLemmas
+pub mod QuotedFlawLemmas
+pub mod QuotedStopLemmas
+pub mod WordFlawLemmas
+pub mod OneUnitFlaw
+pub mod OneRawFlaw
+pub mod OneNumberFlaw
+pub mod OneFlawLemmas
+pub mod CodeDigitFlaws

@@ -1,0 +1,7 @@
+-- Mirrors of the code: programs on lists of characters that code is proved equal to. No public
+-- clause cites one.
+
+pub mod NumberFlawAt
+pub mod StopsInside
+pub mod UnitFlawAt
+pub mod WordFlawAt

@@ -1,0 +1,24 @@
+-- A mirror of the code, for proofs alone: why a text that begins neither as a number nor as a
+-- quoted literal is no truth value, and the text from that place on.
+use Rattle.std.specs.Prelude.{ℕ, true, false, ◌==◌, ◌||◌, List, [], ◌∷◌, if◌then◌else◌}
+use Prim.Native.Char.{code}
+use Rattle.rl_forms.specs.Reading.{truth_text}
+use Rattle.rl_reasons.specs.declared.flaws.FlawKind.TheVariants.{Empty, Unfinished, NoLiteral}
+use Rattle.rl_reasons.specs.Mirrors.NumberFlawAt.{end_flaw_at}
+use Rattle.rl_reasons.specs.Mirrors.UnitFlawAt.{FoundFlaw, found_flaw}
+
+-- what follows the letters at the front that the word begins with
+abbrev pub after_letters : List ℕ → List ℕ → List ℕ
+after_letters [] t = t
+after_letters (w ∷ ws) [] = []
+after_letters (w ∷ ws) (c ∷ cs) = if c == w then after_letters ws cs else (c ∷ cs)
+
+unfoldable pub word_flaw_at : List ℕ → FoundFlaw
+word_flaw_at [] = found_flaw Empty []
+word_flaw_at (c ∷ cs) =
+    if c == code "b" || c == code "c" then end_flaw_at Unfinished NoLiteral cs
+    else (if c == code "t"
+    then end_flaw_at Unfinished NoLiteral (after_letters (truth_text true) (c ∷ cs))
+    else (if c == code "f"
+    then end_flaw_at Unfinished NoLiteral (after_letters (truth_text false) (c ∷ cs))
+    else found_flaw NoLiteral (c ∷ cs)))

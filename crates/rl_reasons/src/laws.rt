@@ -1,0 +1,10 @@
+//! Laws of the definitions: each function does nothing, and its contract is the law.
+
+ghost use Rattle.std.specs.Prelude.{List, ℕ};
+ghost use Rattle.rl_reasons.specs.OneFlaw.{HasOneFlaw};
+
+/// One flaw at most explains why a text is no literal: the kinds exclude each other, and the piece and the place are the
+/// only ones. So whatever explains a text is the flaw that [`explain`](crate::explain) returns.
+pub fn a_text_has_one_flaw()
+    ensures { (text : List ℕ) → HasOneFlaw text }
+{}

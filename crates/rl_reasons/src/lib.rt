@@ -1,0 +1,9 @@
+//! Why a text is no literal, and where. No memory is taken.
+#![tactic(auto)]
+
+mod flaws;
+pub mod laws;
+mod number_flaws;
+mod quoted_flaws;
+
+pub use crate::flaws::{Flaw, FlawKind, explain};

@@ -1,0 +1,281 @@
+-- A strict token is a quoted form after its opener, a number, or a truth value.
+use Rattle.rl_text.proofs.Common.{◌≡◌, ◌≢◌, ℕ, ◌⊎◌, ◌||◌, Bool, true, false, ◌==◌, List, [], ◌∷◌, ◌++◌, Option, Some, None, refl, sym, ap, subst, ◌∙◌, inl, inr, append_assoc, both_ways, is_ascii_digit, flat_map, IsTrue}
+use Rattle.rl_reading.proofs.Names.{◌↔◌, Kind, Str, ByteStr, CStr, Byte, Char, Int, Float, BoolKind, NoSign, opener, raw_opener, Contents, Truth, truth_text, strict_text, strict_contents, strict_content_of}
+use Rattle.std.specs.Option.{IfSome, IfNone}
+use Rattle.std.specs.Prelude.{is_some, replicate, codes, if◌then◌else◌}
+use Rattle.rl_forms.specs.Strict.{StrictCooked, StrictRaw, Strict, strict_opener, strict_raw_opener, strict_closer, strict_quoted_contents}
+use Rattle.rl_text.proofs.Basics.{apart}
+use Rattle.rl_forms.proofs.OneNumber.{begins_number, float_front, int_front}
+use Rattle.rl_forms.proofs.StrictNumbers.{strict_int, float_strict_reads}
+use Rattle.rl_forms.proofs.StrictQuoted.{between}
+use Rattle.rl_reading.specs.declared.quoted_forms.QuotedForm.{QuotedForm}
+use Rattle.rl_reading.specs.declared.quoted_forms.QuotedForm.TheVariants.{Cooked as CookedForm, Raw as RawForm, Single as SingleForm}
+use Rattle.rl_reading.specs.Forms.{has_form, form_opener}
+use Rattle.rl_reading.specs.Mirrors.OpenerAt.{opener_at}
+use Rattle.rl_strict.specs.Mirrors.StrictAt.{is_strict_number}
+use Rattle.rl_strict.specs.StrictShapes.{IsToken, ClosesUnits, ClosesRaw, ClosesForm}
+use Rattle.rl_reading.proofs.FormLemmas.{front_complete, front_sound}
+use Rattle.rl_reading.proofs.StrictBackLemmas.{HasStrictUnits}
+use Rattle.rl_strict.proofs.StrictNumberLemmas.{IsStrictNumber, float_complete, int_complete, number_sound}
+use Rattle.rl_strict.proofs.StrictRowLemmas.{quoted_string, quoted_single}
+use Rattle.rl_reading.proofs.OpenerLemmas.{word_has_none}
+
+-- ---- both grammars open their forms alike
+
+-- the quotes
+opener_is : (k : Kind) → opener k ≡ strict_opener k
+opener_is Str = refl
+opener_is ByteStr = refl
+opener_is CStr = refl
+opener_is Byte = refl
+opener_is Char = refl
+opener_is Int = refl
+opener_is Float = refl
+opener_is BoolKind = refl
+
+-- the letters of raw forms
+raw_opener_is : (k : Kind) → raw_opener k ≡ strict_raw_opener k
+raw_opener_is Str = refl
+raw_opener_is ByteStr = refl
+raw_opener_is CStr = refl
+raw_opener_is Byte = refl
+raw_opener_is Char = refl
+raw_opener_is Int = refl
+raw_opener_is Float = refl
+raw_opener_is BoolKind = refl
+
+-- ---- what is closed is a token
+
+-- a quoted form is strict in its kind
+quoted_strict : (t : List ℕ) (k : Kind) (v : Contents) (x : List ℕ) → HasStrictUnits k → StrictCooked t k v x
+    ⊎ StrictRaw t k v x → Strict t k v x
+quoted_strict t Str v x q s = s
+quoted_strict t ByteStr v x q s = s
+quoted_strict t CStr v x q s = s
+quoted_strict t Byte v x q s = s
+quoted_strict t Char v x q s = s
+quoted_strict t kind v x q s = absurd q
+
+-- units, a quote and a suffix after an opener
+units_token : (k : Kind) (t inside : List ℕ) → HasStrictUnits k → t ≡ opener k ++ inside → ClosesUnits k inside
+    → IsToken t
+units_token k t inside q text c =
+    let v : Contents = strict_quoted_contents k (flat_map (strict_contents (strict_content_of k)) c.units) in
+    record {
+      kind = k;
+      contents = v;
+      suffix = c.suffix;
+      strict = quoted_strict t k v c.suffix q (inl (record {
+        units = c.units;
+        count = c.count;
+        each = c.each;
+        blanks_end = c.blanks_end;
+        suffix = c.is_suffix;
+        text = text ∙ ap (λ z. z ++ inside) (opener_is k) ∙ ap (λ z. strict_opener k ++ z) c.text_is
+            ∙ sym (between (strict_opener k) (flat_map strict_text c.units) (strict_closer k) c.suffix);
+        contents = refl;
+      }));
+    }
+
+-- the parts of a raw form, joined from the right
+raw_text : (o h i x : List ℕ) → ((((o ++ h) ++ (34 ∷ i)) ++ (34 ∷ h)) ++ x) ≡ o ++ (h ++ (34 ∷ (i ++ (34 ∷ (h ++ x)))))
+raw_text o h i x = simp append_assoc
+
+-- hashes and what ends them after an opener
+raw_token : (k : Kind) (t inside : List ℕ) → HasStrictUnits k → t ≡ raw_opener k ++ inside → ClosesRaw k inside
+    → IsToken t
+raw_token k t inside q text c =
+    let i = c.closes in
+    let h : List ℕ = replicate c.hashes 35 in
+    let v : Contents = strict_quoted_contents k (strict_content_of k i.inside) in
+    record {
+      kind = k;
+      contents = v;
+      suffix = i.suffix;
+      strict = quoted_strict t k v i.suffix q (inr (record {
+        hashes = c.hashes;
+        inside = i.inside;
+        few = c.few;
+        allowed = i.allowed;
+        no_carriage_return = i.no_carriage_return;
+        first_close = λ f r e. i.first_close f r (e ∙ append_assoc f (34 ∷ h) r);
+        suffix = i.is_suffix;
+        text = text ∙ ap (λ z. z ++ inside) (raw_opener_is k) ∙ ap (λ z. strict_raw_opener k ++ z)
+            (c.text_is ∙ ap (λ z. h ++ (34 ∷ z)) i.text_is) ∙ sym (raw_text (strict_raw_opener k) h i.inside i.suffix);
+        contents = refl;
+      }));
+    }
+
+-- any form after its opener
+close_token : (form : QuotedForm) (k : Kind) (t inside : List ℕ) → has_form form k ≡ true → t ≡ form_opener form k
+    ++ inside → ClosesForm form k inside → IsToken t
+close_token CookedForm k t inside h text c = units_token k t inside (quoted_string k h) text c
+close_token SingleForm k t inside h text c = units_token k t inside (quoted_single k h) text c
+close_token RawForm k t inside h text c = raw_token k t inside (quoted_string k h) text c
+
+-- ---- what a token is
+
+-- a quoted form, after its opener
+record Opened (t : List ℕ) : Type 0 where
+  form : QuotedForm
+  kind : Kind
+  inside : List ℕ
+  has : has_form form kind ≡ true
+  text_is : t ≡ form_opener form kind ++ inside
+  closes : ClosesForm form kind inside
+
+-- a quoted form, a number or a truth value
+abbrev Seen : List ℕ → Type 0
+Seen t = Opened t ⊎ (IsStrictNumber t ⊎ ((b : Bool) × (t ≡ truth_text b)))
+
+-- what stands after the opener of a form with escapes
+units_closed : (k : Kind) (t : List ℕ) (v : Contents) (x : List ℕ) (s : StrictCooked t k v x)
+    → ClosesUnits k (flat_map strict_text s.units ++ (strict_closer k ++ x))
+units_closed k t v x s = record { units = s.units; suffix = x; count = s.count; each = s.each; blanks_end = s.blanks_end; is_suffix = s.suffix; text_is = refl }
+
+-- and the opener before it
+units_text : (k : Kind) (t : List ℕ) (v : Contents) (x : List ℕ) (s : StrictCooked t k v x) → t ≡ opener k
+    ++ (flat_map strict_text s.units ++ (strict_closer k ++ x))
+units_text k t v x s = s.text ∙ between (strict_opener k) (flat_map strict_text s.units) (strict_closer k) x
+    ∙ ap (λ z. z ++ (flat_map strict_text s.units ++ (strict_closer k ++ x))) (sym (opener_is k))
+
+-- a string with escapes
+string_seen : (k : Kind) (t : List ℕ) (v : Contents) (x : List ℕ) → has_form CookedForm k ≡ true → StrictCooked t k v x
+    → Seen t
+string_seen k t v x h s = inl (record { form = CookedForm; kind = k; inside = flat_map strict_text s.units ++ (strict_closer k ++ x); has = h; text_is = units_text k t v x s; closes = units_closed k t v x s })
+
+-- a character or a byte
+single_seen : (k : Kind) (t : List ℕ) (v : Contents) (x : List ℕ) → has_form SingleForm k ≡ true → StrictCooked t k v x
+    → Seen t
+single_seen k t v x h s = inl (record { form = SingleForm; kind = k; inside = flat_map strict_text s.units ++ (strict_closer k ++ x); has = h; text_is = units_text k t v x s; closes = units_closed k t v x s })
+
+-- a raw string
+raw_seen : (k : Kind) (t : List ℕ) (v : Contents) (x : List ℕ) → has_form RawForm k ≡ true → StrictRaw t k v x → Seen t
+raw_seen k t v x has s =
+    let h : List ℕ = replicate s.hashes 35 in
+    let rest : List ℕ = s.inside ++ (34 ∷ (h ++ x)) in
+    inl (record {
+      form = RawForm;
+      kind = k;
+      inside = h ++ (34 ∷ rest);
+      has = has;
+      text_is = s.text ∙ raw_text (strict_raw_opener k) h s.inside x
+          ∙ ap (λ z. z ++ (h ++ (34 ∷ rest))) (sym (raw_opener_is k));
+      closes = record {
+        hashes = s.hashes;
+        few = s.few;
+        rest = rest;
+        closes = record {
+          inside = s.inside;
+          suffix = x;
+          allowed = s.allowed;
+          no_carriage_return = s.no_carriage_return;
+          first_close = λ f r e. s.first_close f r (e ∙ sym (append_assoc f (34 ∷ h) r));
+          is_suffix = s.suffix;
+          text_is = refl;
+        };
+        text_is = refl;
+      };
+    })
+
+-- both spellings of the two words are one
+truth_words : (b : Bool) → (if b then codes "true" else codes "false") ≡ truth_text b
+truth_words true = refl
+truth_words false = refl
+
+-- each token is one of the three
+seen : (t : List ℕ) (k : Kind) (v : Contents) (x : List ℕ) → Strict t k v x → Seen t
+seen t Str v x (inl s) = string_seen Str t v x refl s
+seen t Str v x (inr s) = raw_seen Str t v x refl s
+seen t ByteStr v x (inl s) = string_seen ByteStr t v x refl s
+seen t ByteStr v x (inr s) = raw_seen ByteStr t v x refl s
+seen t CStr v x (inl s) = string_seen CStr t v x refl s
+seen t CStr v x (inr s) = raw_seen CStr t v x refl s
+seen t Byte v x (inl s) = single_seen Byte t v x refl s
+seen t Byte v x (inr s) = absurd s.allowed
+seen t Char v x (inl s) = single_seen Char t v x refl s
+seen t Char v x (inr s) = absurd s.allowed
+seen t Int v x s = inr (inl (v, x, inl s))
+seen t Float v x s = inr (inl (v, x, inr s))
+seen t BoolKind v x s = inr (inr (s.truth, s.text ∙ truth_words s.truth))
+
+-- ---- what the front tells
+
+-- no quoted form begins like a number
+number_front : (t : List ℕ) → begins_number t ≡ true → opener_at t ≡ None
+unfolding opener_at
+number_front [] h = absurd (cc)
+number_front (c ∷ cs) h =
+    let test : ℕ → Bool = λ c. is_ascii_digit c || (c == 45) in
+    let a = apart test c 39 h refl in
+    let b = apart test c 98 h refl in
+    let d = apart test c 99 h refl in
+    let e = apart test c 34 h refl in
+    let f = apart test c 114 h refl in
+    rw (a, b, d, e, f) refl
+
+-- so none begins a number
+number_none : (t : List ℕ) → IsStrictNumber t → opener_at t ≡ None
+number_none t (v, x, inl s) = let i = strict_int t x v s in number_front t (int_front t x NoSign i.magnitude i.reads)
+number_none t (v, x, inr s) = let f = float_strict_reads t x v s in number_front t (float_front t f.numeral x f.reads)
+
+-- a quoted form is what its front tells
+opened_told : (t : List ℕ) (p : QuotedForm × Kind × List ℕ) (o : Opened t) → opener_at t ≡ Some p
+    → ClosesForm p.0 p.1 p.2
+opened_told t p o h =
+    let front : Some p ≡ Some (o.form, o.kind, o.inside) = sym h ∙ ap opener_at o.text_is
+    ∙ front_complete o.form o.kind o.inside o.has in
+    let same : (o.form, o.kind, o.inside) ≡ p = cc in
+    subst (λ (q : QuotedForm × Kind × List ℕ). ClosesForm q.0 q.1 q.2) same o.closes
+
+-- where a front tells a form, the text is a token exactly where the form is closed
+pub told_token : (t : List ℕ) (p : QuotedForm × Kind × List ℕ) (b : Bool) → Some p ≡ opener_at t
+    → IsTrue b ↔ ClosesForm p.0 p.1 p.2 → IsTrue b ↔ IsToken t
+told_token t p b h same =
+    let tells = front_sound t p (sym h) in
+    let none : opener_at t ≡ None → ⊥ = λ e. let f : Some p ≡ None = h ∙ e in absurd (cc) in (
+      λ y. close_token p.0 p.1 t p.2 tells.has tells.text_is (same.0 y),
+      λ c. elim (seen t c.kind c.contents c.suffix c.strict) [
+        | inl o ↦ same.1 (opened_told t p o (sym h))
+        | inr w ↦ elim w [
+          | inl n ↦ absurd (none (number_none t n))
+          | inr v ↦ absurd (none (ap opener_at v.1 ∙ word_has_none v.0))
+        ]
+      ],
+    )
+
+-- a number is a token
+number_token : (t : List ℕ) → IsStrictNumber t → IsToken t
+number_token t (v, x, inl s) = record { kind = Int; contents = v; suffix = x; strict = s }
+number_token t (v, x, inr s) = record { kind = Float; contents = v; suffix = x; strict = s }
+
+-- a strict number passes
+number_complete : (t : List ℕ) → IsStrictNumber t → is_strict_number t ≡ true
+number_complete t (v, x, inl s) = int_complete t x v s
+number_complete t (v, x, inr s) = float_complete t x v s
+
+-- a truth value is a token
+truth_token : (t : List ℕ) (b : Bool) → t ≡ truth_text b → IsToken t
+truth_token t b e = record { kind = BoolKind; contents = Truth b; suffix = []; strict = record { truth = b; text = e ∙ sym (truth_words b); contents = refl; suffix = refl } }
+
+-- what passes as a number is a token
+pub passed_token : (t : List ℕ) (b : Bool) → b ≡ is_strict_number t → b ≡ true → IsTrue b ↔ IsToken t
+passed_token t b is h = (λ y. number_token t (number_sound t (sym is ∙ h)), λ c. h)
+
+-- a text that is no quoted form and no number is a token exactly where it is a truth value
+pub other_token : (t : List ℕ) (o : Option Bool) (b : Bool) → None ≡ opener_at t → is_strict_number t ≡ false
+    → IfSome o (λ v. t ≡ truth_text v) → IfNone o ((v : Bool) → t ≢ truth_text v) → b ≡ is_some o → IsTrue b ↔ IsToken t
+other_token t (Some v) b h n some none is = (λ y. truth_token t v some, λ c. is)
+other_token t None b h n some none is = (
+  λ y. absurd (both_ways b is y),
+  λ c. elim (seen t c.kind c.contents c.suffix c.strict) [
+    | inl o ↦
+        let front : None ≡ Some (o.form, o.kind, o.inside) = h ∙ ap opener_at o.text_is
+        ∙ front_complete o.form o.kind o.inside o.has in
+        absurd (cc)
+    | inr w ↦ elim w [
+      | inl number ↦ absurd (both_ways (is_strict_number t) n (number_complete t number))
+      | inr v ↦ absurd (none v.0 v.1)
+    ]
+  ],
+)

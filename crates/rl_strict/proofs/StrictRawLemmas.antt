@@ -1,0 +1,318 @@
+-- Strict raw forms: hashes, contents up to the first closer, and the suffix after it.
+use Rattle.rl_text.proofs.Common.{◌≡◌, ◌≢◌, ℕ, zero, suc, ◌<◌, ◌≤◌, ◌⊎◌, ◌&&◌, ◌||◌, Bool, true, false, not, ◌==◌, cond, List, [], ◌∷◌, ◌++◌, length, drop, replicate, refl, sym, ap, subst, ◌∙◌, inl, inr, arith, nat_lt, and_from, and_parts, both_ways, cases_Bool, eqb-true, not-true, append_cancel_right, encodes-chars, list_all, IsTrue, encode_utf8_all, IsUtf8}
+use Rattle.rl_reading.proofs.Names.{false_from_ne_true, drop-append_seam, ◌↔◌, Kind, Str, ByteStr, CStr, is_string, IsStrictSuffix, Marks, is_other, after_run, is_hash, hash_count}
+use Rattle.std.proofs.lemmas.List.{length-replicate}
+use Rattle.std.specs.Str.{chars}
+use Rattle.rl_text.specs.Texts.{begins}
+use Rattle.rl_forms.specs.Strict.{IsRawInside}
+use Rattle.rl_forms.proofs.StrictNumbers.{begins_front}
+use Rattle.rl_lexer.proofs.HashLemmas.{hashes_before as hashes_here, hashes_past}
+use Rattle.rl_strict.specs.Mirrors.StrictAt.{ends_raw, is_inside, is_raw_character, is_strict_suffix}
+use Rattle.rl_strict.specs.StrictShapes.{ClosesInside, ClosesRaw}
+use Rattle.rl_reading.proofs.IntegerLemmas.{begins_is}
+use Rattle.rl_reading.proofs.ShapeLemmas.{hashes_bytes}
+use Rattle.rl_strict.proofs.StrictWordLemmas.{all_both, all_apart, strict_suffix_complete, strict_suffix_sound}
+
+-- ---- what a raw form holds
+
+-- no carriage return
+abbrev no_return : ℕ → Bool
+no_return c = not (c == 13)
+
+-- what the kind allows passes the test
+inside_allowed : (k : Kind) (cs : List ℕ) → IsRawInside k cs → list_all no_return cs ≡ true
+    → list_all (is_raw_character k) cs ≡ true
+inside_allowed Str cs a n = n
+inside_allowed ByteStr cs a n = all_both (λ c. nat_lt c 128) no_return cs a n
+inside_allowed CStr cs a n = all_both (λ c. not (c == 0)) no_return cs a n
+inside_allowed kind cs a n = absurd a
+
+-- and the other way about
+inside_sound : (k : Kind) (cs : List ℕ) → is_string k ≡ true → list_all (is_raw_character k) cs ≡ true
+    → IsRawInside k cs × (list_all no_return cs ≡ true)
+inside_sound Str cs s h = (tt, h)
+inside_sound ByteStr cs s h = all_apart (λ c. nat_lt c 128) no_return cs h
+inside_sound CStr cs s h = all_apart (λ c. not (c == 0)) no_return cs h
+inside_sound kind cs s h = absurd (cc)
+
+-- ---- the first closer
+
+-- hashes that begin a text with a quote in it stand before the quote
+hashes_before : (n : ℕ) (a z : List ℕ) → begins (replicate n 35) (a ++ (34 ∷ z)) ≡ true → begins (replicate n 35) a
+    ≡ true
+hashes_before zero a z h = refl
+hashes_before (suc n) [] z h = absurd (cc)
+hashes_before (suc n) (c ∷ cs) z h =
+    let p = and_parts (c == 35) (begins (replicate n 35) (cs ++ (34 ∷ z))) h in
+    and_from (c == 35) (begins (replicate n 35) cs) p.0 (hashes_before n cs z p.1)
+
+-- what begins a text begins it whatever follows
+begins_more : (p a b : List ℕ) → begins p a ≡ true → begins p (a ++ b) ≡ true
+begins_more [] a b h = refl
+begins_more (k ∷ p) [] b h = absurd (cc)
+begins_more (k ∷ p) (c ∷ cs) b h =
+    let q = and_parts (c == k) (begins p cs) h in
+    and_from (c == k) (begins p (cs ++ b)) q.0 (begins_more p cs b q.1)
+
+-- one turn of the loop, at no closer
+raw_on : (k : Kind) (hashes : List ℕ) (c : ℕ) (cs : List ℕ) → (c == 34 && begins hashes cs) ≡ false
+    → ends_raw k hashes (c ∷ cs) ≡ (is_raw_character k c && ends_raw k hashes cs)
+unfolding ends_raw
+raw_on k hashes c cs h = ap (λ b. cond b (is_strict_suffix (drop (length hashes) cs))
+    (is_raw_character k c && ends_raw k hashes cs)) h
+
+-- the loop goes past a run at once
+pub raw_run : (k : Kind) (hashes run rest : List ℕ) → list_all (is_inside k) run ≡ true
+    → ends_raw k hashes (run ++ rest) ≡ ends_raw k hashes rest
+raw_run k hashes [] rest each = refl
+raw_run k hashes (c ∷ cs) rest each =
+    let b = and_parts (is_inside k c) (list_all (is_inside k) cs) each in
+    let p = and_parts (not (c == 34)) (is_raw_character k c) b.0 in
+    raw_on k hashes c (cs ++ rest) (ap (λ z. z && begins hashes (cs ++ rest)) (not-true (c == 34) p.0))
+    ∙ ap (λ z. z && ends_raw k hashes (cs ++ rest)) p.1
+    ∙ raw_run k hashes cs rest b.1
+
+pub raw_past : (k : Kind) (hashes t x run : List ℕ) (s : Bool) → t ≡ run ++ x → list_all (is_inside k) run ≡ true
+    → ends_raw k hashes t ≡ s → ends_raw k hashes x ≡ s
+raw_past k hashes t x run s e each same = sym (raw_run k hashes run x each) ∙ ap (ends_raw k hashes) (sym e) ∙ same
+
+-- one turn at a character that closes nothing
+pub turn_on : (k : Kind) (hashes t cs : List ℕ) (c : ℕ) (r s : Bool) → t ≡ c ∷ cs → (c == 34 && begins hashes cs)
+    ≡ false → r ≡ is_raw_character k c → r ≡ true → ends_raw k hashes t ≡ s → ends_raw k hashes cs ≡ s
+turn_on k hashes t cs c true s e stays is raw same =
+    ap (λ z. z && ends_raw k hashes cs) is ∙ sym (raw_on k hashes c cs stays) ∙ ap (ends_raw k hashes) (sym e) ∙ same
+turn_on k hashes t cs c false s e stays is raw same = absurd (cc)
+
+-- what stops at these marks stands inside
+str_inside : (a b : Bool) → not (a || b || b || b) ≡ true → (not a && not b) ≡ true
+str_inside true b h = absurd (cc)
+str_inside false true h = absurd (cc)
+str_inside false false h = refl
+
+c_inside : (a b z : Bool) → not (a || b || z || z) ≡ true → (not a && (not z && not b)) ≡ true
+c_inside true b z h = absurd (cc)
+c_inside false true z h = absurd (cc)
+c_inside false false true h = absurd (cc)
+c_inside false false false h = refl
+
+pub str_run : (m : Marks) (run : List ℕ) → m ≡ record { first = 34; second = 13; third = 13; fourth = 13 }
+    → list_all (is_other m) run ≡ true → list_all (is_inside Str) run ≡ true
+str_run m run e each = go run (ap (λ n. list_all (is_other n) run) (sym e) ∙ each)
+  where
+    go : (cs : List ℕ) → list_all (is_other (record { first = 34; second = 13; third = 13; fourth = 13 })) cs ≡ true
+        → list_all (is_inside Str) cs ≡ true
+    go [] h = refl
+    go (c ∷ cs) h =
+        let b = and_parts (not (c == 34 || c == 13 || c == 13 || c == 13))
+        (list_all (is_other (record { first = 34; second = 13; third = 13; fourth = 13 })) cs) h in
+        and_from (is_inside Str c) (list_all (is_inside Str) cs) (str_inside (c == 34) (c == 13) b.0) (go cs b.1)
+
+pub c_run : (cs : List ℕ) → list_all (is_other (record { first = 34; second = 13; third = 0; fourth = 0 })) cs ≡ true
+    → list_all (is_inside CStr) cs ≡ true
+c_run [] h = refl
+c_run (c ∷ cs) h =
+    let b = and_parts (not (c == 34 || c == 13 || c == 0 || c == 0))
+    (list_all (is_other (record { first = 34; second = 13; third = 0; fourth = 0 })) cs) h in
+    and_from (is_inside CStr c) (list_all (is_inside CStr) cs) (c_inside (c == 34) (c == 13) (c == 0) b.0)
+    (c_run cs b.1)
+
+-- and at the closer
+raw_close : (k : Kind) (hashes x : List ℕ) → ends_raw k hashes (34 ∷ (hashes ++ x)) ≡ is_strict_suffix x
+unfolding ends_raw
+raw_close k hashes x =
+    ap (λ b. cond b (is_strict_suffix (drop (length hashes) (hashes ++ x)))
+    (is_raw_character k 34 && ends_raw k hashes (hashes ++ x))) (begins_front hashes x)
+    ∙ ap is_strict_suffix (drop-append_seam hashes x)
+
+-- no closer stands in the contents
+abbrev NoCloser : List ℕ → List ℕ → Type 0
+NoCloser hashes inside = (front rest : List ℕ) → inside ≢ front ++ (34 ∷ (hashes ++ rest))
+
+-- no closer begins in contents that have none
+no_closer_here : (n : ℕ) (c : ℕ) (cs z : List ℕ) → NoCloser (replicate n 35) (c ∷ cs)
+    → (c == 34 && begins (replicate n 35) (cs ++ (34 ∷ z))) ≡ false
+no_closer_here n c cs z none = false_from_ne_true (c == 34 && begins (replicate n 35) (cs ++ (34 ∷ z))) (λ h.
+    let p = and_parts (c == 34) (begins (replicate n 35) (cs ++ (34 ∷ z))) h in
+    let b = begins_is (replicate n 35) cs (hashes_before n cs z p.1) in
+    none [] b.0 (ap (λ q. q ∷ cs) (eqb-true c 34 p.0) ∙ ap (λ q. 34 ∷ q) b.1))
+
+-- contents, closer and suffix pass
+raw_complete_from : (k : Kind) (n : ℕ) (inside x : List ℕ) → list_all (is_raw_character k) inside ≡ true
+    → NoCloser (replicate n 35) inside → IsStrictSuffix x → ends_raw k (replicate n 35)
+    (inside ++ (34 ∷ (replicate n 35 ++ x))) ≡ true
+raw_complete_from k n [] x each none s = raw_close k (replicate n 35) x ∙ strict_suffix_complete x s
+raw_complete_from k n (c ∷ cs) x each none s =
+    let p = and_parts (is_raw_character k c) (list_all (is_raw_character k) cs) each in
+    raw_on k (replicate n 35) c (cs ++ (34 ∷ (replicate n 35 ++ x))) (no_closer_here n c cs (replicate n 35 ++ x) none)
+    ∙ and_from (is_raw_character k c) _ p.0 (raw_complete_from k n cs x p.1
+    (λ f r e. none (c ∷ f) r (ap (λ q. c ∷ q) e)) s)
+
+-- what closes a raw form passes
+pub raw_complete : (k : Kind) (n : ℕ) (t : List ℕ) → ClosesInside k (replicate n 35) t → ends_raw k (replicate n 35) t
+    ≡ true
+raw_complete k n t c = ap (ends_raw k (replicate n 35)) c.text_is
+    ∙ raw_complete_from k n c.inside c.suffix (inside_allowed k c.inside c.allowed c.no_carriage_return) c.first_close
+    c.is_suffix
+
+-- contents, closer and suffix, in the text
+record RawParts (k : Kind) (hashes t : List ℕ) : Type 0 where
+  inside : List ℕ
+  suffix : List ℕ
+  each : list_all (is_raw_character k) inside ≡ true
+  none : NoCloser hashes inside
+  is_suffix : IsStrictSuffix suffix
+  text_is : t ≡ inside ++ (34 ∷ (hashes ++ suffix))
+
+-- no contents hold nothing
+nothing_inside : (f z : List ℕ) → [] ≡ f ++ (34 ∷ z) → ⊥
+nothing_inside [] z e = absurd (cc)
+nothing_inside (c ∷ f) z e = absurd (cc)
+
+-- a closer further on is none of the contents that end before it
+none_before : (hashes : List ℕ) (c : ℕ) (cs z : List ℕ) → (c == 34 && begins hashes (cs ++ z)) ≡ false
+    → NoCloser hashes cs → NoCloser hashes (c ∷ cs)
+none_before hashes c cs z h none [] rest e =
+    let is : (c == 34) ≡ true = let q : c ≡ 34 = cc in ap (λ d. d == 34) q in
+    let tail : cs ≡ hashes ++ rest = cc in
+    both_ways (c == 34 && begins hashes (cs ++ z)) h (and_from (c == 34) (begins hashes (cs ++ z)) is
+    (begins_more hashes cs z (ap (begins hashes) tail ∙ begins_front hashes rest)))
+none_before hashes c cs z h none (f ∷ front) rest e =
+    let tail : cs ≡ front ++ (34 ∷ (hashes ++ rest)) = cc in
+    none front rest tail
+
+-- what passes has these parts
+raw_parts : (k : Kind) (hashes t : List ℕ) → ends_raw k hashes t ≡ true → RawParts k hashes t
+unfolding ends_raw
+raw_parts k hashes [] h = absurd (cc)
+raw_parts k hashes (c ∷ cs) h = go (λ e. raw_parts k hashes cs e) (cases_Bool (c == 34 && begins hashes cs))
+  where
+    go : (ends_raw k hashes cs ≡ true → RawParts k hashes cs) → ((c == 34 && begins hashes cs) ≡ true)
+        ⊎ ((c == 34 && begins hashes cs) ≡ false) → RawParts k hashes (c ∷ cs)
+    go rec (inl a) =
+        let p = and_parts (c == 34) (begins hashes cs) a in
+        let b = begins_is hashes cs p.1 in
+        let suffix : is_strict_suffix (drop (length hashes) cs) ≡ true = ap
+        (λ b. cond b (is_strict_suffix (drop (length hashes) cs)) (is_raw_character k c && ends_raw k hashes cs))
+        (sym a) ∙ h in
+        record {
+          inside = [];
+          suffix = b.0;
+          each = refl;
+          none = λ f r e. nothing_inside f (hashes ++ r) e;
+          is_suffix = strict_suffix_sound b.0 (ap is_strict_suffix
+              (sym (ap (drop (length hashes)) b.1 ∙ drop-append_seam hashes b.0)) ∙ suffix);
+          text_is = ap (λ q. q ∷ cs) (eqb-true c 34 p.0) ∙ ap (λ q. 34 ∷ q) b.1;
+        }
+    go rec (inr a) =
+        let on : (is_raw_character k c && ends_raw k hashes cs) ≡ true = ap
+        (λ b. cond b (is_strict_suffix (drop (length hashes) cs)) (is_raw_character k c && ends_raw k hashes cs))
+        (sym a) ∙ h in
+        let p = and_parts (is_raw_character k c) (ends_raw k hashes cs) on in
+        let r = rec p.1 in
+        let At : List ℕ → Type 0 = λ z. (c == 34 && begins hashes z) ≡ false in
+        record {
+          inside = c ∷ r.inside;
+          suffix = r.suffix;
+          each = and_from (is_raw_character k c) (list_all (is_raw_character k) r.inside) p.0 r.each;
+          none = none_before hashes c r.inside (34 ∷ (hashes ++ r.suffix)) (subst At r.text_is a) r.none;
+          is_suffix = r.is_suffix;
+          text_is = ap (λ z. c ∷ z) r.text_is;
+        }
+
+-- what passes closes a raw form
+pub raw_sound : (k : Kind) (hashes t : List ℕ) → is_string k ≡ true → ends_raw k hashes t ≡ true
+    → ClosesInside k hashes t
+raw_sound k hashes t s h =
+    let r = raw_parts k hashes t h in
+    let a = inside_sound k r.inside s r.each in
+    record { inside = r.inside; suffix = r.suffix; allowed = a.0; no_carriage_return = a.1; first_close = r.none; is_suffix = r.is_suffix; text_is = r.text_is }
+
+-- ---- turns of the loop
+
+-- a quote without the hashes after it is no closer
+pub quote_without_hashes : (hashes : List ℕ) (c : ℕ) (cs : List ℕ) → ((x : List ℕ) → cs ≢ hashes ++ x)
+    → (c == 34 && begins hashes cs) ≡ false
+quote_without_hashes hashes c cs none = false_from_ne_true (c == 34 && begins hashes cs)
+    (λ h. let b = begins_is hashes cs (and_parts (c == 34) (begins hashes cs) h).1 in none b.0 b.1)
+
+-- a closer stands
+pub turn_close : (k : Kind) (hashes t s cs x : List ℕ) (b : Bool) (c : ℕ) → t ≡ c ∷ cs → c ≡ 34 → cs ≡ hashes ++ x → b
+    ≡ is_strict_suffix x → ends_raw k hashes t ≡ ends_raw k hashes s → b ≡ ends_raw k hashes s
+turn_close k hashes t s cs x b c e is tail r same =
+    r ∙ sym (raw_close k hashes x) ∙ sym (ap (ends_raw k hashes) (e ∙ ap (λ z. z ∷ cs) is ∙ ap (λ z. 34 ∷ z) tail))
+    ∙ same
+
+-- ---- the hashes
+
+-- hashes, and as many bytes
+record Hashes (hs : List ℕ) : Type 0 where
+  count : ℕ
+  chars_are : chars hs ≡ replicate count 35
+  length_is : length hs ≡ count
+
+-- what stands before the rest after hashes is hashes
+hashes_in : (t r hs : List ℕ) → IsUtf8 hs → r ≡ (after_run is_hash) t → t ≡ chars hs ++ r → Hashes hs
+hashes_in t r hs u rest text =
+    let n = hash_count t in
+    let same : chars hs ≡ replicate n 35 = hashes_here (chars hs) t r rest text in
+    let bytes : hs ≡ replicate n 35 = sym (encodes-chars hs u) ∙ ap encode_utf8_all same ∙ hashes_bytes n in
+    record { count = n; chars_are = same; length_is = ap length bytes ∙ length-replicate n 35 }
+
+-- the hashes and the quote of a strict raw form are those at its front
+record SameHashes (k : Kind) (t r hs : List ℕ) (c : ClosesRaw k t) : Type 0 where
+  hashes_are : chars hs ≡ replicate c.hashes 35
+  rest_is : r ≡ 34 ∷ c.rest
+
+-- the form has the hashes and the rest that were found
+same_hashes : (k : Kind) (t r hs : List ℕ) (c : ClosesRaw k t) → r ≡ (after_run is_hash) t → t ≡ chars hs ++ r
+    → SameHashes k t r hs c
+same_hashes k t r hs c rest text =
+    let following : r ≡ 34 ∷ c.rest = rest ∙ ap (after_run is_hash) c.text_is ∙ hashes_past c.hashes c.rest in
+    record { hashes_are = append_cancel_right (chars hs) (replicate c.hashes 35) (34 ∷ c.rest) (ap (λ z. chars hs ++ z) (sym following) ∙ sym text ∙ c.text_is); rest_is = following }
+
+-- few hashes, and a quote
+pub raw_opened : (k : Kind) (b : Bool) (t r hs inside : List ℕ) → is_string k ≡ true → IsUtf8 hs → r
+    ≡ (after_run is_hash) t → t ≡ chars hs ++ r → r ≡ 34 ∷ inside → length hs < 256 → b ≡ ends_raw k (chars hs) inside
+    → IsTrue b ↔ ClosesRaw k t
+raw_opened k b t r hs inside s u rest text quote few is =
+    let h = hashes_in t r hs u rest text in
+    let Few : ℕ → Type 0 = λ n. n < 256 in (
+      λ y. record {
+        hashes = h.count;
+        few = subst Few h.length_is few;
+        rest = inside;
+        closes = raw_sound k (replicate h.count 35) inside s (ap (λ z. ends_raw k z inside) (sym h.chars_are) ∙ sym is
+            ∙ y);
+        text_is = text ∙ ap (λ z. z ++ r) h.chars_are ∙ ap (λ z. replicate h.count 35 ++ z) quote;
+      },
+      λ c.
+          let same = same_hashes k t r hs c rest text in
+          let both : 34 ∷ inside ≡ 34 ∷ c.rest = sym quote ∙ same.rest_is in
+          let inside_is : inside ≡ c.rest = cc in
+          is ∙ ap (λ z. ends_raw k z inside) same.hashes_are ∙ ap (ends_raw k (replicate c.hashes 35)) inside_is
+          ∙ raw_complete k c.hashes c.rest c.closes,
+    )
+
+-- too many hashes
+pub raw_many : (k : Kind) (b : Bool) (t r hs : List ℕ) → IsUtf8 hs → r ≡ (after_run is_hash) t → t ≡ chars hs ++ r
+    → 256 ≤ length hs → b ≡ false → IsTrue b ↔ ClosesRaw k t
+raw_many k b t r hs u rest text many none =
+    let h = hashes_in t r hs u rest text in (
+      λ y. absurd (both_ways b none y),
+      λ c.
+          let same = same_hashes k t r hs c rest text in
+          let count : h.count ≡ c.hashes = sym (length-replicate h.count 35)
+          ∙ ap length (sym h.chars_are ∙ same.hashes_are) ∙ length-replicate c.hashes 35 in
+          let few = c.few in
+          let long = h.length_is in
+          absurd (omega arith),
+    )
+
+-- no quote after the hashes
+pub raw_unquoted : (k : Kind) (t r : List ℕ) → r ≡ (after_run is_hash) t → ((y : List ℕ) → r ≢ 34 ∷ y)
+    → IsTrue false ↔ ClosesRaw k t
+raw_unquoted k t r rest n = (
+  λ y. absurd (both_ways true (sym y) refl),
+  λ c. absurd
+      (n c.rest (rest ∙ ap (after_run is_hash) c.text_is ∙ hashes_past c.hashes c.rest)),
+)

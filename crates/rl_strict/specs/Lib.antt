@@ -1,0 +1,2 @@
+pub mod StrictShapes
+pub mod Mirrors

@@ -1,0 +1,7 @@
+//! The strict grammar of literal tokens, that of the Rust Reference. No memory is taken.
+#![tactic(auto)]
+
+pub mod laws;
+mod strict;
+
+pub use crate::strict::is_token;

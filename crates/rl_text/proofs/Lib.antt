@@ -1,0 +1,13 @@
+pub mod Common
+pub mod TailLemmas
+pub mod Rests
+pub mod Basics
+pub mod AsciiLemmas
+pub mod RowSteps
+pub mod BeginsLemmas
+pub mod LaneLemmas
+pub mod ScanLemmas
+pub mod RunLanes
+pub mod AsciiRuns
+pub mod UnlikelyLanes
+pub mod LowBytes

@@ -1,0 +1,13 @@
+use Rattle.rl_text.proofs.Common.{◌≡◌, ◌+◌, ◌-◌, ◌<◌, ◌≤◌, length, drop, prefix_len}
+use Rattle.rl_text.specs.Mirrors.UnlikelyAt.{begins_none, with_before, unlikely_len}
+use Rattle.rl_text.proofs.lanes.unlikely_len.Given as goal
+
+abbrev pub invariant-loop-at : goal.invariant-loop-at
+invariant-loop-at l = record {
+  run : unlikely_len l.bytes ≡ l.at + prefix_len begins_none (drop l.at (with_before 0 l.bytes));
+  in_range : l.at ≤ length l.bytes;
+  past_first : 0 < l.at;
+}
+
+abbrev pub decreases-loop-at : goal.decreases-loop-at
+decreases-loop-at l = length l.bytes - l.at

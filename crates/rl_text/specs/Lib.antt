@@ -1,0 +1,5 @@
+pub mod Spans
+pub mod Texts
+pub mod Classes
+pub mod Scanning
+pub mod Mirrors

@@ -1,0 +1,26 @@
+-- Bytes that are looked for.
+use Rattle.std.specs.Prelude.{◌≡◌, ℕ, Bool, not, ◌||◌, ◌&&◌, ◌==◌, ◌<◌, nat_lt, List, ◌∷◌, ◌++◌, IsTrue}
+use Rattle.std.specs.List.{list_all}
+use Rattle.rl_text.specs.declared.scan.Marks.{Marks}
+
+-- the byte is one of the marks
+abbrev pub is_one_of : Marks → ℕ → Bool
+is_one_of marks c = c == marks.first || c == marks.second || c == marks.third || c == marks.fourth
+
+abbrev pub is_other : Marks → ℕ → Bool
+is_other marks c = not (is_one_of marks c)
+
+-- ASCII that is none of the marks
+abbrev pub is_ascii_other : Marks → ℕ → Bool
+is_ascii_other marks c = nat_lt c 128 && is_other marks c
+
+abbrev pub AreAscii : Marks → Type 0
+AreAscii marks =
+    (marks.first < 128) × (marks.second < 128) × (marks.third < 128) × (marks.fourth < 128)
+
+-- The mark is the first in the text, and the rest stands after it.
+pub record IsNextMark (marks : Marks) (text : List ℕ) (mark : ℕ) (rest : List ℕ) : Type 0 where
+  pub front : List ℕ
+  pub others : IsTrue (list_all (is_other marks) front)
+  pub text_is : text ≡ front ++ (mark ∷ rest)
+  pub is_mark : IsTrue (is_one_of marks mark)

@@ -1,0 +1,76 @@
+-- Texts: lists of characters, each character its code, as `code "x"` says it; and white space.
+use Rattle.std.specs.Prelude.{◌≡◌, ◌≢◌, ℕ, Bool, true, false, not, ◌&&◌, ◌||◌, ◌==◌, List, [], ◌∷◌, ◌++◌, IsTrue, length, codes, encode_utf8_all}
+use Rattle.std.specs.Char.{is_whitespace}
+use Rattle.std.specs.Str.{IsUtf8}
+use Rattle.std.specs.List.{list_all, list_any}
+pub use Prim.Native.Char.{code}
+use Rattle.unicode_ident.specs.Ident.{is_xid_start, is_xid_continue}
+use Rattle.rl_text.specs.declared.span.Span.{Span}
+use Prim.Native.Char.{code}
+
+-- white space: Unicode's White_Space, and the two direction marks (`is_whitespace` of `syn` 3.0.9,
+-- src/whitespace.rs)
+abbrev pub is_white : ℕ → Bool
+is_white c = is_whitespace c || c == 0x200e || c == 0x200f
+
+-- a suffix of the lenient reading, if it isn't empty: `_` alone counts, and white characters aren't
+-- asked about
+abbrev pub xid_ok : List ℕ → Bool
+xid_ok [] = false
+xid_ok (c ∷ cs) = (c == code "_" || is_xid_start c) && list_all is_xid_continue cs
+
+-- a strict suffix, if it isn't empty
+pub record IsWord (x : List ℕ) : Type 0 where
+  pub identifier : IsTrue (xid_ok x)
+  pub not_underscore : x ≢ code "_" ∷ []
+  pub no_white : IsTrue (list_all (λ c. not (is_white c)) x)
+
+-- the text begins with a character that passes the test
+abbrev pub first_passes : (ℕ → Bool) → List ℕ → Bool
+first_passes test [] = false
+first_passes test (c ∷ cs) = test c
+
+abbrev pub is_among : List ℕ → ℕ → Bool
+is_among codes c = list_any (λ k. c == k) codes
+
+-- the text begins with these characters
+abbrev pub begins : List ℕ → List ℕ → Bool
+begins [] t = true
+begins (p ∷ ps) [] = false
+begins (p ∷ ps) (c ∷ cs) = c == p && begins ps cs
+
+abbrev pub is_underscore : ℕ → Bool
+is_underscore c = c == code "_"
+
+-- what a row of digits holds: a digit, by this test, or an underscore
+abbrev pub is_row_part : (ℕ → Bool) → ℕ → Bool
+is_row_part digit c = digit c || is_underscore c
+
+-- The rest is the text without its front, and is a text. Both are bytes.
+pub record IsTail (text rest : List ℕ) : Type 0 where
+  pub front : List ℕ
+  pub text_is : text ≡ front ++ rest
+  pub is_text : IsUtf8 rest
+
+abbrev pub byte_len : List ℕ → ℕ
+byte_len cs = length (encode_utf8_all cs)
+
+-- A token that holds a text: the bytes of the text, and where it stands.
+pub record SpannedText : Type 0 where
+  pub text : List ℕ
+  pub span : Span
+
+-- what may begin an identifier token, and what may go on with it (the Rust Reference, chapter
+-- Identifiers)
+abbrev pub is_start : ℕ → Bool
+is_start c = (c == code "_" || is_xid_start c) && not (is_white c)
+
+abbrev pub is_continue : ℕ → Bool
+is_continue c = is_xid_continue c && not (is_white c)
+
+-- space, TAB, LF, CR
+abbrev pub is_blank : ℕ → Bool
+is_blank c = c == code " " || c == code "\t" || c == code "\n" || c == code "\r"
+
+abbrev pub is_dropped_blank : ℕ → Bool
+is_dropped_blank c = c == code " " || c == code "\t" || c == code "\n"

@@ -1,0 +1,95 @@
+//! Walking a text by its characters, and what it begins with.
+
+ghost use Rattle.std.specs.Prelude.{◌≡◌, ◌<◌, ◌==◌, ◌++◌, ◌∷◌, ◌≢◌, ℕ, List, [], length, drop, slice_index, encode_utf8, MatchOption, IfSome, IfNone, IsFalse};
+ghost use Rattle.std.specs.Char.{is_ascii};
+ghost use Rattle.std.specs.Str.{chars};
+ghost use Rattle.rl_text.specs.Texts.{first_passes, IsTail};
+
+/// The first character, and the text after it: `None` where the text is empty.
+pub fn split_char(text: &str) -> Option<(char, &str)>
+    ensures chars { MatchOption result
+        (chars text.now ≡ []) (λ p. chars text.now ≡ p.0 ∷ chars p.1.now) }
+    ensures bytes { MatchOption result
+        (text.now ≡ []) (λ p. text.now ≡ encode_utf8 p.0 ++ p.1.now) }
+    ensures following { IfSome result (λ p. IsTail text.now p.1.now) }
+    ensures shorter { MatchOption result
+        (length text.now ≡ 0) (λ p. length p.1.now < length text.now) }
+{
+    let mut chars = text.chars();
+    let first = chars.next()?;
+    Some((first, chars.as_str()))
+}
+
+/// The first character where it is one of ASCII, as its byte, and the text after it.
+#[inline(always)]
+pub fn split_ascii(text: &str) -> Option<(u8, &str)>
+    ensures some { IfSome result (λ p. chars text.now ≡ p.0 ∷ chars p.1.now) }
+    ensures ascii { IfSome result (λ p. p.0 < 128) }
+    ensures none { IfNone result (IsFalse (first_passes is_ascii (chars text.now))) }
+    ensures following { IfSome result (λ p. IsTail text.now p.1.now) }
+    ensures shorter { IfSome result (λ p. length p.1.now < length text.now) }
+{
+    let bytes = text.as_bytes();
+    if bytes.is_empty() || bytes[0] >= 128 {
+        return None;
+    }
+    Some((bytes[0], &text[1..]))
+}
+
+/// Whether the text begins with a character, which isn't NUL.
+pub fn begins_with(text: &str, c: char) -> bool
+    requires { 0 < c }
+    ensures { result ≡ (slice_index (chars text.now) 0 == c) }
+{
+    match split_char(text) {
+        Some((first, _)) => first == c,
+        None => false,
+    }
+}
+
+/// The text after its first character.
+pub fn without_first(text: &str) -> &str
+    ensures rest { chars result.now ≡ drop 1 (chars text.now) }
+    ensures following { IsTail text.now result.now }
+{
+    match split_char(text) {
+        Some((_, rest)) => rest,
+        None => text,
+    }
+}
+
+/// The text after a byte of ASCII, where the text begins with it.
+#[inline(always)]
+pub fn strip_byte(text: &str, byte: u8) -> Option<&str>
+    requires { byte < 128 }
+    ensures rest { MatchOption result
+        (IsFalse (first_passes (λ c. c == byte) (chars text.now)))
+        (λ rest. chars text.now ≡ byte ∷ chars rest.now) }
+    ensures following { IfSome result (λ rest. IsTail text.now rest.now) }
+    ensures shorter { IfSome result (λ rest. length rest.now < length text.now) }
+{
+    match split_ascii(text) {
+        Some((first, following)) if first == byte => Some(following),
+        _ => None,
+    }
+}
+
+/// The text in front of a rest of it: what was passed over, where `rest` is what is left.
+#[tactic(auto, using(crate::proofs::TailLemmas::cut_boundary, crate::proofs::TailLemmas::cut_chars))]
+pub fn before<'t>(text: &'t str, rest: &str) -> &'t str
+    requires { IsTail text.now rest.now }
+    ensures cut { text.now ≡ result.now ++ rest.now }
+    ensures chars { chars text.now ≡ chars result.now ++ chars rest.now }
+{
+    &text[..text.len() - rest.len()]
+}
+
+/// The text after a prefix; `None` where it doesn't begin with it.
+#[tactic(auto, using(crate::proofs::BeginsLemmas::strip_prefix_some, crate::proofs::BeginsLemmas::strip_prefix_none, crate::proofs::BeginsLemmas::strip_prefix_tail))]
+pub fn after_prefix<'t>(prefix: &str, text: &'t str) -> Option<&'t str>
+    ensures some { IfSome result (λ rest. chars text.now ≡ chars prefix.now ++ chars rest.now) }
+    ensures none { IfNone result ((x : List ℕ) → chars text.now ≢ chars prefix.now ++ x) }
+    ensures following { IfSome result (λ rest. IsTail text.now rest.now) }
+{
+    text.strip_prefix(prefix)
+}

@@ -1,5 +1,0 @@
-use Rattle.rl_tokens.proofs.OneReading.{one_strict as law}
-use Rattle.rl_tokens.proofs.laws.one_strict.Goals as goal
-
-pub returns : goal.returns
-returns c = law

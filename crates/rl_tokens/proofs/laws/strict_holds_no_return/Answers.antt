@@ -1,5 +1,0 @@
-use Rattle.rl_tokens.proofs.StrictReturns.{strict_holds_no_return as law}
-use Rattle.rl_tokens.proofs.laws.strict_holds_no_return.Goals as goal
-
-pub returns : goal.returns
-returns c = law

@@ -1,6 +1,0 @@
-use Rattle.rl_tokens.proofs.SourceFronts.{line_ends}
-use Rattle.rl_tokens.proofs.source.line_end.Goals as goal
-
-pub returns-clause-rest : goal.returns-clause-rest
-returns-clause-rest c = line_ends _ _ _ _ c.two.ensures c.split_before.ensures.cut c.split_before.ensures.others
-    c.split_before.ensures.stops

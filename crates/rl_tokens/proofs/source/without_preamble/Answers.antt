@@ -1,8 +1,0 @@
-use Rattle.rl_tokens.proofs.Common.{subst, ℕ, List, chars}
-use Rattle.rl_tokens.specs.Sources.{IsWithoutLine}
-use Rattle.rl_tokens.proofs.source.without_preamble.Goals as goal
-
-pub returns-clause-front : goal.returns-clause-front
-returns-clause-front c =
-    subst (λ (x : List ℕ). IsWithoutLine x (chars c.without_line.result.now)) c.without_mark.ensures.rest
-    c.without_line.ensures.front

@@ -1,0 +1,237 @@
+// Rendered from crates/rl_lexer/src/lexeme.rt by tools/render, which erases contracts: change that file, and render anew.
+//! The lexeme at the front of a text: the literal, identifier or mark that the text begins with.
+
+mod number;
+mod quotes;
+mod suffix;
+
+use number::{after_decimal, after_digits, ends_number};
+pub(crate) use quotes::begins_hashed_quote;
+use quotes::{after_character, after_quoted, after_raw_literal};
+use crate::rl_text::characters::is_start;
+use crate::rl_text::classes::skip_word;
+use crate::rl_text::lanes::has_bit;
+use crate::rl_text::text::{begins_with, split_ascii, split_char, without_first};
+
+/// What a token is to a parser: what [`Tokens`](crate::rl_lexer::Tokens) cuts off, by its first
+/// characters. Whether a literal reads isn't judged.
+#[derive(Clone, Copy)]
+pub enum Form {
+    /// A literal of any kind.
+    Literal,
+    /// An identifier.
+    Identifier,
+    /// One of the six delimiters.
+    Delimiter(char),
+    /// Any other mark.
+    Mark(char),
+}
+
+/// The form of the lexeme that the text begins with, and the rest after it. `None` where there is
+/// no such lexeme. Most tokens of a list are numbers, so a digit is recognized without a call.
+#[inline(always)]
+pub(crate) fn first_lexeme(text: &str) -> Option<(Form, &str)> {
+    if let Some((byte, following)) = split_ascii(text) {
+        if (byte as char).is_ascii_digit() {
+            return Some((Form::Literal, after_digit(following)));
+        }
+    }
+    lexeme_but_number(text)
+}
+
+/// The lexeme that the text begins with, by its first character, which is no digit.
+#[inline(never)]
+fn lexeme_but_number(text: &str) -> Option<(Form, &str)> {
+    let Some((byte, following)) = split_ascii(text) else {
+        return wide_identifier(text);
+    };
+    match byte {
+        b'"' => quoted_literal(following),
+        b'\'' => character_literal(following),
+        b'/' => after_slash(following),
+        _ if is_mark_alone(byte) => Some((mark_form(byte as char), following)),
+        _ if is_start(byte as char) => literal_or_identifier(byte as char, following),
+        _ => None,
+    }
+}
+
+/// The identifier that the text begins with, where its first character is past ASCII.
+#[inline(never)]
+fn wide_identifier(text: &str) -> Option<(Form, &str)> {
+    let (c, following) = split_char(text)?;
+    if !is_start(c) {
+        return None;
+    }
+    Some((Form::Identifier, skip_word(following)))
+}
+
+/// A literal with a prefix, or an identifier, after its first letter. Of a raw identifier there is none.
+#[inline(never)]
+fn literal_or_identifier(letter: char, text: &str) -> Option<(Form, &str)> {
+    match letter {
+        'b' | 'c' if begins_with(text, '"') => quoted_literal(without_first(text)),
+        'b' if begins_with(text, '\'') => character_literal(without_first(text)),
+        'b' | 'c' if begins_raw_literal(text) => raw_literal(without_first(text)),
+        'r' if begins_hashed_quote(text) => raw_literal(text),
+        'r' if begins_marked_identifier(text) => None,
+        _ => Some((Form::Identifier, skip_word(text))),
+    }
+}
+
+/// The form of the lexeme that the text begins with, and the rest after it, where the first byte of ASCII tells it, or that
+/// and the next: an identifier that begins as no literal does, a delimiter, or a mark that begins no comment. `None` says nothing.
+#[inline(always)]
+pub(crate) fn word_or_mark(text: &str) -> Option<(Form, &str)> {
+    let (byte, following) = split_ascii(text)?;
+    match lead_of(byte) {
+        Lead::Word => Some((Form::Identifier, skip_word(following))),
+        Lead::Mark => Some((mark_form(byte as char), following)),
+        Lead::Prefix if goes_on_as_word(following) => {
+            Some((Form::Identifier, skip_word(following)))
+        }
+        Lead::Slash if goes_on_as_no_comment(following) => Some((Form::Mark('/'), following)),
+        _ => None,
+    }
+}
+
+/// What the first byte of a text tells.
+#[derive(Clone, Copy)]
+enum Lead {
+    /// An identifier, whatever follows it: `_`, and each letter but `b`, `c` and `r`.
+    Word,
+    /// A delimiter or a mark, whatever follows it: each but `/`.
+    Mark,
+    /// A letter that a literal's prefix may begin with.
+    Prefix,
+    /// A slash.
+    Slash,
+    /// Nothing of these.
+    Other,
+}
+
+/// What a character of ASCII tells as the first. Which it is of 64, a bit says.
+#[inline(always)]
+fn lead_of(byte: u8) -> Lead {
+    if byte < 64 {
+        if has_bit(LOW_MARKS, byte) {
+            return Lead::Mark;
+        }
+        if byte == b'/' {
+            return Lead::Slash;
+        }
+        return Lead::Other;
+    }
+    if has_bit(0x07fb_fff2_87ff_fffe, byte - 64) {
+        return Lead::Word;
+    }
+    if has_bit(HIGH_MARKS, byte - 64) {
+        return Lead::Mark;
+    }
+    if matches!(byte, b'b' | b'c' | b'r') {
+        return Lead::Prefix;
+    }
+    Lead::Other
+}
+
+/// Whether a word goes on after its first letter, and no literal's prefix: a letter but `r` is next, or `_`. Of a word that
+/// goes on otherwise it is false.
+#[inline(always)]
+fn goes_on_as_word(following: &str) -> bool {
+    match split_ascii(following) {
+        Some((next, _)) => next >= 64 && next != b'r',
+        None => false,
+    }
+}
+
+/// Whether a character of ASCII is next after a slash that doesn't make a comment of it.
+#[inline(always)]
+fn goes_on_as_no_comment(following: &str) -> bool {
+    match split_ascii(following) {
+        Some((next, _)) => next != b'/' && next != b'*',
+        None => false,
+    }
+}
+
+/// A bit for each of the first 64 characters, set where [`is_mark_alone`] is true.
+const LOW_MARKS: u64 = 0xfc00_7f7a_0000_0000;
+/// A bit for each of the next 64 characters, set where [`is_mark_alone`] is true.
+const HIGH_MARKS: u64 = 0x7800_0000_6800_0001;
+
+/// Whether the character of ASCII is a delimiter or a mark, whatever follows it: each but `/`.
+#[inline(always)]
+fn is_mark_alone(byte: u8) -> bool {
+    if byte < 64 {
+        has_bit(LOW_MARKS, byte)
+    } else {
+        has_bit(HIGH_MARKS, byte - 64)
+    }
+}
+
+/// The form of a delimiter or a mark.
+#[inline(always)]
+fn mark_form(c: char) -> Form {
+    if is_delimiter(c) {
+        Form::Delimiter(c)
+    } else {
+        Form::Mark(c)
+    }
+}
+
+/// A quoted literal, after its opening quote.
+#[inline(always)]
+fn quoted_literal(text: &str) -> Option<(Form, &str)> {
+    Some((Form::Literal, after_quoted(text)?))
+}
+
+/// A character or a byte, after its opening quote.
+#[inline(always)]
+fn character_literal(text: &str) -> Option<(Form, &str)> {
+    Some((Form::Literal, after_character(text)?))
+}
+
+/// A raw literal, after its `r`.
+#[inline(always)]
+fn raw_literal(text: &str) -> Option<(Form, &str)> {
+    Some((Form::Literal, after_raw_literal(text)?))
+}
+
+/// After a slash, which is a mark where it begins no comment.
+#[inline(never)]
+fn after_slash(text: &str) -> Option<(Form, &str)> {
+    match split_char(text) {
+        Some(('/' | '*', _)) => None,
+        _ => Some((Form::Mark('/'), text)),
+    }
+}
+
+/// What follows the number after whose first digit the text stands, whichever that is: the letter
+/// of a base, and the row after it, are where a suffix would stand. Most numbers end after a row
+/// of digits.
+#[inline(always)]
+fn after_digit(text: &str) -> &str {
+    let rest = after_digits(text);
+    if ends_number(rest) {
+        return rest;
+    }
+    after_decimal(rest)
+}
+
+/// Whether `r`, hashes, perhaps none, and a `"` begin the text.
+fn begins_raw_literal(text: &str) -> bool {
+    begins_with(text, 'r') && begins_hashed_quote(without_first(text))
+}
+
+/// Whether a hash and an identifier's start begin the text.
+pub(crate) fn begins_marked_identifier(text: &str) -> bool {
+    match split_char(text) {
+        Some(('#', following)) => match split_char(following) {
+            Some((next, _)) => is_start(next),
+            None => false,
+        },
+        _ => false,
+    }
+}
+
+fn is_delimiter(c: char) -> bool {
+    matches!(c, '(' | ')' | '[' | ']' | '{' | '}')
+}

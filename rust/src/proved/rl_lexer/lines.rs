@@ -1,0 +1,68 @@
+// Rendered from crates/rl_lexer/src/lines.rt by tools/render, which erases contracts: change that file, and render anew.
+//! Lines and columns of places in a text.
+
+use crate::rl_text::text::split_char;
+
+/// A place in a text as compilers print it: the line and the column, both from 1. A column is
+/// counted in characters. An LF is the last character of its line.
+#[derive(Clone, Copy, PartialEq, Eq, Debug)]
+pub struct LineColumn {
+    /// The line, from 1.
+    pub line: usize,
+    /// The column, from 1.
+    pub column: usize,
+}
+
+/// The place after a character that stands at a place.
+#[inline(always)]
+fn next_place(place: LineColumn, c: char) -> LineColumn {
+    if c == '\n' {
+        return LineColumn {
+            line: place.line + 1,
+            column: 1,
+        };
+    }
+    LineColumn {
+        line: place.line,
+        column: place.column + 1,
+    }
+}
+
+/// The place after a text that begins at a place.
+fn place_after(place: LineColumn, text: &str) -> LineColumn {
+    let mut at = place;
+    let mut rest = text;
+    while let Some((c, after)) = split_char(rest) {
+        at = next_place(at, c);
+        rest = after;
+    }
+    at
+}
+
+/// The lines and columns of places in a text, from its front to its end. A place is named by the
+/// rest of the text that begins there, so a text is gone over once. It takes no memory.
+pub struct Lines<'t> {
+    text: &'t str,
+    rest: &'t str,
+    place: LineColumn,
+}
+
+impl<'t> Lines<'t> {
+    /// The front of a text: its first line and column.
+    pub fn new(text: &'t str) -> Lines<'t> {
+        Lines {
+            text,
+            rest: text,
+            place: LineColumn { line: 1, column: 1 },
+        }
+    }
+
+    /// The line and column where a rest of the text begins: one of what was left at the call
+    /// before.
+    pub fn at(&mut self, rest: &'t str) -> LineColumn {
+        let passed = &self.rest[..self.rest.len() - rest.len()];
+        self.place = place_after(self.place, passed);
+        self.rest = rest;
+        self.place
+    }
+}

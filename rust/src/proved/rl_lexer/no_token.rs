@@ -1,0 +1,93 @@
+// Rendered from crates/rl_lexer/src/no_token.rt by tools/render, which erases contracts: change that file, and render anew.
+//! Why no token begins a text.
+
+use crate::rl_lexer::lex_error::LexKind;
+use crate::rl_lexer::lexeme::{begins_hashed_quote, begins_marked_identifier};
+use crate::rl_forms::kind::{BYTE_OPENER, BYTE_STR_OPENER, C_STR_OPENER, CHAR_OPENER, STR_OPENER};
+use crate::rl_text::characters::is_start;
+use crate::rl_text::text::{begins_with, split_char};
+
+/// Why no token begins the text, by its first characters.
+pub(crate) fn error_kind(rest: &str) -> LexKind {
+    if begins_doc_comment(rest) {
+        LexKind::DocComment
+    } else if begins(rest, "/*") {
+        LexKind::UnclosedComment
+    } else if begins_quote(rest) {
+        LexKind::UnclosedQuote
+    } else if begins_lifetime(rest) {
+        LexKind::Lifetime
+    } else if begins_raw_identifier(rest) {
+        LexKind::RawIdentifier
+    } else {
+        LexKind::StrayCharacter
+    }
+}
+
+/// Why no token of a source begins the text, by its first characters.
+pub(crate) fn source_error_kind(rest: &str) -> LexKind {
+    if begins(rest, "/*") {
+        LexKind::UnclosedComment
+    } else {
+        LexKind::UnclosedQuote
+    }
+}
+
+/// Whether the text begins as a quoted literal, or as a block comment.
+pub(crate) fn opens(text: &str) -> bool {
+    begins(text, "/*") || (begins_quote(text) || begins_with(text, '\''))
+}
+
+/// Whether the text begins with these characters, which are ASCII.
+fn begins(text: &str, word: &str) -> bool {
+    text.starts_with(word)
+}
+
+fn begins_doc_comment(text: &str) -> bool {
+    (begins(text, "///") && !begins(text, "////"))
+        || begins(text, "//!")
+        || (begins(text, "/**") && !(begins(text, "/**/") || begins(text, "/***")))
+        || begins(text, "/*!")
+}
+
+/// Whether a quoted or raw opener begins the text, a byte's opener, or an apostrophe that begins no
+/// lifetime.
+fn begins_quote(text: &str) -> bool {
+    begins(text, STR_OPENER)
+        || begins(text, BYTE_STR_OPENER)
+        || begins(text, C_STR_OPENER)
+        || begins_raw(text)
+        || begins(text, BYTE_OPENER)
+        || (begins(text, CHAR_OPENER) && !begins_lifetime(text))
+}
+
+/// Whether the opener of a raw literal begins the text.
+fn begins_raw(text: &str) -> bool {
+    match split_char(text) {
+        Some(('r', following)) => begins_hashed_quote(following),
+        Some(('b' | 'c', following)) => match split_char(following) {
+            Some(('r', hashes)) => begins_hashed_quote(hashes),
+            _ => false,
+        },
+        _ => false,
+    }
+}
+
+/// Whether an apostrophe and an identifier's start begin the text.
+fn begins_lifetime(text: &str) -> bool {
+    match split_char(text) {
+        Some(('\'', following)) => match split_char(following) {
+            Some((c, _)) => is_start(c),
+            None => false,
+        },
+        _ => false,
+    }
+}
+
+/// Whether `r#` and an identifier's start begin the text.
+pub(crate) fn begins_raw_identifier(text: &str) -> bool {
+    match split_char(text) {
+        Some(('r', following)) => begins_marked_identifier(following),
+        _ => false,
+    }
+}

@@ -1,0 +1,27 @@
+// Rendered from crates/rl_reading/src/lib.rt by tools/render, which erases contracts: change that file, and render anew.
+//! The one reading of a text as a literal: its kind, its parts, and what it stands for. No memory is taken.
+
+pub mod contents;
+pub mod digit_rows;
+mod digits;
+pub mod found;
+mod next_literals;
+pub mod number_forms;
+pub mod quoted_forms;
+mod segments;
+mod source_literals;
+pub mod units;
+
+pub use crate::rl_reading::contents::{
+    byte_of, byte_of_body, bytes_into, char_of, char_of_body, is_plain, str_into,
+};
+pub use crate::rl_reading::digits::numeral_into;
+pub use crate::rl_reading::found::{
+    Body, Found, Parts, find, find_float, find_int, find_negative, shape, truth_of,
+};
+pub use crate::rl_reading::next_literals::{
+    ListStep, NextLiteral, Rejection, RejectionKind, list_step, next_literal,
+};
+pub use crate::rl_reading::number_forms::{float_shape, int_shape, shape_negative};
+pub use crate::rl_reading::segments::{Segment, SegmentValue, Segments, place_of};
+pub use crate::rl_reading::source_literals::{SourceStep, source_step};

@@ -1,0 +1,260 @@
+// Rendered from crates/rl_reasons/src/flaws.rt by tools/render, which erases contracts: change that file, and render anew.
+//! Why a text is no literal, and where.
+
+use crate::rl_reasons::number_flaws::number_flaw;
+use crate::rl_reasons::quoted_flaws::quoted_flaw;
+use crate::rl_reading::find;
+use crate::rl_reading::found::begins_number;
+use crate::rl_reading::quoted_forms::split_opener;
+use crate::rl_text::Span;
+use crate::rl_text::text::split_char;
+
+/// Why a text is no literal.
+#[derive(Clone, Copy, PartialEq, Eq, Hash, Debug)]
+#[non_exhaustive]
+pub enum FlawKind {
+    /// The text is empty.
+    Empty,
+    /// No literal goes on with the character.
+    NoLiteral,
+    /// The text ends before a literal is complete: after a prefix, a minus, or the sign of an exponent.
+    Unfinished,
+    /// After the hashes of a raw string stands no `"`.
+    NoQuote,
+    /// After the minus stands no digit.
+    NoNumber,
+    /// The text ends before the closing quote.
+    Unclosed,
+    /// No escape begins with the character after the backslash.
+    UnknownEscape,
+    /// Bytes and byte strings have no `\u`.
+    NoUnicode,
+    /// A hexadecimal digit is missing.
+    NoHexDigit,
+    /// After `\u` stands no `{`.
+    NoBrace,
+    /// The braces of `\u{}` hold no digit.
+    EmptyBraces,
+    /// The seventh digit between the braces.
+    TooManyDigits,
+    /// In a character or a string, `\x` goes up to 7F.
+    PastAscii,
+    /// The number between the braces is past 10FFFF.
+    PastUnicode,
+    /// The number between the braces is that of a surrogate.
+    Surrogate,
+    /// A C string holds no NUL.
+    Nul,
+    /// Bytes and byte strings hold ASCII alone.
+    NotAscii,
+    /// The quote moves the end of a raw string, which then holds a character that its kind doesn't take.
+    LateQuote,
+    /// A CR in a string without an LF after it.
+    LoneCr,
+    /// The byte can stand as an escape alone.
+    MustEscape,
+    /// No character stands between the quotes.
+    NoCharacter,
+    /// More than one character stands between the quotes.
+    TwoCharacters,
+    /// The exponent has no digit.
+    NoExponentDigit,
+    /// The character is part neither of a number nor of its suffix.
+    BadSuffix,
+    /// The integer is past 128 bits.
+    TooLarge,
+}
+
+impl FlawKind {
+    /// What is wrong, in words.
+    pub fn words(self) -> &'static str {
+        match self {
+            FlawKind::Empty => "empty text",
+            FlawKind::NoLiteral => "not a literal",
+            FlawKind::Unfinished => "incomplete literal",
+            FlawKind::NoQuote => "expected `\"`",
+            FlawKind::NoNumber => "expected a digit after `-`",
+            FlawKind::Unclosed => "missing closing quote",
+            FlawKind::UnknownEscape => "unknown escape",
+            FlawKind::NoUnicode => "no `\\u` in bytes",
+            FlawKind::NoHexDigit => "expected a hexadecimal digit",
+            FlawKind::NoBrace => "expected `{`",
+            FlawKind::EmptyBraces => "no digits between the braces",
+            FlawKind::TooManyDigits => "more than six digits between the braces",
+            FlawKind::PastAscii => "`\\x` is past 7F",
+            FlawKind::PastUnicode => "no character past 10FFFF",
+            FlawKind::Surrogate => "surrogates are no characters",
+            FlawKind::Nul => "NUL in a C string",
+            FlawKind::NotAscii => "not an ASCII character",
+            FlawKind::LateQuote =>
+                "a later quote moves the end past a character that the string can't hold",
+            FlawKind::LoneCr => "CR without LF",
+            FlawKind::MustEscape => "must be written as an escape",
+            FlawKind::NoCharacter => "no character between the quotes",
+            FlawKind::TwoCharacters => "more than one character between the quotes",
+            FlawKind::NoExponentDigit => "no digit in the exponent",
+            FlawKind::BadSuffix => "not part of a number or its suffix",
+            FlawKind::TooLarge => "integer past 128 bits",
+        }
+    }
+}
+
+/// A kind of flaw, and the text from its place on.
+#[derive(Clone, Copy)]
+pub struct FlawAt<'t> {
+    pub kind: FlawKind,
+    /// The text from the piece on that the flaw spoils.
+    pub piece: &'t str,
+    pub rest: &'t str,
+}
+
+/// The flaw at the front of the text.
+pub(crate) fn make_flaw(kind: FlawKind, rest: &str) -> FlawAt<'_> {
+    FlawAt {
+        kind,
+        piece: rest,
+        rest,
+    }
+}
+
+impl<'t> FlawAt<'t> {
+    /// This flaw, where it spoils this piece.
+    pub(crate) fn in_piece(self, piece: &'t str) -> FlawAt<'t> {
+        FlawAt {
+            kind: self.kind,
+            piece,
+            rest: self.rest,
+        }
+    }
+}
+
+/// Why a text is no literal, and where.
+///
+/// What stands before `lo` is the longest front of the text that some literal begins with: with
+/// another ending it is one, and with the text's next character it can't become one. A compiler
+/// would mark `from..hi`.
+#[derive(Clone, Copy, PartialEq, Eq, Debug)]
+pub struct Flaw {
+    /// What is wrong.
+    pub kind: FlawKind,
+    /// The place in bytes where the piece begins that it spoils: an escape's backslash, a character,
+    /// what follows the quote of a character or byte literal, a number or word as a whole.
+    pub from: usize,
+    /// The place in bytes of the character that no literal goes on with; the text's end where the
+    /// text is too short.
+    pub lo: usize,
+    /// The place after that character.
+    pub hi: usize,
+}
+
+impl Flaw {
+    /// The place `lo..hi` in the file, by the span of the token whose text it is: counted from the span's first byte, and
+    /// not beyond its last.
+    pub fn in_span(self, span: Span) -> Span {
+        Span::new(span.file, place_in(span, self.lo), place_in(span, self.hi))
+    }
+
+    /// The place `from..hi` in the file, by the span of the token whose text it is: what a compiler would mark.
+    pub fn piece_in_span(self, span: Span) -> Span {
+        Span::new(
+            span.file,
+            place_in(span, self.from),
+            place_in(span, self.hi),
+        )
+    }
+}
+
+/// The place so many bytes after the span's first, but not beyond its last.
+fn place_in(span: Span, at: usize) -> usize {
+    match span.lo.checked_add(at) {
+        Some(place) if place < span.hi => place,
+        _ => span.hi,
+    }
+}
+
+/// The flaw at the front of the text: of one kind where the text is empty, else of the other.
+pub(crate) fn end_flaw(at_end: FlawKind, before: FlawKind, text: &str) -> FlawAt<'_> {
+    match split_char(text) {
+        None => make_flaw(at_end, text),
+        Some(_) => make_flaw(before, text),
+    }
+}
+
+/// The text after the letters at its front that the word begins with.
+fn skip_letters<'t>(word: &str, text: &'t str) -> &'t str {
+    let mut left = word;
+    let mut rest = text;
+    while let Some((letter, more)) = split_char(left) {
+        match split_char(rest) {
+            Some((next, after)) if next == letter => {
+                left = more;
+                rest = after;
+            }
+            _ => return rest,
+        }
+    }
+    rest
+}
+
+/// Why the text isn't the word that it begins with a letter of, and the text from there on.
+fn letters_flaw<'t>(word: &str, text: &'t str) -> FlawAt<'t> {
+    end_flaw(
+        FlawKind::Unfinished,
+        FlawKind::NoLiteral,
+        skip_letters(word, text),
+    )
+}
+
+/// The flaw of a text that begins neither as a number nor as a quoted literal.
+fn first_flaw(text: &str) -> FlawAt<'_> {
+    match split_char(text) {
+        None => make_flaw(FlawKind::Empty, text),
+        Some(('b' | 'c', rest)) => end_flaw(FlawKind::Unfinished, FlawKind::NoLiteral, rest),
+        Some(('t', _)) => letters_flaw("true", text),
+        Some(('f', _)) => letters_flaw("false", text),
+        Some(_) => make_flaw(FlawKind::NoLiteral, text),
+    }
+}
+
+/// Why a text that begins neither as a number nor as a quoted literal is no literal, and the text from there on.
+fn word_flaw(text: &str) -> FlawAt<'_> {
+    first_flaw(text)
+}
+
+/// Why a text without a reading is no literal, and the text from there on.
+fn flaw_at(text: &str) -> FlawAt<'_> {
+    if begins_number(text) {
+        return number_flaw(text).in_piece(text);
+    }
+    match split_opener(text) {
+        Some((form, kind, inside)) => quoted_flaw(form, kind, inside),
+        None => word_flaw(text).in_piece(text),
+    }
+}
+
+/// How many bytes the first character of the text has; 0 of an empty one.
+fn first_len(text: &str) -> usize {
+    match split_char(text) {
+        Some((_, after)) => text.len() - after.len(),
+        None => 0,
+    }
+}
+
+/// Why the text is no literal, and where; `None` exactly where it is one. No memory is taken.
+///
+/// The grammar is that of [`find`], which is `syn`'s and wider than Rust's: `0b102`, `1e` and `'''` are literals there, so
+/// they have no flaw. Whether Rust has such a token, `crate::rl_strict::is_token` says, without a place. An
+/// integer past 128 bits is no literal.
+pub fn explain(text: &str) -> Option<Flaw> {
+    if find(text).is_some() {
+        return None;
+    }
+    let found = flaw_at(text);
+    let lo = text.len() - found.rest.len();
+    Some(Flaw {
+        kind: found.kind,
+        from: text.len() - found.piece.len(),
+        lo,
+        hi: lo + first_len(found.rest),
+    })
+}

@@ -1,0 +1,150 @@
+// Rendered from crates/rl_text/src/lanes.rt by tools/render, which erases contracts: change that file, and render anew.
+//! Runs of ASCII, of words or of white space, and bytes at which a literal may begin, sixteen bytes at a time.
+
+use crate::simd::*;
+
+/// How many bytes are looked at at once.
+const LANES: usize = 16;
+
+/// A bit for each of sixteen bytes from a place on, set where the byte is no part of the run.
+#[inline(always)]
+fn ends_among<const WORD: bool>(bytes: &[u8], at: usize) -> u64 {
+    let lanes = u8x16::from_slice(&bytes[at..]);
+    if WORD {
+        let letters = (lanes | u8x16::splat(32)) - u8x16::splat(b'a');
+        let digits = lanes - u8x16::splat(b'0');
+        let no_letters = letters.simd_ge(u8x16::splat(26));
+        let no_digits = digits.simd_ge(u8x16::splat(10));
+        let no_underscores = lanes.simd_ne(u8x16::splat(b'_'));
+        (no_letters & no_digits & no_underscores).to_bitmask()
+    } else {
+        let controls = lanes - u8x16::splat(9);
+        let no_controls = controls.simd_ge(u8x16::splat(5));
+        let no_spaces = lanes.simd_ne(u8x16::splat(b' '));
+        (no_controls & no_spaces).to_bitmask()
+    }
+}
+
+/// Whether a word of ASCII goes on with the byte.
+#[inline(always)]
+pub fn is_word_byte(byte: u8) -> bool {
+    byte.is_ascii_alphanumeric() || byte == b'_'
+}
+
+/// Whether the byte is part of the run.
+#[inline(always)]
+fn is_held<const WORD: bool>(byte: u8) -> bool {
+    if WORD {
+        is_word_byte(byte)
+    } else {
+        byte == b' ' || 8 < byte && byte < 14
+    }
+}
+
+/// The place where the run ends, from a place on, found byte by byte.
+#[inline(never)]
+fn run_end_slowly<const WORD: bool>(bytes: &[u8], from: usize) -> usize {
+    let mut at = from;
+    while at < bytes.len() && is_held::<WORD>(bytes[at]) {
+        at += 1;
+    }
+    at
+}
+
+/// The place where the run ends, from a place on, found sixteen bytes at a time while so many are left.
+#[inline(never)]
+fn run_end<const WORD: bool>(bytes: &[u8], from: usize) -> usize {
+    let mut at = from;
+    while bytes.len() - at >= LANES {
+        let found = ends_among::<WORD>(bytes, at);
+        if found != 0 {
+            return at + found.trailing_zeros() as usize;
+        }
+        at += LANES;
+    }
+    run_end_slowly::<WORD>(bytes, at)
+}
+
+/// How many bytes the run at the front holds, perhaps none. Most runs end within sixteen bytes.
+#[inline(always)]
+pub(crate) fn run_len<const WORD: bool>(bytes: &[u8]) -> usize {
+    if bytes.len() >= LANES {
+        let found = ends_among::<WORD>(bytes, 0);
+        if found != 0 {
+            return found.trailing_zeros() as usize;
+        }
+    }
+    run_end::<WORD>(bytes, 0)
+}
+
+/// Whether a literal or a comment may begin at a byte that stands after no word: at a quote, a slash, all past ASCII, a digit,
+/// and a letter that a literal's prefix or one of the words `true` and `false` begins with.
+#[inline(always)]
+fn is_likely(byte: u8) -> bool {
+    if byte < 64 {
+        has_bit(0x03ff_8084_0000_0000, byte)
+    } else if byte < 128 {
+        has_bit(0x0014_004c_0000_0000, byte - 64)
+    } else {
+        true
+    }
+}
+
+/// Whether the bit is set.
+#[inline(always)]
+pub fn has_bit(bits: u64, place: u8) -> bool {
+    (bits >> place) & 1 == 1
+}
+
+/// A bit for each of sixteen bytes from a place on, set at a digit, and a letter that a literal's prefix or one of the words
+/// `true` and `false` begins with.
+#[inline(always)]
+fn heads_among(bytes: &[u8], at: usize) -> u64 {
+    let lanes = u8x16::from_slice(&bytes[at..]);
+    let digits = u8x16::splat(9).simd_ge(lanes - u8x16::splat(b'0'));
+    let prefixes = lanes.simd_eq(u8x16::splat(b'b'))
+        | lanes.simd_eq(u8x16::splat(b'c'))
+        | lanes.simd_eq(u8x16::splat(b'r'));
+    let words = lanes.simd_eq(u8x16::splat(b'f')) | lanes.simd_eq(u8x16::splat(b't'));
+    (digits | prefixes | words).to_bitmask()
+}
+
+/// A bit for each of sixteen bytes from a place on, set at quotes, slashes and all past ASCII.
+#[inline(always)]
+fn marks_among(bytes: &[u8], at: usize) -> u64 {
+    let lanes = u8x16::from_slice(&bytes[at..]);
+    let quotes = lanes.simd_eq(u8x16::splat(b'"')) | lanes.simd_eq(u8x16::splat(b'\''));
+    let slashes = lanes.simd_eq(u8x16::splat(b'/'));
+    (quotes | slashes | lanes.simd_ge(u8x16::splat(128))).to_bitmask()
+}
+
+/// A bit for each of sixteen bytes from a place on that isn't the first, set where a literal or a comment may begin: at a
+/// letter or a digit only where no word goes on.
+#[inline(always)]
+fn likely_among(bytes: &[u8], at: usize) -> u64 {
+    let heads = ends_among::<true>(bytes, at - 1) & heads_among(bytes, at);
+    marks_among(bytes, at) | heads
+}
+
+/// How many bytes at the front begin no literal and no comment, looked at sixteen at a time while so many are left.
+#[inline(never)]
+pub fn unlikely_len(bytes: &[u8]) -> usize {
+    if bytes.is_empty() || is_likely(bytes[0]) {
+        return 0;
+    }
+    let mut at = 1;
+    while bytes.len() - at >= LANES {
+        let found = likely_among(bytes, at);
+        if found != 0 {
+            return at + found.trailing_zeros() as usize;
+        }
+        at += LANES;
+    }
+    at
+}
+
+/// The byte before a place, and 0 at the front.
+#[inline(always)]
+pub fn byte_before(bytes: &[u8], at: usize) -> u8 {
+    if at == 0 { 0 } else { bytes[at - 1] }
+}

@@ -1,0 +1,14 @@
+// Rendered from crates/rl_text/src/lib.rt by tools/render, which erases contracts: change that file, and render anew.
+//! Texts: their characters, classes of characters and runs of one class, bytes that are looked for, places, and bytes put
+//! into a slice. No memory is taken.
+
+pub mod characters;
+pub mod classes;
+pub mod ident;
+pub mod lanes;
+pub mod room;
+pub mod scan;
+mod span;
+pub mod text;
+
+pub use crate::rl_text::span::Span;
