@@ -10,7 +10,7 @@ found_in-requires c = (Char, c.requires)
 pub unreachable-requires : goal.unreachable-requires
 unreachable-requires c =
     let f = c.found_in.ensures in c.in-None.ensures.value ((unit_of Char _ _ (f.kind Char c.requires) refl
-        f.found).character refl)
+    f.found).character refl)
 
 pub returns : goal.returns
 returns c =
