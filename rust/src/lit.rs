@@ -4,7 +4,7 @@ use crate::grammar::{find, Found};
 use crate::kind::Kind;
 use crate::parse_error::ParseError;
 use crate::places::{Places, Segments};
-use crate::reading::{find_rust, is_plainly_rust, is_rust};
+use crate::reading::{find_rust, find_soon, is_plainly_rust, is_rust};
 use crate::tokens;
 use crate::{
     LitBool, LitByte, LitByteStr, LitCStr, LitChar, LitFloat, LitInt, LitStr, LitVerbatim,
@@ -125,7 +125,7 @@ impl<'t> Lit<'t> {
     /// ```
     #[inline]
     pub fn parse(text: &'t str) -> Result<Lit<'t>, ParseError> {
-        if let Some(found) = find(text) {
+        if let Some(found) = find_soon(text) {
             each_found_kind!(found.kind, kind => if is_plainly_rust(kind, text, &found) {
                 return Ok(Lit::of_kind(kind, Cow::Borrowed(text), &found));
             });

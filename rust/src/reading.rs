@@ -1,5 +1,6 @@
 //! Whether Rust takes a text that `syn` reads.
 
+use crate::grammar::quoted_forms::{begins_character, find_bare_character, find_cooked};
 use crate::grammar::strict::is_token;
 use crate::grammar::{find, Body, Found};
 use crate::numbers::NumberType;
@@ -11,6 +12,20 @@ const MOST_HASHES: usize = 255;
 /// Whether a text that reads as a literal is one of Rust's own, with one optional minus before a number.
 pub(crate) fn is_rust(text: &str, found: &Found) -> bool {
     is_plainly_rust(found.kind, text, found) || is_token_after_minus(text)
+}
+
+/// What [`find`] finds.
+#[inline(always)]
+pub(crate) fn find_soon(text: &str) -> Option<Found> {
+    if begins_character(text) {
+        if let Some(found) = find_bare_character(text) {
+            return Some(found);
+        }
+    } else if let Some(inside) = text.strip_prefix('"') {
+        return find_cooked(Kind::Str, text, inside);
+    }
+    let found = find(text)?;
+    Some(found)
 }
 
 /// What was found of a text that Rust takes. It reads the text anew, for callers who needn't keep what they found.

@@ -4,21 +4,21 @@
 
 pub mod characters;
 pub mod classes;
-mod cursor;
+pub(crate) mod cursor;
 pub mod ident;
-mod kind;
-mod lanes;
-mod lex_error;
-mod lexeme;
-mod no_token;
+pub(crate) mod kind;
+pub(crate) mod lanes;
+pub(crate) mod lex_error;
+pub(crate) mod lexeme;
+pub(crate) mod no_token;
 pub mod room;
 pub mod scan;
-mod source;
-mod sources;
+pub(crate) mod source;
+pub(crate) mod sources;
 pub mod text;
 pub mod whitespace;
-mod writer;
-mod written_into;
+pub(crate) mod writer;
+pub(crate) mod written_into;
 
 pub use crate::tokens::cursor::{Lexeme, Tokens};
 pub use crate::tokens::kind::Kind;
