@@ -1,6 +1,7 @@
 //! What literals stand for whose bodies aren't it.
 
-use crate::grammar::{bytes_into, numeral_into, Body, SegmentValue, Segments};
+use crate::grammar::units::{split_plain, unit, Piece};
+use crate::grammar::{bytes_into, numeral_into};
 use crate::tokens::Kind;
 use alloc::string::String;
 use alloc::vec::Vec;
@@ -15,31 +16,49 @@ fn written(body: &str, write: impl FnOnce(&str, &mut [u8]) -> usize) -> Vec<u8> 
     out
 }
 
-/// The segments of a body that isn't plain. Inlined for a kind that its caller names.
+/// Whether an escape begins the text.
 #[inline(always)]
-fn segments_of(kind: Kind, body: &str) -> Segments<'_> {
-    let end = body.len();
-    let parts = Body {
-        lo: 0,
-        hi: end,
-        suffix_at: end,
-        plain: false,
-    };
-    parts.segments_in(kind, body)
+fn begins_escape(text: &str) -> bool {
+    text.as_bytes().first() == Some(&b'\\')
+}
+
+/// Pushes what the unit at the front of a string's text stands for, and returns what follows it: `None` where no unit stands there.
+#[inline(always)]
+fn push_unit<'t>(out: &mut String, text: &'t str) -> Option<&'t str> {
+    let (piece, after) = unit(Kind::Str, text)?;
+    match piece {
+        Piece::Character(c) => out.push(c),
+        // Each is of ASCII, which the compiler can't know; then there is less to do.
+        Piece::Byte(byte) if byte.is_ascii() => out.push(char::from(byte)),
+        Piece::Byte(byte) => out.push(char::from(byte)),
+        Piece::Nothing => {}
+    }
+    Some(after)
 }
 
 /// What a string stands for whose body has escapes: no longer than its body.
 pub(crate) fn text_of(body: &str) -> String {
     let mut out = String::with_capacity(body.len());
-    let mut segments = segments_of(Kind::Str, body);
-    while let Some(segment) = segments.next() {
-        match segment.value {
-            SegmentValue::Text(text) => out.push_str(text),
-            SegmentValue::Char(c) => out.push(c),
-            SegmentValue::Byte(_) | SegmentValue::Nothing => {}
+    let mut rest = body;
+    loop {
+        // Escapes often stand side by side.
+        while begins_escape(rest) {
+            let Some(after) = push_unit(&mut out, rest) else {
+                return out;
+            };
+            rest = after;
+        }
+        let (run, following) = split_plain(Kind::Str, rest);
+        out.push_str(run);
+        rest = following;
+        // The CR and LF of a line end are a unit too.
+        if !begins_escape(rest) {
+            let Some(after) = push_unit(&mut out, rest) else {
+                return out;
+            };
+            rest = after;
         }
     }
-    out
 }
 
 /// What a byte string or a C string stands for whose body has escapes.
