@@ -4,7 +4,7 @@ use crate::grammar::{find, Found};
 use crate::kind::Kind;
 use crate::parse_error::ParseError;
 use crate::places::{Places, Segments};
-use crate::reading::{find_rust, find_soon, is_plainly_rust, is_rust};
+use crate::reading::{find_rust, find_soon, find_apart, is_plainly_rust, is_rust, Soon};
 use crate::tokens;
 use crate::{
     LitBool, LitByte, LitByteStr, LitCStr, LitChar, LitFloat, LitInt, LitStr, LitVerbatim,
@@ -125,9 +125,18 @@ impl<'t> Lit<'t> {
     /// ```
     #[inline]
     pub fn parse(text: &'t str) -> Result<Lit<'t>, ParseError> {
-        if let Some(found) = find_soon(text) {
+        let borrowed = Cow::Borrowed(text);
+        match find_soon(text) {
+            Soon::Char(found) => return Ok(Lit::of_kind(tokens::Kind::Char, borrowed, &found)),
+            Soon::Str(body) => return Ok(Lit::Str(LitStr::of(borrowed, body))),
+            Soon::Float(suffix_at, is_plain) => {
+                return Ok(Lit::Float(LitFloat::new(borrowed, suffix_at, is_plain)));
+            }
+            Soon::Other => {}
+        }
+        if let Some(found) = find_apart(text) {
             each_found_kind!(found.kind, kind => if is_plainly_rust(kind, text, &found) {
-                return Ok(Lit::of_kind(kind, Cow::Borrowed(text), &found));
+                return Ok(Lit::of_kind(kind, borrowed, &found));
             });
         }
         // The text is read anew: keeping what was found for this would cost each text that came out above.
@@ -228,7 +237,7 @@ impl<'t> Lit<'t> {
                 found.magnitude,
                 body.plain,
             )),
-            tokens::Kind::Float => Lit::Float(LitFloat::of(text, body.suffix_at, body.plain)),
+            tokens::Kind::Float => Lit::Float(LitFloat::of(text, body.suffix_at)),
             tokens::Kind::Bool => Lit::Bool(LitBool::of(text, found.truth)),
         }
     }

@@ -2,6 +2,7 @@
 
 use crate::common::literal_type;
 use crate::contents::digits_of;
+use crate::grammar::digits::is_plain_float;
 use alloc::borrow::Cow;
 use alloc::format;
 use alloc::string::String;
@@ -350,10 +351,26 @@ impl<'t> LitInt<'t> {
     }
 }
 
+/// A numeral without the underscores at its end, which are none of its digits.
+#[inline]
+pub(crate) fn before_underscores(numeral: &str) -> &str {
+    let mut end = numeral.len();
+    while end > 0 && numeral.as_bytes()[end - 1] == b'_' {
+        end -= 1;
+    }
+    &numeral[..end]
+}
+
 impl<'t> LitFloat<'t> {
-    /// The literal of this text. It is plain where all before the suffix is its digits.
+    /// The literal of this text.
     #[inline]
-    pub(crate) fn of(text: Cow<'t, str>, suffix_at: usize, is_plain: bool) -> Self {
+    pub(crate) fn of(text: Cow<'t, str>, suffix_at: usize) -> Self {
+        let is_plain = is_plain_float(before_underscores(&text[..suffix_at]));
+        LitFloat::new(text, suffix_at, is_plain)
+    }
+
+    #[inline]
+    pub(crate) fn new(text: Cow<'t, str>, suffix_at: usize, is_plain: bool) -> Self {
         LitFloat {
             text,
             suffix_at,
@@ -372,7 +389,7 @@ impl<'t> LitFloat<'t> {
     #[inline]
     #[must_use]
     pub fn base10_digits(&self) -> Cow<'_, str> {
-        let numeral = &self.text[..self.suffix_at];
+        let numeral = before_underscores(&self.text[..self.suffix_at]);
         if self.is_plain {
             Cow::Borrowed(numeral)
         } else {

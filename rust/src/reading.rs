@@ -1,9 +1,13 @@
 //! Whether Rust takes a text that `syn` reads.
 
+use crate::grammar::digit_rows::DigitRow;
+use crate::grammar::digits::is_plain_float;
+use crate::grammar::found::begins_number;
+use crate::grammar::number_forms::{head_suffix, Head};
 use crate::grammar::quoted_forms::{begins_character, find_bare_character, find_cooked};
 use crate::grammar::strict::is_token;
 use crate::grammar::{find, Body, Found};
-use crate::numbers::NumberType;
+use crate::numbers::{before_underscores, NumberType};
 use crate::tokens::Kind;
 
 /// The most hashes that a raw string of Rust's has on each side.
@@ -14,18 +18,106 @@ pub(crate) fn is_rust(text: &str, found: &Found) -> bool {
     is_plainly_rust(found.kind, text, found) || is_token_after_minus(text)
 }
 
-/// What [`find`] finds.
+/// A literal of Rust that its first bytes tell.
+pub(crate) enum Soon {
+    /// A character of ASCII, by its number.
+    Char(Found),
+    /// A string without a suffix.
+    Str(Body),
+    /// A float: where its suffix begins, and whether its digits stand in the text.
+    Float(usize, bool),
+    /// Another literal, or none.
+    Other,
+}
+
 #[inline(always)]
-pub(crate) fn find_soon(text: &str) -> Option<Found> {
+pub(crate) fn find_soon(text: &str) -> Soon {
     if begins_character(text) {
         if let Some(found) = find_bare_character(text) {
-            return Some(found);
+            if is_plainly_rust(Kind::Char, text, &found) {
+                return Soon::Char(found);
+            }
         }
     } else if let Some(inside) = text.strip_prefix('"') {
-        return find_cooked(Kind::Str, text, inside);
+        if let Some(found) = find_cooked(Kind::Str, text, inside) {
+            if is_plainly_rust(Kind::Str, text, &found) {
+                return Soon::Str(found.body);
+            }
+        }
+    } else if let Some((suffix_at, is_plain)) = find_dotted(text) {
+        return Soon::Float(suffix_at, is_plain);
     }
+    Soon::Other
+}
+
+/// What [`find`] finds.
+#[inline(always)]
+pub(crate) fn find_apart(text: &str) -> Option<Found> {
     let found = find(text)?;
     Some(found)
+}
+
+/// Where the suffix begins of a float that Rust takes, with a dot among its first bytes; `None` of others, and of all else.
+#[inline(always)]
+fn find_dotted(text: &str) -> Option<(usize, bool)> {
+    if begins_number(text) && has_early_dot(text.as_bytes()) {
+        float_end(text)
+    } else {
+        None
+    }
+}
+
+/// Whether a dot stands among the first eight bytes.
+#[inline(always)]
+fn has_early_dot(bytes: &[u8]) -> bool {
+    match bytes.first_chunk::<8>() {
+        Some(&eight) => {
+            // Of a number that isn't 0 the lowest bit that is set goes where 1 is taken from each byte.
+            let left = u64::from_le_bytes(eight) ^ (u64::from(b'.') * LOWEST);
+            left.wrapping_sub(LOWEST) & !left & (LOWEST << 7) != 0
+        }
+        None => bytes.contains(&b'.'),
+    }
+}
+
+const LOWEST: u64 = 0x0101_0101_0101_0101;
+
+/// Where the suffix of a float begins that Rust takes, whose digits before its dot have no underscores.
+#[inline(never)]
+fn float_end(text: &str) -> Option<(usize, bool)> {
+    let rest = after_digits(text.strip_prefix('-').unwrap_or(text));
+    let [b'.', fraction @ ..] = rest.as_bytes() else {
+        return None;
+    };
+    if matches!(fraction, [next, ..] if !next.is_ascii_digit()) {
+        return None;
+    }
+    // A dot makes it a float, whatever its digits spell.
+    let row = DigitRow {
+        has_digit: true,
+        magnitude: None,
+        rest,
+    };
+    let suffix = head_suffix(text, Head { radix: 10, row })?;
+    let body = Body::up_to(text.len() - suffix.len(), true);
+    if !is_float_suffix(text, body) {
+        return None;
+    }
+    let is_plain = is_plain_float(before_underscores(&text[..body.suffix_at]));
+    if !is_plain && has_exponent_underscore(fraction) {
+        return None;
+    }
+    Some((body.suffix_at, is_plain))
+}
+
+#[inline(always)]
+fn after_digits(text: &str) -> &str {
+    let bytes = text.as_bytes();
+    let mut at = 0;
+    while at < bytes.len() && bytes[at].is_ascii_digit() {
+        at += 1;
+    }
+    &text[at..]
 }
 
 /// What was found of a text that Rust takes. It reads the text anew, for callers who needn't keep what they found.
@@ -106,12 +198,14 @@ fn is_rust_float(text: &str, body: Body) -> bool {
         return false;
     }
     // Digits that are plain have no underscore.
-    let digits = fraction.unwrap_or(text.as_bytes());
-    body.plain
-        || !matches!(
-            after_first(digits, |byte| matches!(byte, b'e' | b'E')),
-            Some([b'_', ..])
-        )
+    body.plain || !has_exponent_underscore(fraction.unwrap_or(text.as_bytes()))
+}
+
+/// Whether an underscore follows the letter of the exponent, if one stands there.
+#[inline]
+fn has_exponent_underscore(digits: &[u8]) -> bool {
+    let exponent = after_first(digits, |byte| matches!(byte, b'e' | b'E'));
+    matches!(exponent, Some([b'_', ..]))
 }
 
 /// What follows the first byte that passes the test.
