@@ -32,7 +32,13 @@ pub(crate) enum Soon {
 
 #[inline(always)]
 pub(crate) fn find_soon(text: &str) -> Soon {
-    if begins_character(text) {
+    if begins_number(text) {
+        if has_early_dot(text.as_bytes()) {
+            if let Some((suffix_at, is_plain)) = float_end(text) {
+                return Soon::Float(suffix_at, is_plain);
+            }
+        }
+    } else if begins_character(text) {
         if let Some(found) = find_bare_character(text) {
             if is_plainly_rust(Kind::Char, text, &found) {
                 return Soon::Char(found);
@@ -44,8 +50,6 @@ pub(crate) fn find_soon(text: &str) -> Soon {
                 return Soon::Str(found.body);
             }
         }
-    } else if let Some((suffix_at, is_plain)) = find_dotted(text) {
-        return Soon::Float(suffix_at, is_plain);
     }
     Soon::Other
 }
@@ -55,16 +59,6 @@ pub(crate) fn find_soon(text: &str) -> Soon {
 pub(crate) fn find_apart(text: &str) -> Option<Found> {
     let found = find(text)?;
     Some(found)
-}
-
-/// Where the suffix begins of a float that Rust takes, with a dot among its first bytes; `None` of others, and of all else.
-#[inline(always)]
-fn find_dotted(text: &str) -> Option<(usize, bool)> {
-    if begins_number(text) && has_early_dot(text.as_bytes()) {
-        float_end(text)
-    } else {
-        None
-    }
 }
 
 /// Whether a dot stands among the first eight bytes.
