@@ -1,10 +1,12 @@
 //! Literals of any kind.
 
+use crate::frequent::{find_frequent, Float, Frequent};
 use crate::grammar::{find, Found};
 use crate::kind::Kind;
+use crate::numbers::has_plain_digits;
 use crate::parse_error::ParseError;
 use crate::places::{Places, Segments};
-use crate::reading::{find_rust, find_soon, find_apart, is_plainly_rust, is_rust, Soon};
+use crate::reading::{find_apart, find_rust, is_plainly_rust, is_rust};
 use crate::tokens;
 use crate::{
     LitBool, LitByte, LitByteStr, LitCStr, LitChar, LitFloat, LitInt, LitStr, LitVerbatim,
@@ -126,13 +128,13 @@ impl<'t> Lit<'t> {
     #[inline]
     pub fn parse(text: &'t str) -> Result<Lit<'t>, ParseError> {
         let borrowed = Cow::Borrowed(text);
-        match find_soon(text) {
-            Soon::Char(found) => return Ok(Lit::of_kind(tokens::Kind::Char, borrowed, &found)),
-            Soon::Str(body) => return Ok(Lit::Str(LitStr::of(borrowed, body))),
-            Soon::Float(suffix_at, is_plain) => {
-                return Ok(Lit::Float(LitFloat::new(borrowed, suffix_at, is_plain)));
+        match find_frequent(text) {
+            Some(Frequent::Char(found)) => {
+                return Ok(Lit::of_kind(tokens::Kind::Char, borrowed, &found));
             }
-            Soon::Other => {}
+            Some(Frequent::Str(body)) => return Ok(Lit::Str(LitStr::of(borrowed, body))),
+            Some(Frequent::Float(float)) => return Ok(Lit::Float(LitFloat::of(borrowed, float))),
+            None => {}
         }
         if let Some(found) = find_apart(text) {
             each_found_kind!(found.kind, kind => if is_plainly_rust(kind, text, &found) {
@@ -237,7 +239,17 @@ impl<'t> Lit<'t> {
                 found.magnitude,
                 body.plain,
             )),
-            tokens::Kind::Float => Lit::Float(LitFloat::of(text, body.suffix_at)),
+            tokens::Kind::Float => {
+                let suffix_at = body.suffix_at;
+                let is_plain = body.plain || has_plain_digits(&text[..suffix_at]);
+                Lit::Float(LitFloat::of(
+                    text,
+                    Float {
+                        suffix_at,
+                        is_plain,
+                    },
+                ))
+            }
             tokens::Kind::Bool => Lit::Bool(LitBool::of(text, found.truth)),
         }
     }

@@ -2,6 +2,7 @@
 
 use crate::common::literal_type;
 use crate::contents::digits_of;
+use crate::frequent::Float;
 use crate::grammar::digits::is_plain_float;
 use alloc::borrow::Cow;
 use alloc::format;
@@ -351,9 +352,9 @@ impl<'t> LitInt<'t> {
     }
 }
 
-/// A numeral without the underscores at its end, which are none of its digits.
+/// A float's numeral without the underscores at its end, which are none of its digits.
 #[inline]
-pub(crate) fn before_underscores(numeral: &str) -> &str {
+fn before_underscores(numeral: &str) -> &str {
     let mut end = numeral.len();
     while end > 0 && numeral.as_bytes()[end - 1] == b'_' {
         end -= 1;
@@ -361,20 +362,20 @@ pub(crate) fn before_underscores(numeral: &str) -> &str {
     &numeral[..end]
 }
 
+/// Whether a float's digits stand at the front of its numeral: whether they are all of it, underscores at its end aside.
+#[inline]
+pub(crate) fn has_plain_digits(numeral: &str) -> bool {
+    is_plain_float(before_underscores(numeral))
+}
+
 impl<'t> LitFloat<'t> {
     /// The literal of this text.
     #[inline]
-    pub(crate) fn of(text: Cow<'t, str>, suffix_at: usize) -> Self {
-        let is_plain = is_plain_float(before_underscores(&text[..suffix_at]));
-        LitFloat::new(text, suffix_at, is_plain)
-    }
-
-    #[inline]
-    pub(crate) fn new(text: Cow<'t, str>, suffix_at: usize, is_plain: bool) -> Self {
+    pub(crate) fn of(text: Cow<'t, str>, float: Float) -> Self {
         LitFloat {
             text,
-            suffix_at,
-            is_plain,
+            suffix_at: float.suffix_at,
+            is_plain: float.is_plain,
         }
     }
 

@@ -1,13 +1,8 @@
 //! Whether Rust takes a text that `syn` reads.
 
-use crate::grammar::digit_rows::DigitRow;
-use crate::grammar::digits::is_plain_float;
-use crate::grammar::found::begins_number;
-use crate::grammar::number_forms::{head_suffix, Head};
-use crate::grammar::quoted_forms::{begins_character, find_bare_character, find_cooked};
 use crate::grammar::strict::is_token;
 use crate::grammar::{find, Body, Found};
-use crate::numbers::{before_underscores, NumberType};
+use crate::numbers::NumberType;
 use crate::tokens::Kind;
 
 /// The most hashes that a raw string of Rust's has on each side.
@@ -18,100 +13,11 @@ pub(crate) fn is_rust(text: &str, found: &Found) -> bool {
     is_plainly_rust(found.kind, text, found) || is_token_after_minus(text)
 }
 
-/// A literal of Rust that its first bytes tell.
-pub(crate) enum Soon {
-    /// A character of ASCII, by its number.
-    Char(Found),
-    /// A string without a suffix.
-    Str(Body),
-    /// A float: where its suffix begins, and whether its digits stand in the text.
-    Float(usize, bool),
-    /// Another literal, or none.
-    Other,
-}
-
-#[inline(always)]
-pub(crate) fn find_soon(text: &str) -> Soon {
-    if begins_number(text) {
-        if has_early_dot(text.as_bytes()) {
-            if let Some((suffix_at, is_plain)) = float_end(text) {
-                return Soon::Float(suffix_at, is_plain);
-            }
-        }
-    } else if begins_character(text) {
-        if let Some(found) = find_bare_character(text) {
-            if is_plainly_rust(Kind::Char, text, &found) {
-                return Soon::Char(found);
-            }
-        }
-    } else if let Some(inside) = text.strip_prefix('"') {
-        if let Some(found) = find_cooked(Kind::Str, text, inside) {
-            if is_plainly_rust(Kind::Str, text, &found) {
-                return Soon::Str(found.body);
-            }
-        }
-    }
-    Soon::Other
-}
-
-/// What [`find`] finds.
+/// What [`find`] finds, taken out of the memory where its calls leave it.
 #[inline(always)]
 pub(crate) fn find_apart(text: &str) -> Option<Found> {
     let found = find(text)?;
     Some(found)
-}
-
-/// Whether a dot stands among the first eight bytes.
-#[inline(always)]
-fn has_early_dot(bytes: &[u8]) -> bool {
-    match bytes.first_chunk::<8>() {
-        Some(&eight) => {
-            // Of a number that isn't 0 the lowest bit that is set goes where 1 is taken from each byte.
-            let left = u64::from_le_bytes(eight) ^ (u64::from(b'.') * LOWEST);
-            left.wrapping_sub(LOWEST) & !left & (LOWEST << 7) != 0
-        }
-        None => bytes.contains(&b'.'),
-    }
-}
-
-const LOWEST: u64 = 0x0101_0101_0101_0101;
-
-/// Where the suffix of a float begins that Rust takes, whose digits before its dot have no underscores.
-#[inline(never)]
-fn float_end(text: &str) -> Option<(usize, bool)> {
-    let rest = after_digits(text.strip_prefix('-').unwrap_or(text));
-    let [b'.', fraction @ ..] = rest.as_bytes() else {
-        return None;
-    };
-    if matches!(fraction, [next, ..] if !next.is_ascii_digit()) {
-        return None;
-    }
-    // A dot makes it a float, whatever its digits spell.
-    let row = DigitRow {
-        has_digit: true,
-        magnitude: None,
-        rest,
-    };
-    let suffix = head_suffix(text, Head { radix: 10, row })?;
-    let body = Body::up_to(text.len() - suffix.len(), true);
-    if !is_float_suffix(text, body) {
-        return None;
-    }
-    let is_plain = is_plain_float(before_underscores(&text[..body.suffix_at]));
-    if !is_plain && has_exponent_underscore(fraction) {
-        return None;
-    }
-    Some((body.suffix_at, is_plain))
-}
-
-#[inline(always)]
-fn after_digits(text: &str) -> &str {
-    let bytes = text.as_bytes();
-    let mut at = 0;
-    while at < bytes.len() && bytes[at].is_ascii_digit() {
-        at += 1;
-    }
-    &text[at..]
 }
 
 /// What was found of a text that Rust takes. It reads the text anew, for callers who needn't keep what they found.
@@ -128,7 +34,7 @@ pub(crate) fn is_plainly_rust(kind: Kind, text: &str, found: &Found) -> bool {
     let body = found.body;
     match kind {
         Kind::Int => is_number_suffix(text, body),
-        Kind::Float => is_float_suffix(text, body) && is_rust_float(text, body),
+        Kind::Float => is_float_suffix(&text[body.suffix_at..]) && is_rust_float(text, body),
         Kind::Str => has_no_suffix(text, body) && is_rust_string(text, body, 1),
         Kind::ByteStr | Kind::CStr => has_no_suffix(text, body) && is_rust_string(text, body, 2),
         Kind::Byte | Kind::Bool => has_no_suffix(text, body),
@@ -177,10 +83,10 @@ fn is_number_suffix(text: &str, body: Body) -> bool {
     has_no_suffix(text, body) || NumberType::named(&text[body.suffix_at..]).is_some()
 }
 
-/// Whether the float has no suffix, or the name of a type of floats.
+/// Whether the suffix of a float is none, or the name of a type of floats.
 #[inline]
-fn is_float_suffix(text: &str, body: Body) -> bool {
-    matches!(&text.as_bytes()[body.suffix_at..], b"" | b"f32" | b"f64")
+pub(crate) fn is_float_suffix(suffix: &str) -> bool {
+    matches!(suffix.as_bytes(), b"" | b"f32" | b"f64")
 }
 
 /// Whether a digit follows the dot of a float, if anything does, and no underscore the letter of its exponent. Its suffix, if it has
@@ -197,7 +103,7 @@ fn is_rust_float(text: &str, body: Body) -> bool {
 
 /// Whether an underscore follows the letter of the exponent, if one stands there.
 #[inline]
-fn has_exponent_underscore(digits: &[u8]) -> bool {
+pub(crate) fn has_exponent_underscore(digits: &[u8]) -> bool {
     let exponent = after_first(digits, |byte| matches!(byte, b'e' | b'E'));
     matches!(exponent, Some([b'_', ..]))
 }

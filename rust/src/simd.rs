@@ -15,6 +15,15 @@ const HIGHEST: u64 = LOWEST << 7;
 /// What moves the highest bits into the highest byte, in their order.
 const GATHER: u64 = 0x0002_0408_1020_4081;
 
+/// Whether one of eight bytes is this one.
+#[inline(always)]
+pub(crate) fn holds_byte(eight: [u8; 8], byte: u8) -> bool {
+    // Of what is left of a byte that is this one nothing is, and then the subtraction sets its highest bit. It may set that of a
+    // byte above too, but none where there is no such byte.
+    let left = u64::from_le_bytes(eight) ^ (byte as u64 * LOWEST);
+    left.wrapping_sub(LOWEST) & !left & HIGHEST != 0
+}
+
 /// The numbers that hold N lanes, each made of its index. The loop counts by itself, which costs least where nothing is optimized.
 macro_rules! eights {
     ($lanes:ident, $at:ident => $eight:expr) => {{

@@ -1,0 +1,106 @@
+//! The literals that are read most: characters of ASCII, strings and floats, told by their first bytes.
+//!
+//! [`find`](crate::grammar::find) finds the same, by the functions that are called here. But what its calls return stands in
+//! memory, and so does all that it finds; of these literals it stands in registers.
+
+use crate::grammar::digit_rows::DigitRow;
+use crate::grammar::number_forms::{head_suffix, Head};
+use crate::grammar::quoted_forms::{find_bare_character, find_cooked};
+use crate::grammar::{Body, Found};
+use crate::numbers::has_plain_digits;
+use crate::reading::{has_exponent_underscore, is_float_suffix, is_plainly_rust};
+use crate::simd::holds_byte;
+use crate::tokens::Kind;
+
+/// A literal that Rust takes, by what it is made of.
+pub(crate) enum Frequent {
+    /// A character of ASCII that stands for itself, without a suffix.
+    Char(Found),
+    /// A string that isn't raw, without a suffix.
+    Str(Body),
+    /// A float with a dot.
+    Float(Float),
+}
+
+/// A float with a dot.
+#[derive(Clone, Copy)]
+pub(crate) struct Float {
+    /// The place of the suffix's first byte; the text's end where there is none.
+    pub(crate) suffix_at: usize,
+    /// Whether its digits stand in the text, as [`has_plain_digits`] says.
+    pub(crate) is_plain: bool,
+}
+
+/// The literal that the text is; `None` of other literals, of some of these, and where the text is none.
+#[inline(always)]
+pub(crate) fn find_frequent(text: &str) -> Option<Frequent> {
+    if let [b'0'..=b'9' | b'-', ..] = text.as_bytes() {
+        if has_early_dot(text.as_bytes()) {
+            let float = find_dotted(text)?;
+            return Some(Frequent::Float(float));
+        }
+    } else if let [b'\'', _, _, ..] = text.as_bytes() {
+        let found = find_bare_character(text)?;
+        if is_plainly_rust(Kind::Char, text, &found) {
+            return Some(Frequent::Char(found));
+        }
+    } else if let Some(inside) = text.strip_prefix('"') {
+        let found = find_cooked(Kind::Str, text, inside)?;
+        if is_plainly_rust(Kind::Str, text, &found) {
+            return Some(Frequent::Str(found.body));
+        }
+    }
+    None
+}
+
+/// Whether a dot stands among the first eight bytes.
+#[inline(always)]
+fn has_early_dot(bytes: &[u8]) -> bool {
+    match bytes.first_chunk() {
+        Some(eight) => holds_byte(*eight, b'.'),
+        None => bytes.contains(&b'.'),
+    }
+}
+
+/// The float that the text is, with digits alone before its dot, perhaps after a minus.
+#[inline(never)]
+fn find_dotted(text: &str) -> Option<Float> {
+    let unsigned = text.strip_prefix('-').unwrap_or(text);
+    let rest = after_digits(unsigned);
+    let [b'.', fraction @ ..] = rest.as_bytes() else {
+        return None;
+    };
+    if rest.len() == unsigned.len() || matches!(fraction, [next, ..] if !next.is_ascii_digit()) {
+        return None;
+    }
+    // No integer goes on with a dot, so what the digits before it spell isn't asked.
+    let row = DigitRow {
+        has_digit: true,
+        magnitude: None,
+        rest,
+    };
+    let suffix = head_suffix(text, Head { radix: 10, row })?;
+    let suffix_at = text.len() - suffix.len();
+    if !is_float_suffix(suffix) {
+        return None;
+    }
+    let is_plain = has_plain_digits(&text[..suffix_at]);
+    if !is_plain && has_exponent_underscore(fraction) {
+        return None;
+    }
+    Some(Float {
+        suffix_at,
+        is_plain,
+    })
+}
+
+/// The text after the decimal digits at its front.
+#[inline(always)]
+fn after_digits(text: &str) -> &str {
+    let bytes = text.as_bytes();
+    let mut at = 0;
+    while at < bytes.len() && bytes[at].is_ascii_digit() {
+        at += 1;
+    }
+    &text[at..]
+}
