@@ -104,3 +104,72 @@ fn after_digits(text: &str) -> &str {
     }
     &text[at..]
 }
+
+#[cfg(test)]
+mod tests {
+    use super::*;
+    use crate::grammar::find;
+    use crate::reading::is_rust;
+    use crate::reading::tests::each_text;
+    use crate::Lit;
+    use std::borrow::Cow;
+    use std::string::String;
+
+    /// What the frequent literal is made of, as `find` has it.
+    fn parts_of(frequent: &Frequent, text: &str) -> (Kind, usize, usize, usize, u32) {
+        match frequent {
+            Frequent::Char(found) => {
+                let body = found.body;
+                (Kind::Char, body.lo, body.hi, body.suffix_at, found.unit)
+            }
+            Frequent::Str(body) => (Kind::Str, body.lo, body.hi, body.suffix_at, 0),
+            Frequent::Float(float) => {
+                let digits = float_digits(&text[..float.suffix_at]);
+                assert_eq!(float.is_plain, text.starts_with(&digits), "{text}");
+                (Kind::Float, 0, float.suffix_at, float.suffix_at, 0)
+            }
+        }
+    }
+
+    /// A numeral's digits, as the documentation of `LitFloat::base10_digits` has them.
+    fn float_digits(numeral: &str) -> String {
+        numeral.replace(['_', '+'], "").replace('E', "e")
+    }
+
+    /// Checks a text, and counts it where it is frequent.
+    fn check(text: &str, count: &mut usize) {
+        if let Some(frequent) = find_frequent(text) {
+            let found = find(text).expect("it reads");
+            let body = found.body;
+            let parts = (found.kind, body.lo, body.hi, body.suffix_at, found.unit);
+            assert_eq!(parts_of(&frequent, text), parts, "{text:?}");
+            assert!(is_rust(text, &found), "{text:?}");
+            *count += 1;
+        }
+        if let Lit::Float(literal) = Lit::new(text) {
+            let digits = literal.base10_digits();
+            assert_eq!(digits, float_digits(literal.number_part()), "{text}");
+            let borrows = matches!(digits, Cow::Borrowed(_));
+            assert_eq!(borrows, text.starts_with(&*digits), "{text}");
+        }
+    }
+
+    #[test]
+    fn what_is_frequent_is_what_is_found() {
+        let (mut floats, mut others) = (0, 0);
+        let marks = ['0', '9', '_', '.', 'e', 'E', '+', '-', 'f', 'é'];
+        for front in ["", "-", "1.", "-1.5", "1.5e", "12345.6E+", "1.5_", "1.2f"] {
+            each_text(front, &marks, 4, &mut |text| check(text, &mut floats));
+        }
+        for front in ["1.5f3", "1.0f6", "123456.78e1_f3", "0.000_000_1E-2_f6"] {
+            each_text(front, &['2', '4', '_'], 3, &mut |text| {
+                check(text, &mut floats);
+            });
+        }
+        let marks = ['"', '\'', '\\', '\r', '\n', '\t', 'n', 'é', '_'];
+        for front in ["", "\"", "'", "\"\\x4", "\"a\\\n ", "'\\u{1"] {
+            each_text(front, &marks, 4, &mut |text| check(text, &mut others));
+        }
+        assert!(floats > 500 && others > 500, "{floats}, {others}");
+    }
+}

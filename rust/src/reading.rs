@@ -127,13 +127,18 @@ fn is_token_after_minus(text: &str) -> bool {
 }
 
 #[cfg(test)]
-mod tests {
+pub(crate) mod tests {
     use super::*;
     use crate::grammar::find;
     use std::string::String;
 
     /// All texts of up to so many of these characters, after the front.
-    fn each_text(front: &str, characters: &[char], most: usize, check: &mut dyn FnMut(&str)) {
+    pub(crate) fn each_text(
+        front: &str,
+        characters: &[char],
+        most: usize,
+        check: &mut dyn FnMut(&str),
+    ) {
         check(front);
         if most > 0 {
             for &c in characters {

@@ -260,6 +260,21 @@ mod tests {
     }
 
     #[test]
+    fn a_byte_is_among_eight() {
+        for at in 0..8 {
+            for byte in [0, 1, 0x2D, 0x2E, 0x2F, 0x7F, 0x80, 0xAE, 0xFF] {
+                for others in [0x2D, 0x2F, 0x30, 0xAE] {
+                    let mut eight = [others; 8];
+                    eight[at] = byte;
+                    assert_eq!(holds_byte(eight, b'.'), byte == b'.', "{eight:x?}");
+                    assert!(holds_byte(eight, byte));
+                    assert!(holds_byte(eight, others));
+                }
+            }
+        }
+    }
+
+    #[test]
     fn bits_are_those_of_the_lanes() {
         lanes_agree::<8>(1);
         lanes_agree::<16>(2);
