@@ -3,13 +3,12 @@
 //! [`find`](crate::grammar::find) finds the same, by the functions that are called here. But what its calls return stands in
 //! memory, and so does all that it finds; of these literals it stands in registers.
 
-use crate::grammar::digit_rows::DigitRow;
-use crate::grammar::number_forms::{head_suffix, Head};
+use crate::grammar::number_forms::float_suffix;
 use crate::grammar::quoted_forms::{find_bare_character, find_cooked};
 use crate::grammar::{Body, Found};
 use crate::numbers::has_plain_digits;
 use crate::reading::{has_exponent_underscore, is_float_suffix, is_plainly_rust};
-use crate::simd::holds_byte;
+use crate::simd::place_of;
 use crate::tokens::Kind;
 
 /// A literal that Rust takes, by what it is made of.
@@ -35,8 +34,8 @@ pub(crate) struct Float {
 #[inline(always)]
 pub(crate) fn find_frequent(text: &str) -> Option<Frequent> {
     if let [b'0'..=b'9' | b'-', ..] = text.as_bytes() {
-        if has_early_dot(text.as_bytes()) {
-            let float = find_dotted(text)?;
+        if let Some(dot) = early_dot(text.as_bytes()) {
+            let float = find_dotted(text, dot)?;
             return Some(Frequent::Float(float));
         }
     } else if let [b'\'', _, _, ..] = text.as_bytes() {
@@ -53,37 +52,25 @@ pub(crate) fn find_frequent(text: &str) -> Option<Frequent> {
     None
 }
 
-/// Whether a dot stands among the first eight bytes.
+/// The place of the first dot, if it is among the first eight bytes.
 #[inline(always)]
-fn has_early_dot(bytes: &[u8]) -> bool {
+fn early_dot(bytes: &[u8]) -> Option<usize> {
     match bytes.first_chunk() {
-        Some(eight) => holds_byte(*eight, b'.'),
-        None => bytes.contains(&b'.'),
+        Some(eight) => place_of(*eight, b'.'),
+        None => bytes.iter().position(|byte| *byte == b'.'),
     }
 }
 
-/// The float that the text is, with digits alone before its dot, perhaps after a minus.
-#[inline(never)]
-fn find_dotted(text: &str) -> Option<Float> {
-    let unsigned = text.strip_prefix('-').unwrap_or(text);
-    let rest = after_digits(unsigned);
-    let [b'.', fraction @ ..] = rest.as_bytes() else {
-        return None;
-    };
-    if rest.len() == unsigned.len() || matches!(fraction, [next, ..] if !next.is_ascii_digit()) {
+/// The float that the text is, whose first dot stands at this place.
+#[inline(always)]
+fn find_dotted(text: &str, dot: usize) -> Option<Float> {
+    // No integer holds a dot, so what the digits before it spell isn't asked.
+    let suffix = float_suffix(text)?;
+    let fraction = &text.as_bytes()[dot + 1..];
+    if matches!(fraction, [next, ..] if !next.is_ascii_digit()) || !is_float_suffix(suffix) {
         return None;
     }
-    // No integer goes on with a dot, so what the digits before it spell isn't asked.
-    let row = DigitRow {
-        has_digit: true,
-        magnitude: None,
-        rest,
-    };
-    let suffix = head_suffix(text, Head { radix: 10, row })?;
     let suffix_at = text.len() - suffix.len();
-    if !is_float_suffix(suffix) {
-        return None;
-    }
     let is_plain = has_plain_digits(&text[..suffix_at]);
     if !is_plain && has_exponent_underscore(fraction) {
         return None;
@@ -92,17 +79,6 @@ fn find_dotted(text: &str) -> Option<Float> {
         suffix_at,
         is_plain,
     })
-}
-
-/// The text after the decimal digits at its front.
-#[inline(always)]
-fn after_digits(text: &str) -> &str {
-    let bytes = text.as_bytes();
-    let mut at = 0;
-    while at < bytes.len() && bytes[at].is_ascii_digit() {
-        at += 1;
-    }
-    &text[at..]
 }
 
 #[cfg(test)]
