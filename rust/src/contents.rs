@@ -6,13 +6,14 @@ use crate::tokens::Kind;
 use alloc::string::String;
 use alloc::vec::Vec;
 
-/// What is written into room as long as the body, which is long enough.
+/// The front, and after it what is written into room as long as the body, which is long enough.
 #[inline]
-fn written(body: &str, write: impl FnOnce(&str, &mut [u8]) -> usize) -> Vec<u8> {
-    let mut out = Vec::with_capacity(body.len());
-    out.resize(body.len(), b' ');
-    let len = write(body, &mut out);
-    out.truncate(len);
+fn written(front: &str, body: &str, write: impl FnOnce(&str, &mut [u8]) -> usize) -> Vec<u8> {
+    let mut out = Vec::with_capacity(front.len() + body.len());
+    out.extend_from_slice(front.as_bytes());
+    out.resize(front.len() + body.len(), b' ');
+    let len = write(body, &mut out[front.len()..]);
+    out.truncate(front.len() + len);
     out
 }
 
@@ -63,10 +64,10 @@ pub(crate) fn text_of(body: &str) -> String {
 
 /// What a byte string or a C string stands for whose body has escapes.
 pub(crate) fn bytes_of(kind: Kind, body: &str) -> Vec<u8> {
-    written(body, |body, out| bytes_into(kind, body, out))
+    written("", body, |body, out| bytes_into(kind, body, out))
 }
 
-/// The digits of a float whose body isn't them.
-pub(crate) fn digits_of(body: &str) -> String {
-    String::from_utf8(written(body, numeral_into)).expect("digits are ASCII")
+/// The digits of a float, of whose numeral the front is digits as it stands.
+pub(crate) fn digits_of(front: &str, rest: &str) -> String {
+    String::from_utf8(written(front, rest, numeral_into)).expect("digits are ASCII")
 }

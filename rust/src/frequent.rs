@@ -6,7 +6,7 @@
 use crate::grammar::number_forms::float_suffix;
 use crate::grammar::quoted_forms::{find_bare_character, find_cooked};
 use crate::grammar::{Body, Found};
-use crate::numbers::has_plain_digits;
+use crate::numbers::plain_len;
 use crate::reading::{has_exponent_underscore, is_float_suffix, is_plainly_rust};
 use crate::simd::place_of;
 use crate::tokens::Kind;
@@ -26,8 +26,8 @@ pub(crate) enum Frequent {
 pub(crate) struct Float {
     /// The place of the suffix's first byte; the text's end where there is none.
     pub(crate) suffix_at: usize,
-    /// Whether its digits stand in the text, as [`has_plain_digits`] says.
-    pub(crate) is_plain: bool,
+    /// How many bytes of the text are its digits as they stand, as [`plain_len`] says.
+    pub(crate) plain_len: usize,
 }
 
 /// The literal that the text is; `None` of other literals, of some of these, and where the text is none.
@@ -71,13 +71,15 @@ fn find_dotted(text: &str, dot: usize) -> Option<Float> {
         return None;
     }
     let suffix_at = text.len() - suffix.len();
-    let is_plain = has_plain_digits(&text[..suffix_at]);
-    if !is_plain && has_exponent_underscore(fraction) {
+    let plain_len = plain_len(&text[..suffix_at]);
+    // Up to there no underscore stands, so none after a letter but the last.
+    let rest = &text.as_bytes()[plain_len.saturating_sub(1)..];
+    if plain_len < suffix_at && has_exponent_underscore(rest) {
         return None;
     }
     Some(Float {
         suffix_at,
-        is_plain,
+        plain_len,
     })
 }
 
@@ -101,7 +103,7 @@ mod tests {
             Frequent::Str(body) => (Kind::Str, body.lo, body.hi, body.suffix_at, 0),
             Frequent::Float(float) => {
                 let digits = float_digits(&text[..float.suffix_at]);
-                assert_eq!(float.is_plain, text.starts_with(&digits), "{text}");
+                assert!(digits.starts_with(&text[..float.plain_len]), "{text}");
                 (Kind::Float, 0, float.suffix_at, float.suffix_at, 0)
             }
         }

@@ -3,7 +3,7 @@
 use crate::frequent::{find_frequent, Float, Frequent};
 use crate::grammar::{find, Found};
 use crate::kind::Kind;
-use crate::numbers::has_plain_digits;
+use crate::numbers::plain_len;
 use crate::parse_error::ParseError;
 use crate::places::{Places, Segments};
 use crate::reading::{find_apart, find_rust, is_plainly_rust, is_rust};
@@ -241,14 +241,12 @@ impl<'t> Lit<'t> {
             )),
             tokens::Kind::Float => {
                 let suffix_at = body.suffix_at;
-                let is_plain = body.plain || has_plain_digits(&text[..suffix_at]);
-                Lit::Float(LitFloat::of(
-                    text,
-                    Float {
-                        suffix_at,
-                        is_plain,
-                    },
-                ))
+                let plain_len = plain_len(&text[..suffix_at]);
+                let float = Float {
+                    suffix_at,
+                    plain_len,
+                };
+                Lit::Float(LitFloat::of(text, float))
             }
             tokens::Kind::Bool => Lit::Bool(LitBool::of(text, found.truth)),
         }

@@ -3,7 +3,7 @@
 use crate::common::literal_type;
 use crate::contents::digits_of;
 use crate::frequent::Float;
-use crate::grammar::digits::is_plain_float;
+use crate::tokens::scan::{near_len_before, Marks};
 use alloc::borrow::Cow;
 use alloc::format;
 use alloc::string::String;
@@ -253,14 +253,15 @@ number_type!(LitInt, "12");
 pub struct LitFloat<'t> {
     text: Cow<'t, str>,
     suffix_at: usize,
-    is_plain: bool,
+    // How many bytes of the text are digits as they stand.
+    plain_len: usize,
 }
 
 literal_type!(
     LitFloat,
     Float {
         suffix_at,
-        is_plain
+        plain_len
     },
     "\"1.5f32\"",
     "\"f32\""
@@ -352,20 +353,18 @@ impl<'t> LitInt<'t> {
     }
 }
 
-/// A float's numeral without the underscores at its end, which are none of its digits.
-#[inline]
-fn before_underscores(numeral: &str) -> &str {
-    let mut end = numeral.len();
-    while end > 0 && numeral.as_bytes()[end - 1] == b'_' {
-        end -= 1;
-    }
-    &numeral[..end]
-}
+/// The bytes of a float's numeral that its digits don't keep as they are.
+const CHANGED: Marks = Marks {
+    first: b'_',
+    second: b'+',
+    third: b'E',
+    fourth: b'E',
+};
 
-/// Whether a float's digits stand at the front of its numeral: whether they are all of it, underscores at its end aside.
-#[inline]
-pub(crate) fn has_plain_digits(numeral: &str) -> bool {
-    is_plain_float(before_underscores(numeral))
+/// How many bytes at the front of a float's numeral are its digits as they stand.
+#[inline(never)]
+pub(crate) fn plain_len(numeral: &str) -> usize {
+    near_len_before(CHANGED, numeral.as_bytes())
 }
 
 impl<'t> LitFloat<'t> {
@@ -375,7 +374,7 @@ impl<'t> LitFloat<'t> {
         LitFloat {
             text,
             suffix_at: float.suffix_at,
-            is_plain: float.is_plain,
+            plain_len: float.plain_len,
         }
     }
 
@@ -390,11 +389,11 @@ impl<'t> LitFloat<'t> {
     #[inline]
     #[must_use]
     pub fn base10_digits(&self) -> Cow<'_, str> {
-        let numeral = before_underscores(&self.text[..self.suffix_at]);
-        if self.is_plain {
-            Cow::Borrowed(numeral)
+        let (front, rest) = self.text[..self.suffix_at].split_at(self.plain_len);
+        if rest.bytes().all(|byte| byte == b'_') {
+            Cow::Borrowed(front)
         } else {
-            Cow::Owned(digits_of(numeral))
+            Cow::Owned(digits_of(front, rest))
         }
     }
 
