@@ -224,7 +224,7 @@ impl<'t> Lit<'t> {
     }
 
     /// The literal of a text, of which this was found, and this kind.
-    #[inline]
+    #[inline(always)]
     fn of_kind(kind: tokens::Kind, text: Cow<'t, str>, found: &Found) -> Lit<'t> {
         let body = found.body;
         match kind {
