@@ -1,11 +1,11 @@
 //! The literals that are read most: characters of ASCII, strings and floats, told by their first bytes.
 //!
-//! [`find`](crate::grammar::find) finds the same, by the functions that are called here. But what its calls return stands in
-//! memory, and so does all that it finds; of these literals it stands in registers.
+//! [`find`] finds the same, by the functions that are called here. But what its calls return stands in memory, and so does all
+//! that it finds; of these literals it stands in registers.
 
 use crate::grammar::number_forms::float_suffix;
 use crate::grammar::quoted_forms::{find_bare_character, find_cooked};
-use crate::grammar::{Body, Found};
+use crate::grammar::{find, Body, Found};
 use crate::numbers::plain_len;
 use crate::reading::{has_exponent_underscore, is_float_suffix, is_plainly_rust};
 use crate::simd::place_of;
@@ -52,6 +52,13 @@ pub(crate) fn find_frequent(text: &str) -> Option<Frequent> {
     None
 }
 
+/// What [`find`] finds, of any text, taken out of the memory where its calls leave it.
+#[inline(always)]
+pub(crate) fn find_apart(text: &str) -> Option<Found> {
+    let found = find(text)?;
+    Some(found)
+}
+
 /// The place of the first dot, if it is among the first eight bytes.
 #[inline(always)]
 fn early_dot(bytes: &[u8]) -> Option<usize> {
@@ -72,7 +79,7 @@ fn find_dotted(text: &str, dot: usize) -> Option<Float> {
     }
     let suffix_at = text.len() - suffix.len();
     let plain_len = plain_len(&text[..suffix_at]);
-    // Up to there no underscore stands, so none after a letter but the last.
+    // No underscore stands before that place, so one after the letter of the exponent stands there or later.
     let rest = &text.as_bytes()[plain_len.saturating_sub(1)..];
     if plain_len < suffix_at && has_exponent_underscore(rest) {
         return None;
@@ -86,7 +93,6 @@ fn find_dotted(text: &str, dot: usize) -> Option<Float> {
 #[cfg(test)]
 mod tests {
     use super::*;
-    use crate::grammar::find;
     use crate::reading::is_rust;
     use crate::reading::tests::each_text;
     use crate::Lit;

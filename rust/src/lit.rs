@@ -1,12 +1,12 @@
 //! Literals of any kind.
 
-use crate::frequent::{find_frequent, Float, Frequent};
+use crate::frequent::{find_apart, find_frequent, Float, Frequent};
 use crate::grammar::{find, Found};
 use crate::kind::Kind;
 use crate::numbers::plain_len;
 use crate::parse_error::ParseError;
 use crate::places::{Places, Segments};
-use crate::reading::{find_apart, find_rust, is_plainly_rust, is_rust};
+use crate::reading::{find_rust, is_plainly_rust, is_rust};
 use crate::tokens;
 use crate::{
     LitBool, LitByte, LitByteStr, LitCStr, LitChar, LitFloat, LitInt, LitStr, LitVerbatim,

@@ -353,7 +353,7 @@ impl<'t> LitInt<'t> {
     }
 }
 
-/// The bytes of a float's numeral that its digits don't keep as they are.
+/// The bytes of a float's numeral that its digits don't keep as they are: `numeral_into` leaves out two, and changes one.
 const CHANGED: Marks = Marks {
     first: b'_',
     second: b'+',
@@ -382,8 +382,10 @@ impl<'t> LitFloat<'t> {
     ///
     /// ```
     /// use navyspindle::LitFloat;
+    /// use std::borrow::Cow;
     ///
     /// assert_eq!(LitFloat::parse("-1_0.5E+3f64")?.base10_digits(), "-10.5e3");
+    /// assert!(matches!(LitFloat::parse("1.5_f64")?.base10_digits(), Cow::Borrowed("1.5")));
     /// # Ok::<(), navyspindle::ParseError>(())
     /// ```
     #[inline]

@@ -13,13 +13,6 @@ pub(crate) fn is_rust(text: &str, found: &Found) -> bool {
     is_plainly_rust(found.kind, text, found) || is_token_after_minus(text)
 }
 
-/// What [`find`] finds, taken out of the memory where its calls leave it.
-#[inline(always)]
-pub(crate) fn find_apart(text: &str) -> Option<Found> {
-    let found = find(text)?;
-    Some(found)
-}
-
 /// What was found of a text that Rust takes. It reads the text anew, for callers who needn't keep what they found.
 #[cold]
 #[inline(never)]
