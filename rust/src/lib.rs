@@ -40,6 +40,7 @@ mod characters;
 mod common;
 mod contents;
 mod error;
+mod frequent;
 mod kind;
 mod line_index;
 mod list;

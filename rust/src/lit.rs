@@ -1,6 +1,8 @@
 //! Literals of any kind.
 
+use crate::frequent::{find_apart, find_frequent, Float, Frequent};
 use crate::kind::Kind;
+use crate::numbers::plain_len;
 use crate::parse_error::ParseError;
 use crate::places::{Places, Segments};
 use crate::reading::{find_rust, is_plainly_rust, is_rust};
@@ -125,9 +127,18 @@ impl<'t> Lit<'t> {
     /// ```
     #[inline]
     pub fn parse(text: &'t str) -> Result<Lit<'t>, ParseError> {
-        if let Some(found) = find(text) {
+        let borrowed = Cow::Borrowed(text);
+        match find_frequent(text) {
+            Some(Frequent::Char(found)) => {
+                return Ok(Lit::of_kind(rl_forms::Kind::Char, borrowed, &found));
+            }
+            Some(Frequent::Str(body)) => return Ok(Lit::Str(LitStr::of(borrowed, body))),
+            Some(Frequent::Float(float)) => return Ok(Lit::Float(LitFloat::of(borrowed, float))),
+            None => {}
+        }
+        if let Some(found) = find_apart(text) {
             each_found_kind!(found.kind, kind => if is_plainly_rust(kind, text, &found) {
-                return Ok(Lit::of_kind(kind, Cow::Borrowed(text), &found));
+                return Ok(Lit::of_kind(kind, borrowed, &found));
             });
         }
         // The text is read anew: keeping what was found for this would cost each text that came out above.
@@ -213,7 +224,7 @@ impl<'t> Lit<'t> {
     }
 
     /// The literal of a text, of which this was found, and this kind.
-    #[inline]
+    #[inline(always)]
     fn of_kind(kind: rl_forms::Kind, text: Cow<'t, str>, found: &Found) -> Lit<'t> {
         let body = found.body;
         match kind {
@@ -228,7 +239,15 @@ impl<'t> Lit<'t> {
                 found.magnitude,
                 body.plain,
             )),
-            rl_forms::Kind::Float => Lit::Float(LitFloat::of(text, body.suffix_at, body.plain)),
+            rl_forms::Kind::Float => {
+                let suffix_at = body.suffix_at;
+                let plain_len = plain_len(&text[..suffix_at]);
+                let float = Float {
+                    suffix_at,
+                    plain_len,
+                };
+                Lit::Float(LitFloat::of(text, float))
+            }
             rl_forms::Kind::Bool => Lit::Bool(LitBool::of(text, found.truth)),
         }
     }

@@ -2,6 +2,8 @@
 
 use crate::common::literal_type;
 use crate::contents::digits_of;
+use crate::frequent::Float;
+use crate::rl_text::scan::{near_len_before, Marks};
 use alloc::borrow::Cow;
 use alloc::format;
 use alloc::string::String;
@@ -251,14 +253,15 @@ number_type!(LitInt, "12");
 pub struct LitFloat<'t> {
     text: Cow<'t, str>,
     suffix_at: usize,
-    is_plain: bool,
+    // How many bytes of the text are digits as they stand.
+    plain_len: usize,
 }
 
 literal_type!(
     LitFloat,
     Float {
         suffix_at,
-        is_plain
+        plain_len
     },
     "\"1.5f32\"",
     "\"f32\""
@@ -350,14 +353,28 @@ impl<'t> LitInt<'t> {
     }
 }
 
+/// The bytes of a float's numeral that its digits don't keep as they are: `numeral_into` leaves out two, and changes one.
+const CHANGED: Marks = Marks {
+    first: b'_',
+    second: b'+',
+    third: b'E',
+    fourth: b'E',
+};
+
+/// How many bytes at the front of a float's numeral are its digits as they stand.
+#[inline(never)]
+pub(crate) fn plain_len(numeral: &str) -> usize {
+    near_len_before(CHANGED, numeral.as_bytes())
+}
+
 impl<'t> LitFloat<'t> {
-    /// The literal of this text. It is plain where all before the suffix is its digits.
+    /// The literal of this text.
     #[inline]
-    pub(crate) fn of(text: Cow<'t, str>, suffix_at: usize, is_plain: bool) -> Self {
+    pub(crate) fn of(text: Cow<'t, str>, float: Float) -> Self {
         LitFloat {
             text,
-            suffix_at,
-            is_plain,
+            suffix_at: float.suffix_at,
+            plain_len: float.plain_len,
         }
     }
 
@@ -365,18 +382,20 @@ impl<'t> LitFloat<'t> {
     ///
     /// ```
     /// use navyspindle::LitFloat;
+    /// use std::borrow::Cow;
     ///
     /// assert_eq!(LitFloat::parse("-1_0.5E+3f64")?.base10_digits(), "-10.5e3");
+    /// assert!(matches!(LitFloat::parse("1.5_f64")?.base10_digits(), Cow::Borrowed("1.5")));
     /// # Ok::<(), navyspindle::ParseError>(())
     /// ```
     #[inline]
     #[must_use]
     pub fn base10_digits(&self) -> Cow<'_, str> {
-        let numeral = &self.text[..self.suffix_at];
-        if self.is_plain {
-            Cow::Borrowed(numeral)
+        let (front, rest) = self.text[..self.suffix_at].split_at(self.plain_len);
+        if rest.bytes().all(|byte| byte == b'_') {
+            Cow::Borrowed(front)
         } else {
-            Cow::Owned(digits_of(numeral))
+            Cow::Owned(digits_of(front, rest))
         }
     }
 

@@ -27,7 +27,7 @@ pub(crate) fn is_plainly_rust(kind: Kind, text: &str, found: &Found) -> bool {
     let body = found.body;
     match kind {
         Kind::Int => is_number_suffix(text, body),
-        Kind::Float => is_float_suffix(text, body) && is_rust_float(text, body),
+        Kind::Float => is_float_suffix(&text[body.suffix_at..]) && is_rust_float(text, body),
         Kind::Str => has_no_suffix(text, body) && is_rust_string(text, body, 1),
         Kind::ByteStr | Kind::CStr => has_no_suffix(text, body) && is_rust_string(text, body, 2),
         Kind::Byte | Kind::Bool => has_no_suffix(text, body),
@@ -76,10 +76,10 @@ fn is_number_suffix(text: &str, body: Body) -> bool {
     has_no_suffix(text, body) || NumberType::named(&text[body.suffix_at..]).is_some()
 }
 
-/// Whether the float has no suffix, or the name of a type of floats.
+/// Whether the suffix of a float is none, or the name of a type of floats.
 #[inline]
-fn is_float_suffix(text: &str, body: Body) -> bool {
-    matches!(&text.as_bytes()[body.suffix_at..], b"" | b"f32" | b"f64")
+pub(crate) fn is_float_suffix(suffix: &str) -> bool {
+    matches!(suffix.as_bytes(), b"" | b"f32" | b"f64")
 }
 
 /// Whether a digit follows the dot of a float, if anything does, and no underscore the letter of its exponent. Its suffix, if it has
@@ -91,12 +91,14 @@ fn is_rust_float(text: &str, body: Body) -> bool {
         return false;
     }
     // Digits that are plain have no underscore.
-    let digits = fraction.unwrap_or(text.as_bytes());
-    body.plain
-        || !matches!(
-            after_first(digits, |byte| matches!(byte, b'e' | b'E')),
-            Some([b'_', ..])
-        )
+    body.plain || !has_exponent_underscore(fraction.unwrap_or(text.as_bytes()))
+}
+
+/// Whether an underscore follows the letter of the exponent, if one stands there.
+#[inline]
+pub(crate) fn has_exponent_underscore(digits: &[u8]) -> bool {
+    let exponent = after_first(digits, |byte| matches!(byte, b'e' | b'E'));
+    matches!(exponent, Some([b'_', ..]))
 }
 
 /// What follows the first byte that passes the test.
@@ -118,13 +120,18 @@ fn is_token_after_minus(text: &str) -> bool {
 }
 
 #[cfg(test)]
-mod tests {
+pub(crate) mod tests {
     use super::*;
     use crate::rl_reading::find;
     use std::string::String;
 
     /// All texts of up to so many of these characters, after the front.
-    fn each_text(front: &str, characters: &[char], most: usize, check: &mut dyn FnMut(&str)) {
+    pub(crate) fn each_text(
+        front: &str,
+        characters: &[char],
+        most: usize,
+        check: &mut dyn FnMut(&str),
+    ) {
         check(front);
         if most > 0 {
             for &c in characters {

@@ -15,6 +15,19 @@ const HIGHEST: u64 = LOWEST << 7;
 /// What moves the highest bits into the highest byte, in their order.
 const GATHER: u64 = 0x0002_0408_1020_4081;
 
+/// The place of the first of eight bytes that is this one.
+#[inline(always)]
+pub(crate) fn place_of(eight: [u8; 8], byte: u8) -> Option<usize> {
+    // Of a byte that is this one nothing is left, and then the subtraction sets its highest bit. It may set that of a byte above
+    // too, but none below.
+    let left = u64::from_le_bytes(eight) ^ (byte as u64 * LOWEST);
+    let found = left.wrapping_sub(LOWEST) & !left & HIGHEST;
+    if found == 0 {
+        return None;
+    }
+    Some(found.trailing_zeros() as usize / 8)
+}
+
 /// The numbers that hold N lanes, each made of its index. The loop counts by itself, which costs least where nothing is optimized.
 macro_rules! eights {
     ($lanes:ident, $at:ident => $eight:expr) => {{
@@ -247,6 +260,22 @@ mod tests {
             bytes[at] = 9;
             let alone = Simd::<u8, N>::from_slice(&bytes).simd_eq(Simd::splat(9));
             assert_eq!(alone.to_bitmask(), 1 << at);
+        }
+    }
+
+    #[test]
+    fn the_first_of_eight_bytes() {
+        for at in 0..8 {
+            for byte in [0, 1, 0x2D, 0x2E, 0x2F, 0x7F, 0x80, 0xAE, 0xFF] {
+                for others in [0x2D, 0x2F, 0x30, 0xAE] {
+                    let mut eight = [others; 8];
+                    eight[at] = byte;
+                    for wanted in [byte, others, b'.'] {
+                        let place = eight.iter().position(|byte| *byte == wanted);
+                        assert_eq!(place_of(eight, wanted), place, "{eight:x?}");
+                    }
+                }
+            }
         }
     }
 

@@ -121,16 +121,28 @@ pub mod library {
     use crate::library::{self, Reading};
 
     fn value(text: &str, reading: &Reading) -> Value {
-        let body = || text[reading.at..reading.end].as_bytes().to_vec();
+        let body = &text[reading.at..reading.end];
+        let value = || {
+            if reading.plain {
+                body.as_bytes().to_vec()
+            } else {
+                library::decoded(text, reading)
+            }
+        };
         match reading.kind {
-            1 | 2 | 3 | 7 => Value::Bytes {
-                value: if reading.plain {
-                    body()
-                } else {
-                    library::decoded(text, reading)
-                },
+            1..=3 => Value::Bytes {
+                value: value(),
                 is_borrowed: reading.plain,
             },
+            7 => {
+                // Underscores at the end of a float's numeral leave its digits a part of the text.
+                let digits = value();
+                let is_borrowed = body.trim_end_matches('_').as_bytes() == digits;
+                Value::Bytes {
+                    value: digits,
+                    is_borrowed,
+                }
+            }
             4 | 5 => Value::Number(reading.unit),
             6 => {
                 let sign = if text.starts_with('-') { "-" } else { "" };
