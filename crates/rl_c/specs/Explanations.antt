@@ -3,7 +3,7 @@ use Rattle.std.specs.Prelude.{◌≡◌, ℕ, List}
 use Rattle.std.specs.Str.{chars}
 use Rattle.rl_reasons.specs.declared.flaws.Flaw.{Flaw}
 use Rattle.rl_reasons.specs.declared.flaws.FlawKind.{FlawKind}
-use Rattle.rl_reasons.specs.declared.flaws.FlawKind.TheVariants.{Empty, NoLiteral, Unfinished, NoQuote, NoNumber, Unclosed, UnknownEscape, NoUnicode, NoHexDigit, NoBrace, EmptyBraces, TooManyDigits, PastAscii, PastUnicode, Surrogate, Nul, NotAscii, LateQuote, LoneCr, MustEscape, NoCharacter, TwoCharacters, NoExponentDigit, BadSuffix, TooLarge}
+use Rattle.rl_reasons.specs.declared.flaws.FlawKind.TheVariants.{Empty, NoLiteral, Unfinished, NoQuote, NoNumber, Unclosed, UnknownEscape, NoUnicode, NoHexDigit, NoBrace, EmptyBraces, TooManyDigits, PastAscii, PastUnicode, Surrogate, Nul, NotAscii, LateQuote, LoneCr, MustEscape, NoCharacter, TwoCharacters, NoExponentDigit, BadSuffix, TooLarge, Minus, TooManyHashes, CarriageReturn, EarlyQuote, ExtraHash, UnderscoreSuffix, NoDigits, DigitOfBase, BasedFloat, NoFractionDigit}
 use Rattle.rl_reasons.specs.Flaws.{Explains}
 use Rattle.rl_c.specs.declared.explain.Explanation.{Explanation}
 
@@ -34,6 +34,16 @@ flaw_number TwoCharacters = 22
 flaw_number NoExponentDigit = 23
 flaw_number BadSuffix = 24
 flaw_number TooLarge = 25
+flaw_number Minus = 26
+flaw_number TooManyHashes = 27
+flaw_number CarriageReturn = 28
+flaw_number EarlyQuote = 29
+flaw_number ExtraHash = 30
+flaw_number UnderscoreSuffix = 31
+flaw_number NoDigits = 32
+flaw_number DigitOfBase = 33
+flaw_number BasedFloat = 34
+flaw_number NoFractionDigit = 35
 
 -- The numbers report a flaw that explains why the text, in bytes, has no reading.
 pub record ReportsFlaw (text : List ℕ) (explanation : Explanation) : Type 0 where

@@ -52,6 +52,16 @@ fn flaw_number(kind: FlawKind) -> u8
         FlawKind::NoExponentDigit => 23,
         FlawKind::BadSuffix => 24,
         FlawKind::TooLarge => 25,
+        FlawKind::Minus => 26,
+        FlawKind::TooManyHashes => 27,
+        FlawKind::CarriageReturn => 28,
+        FlawKind::EarlyQuote => 29,
+        FlawKind::ExtraHash => 30,
+        FlawKind::UnderscoreSuffix => 31,
+        FlawKind::NoDigits => 32,
+        FlawKind::DigitOfBase => 33,
+        FlawKind::BasedFloat => 34,
+        FlawKind::NoFractionDigit => 35,
         _ => unreachable!(),
     }
 }

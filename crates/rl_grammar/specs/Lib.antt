@@ -15,6 +15,10 @@ pub use Rattle.rl_reading.specs.Decoded
 pub use Rattle.rl_reading.specs.WholeShapes
 pub use Rattle.rl_strict.specs.StrictShapes
 pub use Rattle.rl_reading.specs.StrictBytes
+pub use Rattle.rl_reasons.specs.StrictFlawKinds
+pub use Rattle.rl_reasons.specs.StrictNumberFlaws
+pub use Rattle.rl_reasons.specs.StrictFlaws
+pub use Rattle.rl_reasons.specs.OneStrictFlaw
 pub use Rattle.rl_reading.specs.Bodies
 pub use Rattle.rl_reading.specs.Founds
 pub use Rattle.rl_reading.specs.Segments

@@ -1,3 +1,4 @@
-//! The strict grammar of literal tokens, that of the Rust Reference.
+//! The strict grammar of literal tokens, that of the Rust Reference: whether a text is one, and else why.
 
+pub use rl_reasons::strict_flaws::explain;
 pub use rl_strict::is_token;

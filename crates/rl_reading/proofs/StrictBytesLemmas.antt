@@ -2,18 +2,14 @@
 use Rattle.rl_text.proofs.Common.{◌≡◌, ℕ, ◌&&◌, Bool, true, false, not, ◌==◌, List, [], ◌∷◌, ◌++◌, nat_lt, refl, sym, ap, subst, ◌∙◌, inl, inr, append_assoc, append-nil, and_from, and_parts, both_ways, eqb-true, ltb-true, not-true, or_cases, or_parts, list_all-append, AllByRecursion, flat_map, list_all}
 use Rattle.rl_reading.proofs.Names.{Kind, ByteStr, Byte, first_passes, QuotedUnit, Plain, CrLf, Named, Hex, Unicode, Continuation, unit_text, unit_value, is_blank, is_plain, IsUnit, texts, values, EndsBefore, Cooked, Single, Contents, Bytes, Reads, StrictUnit, Itself, LineBreak, strict_text, strict_contents, is_dropped_blank, is_strict_unit, strict_content_of, IsStrictSuffix, QuoteEscape, PlainEscape, AsciiEscape, ByteEscape, UnicodeEscape, Str, CStr, is_string}
 use Rattle.std.proofs.lemmas.Str.{encode_ascii}
-use Rattle.std.specs.Prelude.{⊤, IsFalse}
+use Rattle.std.specs.Prelude.{⊤}
 use Rattle.rl_forms.specs.Quoted.{ContinuationsEnd}
 use Rattle.rl_forms.specs.Strict.{BlanksEnd, StrictCooked}
 use Rattle.rl_forms.proofs.Agreeing.{strict_reads}
 use Rattle.rl_forms.proofs.StrictQuoted.{cooked_reads}
 use Rattle.rl_reading.specs.StrictBytes.{KeepsBytesStrict}
 use Rattle.rl_reading.proofs.StrictBackLemmas.{Back, HasStrictUnits, hex_escape, named_escape, unicode_escape}
-
--- the blanks of a line break go as far as blanks go
-abbrev pub MayEnd : StrictUnit → List ℕ → Type 0
-MayEnd (LineBreak blanks) t = IsFalse (first_passes is_dropped_blank t)
-MayEnd _ t = ⊤
+pub use Rattle.rl_reading.specs.StrictUnits.{BreakEnds as MayEnd}
 
 -- ---- what is left stands after a unit
 

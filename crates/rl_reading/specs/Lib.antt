@@ -1,3 +1,4 @@
+pub mod StrictUnits
 pub mod NumberShapes
 pub mod NumbersRead
 pub mod Rows

@@ -14,7 +14,7 @@ use Rattle.rl_reading.specs.Forms.{form_opener}
 use Rattle.rl_reading.specs.Founds.{IsFound}
 
 -- a front's bytes, and those of what follows it
-cut_bytes : (t rest front : List ℕ) → IsUtf8 t → IsUtf8 rest → chars t ≡ front ++ chars rest → length t
+pub cut_bytes : (t rest front : List ℕ) → IsUtf8 t → IsUtf8 rest → chars t ≡ front ++ chars rest → length t
     ≡ byte_len front + length rest
 cut_bytes t rest front ut ur cut =
     ap length (sym (encodes-chars t ut))

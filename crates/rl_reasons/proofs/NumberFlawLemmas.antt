@@ -162,7 +162,7 @@ names_none (a ∷ []) (c ∷ cs) h = not_named (a == 48) (radix_of c) cs (a ∷ 
 names_none (a ∷ b ∷ ws) (c ∷ cs) h = refl
 
 -- and where no base is named, the number is in base ten
-ten_stays : (w z x : List ℕ) → first_passes is_ascii_digit w ≡ true → (radix_at (w ++ z)).0 ≡ 10
+pub ten_stays : (w z x : List ℕ) → first_passes is_ascii_digit w ≡ true → (radix_at (w ++ z)).0 ≡ 10
     → first_passes (names w) x ≡ false → radix_at (w ++ x) ≡ (10, w ++ x)
 unfolding radix_at
 ten_stays [] z x d h k = absurd (cc)
@@ -180,7 +180,7 @@ pub both_fail : (f g : ℕ → Bool) (z : List ℕ) → first_passes f z ≡ fal
 both_fail f g [] h k = refl
 both_fail f g (c ∷ cs) h k = or_from (f c) (g c) h k
 
-each_fails : (f g : ℕ → Bool) (z : List ℕ) → first_passes (λ c. f c || g c) z ≡ false → (first_passes f z ≡ false)
+pub each_fails : (f g : ℕ → Bool) (z : List ℕ) → first_passes (λ c. f c || g c) z ≡ false → (first_passes f z ≡ false)
     × (first_passes g z ≡ false)
 each_fails f g [] h = (refl, refl)
 each_fails f g (c ∷ cs) h = or_parts (f c) (g c) h

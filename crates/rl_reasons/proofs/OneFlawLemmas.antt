@@ -22,7 +22,7 @@ use Rattle.rl_reading.proofs.ReadingLemmas.{front_not_quoted}
 -- ---- the place
 
 -- two cuts of one text
-data Meets (f g r s : List ℕ) : Type 0 where
+pub data Meets (f g r s : List ℕ) : Type 0 where
   Same : f ≡ g → r ≡ s → Meets f g r s
   Before : (c : ℕ) (more : List ℕ) → g ≡ f ++ (c ∷ more) → r ≡ c ∷ (more ++ s) → Meets f g r s
   After : (c : ℕ) (more : List ℕ) → f ≡ g ++ (c ∷ more) → s ≡ c ∷ (more ++ r) → Meets f g r s
@@ -34,7 +34,7 @@ meets_on c f g r s (Before d more a b) = Before d more (ap (λ z. c ∷ z) a) b
 meets_on c f g r s (After d more a b) = After d more (ap (λ z. c ∷ z) a) b
 
 -- the ends of two fronts are one, or one is in the other
-meets : (f g r s : List ℕ) → f ++ r ≡ g ++ s → Meets f g r s
+pub meets : (f g r s : List ℕ) → f ++ r ≡ g ++ s → Meets f g r s
 meets [] [] r s e = Same refl e
 meets [] (c ∷ g) r s e = Before c g refl e
 meets (c ∷ f) [] r s e = After c f refl (sym e)
@@ -50,7 +50,8 @@ not_before takes text r s a b c more e h = a.stuck c (more ++ s) (more ++ b.begi
     (subst takes (ap (λ z. z ++ b.begins.ending) e ∙ append_assoc a.front (c ∷ more) b.begins.ending) b.begins.is_taken)
 
 -- a text stops at one place
-stops_once : (takes : List ℕ → Type 0) (text r s : List ℕ) (a : StopsBefore takes text r) (b : StopsBefore takes text s)
+pub stops_once : (takes : List ℕ → Type 0) (text r s : List ℕ) (a : StopsBefore takes text r)
+    (b : StopsBefore takes text s)
     → (a.front ≡ b.front) × (r ≡ s)
 stops_once takes text r s a b = go (meets a.front b.front r s (sym a.text_is ∙ b.text_is))
   where
@@ -66,7 +67,7 @@ abbrev Told : Type 0
 Told = QuotedForm × Kind × List ℕ
 
 -- one opener at most begins a text
-opener_same : (t : List ℕ) (f g : QuotedForm) (k l : Kind) (x y : List ℕ) → opener_at t ≡ found_opener f k x
+pub opener_same : (t : List ℕ) (f g : QuotedForm) (k l : Kind) (x y : List ℕ) → opener_at t ≡ found_opener f k x
     → opener_at t ≡ found_opener g l y → ◌≡◌ {A = Told} (f, k, x) (g, l, y)
 opener_same t f g k l x y a b =
     let p : Told = (f, k, x) in
@@ -140,12 +141,12 @@ word_is NoLiteral (c ∷ cs) (d ∷ ds) h = refl
 word_is k front rest h = absurd h
 
 -- what a word begins with is no number and has no opener
-record IsFront (front : List ℕ) : Type 0 where
-  no_opener : opener_at front ≡ None
-  no_number : first_passes is_number_front front ≡ false
+pub record IsFront (front : List ℕ) : Type 0 where
+  pub no_opener : opener_at front ≡ None
+  pub no_number : first_passes is_number_front front ≡ false
 
 -- of a truth value
-truth_front : (b : Bool) (front more : List ℕ) → truth_text b ≡ front ++ more → IsFront front
+pub truth_front : (b : Bool) (front more : List ℕ) → truth_text b ≡ front ++ more → IsFront front
 unfolding opener_at
 truth_front b [] more e = record { no_opener = refl; no_number = refl }
 truth_front true (c ∷ cs) more e =
@@ -166,7 +167,7 @@ unfolding opener_at
 other_front = record { no_opener = refl; no_number = refl }
 
 -- of any of these
-begins_front : (front : List ℕ) → BeginsWord front → IsFront front
+pub begins_front : (front : List ℕ) → BeginsWord front → IsFront front
 begins_front front (inl e) = subst IsFront (sym e) letter_front
 begins_front front (inr (inl e)) = subst IsFront (sym e) other_front
 begins_front front (inr (inr w)) = truth_front w.truth front w.more w.word_is
@@ -255,7 +256,7 @@ make : FlawKind → ℕ → ℕ → ℕ → Flaw
 make kind from lo hi = record { kind = kind; from = from; lo = lo; hi = hi }
 
 -- flaws of the same fields are the same
-flaw_same : (a b : Flaw) → a.kind ≡ b.kind → a.from ≡ b.from → a.lo ≡ b.lo → a.hi ≡ b.hi → a ≡ b
+pub flaw_same : (a b : Flaw) → a.kind ≡ b.kind → a.from ≡ b.from → a.lo ≡ b.lo → a.hi ≡ b.hi → a ≡ b
 unfolding make
 flaw_same a b kind from lo hi =
     ap (λ z. make z a.from a.lo a.hi) kind

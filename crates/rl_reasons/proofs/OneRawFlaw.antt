@@ -7,11 +7,11 @@ use Rattle.rl_reasons.specs.FlawKinds.{IsOpened, IsUnopened, RawFlaw, is_quote}
 use Rattle.rl_reasons.specs.Mirrors.UnitFlawAt.{spoiled_flaw_of}
 
 -- after the hashes stands a quote
-abbrev HasQuote : List ℕ → Type 0
+abbrev pub HasQuote : List ℕ → Type 0
 HasQuote t = (hashes : ℕ) × (inside : List ℕ) × (t ≡ replicate hashes 35 ++ (34 ∷ inside))
 
 -- and where it does, nothing else does
-no_quote : (n m : ℕ) (rest z : List ℕ) → first_passes is_hash rest ≡ false → first_passes is_quote rest ≡ false
+pub no_quote : (n m : ℕ) (rest z : List ℕ) → first_passes is_hash rest ≡ false → first_passes is_quote rest ≡ false
     → replicate n 35 ++ rest ≡ replicate m 35 ++ (34 ∷ z) → ⊥
 no_quote zero zero rest z h q e = both_ways (first_passes is_quote rest) q (ap (first_passes is_quote) e)
 no_quote zero (suc m) rest z h q e = both_ways (first_passes is_hash rest) h (ap (first_passes is_hash) e)
@@ -20,7 +20,7 @@ no_quote (suc n) (suc m) rest z h q e = no_quote n m rest z h q
     (let same : 35 ∷ (replicate n 35 ++ rest) ≡ 35 ∷ (replicate m 35 ++ (34 ∷ z)) = e in cc)
 
 -- where only hashes stand, no quote does
-unopened_quote : (t rest : List ℕ) → IsUnopened t rest → HasQuote t → ⊥
+pub unopened_quote : (t rest : List ℕ) → IsUnopened t rest → HasQuote t → ⊥
 unopened_quote t rest u (m, z, e) = no_quote u.hashes m rest z u.no_hash u.no_quote (sym u.text_is ∙ e)
 
 -- and where the string is opened, one does

@@ -17,12 +17,12 @@ use Rattle.rl_reading.proofs.CodeDigitLemmas.{unicode_digits_at, unicode_is}
 -- ---- the kind, by what stands before the place and by the character there
 
 -- after digits between braces
-abbrev digits_flaw : List ℕ → ℕ → FlawKind
+abbrev pub digits_flaw : List ℕ → ℕ → FlawKind
 digits_flaw ds c = cond (is_hex_digit c) (cond (eqb (digit_count ds) 6) TooManyDigits
     (code_flaw_of (number_of (ds ++ (c ∷ []))))) (cond (eqb c 125) (code_flaw_of (number_of ds)) NoHexDigit)
 
 -- after any front of a unit
-abbrev flaw_of : List ℕ → ℕ → FlawKind
+abbrev pub flaw_of : List ℕ → ℕ → FlawKind
 flaw_of [] c = character_flaw_of c
 flaw_of (a ∷ []) c = cond (eqb a 13) LoneCr (cond (eqb c 117) NoUnicode (cond (eqb c 48) Nul UnknownEscape))
 flaw_of (a ∷ b ∷ []) c = cond (eqb b 120) (cond (is_hex_digit c) PastAscii NoHexDigit) NoBrace
@@ -31,11 +31,11 @@ flaw_of (a ∷ b ∷ d ∷ []) c = cond (eqb b 120) (cond (is_hex_digit c) Nul N
 flaw_of (a ∷ b ∷ d ∷ e ∷ ds) c = digits_flaw (e ∷ ds) c
 
 -- No unit stands before the place, and what does tells the kind.
-record Spoils (kind : Kind) (k : FlawKind) (t : List ℕ) (c : ℕ) (cs : List ℕ) : Type 0 where
-  front : List ℕ
-  text_is : t ≡ front ++ (c ∷ cs)
-  no_unit : unit_at kind front ≡ None
-  kind_is : k ≡ flaw_of front c
+pub record Spoils (kind : Kind) (k : FlawKind) (t : List ℕ) (c : ℕ) (cs : List ℕ) : Type 0 where
+  pub front : List ℕ
+  pub text_is : t ≡ front ++ (c ∷ cs)
+  pub no_unit : unit_at kind front ≡ None
+  pub kind_is : k ≡ flaw_of front c
 
 -- ---- fronts of units, which are none
 
@@ -153,7 +153,7 @@ digit_spoils kind t c cs (AfterDigits ds b h) =
     after_digits_spoils kind NoHexDigit t ds c cs b (rw (q.0, q.1) refl)
 
 -- a character that stands for itself in no byte
-must_escape : (c : ℕ) → is_among (10 ∷ 13 ∷ 9 ∷ []) c ≡ true → MustEscape ≡ character_flaw_of c
+pub must_escape : (c : ℕ) → is_among (10 ∷ 13 ∷ 9 ∷ []) c ≡ true → MustEscape ≡ character_flaw_of c
 must_escape c h = go (eqb c 10) (eqb c 13) (eqb c 9) refl refl refl h
   where
     at : (k : ℕ) → eqb c k ≡ true → MustEscape ≡ character_flaw_of k → MustEscape ≡ character_flaw_of c
@@ -176,7 +176,7 @@ not_ascii c h = rw (
 ) refl
 
 -- each kind, at a character
-spoils : (kind : Kind) (k : FlawKind) (t : List ℕ) (c : ℕ) (cs : List ℕ) → UnitFlaw kind k t (c ∷ cs)
+pub spoils : (kind : Kind) (k : FlawKind) (t : List ℕ) (c : ℕ) (cs : List ℕ) → UnitFlaw kind k t (c ∷ cs)
     → Spoils kind k t c cs
 spoils kind Unclosed t c cs h = absurd (cc)
 spoils kind UnknownEscape t c cs (e, b) =
@@ -205,7 +205,7 @@ spoils kind NoCharacter t c cs (k, e, b) = record { front = []; text_is = e; no_
 spoils kind k t c cs h = absurd h
 
 -- where the text ends, the quote is missing
-at_end : (kind : Kind) (k : FlawKind) (t : List ℕ) → UnitFlaw kind k t [] → k ≡ Unclosed
+pub at_end : (kind : Kind) (k : FlawKind) (t : List ℕ) → UnitFlaw kind k t [] → k ≡ Unclosed
 at_end kind Unclosed t h = refl
 at_end kind UnknownEscape t (e, b) = let r = b.rest_is in absurd (cc)
 at_end kind NoUnicode t (u, e, b) = absurd (cc)
@@ -371,7 +371,7 @@ pieces_once kind text s t p q = pieces_same kind p.units q.units s t p.each p.en
 -- ---- the place is in the text
 
 -- of a unit
-unit_cut : (kind : Kind) (k : FlawKind) (t rest : List ℕ) → UnitFlaw kind k t rest → (m : List ℕ) × (t ≡ m ++ rest)
+pub unit_cut : (kind : Kind) (k : FlawKind) (t rest : List ℕ) → UnitFlaw kind k t rest → (m : List ℕ) × (t ≡ m ++ rest)
 unit_cut kind k t [] h = (t, sym (append-nil t))
 unit_cut kind k t (c ∷ cs) h = let p = spoils kind k t c cs h in (p.front, p.text_is)
 

@@ -96,7 +96,7 @@ c_string : (kind : Kind) (v : ℕ) → allows_code kind v ≡ false → kind ≡
 c_string CStr v h = refl
 c_string kind v h = absurd (cc)
 
-left_false : (a b : Bool) → b ≡ true → (a && b) ≡ false → a ≡ false
+pub left_false : (a b : Bool) → b ≡ true → (a && b) ≡ false → a ≡ false
 left_false true b h e = absurd (both_ways b e h)
 left_false false b h e = refl
 
@@ -420,7 +420,7 @@ no_zero kind cs none = go (allows_code kind 0) none
 differs : (c k : ℕ) → eqb c k ≡ false → eqb k k ≡ true → c ≢ k
 differs c k h same is = both_ways (eqb c k) h (ap (λ x. eqb x k) is ∙ same)
 
-escape_spoils : (kind : Kind) (t : List ℕ) → escape_at kind t ≡ None
+pub escape_spoils : (kind : Kind) (t : List ℕ) → escape_at kind t ≡ None
     → HasUnitFlaw kind (escape_at kind) (92 ∷ []) t (escape_flaw_at kind t)
 unfolding escape_flaw_at
 escape_spoils kind [] none = at_end (escape_n kind)
@@ -494,7 +494,8 @@ high_has kind c cs u h =
     rw (other 0 refl, other 39 refl, h) (u, refl, high)
 
 -- of a string, where no quote stands there
-string_has : (kind : Kind) (c : ℕ) (cs : List ℕ) → is_string kind ≡ true → is_plain kind c ≡ false → eqb c 34 ≡ false
+pub string_has : (kind : Kind) (c : ℕ) (cs : List ℕ) → is_string kind ≡ true → is_plain kind c ≡ false → eqb c 34
+    ≡ false
     → eqb c 92 ≡ false → eqb c 13 ≡ false → Alone kind c cs (character_flaw_of c)
 string_has Str c cs s p q b r = let e : true ≡ false = rw (q, b, r) at p in absurd (cc)
 string_has ByteStr c cs s p q b r = go (ltb c 128) refl (rw (q, b, r) at p)
@@ -509,7 +510,8 @@ string_has CStr c cs s p q b r = go (eqb c 0) refl (rw (q, b, r) at p)
     go false e h = absurd (cc)
 string_has kind c cs s p q b r = absurd (cc)
 
-byte_has : (c : ℕ) (cs : List ℕ) → is_plain Byte c ≡ false → eqb c 92 ≡ false → Alone Byte c cs (character_flaw_of c)
+pub byte_has : (c : ℕ) (cs : List ℕ) → is_plain Byte c ≡ false → eqb c 92 ≡ false
+    → Alone Byte c cs (character_flaw_of c)
 byte_has c cs p b = zero (eqb c 0) refl
   where
     low : (l : Bool) → ltb c 128 ≡ l → eqb c 39 ≡ false → Alone Byte c cs (cond l MustEscape NotAscii)

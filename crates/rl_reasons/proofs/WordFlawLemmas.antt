@@ -95,7 +95,7 @@ common (w ∷ ws) (c ∷ cs) = go (c == w) refl (common ws cs)
           are_characters = λ a. a;
         }
 
-truth_characters : (b : Bool) → AllByRecursion IsScalar (truth_text b)
+pub truth_characters : (b : Bool) → AllByRecursion IsScalar (truth_text b)
 truth_characters true = (refl, (refl, (refl, (refl, tt))))
 truth_characters false = (refl, (refl, (refl, (refl, (refl, tt)))))
 

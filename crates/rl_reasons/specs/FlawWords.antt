@@ -1,7 +1,7 @@
 -- What the programs print of each kind of flaw.
 use Rattle.std.specs.Prelude.{ℕ, List, codes}
 use Rattle.rl_reasons.specs.declared.flaws.FlawKind.{FlawKind}
-use Rattle.rl_reasons.specs.declared.flaws.FlawKind.TheVariants.{Empty, NoLiteral, Unfinished, NoQuote, NoNumber, Unclosed, UnknownEscape, NoUnicode, NoHexDigit, NoBrace, EmptyBraces, TooManyDigits, PastAscii, PastUnicode, Surrogate, Nul, NotAscii, LateQuote, LoneCr, MustEscape, NoCharacter, TwoCharacters, NoExponentDigit, BadSuffix, TooLarge}
+use Rattle.rl_reasons.specs.declared.flaws.FlawKind.TheVariants.{Empty, NoLiteral, Unfinished, NoQuote, NoNumber, Unclosed, UnknownEscape, NoUnicode, NoHexDigit, NoBrace, EmptyBraces, TooManyDigits, PastAscii, PastUnicode, Surrogate, Nul, NotAscii, LateQuote, LoneCr, MustEscape, NoCharacter, TwoCharacters, NoExponentDigit, BadSuffix, TooLarge, Minus, TooManyHashes, CarriageReturn, EarlyQuote, ExtraHash, UnderscoreSuffix, NoDigits, DigitOfBase, BasedFloat, NoFractionDigit}
 
 abbrev pub flaw_message : FlawKind → List ℕ
 flaw_message Empty = codes "empty text"
@@ -29,3 +29,13 @@ flaw_message TwoCharacters = codes "more than one character between the quotes"
 flaw_message NoExponentDigit = codes "no digit in the exponent"
 flaw_message BadSuffix = codes "not part of a number or its suffix"
 flaw_message TooLarge = codes "integer past 128 bits"
+flaw_message Minus = codes "a literal token has no sign"
+flaw_message TooManyHashes = codes "more than 255 hashes"
+flaw_message CarriageReturn = codes "CR in a string"
+flaw_message EarlyQuote = codes "an earlier quote closes the literal"
+flaw_message ExtraHash = codes "more hashes than the literal began with"
+flaw_message UnderscoreSuffix = codes "`_` alone is no suffix"
+flaw_message NoDigits = codes "no digits after the base"
+flaw_message DigitOfBase = codes "not a digit of the base"
+flaw_message BasedFloat = codes "floats have base ten alone"
+flaw_message NoFractionDigit = codes "expected a digit after the dot"

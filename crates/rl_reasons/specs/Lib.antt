@@ -3,4 +3,8 @@ pub mod FlawWords
 pub mod Flaws
 pub mod OneFlaw
 pub mod NumberFlaws
+pub mod StrictFlawKinds
+pub mod StrictNumberFlaws
+pub mod StrictFlaws
+pub mod OneStrictFlaw
 pub mod Mirrors

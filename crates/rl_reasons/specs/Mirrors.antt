@@ -3,5 +3,6 @@
 
 pub mod NumberFlawAt
 pub mod StopsInside
+pub mod StrictFlawAt
 pub mod UnitFlawAt
 pub mod WordFlawAt

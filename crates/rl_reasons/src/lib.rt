@@ -5,5 +5,8 @@ mod flaws;
 pub mod laws;
 mod number_flaws;
 mod quoted_flaws;
+pub mod strict_flaws;
+mod strict_number_flaws;
+mod strict_quoted_flaws;
 
 pub use crate::flaws::{Flaw, FlawKind, explain};

@@ -115,7 +115,7 @@ fn unicode_flaw(kind: Kind, text: &str) -> FlawAt<'_>
 
 /// The first flaw after a backslash.
 #[tactic(auto, unfolding(crate::specs::Mirrors::UnitFlawAt::escape_flaw_at))]
-fn escape_flaw(kind: Kind, text: &str) -> FlawAt<'_>
+pub(crate) fn escape_flaw(kind: Kind, text: &str) -> FlawAt<'_>
     ensures { found_flaw result.kind (chars result.rest.now)
         ≡ escape_flaw_at kind (chars text.now) }
 {
@@ -145,7 +145,7 @@ fn line_end_flaw(text: &str) -> FlawAt<'_>
 }
 
 /// Why a character doesn't stand for itself.
-fn character_flaw(c: char) -> FlawKind
+pub(crate) fn character_flaw(c: char) -> FlawKind
     ensures { result ≡ character_flaw_of c }
 {
     match c {
@@ -211,7 +211,7 @@ fn closes(hashes: &str, text: &str) -> bool
 }
 
 /// The flaw at a character that a raw string of the kind can't hold.
-fn spoiled_flaw(kind: Kind) -> FlawKind
+pub(crate) fn spoiled_flaw(kind: Kind) -> FlawKind
     ensures { result ≡ spoiled_flaw_of kind }
 {
     match kind {

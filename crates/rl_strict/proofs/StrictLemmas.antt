@@ -107,7 +107,7 @@ raw_token k t inside q text c =
     }
 
 -- any form after its opener
-close_token : (form : QuotedForm) (k : Kind) (t inside : List ℕ) → has_form form k ≡ true → t ≡ form_opener form k
+pub close_token : (form : QuotedForm) (k : Kind) (t inside : List ℕ) → has_form form k ≡ true → t ≡ form_opener form k
     ++ inside → ClosesForm form k inside → IsToken t
 close_token CookedForm k t inside h text c = units_token k t inside (quoted_string k h) text c
 close_token SingleForm k t inside h text c = units_token k t inside (quoted_single k h) text c
@@ -116,16 +116,16 @@ close_token RawForm k t inside h text c = raw_token k t inside (quoted_string k 
 -- ---- what a token is
 
 -- a quoted form, after its opener
-record Opened (t : List ℕ) : Type 0 where
-  form : QuotedForm
-  kind : Kind
-  inside : List ℕ
-  has : has_form form kind ≡ true
-  text_is : t ≡ form_opener form kind ++ inside
-  closes : ClosesForm form kind inside
+pub record Opened (t : List ℕ) : Type 0 where
+  pub form : QuotedForm
+  pub kind : Kind
+  pub inside : List ℕ
+  pub has : has_form form kind ≡ true
+  pub text_is : t ≡ form_opener form kind ++ inside
+  pub closes : ClosesForm form kind inside
 
 -- a quoted form, a number or a truth value
-abbrev Seen : List ℕ → Type 0
+abbrev pub Seen : List ℕ → Type 0
 Seen t = Opened t ⊎ (IsStrictNumber t ⊎ ((b : Bool) × (t ≡ truth_text b)))
 
 -- what stands after the opener of a form with escapes
@@ -184,7 +184,7 @@ truth_words true = refl
 truth_words false = refl
 
 -- each token is one of the three
-seen : (t : List ℕ) (k : Kind) (v : Contents) (x : List ℕ) → Strict t k v x → Seen t
+pub seen : (t : List ℕ) (k : Kind) (v : Contents) (x : List ℕ) → Strict t k v x → Seen t
 seen t Str v x (inl s) = string_seen Str t v x refl s
 seen t Str v x (inr s) = raw_seen Str t v x refl s
 seen t ByteStr v x (inl s) = string_seen ByteStr t v x refl s
@@ -245,17 +245,17 @@ told_token t p b h same =
     )
 
 -- a number is a token
-number_token : (t : List ℕ) → IsStrictNumber t → IsToken t
+pub number_token : (t : List ℕ) → IsStrictNumber t → IsToken t
 number_token t (v, x, inl s) = record { kind = Int; contents = v; suffix = x; strict = s }
 number_token t (v, x, inr s) = record { kind = Float; contents = v; suffix = x; strict = s }
 
 -- a strict number passes
-number_complete : (t : List ℕ) → IsStrictNumber t → is_strict_number t ≡ true
+pub number_complete : (t : List ℕ) → IsStrictNumber t → is_strict_number t ≡ true
 number_complete t (v, x, inl s) = int_complete t x v s
 number_complete t (v, x, inr s) = float_complete t x v s
 
 -- a truth value is a token
-truth_token : (t : List ℕ) (b : Bool) → t ≡ truth_text b → IsToken t
+pub truth_token : (t : List ℕ) (b : Bool) → t ≡ truth_text b → IsToken t
 truth_token t b e = record { kind = BoolKind; contents = Truth b; suffix = []; strict = record { truth = b; text = e ∙ sym (truth_words b); contents = refl; suffix = refl } }
 
 -- what passes as a number is a token

@@ -24,7 +24,7 @@ IsStrictNumber text =
 -- ---- rows of digits, spelled as both grammars do
 
 -- a row of the strict spelling is one of the lenient
-row_part : (d : List ℕ) → list_all (is_row is_ascii_digit) d ≡ true → list_all (is_row_part (has_value 10)) d ≡ true
+pub row_part : (d : List ℕ) → list_all (is_row is_ascii_digit) d ≡ true → list_all (is_row_part (has_value 10)) d ≡ true
 row_part d h = sym (all_same (is_row is_ascii_digit) (is_row_part (has_value 10))
     (λ c. ap (λ b. b || (c == 95)) (digit_is_ten c)) d) ∙ h
 
@@ -38,7 +38,7 @@ some_value : (d : List ℕ) → list_any is_ascii_digit d ≡ list_any (has_valu
 some_value d = any_same is_ascii_digit (has_value 10) digit_is_ten d
 
 -- the digits at the front of a text
-front_digits : (t : List ℕ) → first_passes is_ascii_digit t ≡ true → IsDigits (digit_row_at 10 t)
+pub front_digits : (t : List ℕ) → first_passes is_ascii_digit t ≡ true → IsDigits (digit_row_at 10 t)
 front_digits t h = (run_first t h, part_row (digit_row_at 10 t) (run_all (is_row_part (has_value 10)) t))
 
 -- ---- what is strict is passed
@@ -54,7 +54,7 @@ no_sign_row (c ∷ cs) x each some =
     rw (a, b) refl
 
 -- a sign is taken off
-sign_off : (sign row x : List ℕ) → ((sign ≡ []) ⊎ ((sign ≡ 43 ∷ []) ⊎ (sign ≡ 45 ∷ [])))
+pub sign_off : (sign row x : List ℕ) → ((sign ≡ []) ⊎ ((sign ≡ 43 ∷ []) ⊎ (sign ≡ 45 ∷ [])))
     → list_all (is_row_part (has_value 10)) row ≡ true → list_any (has_value 10) row ≡ true
     → after_power_sign (sign ++ (row ++ x)) ≡ row ++ x
 sign_off sign row x (inl e) each some = ap (λ z. after_power_sign (z ++ (row ++ x))) e ∙ no_sign_row row x each some
@@ -241,7 +241,7 @@ Ending y = (IsNumberSuffix y × (first_passes is_exponent_letter y ≡ false))
     ⊎ ((e x : List ℕ) × IsStrictExponent e × IsNumberSuffix x × (y ≡ e ++ x))
 
 -- a sign, and what follows it
-sign_split : (t : List ℕ) → (sign : List ℕ) × ((sign ≡ []) ⊎ ((sign ≡ 43 ∷ []) ⊎ (sign ≡ 45 ∷ [])))
+pub sign_split : (t : List ℕ) → (sign : List ℕ) × ((sign ≡ []) ⊎ ((sign ≡ 43 ∷ []) ⊎ (sign ≡ 45 ∷ [])))
     × (t ≡ sign ++ after_power_sign t)
 sign_split [] = ([], inl refl, refl)
 sign_split (c ∷ cs) =

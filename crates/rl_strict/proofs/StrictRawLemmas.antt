@@ -20,7 +20,7 @@ abbrev no_return : ℕ → Bool
 no_return c = not (c == 13)
 
 -- what the kind allows passes the test
-inside_allowed : (k : Kind) (cs : List ℕ) → IsRawInside k cs → list_all no_return cs ≡ true
+pub inside_allowed : (k : Kind) (cs : List ℕ) → IsRawInside k cs → list_all no_return cs ≡ true
     → list_all (is_raw_character k) cs ≡ true
 inside_allowed Str cs a n = n
 inside_allowed ByteStr cs a n = all_both (λ c. nat_lt c 128) no_return cs a n
@@ -28,7 +28,7 @@ inside_allowed CStr cs a n = all_both (λ c. not (c == 0)) no_return cs a n
 inside_allowed kind cs a n = absurd a
 
 -- and the other way about
-inside_sound : (k : Kind) (cs : List ℕ) → is_string k ≡ true → list_all (is_raw_character k) cs ≡ true
+pub inside_sound : (k : Kind) (cs : List ℕ) → is_string k ≡ true → list_all (is_raw_character k) cs ≡ true
     → IsRawInside k cs × (list_all no_return cs ≡ true)
 inside_sound Str cs s h = (tt, h)
 inside_sound ByteStr cs s h = all_apart (λ c. nat_lt c 128) no_return cs h
@@ -55,7 +55,7 @@ begins_more (k ∷ p) (c ∷ cs) b h =
     and_from (c == k) (begins p (cs ++ b)) q.0 (begins_more p cs b q.1)
 
 -- one turn of the loop, at no closer
-raw_on : (k : Kind) (hashes : List ℕ) (c : ℕ) (cs : List ℕ) → (c == 34 && begins hashes cs) ≡ false
+pub raw_on : (k : Kind) (hashes : List ℕ) (c : ℕ) (cs : List ℕ) → (c == 34 && begins hashes cs) ≡ false
     → ends_raw k hashes (c ∷ cs) ≡ (is_raw_character k c && ends_raw k hashes cs)
 unfolding ends_raw
 raw_on k hashes c cs h = ap (λ b. cond b (is_strict_suffix (drop (length hashes) cs))
@@ -117,7 +117,7 @@ c_run (c ∷ cs) h =
     (c_run cs b.1)
 
 -- and at the closer
-raw_close : (k : Kind) (hashes x : List ℕ) → ends_raw k hashes (34 ∷ (hashes ++ x)) ≡ is_strict_suffix x
+pub raw_close : (k : Kind) (hashes x : List ℕ) → ends_raw k hashes (34 ∷ (hashes ++ x)) ≡ is_strict_suffix x
 unfolding ends_raw
 raw_close k hashes x =
     ap (λ b. cond b (is_strict_suffix (drop (length hashes) (hashes ++ x)))
@@ -125,7 +125,7 @@ raw_close k hashes x =
     ∙ ap is_strict_suffix (drop-append_seam hashes x)
 
 -- no closer stands in the contents
-abbrev NoCloser : List ℕ → List ℕ → Type 0
+abbrev pub NoCloser : List ℕ → List ℕ → Type 0
 NoCloser hashes inside = (front rest : List ℕ) → inside ≢ front ++ (34 ∷ (hashes ++ rest))
 
 -- no closer begins in contents that have none
@@ -164,12 +164,12 @@ record RawParts (k : Kind) (hashes t : List ℕ) : Type 0 where
   text_is : t ≡ inside ++ (34 ∷ (hashes ++ suffix))
 
 -- no contents hold nothing
-nothing_inside : (f z : List ℕ) → [] ≡ f ++ (34 ∷ z) → ⊥
+pub nothing_inside : (f z : List ℕ) → [] ≡ f ++ (34 ∷ z) → ⊥
 nothing_inside [] z e = absurd (cc)
 nothing_inside (c ∷ f) z e = absurd (cc)
 
 -- a closer further on is none of the contents that end before it
-none_before : (hashes : List ℕ) (c : ℕ) (cs z : List ℕ) → (c == 34 && begins hashes (cs ++ z)) ≡ false
+pub none_before : (hashes : List ℕ) (c : ℕ) (cs z : List ℕ) → (c == 34 && begins hashes (cs ++ z)) ≡ false
     → NoCloser hashes cs → NoCloser hashes (c ∷ cs)
 none_before hashes c cs z h none [] rest e =
     let is : (c == 34) ≡ true = let q : c ≡ 34 = cc in ap (λ d. d == 34) q in

@@ -6,9 +6,9 @@ use Rattle.rl_forms.specs.Strict.{BlanksEnd, HasUnits, strict_closer}
 use Rattle.rl_strict.specs.Mirrors.StrictAt.{ends_quoted, escape_rest, is_strict_suffix, unit_rest}
 use Rattle.rl_strict.specs.StrictShapes.{ClosesUnits}
 use Rattle.rl_reading.proofs.StrictBackLemmas.{HasStrictUnits, plain_is_bare}
-use Rattle.rl_reading.proofs.StrictBytesLemmas.{MayEnd, blanks_cons}
-use Rattle.rl_strict.proofs.StrictUnitLemmas.{StrictFront, unit_rest_sound, unit_rest_complete}
+use Rattle.rl_strict.proofs.StrictUnitLemmas.{MayEnd, StrictFront, unit_rest_sound, unit_rest_complete}
 use Rattle.rl_strict.proofs.StrictWordLemmas.{strict_suffix_complete, strict_suffix_sound}
+use Rattle.rl_reading.proofs.StrictBytesLemmas.{blanks_cons}
 
 -- ---- what the kinds have
 
@@ -45,7 +45,7 @@ single_length Char us h c = c
 single_length kind us h c = absurd (cc)
 
 -- no string kind takes a quote as it is
-quote_stops : (k : Kind) (x : List ℕ) → is_string k ≡ true → unit_rest k (34 ∷ x) ≡ None
+pub quote_stops : (k : Kind) (x : List ℕ) → is_string k ≡ true → unit_rest k (34 ∷ x) ≡ None
 unfolding unit_rest
 quote_stops Str x h = refl
 quote_stops ByteStr x h = refl

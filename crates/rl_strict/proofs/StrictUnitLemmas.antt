@@ -5,6 +5,7 @@ use Rattle.std.proofs.Common.{option_map}
 use Rattle.rl_forms.specs.Strict.{is_plain_letter}
 use Rattle.rl_text.proofs.Basics.{apart}
 use Rattle.rl_forms.proofs.StrictQuoted.{MayFollow, stands}
+pub use Rattle.rl_reading.specs.StrictUnits.{BreakEnds as MayEnd}
 use Rattle.rl_reading.specs.Mirrors.NumberAt.{run}
 use Rattle.rl_reading.specs.Mirrors.UnitAt.{unit_at}
 use Rattle.rl_strict.specs.Mirrors.StrictAt.{escape_rest, unit_rest}
@@ -12,7 +13,7 @@ use Rattle.rl_reading.proofs.IntegerLemmas.{chosen_some}
 use Rattle.rl_reading.proofs.RunLemmas.{run_all, run_ends, run_join, run_past}
 use Rattle.rl_reading.proofs.StrictBackLemmas.{Back, HasStrictUnits, named_escape, hex_escape, unicode_escape}
 use Rattle.rl_reading.proofs.UnitLemmas.{unit_complete, unit_sound, backslash_not_plain}
-use Rattle.rl_reading.proofs.StrictBytesLemmas.{MayEnd, no_break_ends, line_allowed}
+use Rattle.rl_reading.proofs.StrictBytesLemmas.{no_break_ends, line_allowed}
 
 -- a unit of the kind stands at the front, and the rest is left
 pub record StrictFront (k : Kind) (t r : List ℕ) : Type 0 where
@@ -120,7 +121,7 @@ bare_backslash Float = refl
 bare_backslash BoolKind = refl
 
 -- a character that stands for itself is taken off
-itself_past : (k : Kind) (c : ℕ) (r : List ℕ) → is_strict_unit k (Itself c) ≡ true → unit_rest k (c ∷ r) ≡ Some r
+pub itself_past : (k : Kind) (c : ℕ) (r : List ℕ) → is_strict_unit k (Itself c) ≡ true → unit_rest k (c ∷ r) ≡ Some r
 unfolding unit_rest
 itself_past k c r h =
     let n = apart (λ z. is_strict_unit k (Itself z)) c 92 h (bare_backslash k) in

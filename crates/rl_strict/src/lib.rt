@@ -2,6 +2,6 @@
 #![tactic(auto)]
 
 pub mod laws;
-mod strict;
+pub mod strict;
 
 pub use crate::strict::is_token;

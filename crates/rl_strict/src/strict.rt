@@ -4,6 +4,7 @@ ghost use Rattle.std.specs.Prelude.{◌↔◌, IsTrue, ◌≡◌, ◌≤◌, ◌
 ghost use Rattle.std.specs.Str.{chars};
 ghost use Rattle.rl_reading.specs.Forms.{has_form};
 ghost use Rattle.rl_strict.specs.StrictShapes.{ClosesForm, IsToken, ClosesRaw, ClosesUnits};
+ghost use Rattle.rl_reading.specs.StrictUnits.{BeginsStrictUnits};
 ghost use Rattle.std.specs.List.{list_all};
 ghost use Rattle.rl_strict.specs.Mirrors.StrictAt.{is_number_suffix, is_strict_suffix, ends_digits, ends_dot, ends_power, ends_whole, is_based, is_decimal, is_strict_number, escape_rest, unit_rest, ends_quoted, ends_raw, is_inside, is_raw_character};
 ghost use Rattle.rl_text.specs.Texts.{is_continue};
@@ -97,7 +98,7 @@ fn is_number_suffix(text: &str) -> bool
 }
 
 /// The text after the sign at its front, if one stands there.
-fn after_sign(text: &str) -> &str
+pub fn after_sign(text: &str) -> &str
     ensures { chars result.now ≡ after_power_sign (chars text.now) }
 {
     match split_char(text) {
@@ -219,7 +220,7 @@ fn skip_escape<'t>(kind: Kind, text: &'t str, following: &'t str) -> Option<&'t 
 
 /// The text after the unit at the front: `None` where no unit of the kind stands there.
 #[tactic(auto, unfolding(crate::specs::Mirrors::StrictAt::unit_rest))]
-fn skip_unit(kind: Kind, text: &str) -> Option<&str>
+pub fn skip_unit(kind: Kind, text: &str) -> Option<&str>
     ensures value { option_map (λ r. chars r.now) result ≡ unit_rest kind (chars text.now) }
     ensures shorter { IfSome result (λ r. length r.now < length text.now) }
 {
@@ -253,8 +254,9 @@ fn skip_bare(kind: Kind, text: &str) -> &str
 }
 
 /// The text after the units at its front, as far as they go.
-fn skip_units(kind: Kind, text: &str) -> &str
+pub fn skip_units(kind: Kind, text: &str) -> &str
     requires { IsTrue (is_string kind) }
+    ensures row { BeginsStrictUnits kind (chars text.now) (chars result.now) }
     ensures same { ClosesUnits kind (chars result.now) ↔ ClosesUnits kind (chars text.now) }
     ensures stuck { unit_rest kind (chars result.now) ≡ None }
 {
@@ -285,7 +287,7 @@ fn closes_one(kind: Kind, text: &str) -> bool
 }
 
 /// Whether a raw string of the kind may hold the character.
-fn is_raw_character(kind: Kind, c: char) -> bool
+pub fn is_raw_character(kind: Kind, c: char) -> bool
     ensures { result ≡ is_raw_character kind c }
 {
     match kind {
@@ -297,7 +299,7 @@ fn is_raw_character(kind: Kind, c: char) -> bool
 }
 
 /// The text after the closer that begins with the character, if the hashes follow it.
-fn after_closer<'t>(hashes: &str, c: char, after: &'t str) -> Option<&'t str>
+pub fn after_closer<'t>(hashes: &str, c: char, after: &'t str) -> Option<&'t str>
     ensures some { IfSome result
         (λ r. (c ≡ code "\"") × (chars after.now ≡ chars hashes.now ++ chars r.now)) }
     ensures none { IfNone result
@@ -312,7 +314,7 @@ fn after_closer<'t>(hashes: &str, c: char, after: &'t str) -> Option<&'t str>
 
 /// The text after characters at its front that a raw string of the kind holds and that close none.
 #[inline(always)]
-fn skip_inside(kind: Kind, text: &str) -> &str
+pub fn skip_inside(kind: Kind, text: &str) -> &str
     ensures run { (run : List ℕ) × (chars text.now ≡ run ++ chars result.now)
         × IsTrue (list_all (is_inside kind) run) }
     ensures shorter { length result.now ≤ length text.now }

@@ -25,6 +25,8 @@ pub(crate) enum Command {
     Source,
     /// Why the text is no literal, and where.
     Explain,
+    /// Why the text is no token of the strict grammar, and where.
+    ExplainStrict,
 }
 
 impl Command {
@@ -42,6 +44,7 @@ impl Command {
             "attr" => Some(Command::Attr),
             "source" => Some(Command::Source),
             "explain" => Some(Command::Explain),
+            "explain-strict" => Some(Command::ExplainStrict),
             _ => None,
         }
     }

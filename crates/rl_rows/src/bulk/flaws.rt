@@ -1,6 +1,6 @@
 //! Why a text is no literal.
 
-use rl_grammar::{Flaw, FlawKind, explain};
+use rl_grammar::{Flaw, FlawKind, explain, strict};
 use std::alloc::{AllocError, Global};
 
 /// What a kind of flaw is called.
@@ -31,6 +31,16 @@ fn flaw_name(kind: FlawKind) -> &'static str {
         FlawKind::NoExponentDigit => "NoExponentDigit",
         FlawKind::BadSuffix => "BadSuffix",
         FlawKind::TooLarge => "TooLarge",
+        FlawKind::Minus => "Minus",
+        FlawKind::TooManyHashes => "TooManyHashes",
+        FlawKind::CarriageReturn => "CarriageReturn",
+        FlawKind::EarlyQuote => "EarlyQuote",
+        FlawKind::ExtraHash => "ExtraHash",
+        FlawKind::UnderscoreSuffix => "UnderscoreSuffix",
+        FlawKind::NoDigits => "NoDigits",
+        FlawKind::DigitOfBase => "DigitOfBase",
+        FlawKind::BasedFloat => "BasedFloat",
+        FlawKind::NoFractionDigit => "NoFractionDigit",
         _ => unreachable!(),
     }
 }
@@ -48,4 +58,19 @@ pub(crate) fn flaw_answer(alloc: Global, text: &str) -> Result<String, AllocErro
         Some(flaw) => flaw_line(alloc, flaw),
         None => String::from_str(alloc, "None\n"),
     }
+}
+
+/// The line of the flaw that makes the text no strict token, with the place where its piece begins; `None` where it is one.
+pub(crate) fn strict_flaw_answer(alloc: Global, text: &str) -> Result<String, AllocError> {
+    match strict::explain(text) {
+        Some(flaw) => strict_flaw_line(alloc, flaw),
+        None => String::from_str(alloc, "None\n"),
+    }
+}
+
+/// The line of a strict flaw: its kind, where its piece begins, and the bytes where it stands.
+fn strict_flaw_line(alloc: Global, flaw: Flaw) -> Result<String, AllocError> {
+    let name = flaw_name(flaw.kind);
+    let Flaw { from, lo, hi, .. } = flaw;
+    format!(in alloc; "{name} {from} {lo}..{hi}\n")
 }

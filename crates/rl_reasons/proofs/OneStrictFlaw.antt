@@ -1,0 +1,178 @@
+-- A text has one flaw at most in the strict grammar.
+use Rattle.rl_text.proofs.Common.{◌≡◌, ℕ, ◌+◌, ◌||◌, true, false, ◌==◌, cond, List, [], ◌∷◌, ◌++◌, None, refl, sym, ap, subst, ◌∙◌, inl, inr, append_assoc, append_cancel_right, and_from, both_ways, or_parts, is_ascii_digit}
+use Rattle.rl_reading.proofs.Names.{Kind, byte_len, first_passes, truth_text}
+use Rattle.rl_text.proofs.Basics.{digit_is_ten}
+use Rattle.rl_reasons.specs.declared.flaws.FlawKind.{FlawKind}
+use Rattle.rl_reasons.specs.declared.flaws.FlawKind.TheVariants.{BadSuffix, Empty, Minus, NoLiteral, Unfinished}
+use Rattle.rl_reading.specs.declared.quoted_forms.QuotedForm.{QuotedForm}
+use Rattle.rl_reading.specs.declared.quoted_forms.QuotedForm.TheVariants.{Cooked as CookedForm, Raw as RawForm, Single as SingleForm}
+use Rattle.rl_reasons.specs.Flaws.{StopsBefore, first_len}
+use Rattle.rl_reading.specs.Forms.{form_opener, has_form}
+use Rattle.rl_reasons.specs.NumberFlaws.{HasKind}
+use Rattle.rl_reasons.specs.OneStrictFlaw.{HasOneStrictFlaw}
+use Rattle.rl_reasons.specs.StrictFlawKinds.{HasStrictQuotedFlaw, StrictQuotedFlaw}
+use Rattle.rl_reasons.specs.StrictFlaws.{IsStrictFlawOf}
+use Rattle.rl_reasons.specs.StrictNumberFlaws.{IsStrictNumberFlaw, IsStrictWordFlaw}
+use Rattle.rl_strict.specs.StrictShapes.{IsToken}
+use Rattle.rl_reading.specs.Mirrors.NumberAt.{after_digits, radix_at}
+use Rattle.rl_reading.specs.Mirrors.OpenerAt.{found_opener, opener_at}
+use Rattle.rl_strict.specs.Mirrors.StrictAt.{ends_whole, is_decimal, is_strict_number}
+use Rattle.rl_reading.proofs.FormLemmas.{front_complete}
+use Rattle.rl_reasons.proofs.OneFlawLemmas.{IsFront, begins_front, flaw_same, opener_same, stops_once, truth_front}
+use Rattle.rl_reasons.proofs.OneStrictRaw.{raw_once}
+use Rattle.rl_reasons.proofs.OneStrictUnit.{cooked_once, single_once}
+use Rattle.rl_reading.proofs.ReadingLemmas.{front_not_quoted}
+use Rattle.rl_reasons.proofs.StrictExplainLemmas.{quoted_cut}
+use Rattle.rl_reasons.proofs.StrictNumberKinds.{digit_kind}
+use Rattle.rl_reasons.proofs.StrictTokens.{digit_front, number_is_token}
+
+-- ---- quoted literals
+
+form_once : (form : QuotedForm) (kind : Kind) (k l : FlawKind) (inside pa pb rest : List ℕ) → has_form form kind ≡ true
+    → StrictQuotedFlaw form kind k inside pa rest → StrictQuotedFlaw form kind l inside pb rest → (k ≡ l) × (pa ≡ pb)
+form_once CookedForm kind k l inside pa pb rest h p q = cooked_once kind k l inside pa pb rest h p q
+form_once RawForm kind k l inside pa pb rest h p q = raw_once kind k l inside pa pb rest p q
+form_once SingleForm kind k l inside pa pb rest h p q = single_once kind k l inside pa pb rest p q
+
+quoted_opener : (k : FlawKind) (t piece rest : List ℕ) (q : HasStrictQuotedFlaw k t piece rest) → opener_at t
+    ≡ found_opener q.form q.kind q.inside
+quoted_opener k t piece rest q = ap opener_at q.text_is ∙ front_complete q.form q.kind q.inside q.is_form
+
+quoted_once : (k l : FlawKind) (t pa pb rest : List ℕ) → HasStrictQuotedFlaw k t pa rest
+    → HasStrictQuotedFlaw l t pb rest
+    → (k ≡ l) × (pa ≡ pb)
+quoted_once k l t pa pb rest p q =
+    let same = opener_same t q.form p.form q.kind p.kind q.inside p.inside (quoted_opener l t pb rest q)
+    (quoted_opener k t pa rest p) in
+    form_once p.form p.kind k l p.inside pa pb rest p.is_form p.spoils
+    (subst (λ z. StrictQuotedFlaw z.0 z.1 l z.2 pb rest) same q.spoils)
+
+-- what stands before the place has the opener
+front_opened : (k : FlawKind) (t front piece rest : List ℕ) → t ≡ front ++ rest → HasStrictQuotedFlaw k t piece rest
+    → opener_at front ≡ None → ⊥
+front_opened k t front piece rest e q none =
+    let (m, cut) = quoted_cut q.form q.kind k q.inside piece rest q.spoils in
+    let before = form_opener q.form q.kind in
+    let is : front ≡ before ++ m = append_cancel_right front (before ++ m) rest
+    (sym e ∙ q.text_is ∙ ap (λ z. before ++ z) cut ∙ sym (append_assoc before m rest)) in
+    let h = sym none ∙ ap opener_at is ∙ front_complete q.form q.kind m q.is_form in
+    absurd (cc)
+
+-- ---- numbers
+
+number_once : (k l : FlawKind) (front rest : List ℕ) → IsStrictNumberFlaw k front rest → IsStrictNumberFlaw l front rest
+    → k ≡ l
+number_once BadSuffix BadSuffix front rest p q = refl
+number_once BadSuffix l front rest p q = absurd (p.2 l q)
+number_once k BadSuffix front rest p q = absurd (q.2 k p)
+number_once k l front rest p q = sym (digit_kind k front rest p) ∙ digit_kind l front rest q
+
+-- a digit is a number
+one_digit : (c : ℕ) → is_ascii_digit c ≡ true → IsToken (c ∷ [])
+unfolding is_strict_number radix_at is_decimal
+one_digit c h =
+    let row : after_digits 10 (c ∷ []) ≡ [] = ap (λ b. cond (b || (c == 95)) [] (c ∷ [])) (sym (digit_is_ten c) ∙ h) in
+    number_is_token (c ∷ []) (and_from (is_ascii_digit c) (ends_whole (after_digits 10 (c ∷ []))) h (ap ends_whole row))
+
+-- a number isn't stuck at its first character
+goes_on : (t front rest : List ℕ) → t ≡ front ++ rest → ((c : ℕ) (cs e : List ℕ) → rest ≡ c ∷ cs
+    → IsToken (front ++ (c ∷ e)) → ⊥) → first_passes is_ascii_digit t ≡ true → first_passes is_ascii_digit front ≡ true
+goes_on t (c ∷ cs) rest e stuck h = sym (ap (first_passes is_ascii_digit) e) ∙ h
+goes_on t [] [] e stuck h = absurd (both_ways false refl (sym (ap (first_passes is_ascii_digit) e) ∙ h))
+goes_on t [] (c ∷ cs) e stuck h = absurd
+    (stuck c cs [] refl (one_digit c (sym (ap (first_passes is_ascii_digit) e) ∙ h)))
+
+-- ---- words
+
+-- the kind, by what stands before the place and by the rest
+word_of : List ℕ → List ℕ → FlawKind
+word_of [] [] = Empty
+word_of (c ∷ cs) [] = Unfinished
+word_of [] (d ∷ ds) = cond (d == 45) Minus NoLiteral
+word_of (c ∷ cs) (d ∷ ds) = NoLiteral
+
+word_is : (k : FlawKind) (front rest : List ℕ) → IsStrictWordFlaw k front rest → k ≡ word_of front rest
+unfolding word_of
+word_is Empty [] [] h = refl
+word_is Empty (c ∷ cs) [] (e, h) = absurd (cc)
+word_is Empty front (d ∷ ds) (e, h) = absurd (cc)
+word_is Unfinished [] [] (w, some, h) = absurd (some refl)
+word_is Unfinished (c ∷ cs) [] h = refl
+word_is Unfinished front (d ∷ ds) (w, some, h) = absurd (cc)
+word_is NoLiteral front [] (w, some, m) = absurd (some refl)
+word_is NoLiteral [] (d ∷ ds) (w, some, m) = sym (ap (λ b. cond b Minus NoLiteral) (m refl))
+word_is NoLiteral (c ∷ cs) (d ∷ ds) h = refl
+word_is Minus front [] (e, h) = absurd (cc)
+word_is Minus [] (d ∷ ds) (e, h) = sym (ap (λ b. cond b Minus NoLiteral) h)
+word_is Minus (c ∷ cs) (d ∷ ds) (e, h) = absurd (cc)
+word_is k front rest h = absurd h
+
+-- what stands before the place is the front of a word
+word_front : (k : FlawKind) (front rest : List ℕ) → IsStrictWordFlaw k front rest → IsFront front
+word_front Empty front rest (e, h) = subst IsFront (sym e)
+    (truth_front true [] (truth_text true) refl)
+word_front Minus front rest (e, h) = subst IsFront (sym e)
+    (truth_front true [] (truth_text true) refl)
+word_front Unfinished front rest (w, some, h) = begins_front front w
+word_front NoLiteral front rest (w, some, h) = begins_front front w
+word_front k front rest h = absurd h
+
+-- and begins with no digit
+no_digit : (front : List ℕ) → IsFront front → first_passes is_ascii_digit front ≡ false
+no_digit [] f = refl
+no_digit (c ∷ cs) f = (or_parts (c == 45) (is_ascii_digit c) f.no_number).1
+
+-- ---- the kind and the piece
+
+kinds_once : (k l : FlawKind) (t pa pb rest : List ℕ) → StopsBefore IsToken t rest → IsStrictFlawOf k t pa rest
+    → IsStrictFlawOf l t pb rest → (k ≡ l) × (pa ≡ pb)
+kinds_once k l t pa pb rest s p q = go p q
+  where
+    not_number : (k : FlawKind) (piece : List ℕ) → HasStrictQuotedFlaw k t piece rest
+        → first_passes is_ascii_digit t ≡ true → ⊥
+    not_number k piece a h = let e = sym (front_not_quoted t (digit_front t h))
+        ∙ quoted_opener k t piece rest a in absurd
+        (cc)
+
+    not_word : (k l : FlawKind) (piece : List ℕ) → HasStrictQuotedFlaw k t piece rest
+        → HasKind (IsStrictWordFlaw l) t rest
+        → ⊥
+    not_word k l piece a w = front_opened k t s.front piece rest s.text_is a
+        (word_front l s.front rest (w s.front s.text_is)).no_opener
+
+    neither : (l : FlawKind) → first_passes is_ascii_digit t ≡ true → HasKind (IsStrictWordFlaw l) t rest → ⊥
+    neither l h w = both_ways (first_passes is_ascii_digit s.front)
+        (no_digit s.front (word_front l s.front rest (w s.front s.text_is)))
+        (goes_on t s.front rest s.text_is s.stuck h)
+
+    go : IsStrictFlawOf k t pa rest → IsStrictFlawOf l t pb rest → (k ≡ l) × (pa ≡ pb)
+    go (inl a) (inl b) = quoted_once k l t pa pb rest a b
+    go (inl a) (inr (inl b)) = absurd (not_number k pa a b.0)
+    go (inl a) (inr (inr b)) = absurd (not_word k l pa a b.0)
+    go (inr (inl a)) (inl b) = absurd (not_number l pb b a.0)
+    go (inr (inl a)) (inr (inl b)) = (
+      number_once k l s.front rest (a.1 s.front s.text_is) (b.1 s.front s.text_is),
+      a.2 ∙ sym b.2,
+    )
+    go (inr (inl a)) (inr (inr b)) = absurd (neither l a.0 b.0)
+    go (inr (inr a)) (inl b) = absurd (not_word l k pb b a.0)
+    go (inr (inr a)) (inr (inl b)) = absurd (neither k b.0 a.0)
+    go (inr (inr a)) (inr (inr b)) = (
+      word_is k s.front rest (a.0 s.front s.text_is) ∙ sym (word_is l s.front rest (b.0 s.front s.text_is)),
+      a.1 ∙ sym b.1,
+    )
+
+-- ---- the flaw
+
+-- one flaw explains the text
+pub one_strict_flaw : (text : List ℕ) → HasOneStrictFlaw text
+one_strict_flaw text a b p q =
+    let same = stops_once IsToken text p.place.rest q.place.rest p.place.stops q.place.stops in
+    let lo = p.place.lo_is ∙ ap byte_len same.0 ∙ sym q.place.lo_is in
+    let hi = p.place.hi_is ∙ ap (λ z. z + first_len p.place.rest) lo ∙ ap (λ z. b.lo + first_len z) same.1
+    ∙ sym q.place.hi_is in
+    let once = kinds_once a.kind b.kind text p.piece q.piece p.place.rest p.place.stops p.kind
+    (subst (IsStrictFlawOf b.kind text q.piece) (sym same.1) q.kind) in
+    let before = append_cancel_right p.before q.before q.piece
+    (ap (λ z. p.before ++ z) (sym once.1) ∙ sym p.text_is ∙ q.text_is) in
+    flaw_same a b once.0 (p.from_is ∙ ap byte_len before ∙ sym q.from_is) lo hi

@@ -1,0 +1,472 @@
+-- Flaws of raw strings of the strict grammar.
+use Rattle.rl_text.proofs.Common.{◌≡◌, ◌+◌, ℕ, zero, suc, Option, Some, None, ◌<◌, ◌≤◌, ◌||◌, ◌&&◌, Bool, true, false, not, ◌==◌, cond, List, [], ◌∷◌, ◌++◌, replicate, refl, sym, ap, subst, ◌∙◌, inl, inr, arith, append_assoc, nat_lt, and_from, and_parts, both_ways, cases_Bool, eqb-true, not-true, or_parts, or_from, append_cancel_right, ltb-true, ltb-false, ◌⊎◌, list_all, AllByRecursion}
+use Rattle.rl_reading.proofs.Names.{cond_both, false_from_ne_true, IsScalar, Kind, Str, ByteStr, CStr, first_passes, is_string, after_run, is_hash}
+use Rattle.std.proofs.lemmas.Bool.{and_left}
+use Rattle.std.specs.Option.{IfNone, IfSome, is_some}
+use Rattle.rl_text.specs.Texts.{begins}
+use Rattle.rl_text.proofs.Basics.{apart}
+use Rattle.rl_lexer.proofs.HashLemmas.{hashes_past}
+use Rattle.rl_forms.proofs.StrictNumbers.{begins_front}
+use Rattle.rl_reasons.specs.declared.flaws.FlawKind.{FlawKind}
+use Rattle.rl_reasons.specs.declared.flaws.FlawKind.TheVariants.{Unfinished, NoQuote, Unclosed, TooManyHashes}
+use Rattle.rl_reading.specs.declared.quoted_forms.QuotedForm.TheVariants.{Raw as RawForm}
+use Rattle.rl_reasons.specs.Flaws.{StopsBefore}
+use Rattle.rl_reasons.specs.StrictFlawKinds.{IsOpen, StrictRawFlaw, suffix_piece}
+use Rattle.rl_strict.specs.StrictShapes.{ClosesForm, ClosesRaw}
+use Rattle.rl_strict.specs.Mirrors.StrictAt.{ends_raw, is_inside, is_raw_character, is_strict_suffix}
+use Rattle.rl_reasons.specs.Mirrors.StrictFlawAt.{raw_stop, held_flaw_of, closed_flaw_at}
+use Rattle.rl_reasons.specs.Mirrors.UnitFlawAt.{found_flaw, spoiled_flaw_of}
+use Rattle.rl_reading.proofs.IntegerLemmas.{begins_is}
+use Rattle.rl_strict.proofs.StrictRawLemmas.{NoCloser, inside_sound, none_before, nothing_inside, raw_close, raw_complete, raw_on, raw_sound}
+use Rattle.rl_reasons.proofs.StrictSuffixFlaws.{Closer, FlawInside, closed_flaw}
+
+-- ---- what a raw string holds before its closer
+
+-- hashes that begin a text are those of its front, where no hash follows that
+hashes_in_front : (n : ℕ) (a z : List ℕ) → first_passes is_hash z ≡ false → begins (replicate n 35) (a ++ z) ≡ true
+    → begins (replicate n 35) a ≡ true
+hashes_in_front zero a z no_hash h = refl
+hashes_in_front (suc n) [] [] no_hash h = absurd (cc)
+hashes_in_front (suc n) [] (c ∷ cs) no_hash h = absurd (both_ways (c == 35) no_hash
+    (and_parts (c == 35) (begins (replicate n 35) cs) h).0)
+hashes_in_front (suc n) (c ∷ cs) z no_hash h =
+    let p = and_parts (c == 35) (begins (replicate n 35) (cs ++ z)) h in
+    and_from (c == 35) (begins (replicate n 35) cs) p.0 (hashes_in_front n cs z no_hash p.1)
+
+-- so no closer begins before what follows
+pub no_closer_at : (n : ℕ) (c : ℕ) (cs z : List ℕ) → first_passes is_hash z ≡ false → NoCloser (replicate n 35) (c ∷ cs)
+    → (c == 34 && begins (replicate n 35) (cs ++ z)) ≡ false
+no_closer_at n c cs z no_hash none = false_from_ne_true (c == 34 && begins (replicate n 35) (cs ++ z)) (λ h.
+    let p = and_parts (c == 34) (begins (replicate n 35) (cs ++ z)) h in
+    let b = begins_is (replicate n 35) cs (hashes_in_front n cs z no_hash p.1) in
+    none [] b.0 (ap (λ q. q ∷ cs) (eqb-true c 34 p.0) ∙ ap (λ q. 34 ∷ q) b.1))
+
+-- the loop goes past contents at once
+past_body : (k : Kind) (n : ℕ) (body z : List ℕ) → list_all (is_raw_character k) body ≡ true
+    → NoCloser (replicate n 35) body → first_passes is_hash z ≡ false → ends_raw k (replicate n 35) (body ++ z)
+    ≡ ends_raw k (replicate n 35) z
+past_body k n [] z each none no_hash = refl
+past_body k n (c ∷ cs) z each none no_hash =
+    let p = and_parts (is_raw_character k c) (list_all (is_raw_character k) cs) each in
+    raw_on k (replicate n 35) c (cs ++ z) (no_closer_at n c cs z no_hash none)
+    ∙ ap (λ b. b && ends_raw k (replicate n 35) (cs ++ z)) p.0
+    ∙ past_body k n cs z p.1 (λ f r e. none (c ∷ f) r (ap (λ q. c ∷ q) e)) no_hash
+
+-- characters that a raw string of the kind holds stand before what isn't held, or before the closer
+record RawWalk (k : Kind) (hashes t rest : List ℕ) : Type 0 where
+  body : List ℕ
+  text_is : t ≡ body ++ rest
+  each : list_all (is_raw_character k) body ≡ true
+  none : NoCloser hashes body
+
+-- what the loop ends at
+abbrev pub ends_at : Kind → List ℕ → List ℕ → Bool
+ends_at k hashes [] = false
+ends_at k hashes (c ∷ cs) = (c == 34 && begins hashes cs) || not (is_raw_character k c)
+
+-- so the code walks
+raw_walk : (k : Kind) (hashes t : List ℕ) → RawWalk k hashes t (raw_stop k hashes t)
+unfolding raw_stop
+raw_walk k hashes [] = record { body = []; text_is = refl; each = refl; none = λ f r e. nothing_inside f (hashes ++ r) e }
+raw_walk k hashes (c ∷ cs) = go (raw_walk k hashes cs) (ends_at k hashes (c ∷ cs)) refl
+  where
+    go : RawWalk k hashes cs (raw_stop k hashes cs) → (b : Bool) → ends_at k hashes (c ∷ cs) ≡ b
+        → RawWalk k hashes (c ∷ cs) (cond b (c ∷ cs) (raw_stop k hashes cs))
+    go w true e = record { body = []; text_is = refl; each = refl; none = λ f r e. nothing_inside f (hashes ++ r) e }
+    go w false e =
+        let p = or_parts (c == 34 && begins hashes cs) (not (is_raw_character k c)) e in
+        let held : is_raw_character k c ≡ true = false_not (is_raw_character k c) p.1 in
+        let At : List ℕ → Type 0 = λ z. (c == 34 && begins hashes z) ≡ false in
+        record {
+          body = c ∷ w.body;
+          text_is = ap (λ z. c ∷ z) w.text_is;
+          each = and_from (is_raw_character k c) (list_all (is_raw_character k) w.body) held w.each;
+          none = none_before hashes c w.body (raw_stop k hashes cs) (subst At w.text_is p.0) w.none;
+        }
+      where
+        false_not : (b : Bool) → not b ≡ false → b ≡ true
+        false_not true h = refl
+        false_not false h = absurd (cc)
+
+raw_halts : (k : Kind) (hashes t cs : List ℕ) (c : ℕ) → raw_stop k hashes t ≡ c ∷ cs → ends_at k hashes (c ∷ cs) ≡ true
+unfolding raw_stop
+raw_halts k hashes [] cs c e = absurd (cc)
+raw_halts k hashes (d ∷ ds) cs c e = go (raw_halts k hashes ds cs c) (ends_at k hashes (d ∷ ds)) refl e
+  where
+    go : (raw_stop k hashes ds ≡ c ∷ cs → ends_at k hashes (c ∷ cs) ≡ true) → (b : Bool) → ends_at k hashes (d ∷ ds)
+        ≡ b
+        → cond b (d ∷ ds) (raw_stop k hashes ds) ≡ c ∷ cs → ends_at k hashes (c ∷ cs) ≡ true
+    go rec true h e = sym (ap (ends_at k hashes) e) ∙ h
+    go rec false h e = rec e
+
+-- ---- turns of the loop
+
+pub walk_halt : (k : Kind) (hashes t cs : List ℕ) (c : ℕ) → t ≡ c ∷ cs → ends_at k hashes (c ∷ cs) ≡ true → t
+    ≡ raw_stop k hashes t
+unfolding raw_stop
+walk_halt k hashes t cs c e h =
+    let at : raw_stop k hashes (c ∷ cs) ≡ c ∷ cs = ap (λ b. cond b (c ∷ cs) (raw_stop k hashes cs)) h in
+    e ∙ sym at ∙ ap (raw_stop k hashes) (sym e)
+
+pub walk_end : (k : Kind) (hashes t : List ℕ) → t ≡ [] → t ≡ raw_stop k hashes t
+unfolding raw_stop
+walk_end k hashes t e = e ∙ ap (raw_stop k hashes) (sym e)
+
+pub walk_run : (k : Kind) (hashes run x : List ℕ) → list_all (is_inside k) run ≡ true → raw_stop k hashes (run ++ x)
+    ≡ raw_stop k hashes x
+unfolding raw_stop
+walk_run k hashes [] x each = refl
+walk_run k hashes (c ∷ cs) x each =
+    let p = and_parts (is_inside k c) (list_all (is_inside k) cs) each in
+    let q = and_parts (not (c == 34)) (is_raw_character k c) p.0 in
+    let goes : ends_at k hashes (c ∷ (cs ++ x)) ≡ false = or_from (c == 34 && begins hashes (cs ++ x))
+    (not (is_raw_character k c)) (and_left (c == 34) (begins hashes (cs ++ x)) (not-true (c == 34) q.0)) (ap not q.1) in
+    ap (λ b. cond b (c ∷ (cs ++ x)) (raw_stop k hashes (cs ++ x))) goes ∙ walk_run k hashes cs x p.1
+
+pub walk_past : (k : Kind) (hashes t x run s : List ℕ) → t ≡ run ++ x → list_all (is_inside k) run ≡ true
+    → raw_stop k hashes t ≡ s → raw_stop k hashes x ≡ s
+walk_past k hashes t x run s e each same = sym (walk_run k hashes run x each) ∙ ap (raw_stop k hashes) (sym e) ∙ same
+
+pub walk_on : (k : Kind) (hashes t cs s : List ℕ) (c : ℕ) → t ≡ c ∷ cs → ends_at k hashes (c ∷ cs) ≡ false
+    → raw_stop k hashes t ≡ s → raw_stop k hashes cs ≡ s
+unfolding raw_stop
+walk_on k hashes t cs s c e h same =
+    sym (ap (λ b. cond b (c ∷ cs) (raw_stop k hashes cs)) h) ∙ ap (raw_stop k hashes) (sym e) ∙ same
+
+-- whether a closer begins
+pub closer_test : {R : Type 0} (o : Option R) (text : R → List ℕ) (hashes after : List ℕ) (c : ℕ) (b : Bool)
+    → IfSome o (λ r. (c ≡ 34) × (after ≡ hashes ++ text r)) → IfNone o ((c == 34 && begins hashes after) ≡ false) → b
+    ≡ is_some o → b ≡ (c == 34 && begins hashes after)
+closer_test (Some r) text hashes after c b some none is = is
+    ∙ sym (and_from (c == 34) (begins hashes after) (ap (λ z. z == 34) some.0) (ap (begins hashes) some.1
+    ∙ begins_front hashes (text r)))
+closer_test None text hashes after c b some none is = is ∙ sym none
+
+-- one hash more
+pub hash_more : (n : ℕ) (t a z : List ℕ) (c : ℕ) → t ≡ replicate n 35 ++ a → a ≡ c ∷ z → c ≡ 35 → t
+    ≡ replicate (n + 1) 35 ++ z
+hash_more n t a z c e is hash = e ∙ ap (λ x. replicate n 35 ++ x) (is ∙ ap (λ x. x ∷ z) hash) ∙ go n
+    ∙ ap (λ m. replicate m 35 ++ z) (let one : suc n ≡ n + 1 = omega arith in one)
+  where
+    go : (n : ℕ) → replicate n 35 ++ (35 ∷ z) ≡ replicate (suc n) 35 ++ z
+    go zero = refl
+    go (suc n) = ap (λ x. 35 ∷ x) (go n)
+
+-- ---- a text after some hashes and a quote
+
+-- hashes are as many as those of the form
+pub many_hashes : (m n : ℕ) (e r : List ℕ) → replicate m 35 ++ (35 ∷ e) ≡ replicate n 35 ++ (34 ∷ r) → m < n
+many_hashes zero zero e r h = absurd (both_ways true (ap (first_passes is_hash) h) refl)
+many_hashes zero (suc n) e r h = omega arith
+many_hashes (suc m) zero e r h = absurd (both_ways true (ap (first_passes is_hash) h) refl)
+many_hashes (suc m) (suc n) e r h =
+    let rest : replicate m 35 ++ (35 ∷ e) ≡ replicate n 35 ++ (34 ∷ r) = cc in
+    let less = many_hashes m n e r rest in
+    omega (arith, less)
+
+-- what follows hashes and a quote ends a raw string where the whole does
+raw_bad : (k : Kind) (n : ℕ) (x : List ℕ) → ClosesRaw k (replicate n 35 ++ (34 ∷ x)) → ends_raw k (replicate n 35) x
+    ≡ true
+raw_bad k n x c =
+    let both : 34 ∷ x ≡ 34 ∷ c.rest = sym (hashes_past n x) ∙ ap (after_run is_hash) c.text_is
+    ∙ hashes_past c.hashes c.rest in
+    let same : replicate n 35 ≡ replicate c.hashes 35 = append_cancel_right (replicate n 35) (replicate c.hashes 35)
+    (34 ∷ x) (c.text_is ∙ ap (λ z. replicate c.hashes 35 ++ z) (sym both)) in
+    let inside : x ≡ c.rest = cc in
+    ap (λ z. ends_raw k z x) same ∙ ap (ends_raw k (replicate c.hashes 35)) inside
+    ∙ raw_complete k c.hashes c.rest c.closes
+
+raw_good : (k : Kind) (n : ℕ) (x : List ℕ) → is_string k ≡ true → n < 256 → ends_raw k (replicate n 35) x ≡ true
+    → ClosesRaw k (replicate n 35 ++ (34 ∷ x))
+raw_good k n x s few h = record { hashes = n; few = few; rest = x; closes = raw_sound k (replicate n 35) x s h; text_is = refl }
+
+-- the kind of a character that it doesn't hold
+held_kind : (k : Kind) (n : ℕ) (t rest : List ℕ) (c : ℕ) (cs : List ℕ) → is_string k ≡ true → IsOpen k n t rest → rest
+    ≡ c ∷ cs → is_raw_character k c ≡ false → StrictRawFlaw k (held_flaw_of k c) t rest rest
+held_kind k n t rest c cs s o at not_held = cond_both (c == 13) _ _ (λ f. StrictRawFlaw k f t rest rest)
+    (λ e. ((n, o, ap (first_passes (λ z. z == 13)) at ∙ e), refl)) (other k s o not_held)
+  where
+    other : (k : Kind) → is_string k ≡ true → IsOpen k n t rest → is_raw_character k c ≡ false → (c == 13) ≡ false
+        → StrictRawFlaw k (spoiled_flaw_of k) t rest rest
+    other Str s o h e = absurd (both_ways (not (c == 13)) h (ap not e))
+    other ByteStr s o h e = (
+      refl,
+      (n, o, ap (first_passes (λ z. not (nat_lt z 128))) at ∙ high (nat_lt c 128) refl),
+      refl,
+    )
+      where
+        high : (b : Bool) → nat_lt c 128 ≡ b → not (nat_lt c 128) ≡ true
+        high true g = absurd (both_ways (nat_lt c 128 && not (c == 13)) h (and_from (nat_lt c 128) (not (c == 13)) g
+            (ap not e)))
+        high false g = ap not g
+    other CStr s o h e = (refl, (n, o, ap (first_passes (λ z. z == 0)) at ∙ nul (c == 0) refl), refl)
+      where
+        nul : (b : Bool) → (c == 0) ≡ b → (c == 0) ≡ true
+        nul true g = g
+        nul false g = absurd (both_ways (not (c == 0) && not (c == 13)) h (and_from (not (c == 0)) (not (c == 13))
+            (ap not g) (ap not e)))
+    other kind s o h e = absurd (cc)
+
+-- the parts of an open raw string
+module _ (k : Kind) (n : ℕ) (inside rest : List ℕ) (s : is_string k ≡ true) (few : n < 256)
+    (w : RawWalk k (replicate n 35) inside rest) where
+  abbrev hs : List ℕ
+  hs = replicate n 35
+
+  abbrev before : List ℕ
+  before = hs ++ (34 ∷ w.body)
+
+  abbrev whole : List ℕ
+  whole = hs ++ (34 ∷ inside)
+
+  joined : (z : List ℕ) → before ++ z ≡ hs ++ (34 ∷ (w.body ++ z))
+  joined z = append_assoc hs (34 ∷ w.body) z
+
+  cut : whole ≡ before ++ rest
+  cut = ap (λ z. hs ++ (34 ∷ z)) w.text_is ∙ sym (joined rest)
+
+  opened : IsOpen k n whole rest
+  opened =
+      let a = inside_sound k w.body s w.each in
+      record { few = few; body = w.body; allowed = a.0; no_carriage_return = a.1; no_closer = w.none; text_is = ap (λ z. hs ++ (34 ∷ z)) w.text_is }
+
+  -- what closes it after its body
+  good : (z : List ℕ) → first_passes is_hash z ≡ false → ends_raw k hs z ≡ true → ClosesRaw k (before ++ z)
+  good z no_hash h = subst (ClosesRaw k) (sym (joined z)) (raw_good k n (w.body ++ z) s few
+      (past_body k n w.body z w.each w.none no_hash ∙ h))
+
+  bad : (z : List ℕ) → first_passes is_hash z ≡ false → ends_raw k hs z ≡ false → ClosesRaw k (before ++ z) → ⊥
+  bad z no_hash h c = both_ways (ends_raw k hs z) h (sym (past_body k n w.body z w.each w.none no_hash)
+      ∙ raw_bad k n (w.body ++ z) (subst (ClosesRaw k) (joined z) c))
+
+  -- a quote and the hashes close it
+  closed_at : (x : List ℕ) → is_strict_suffix x ≡ true → ClosesRaw k (before ++ (34 ∷ (hs ++ x)))
+  closed_at x h = good (34 ∷ (hs ++ x)) refl (raw_close k hs x ∙ h)
+
+  hashes_scalar : (m : ℕ) → AllByRecursion IsScalar (replicate m 35 ++ [])
+  hashes_scalar zero = tt
+  hashes_scalar (suc m) = (refl, hashes_scalar m)
+
+  stops_at : ((c : ℕ) (cs e : List ℕ) → rest ≡ c ∷ cs → ClosesRaw k (before ++ (c ∷ e)) → ⊥)
+      → StopsBefore (ClosesForm RawForm k) whole rest
+  unfolding is_strict_suffix
+  stops_at stuck = record {
+    front = before;
+    text_is = cut;
+    begins = record { ending = 34 ∷ (hs ++ []); are_characters = (refl, hashes_scalar n); is_taken = closed_at [] refl };
+    stuck = stuck;
+  }
+
+  -- its end
+  ended : rest ≡ [] → FlawInside RawForm k Unclosed whole rest rest
+  ended e = record {
+    stops = stops_at (λ c cs r h y. let bad_end : c ∷ cs ≡ [] = sym h ∙ e in absurd (cc));
+    has = inl ((n, opened), e, refl);
+  }
+
+  -- a character that it doesn't hold
+  stuck_at : (c : ℕ) (cs : List ℕ) → rest ≡ c ∷ cs → is_raw_character k c ≡ false → (d : ℕ) (ds e : List ℕ) → rest
+      ≡ d ∷ ds → ClosesRaw k (before ++ (d ∷ e)) → ⊥
+  stuck_at c cs at not_held d ds e h y =
+      let both : c ∷ cs ≡ d ∷ ds = sym at ∙ h in
+      let same : c ≡ d = cc in
+      let no_hash : (c == 35) ≡ false = other c 35 not_held (holds_hash k s) in
+      let no_quote : (c == 34) ≡ false = other c 34 not_held (holds_quote k s) in
+      bad (c ∷ e) no_hash (raw_on k hs c e (and_left (c == 34) (begins hs e) no_quote)
+      ∙ and_left (is_raw_character k c) (ends_raw k hs e) not_held)
+      (subst (λ z. ClosesRaw k (before ++ (z ∷ e))) (sym same) y)
+    where
+      other : (c d : ℕ) → is_raw_character k c ≡ false → is_raw_character k d ≡ true → (c == d) ≡ false
+      other c d h g = apart (λ z. not (is_raw_character k z)) c d (ap not h) (ap not g)
+
+      holds_hash : (k : Kind) → is_string k ≡ true → is_raw_character k 35 ≡ true
+      holds_hash Str s = refl
+      holds_hash ByteStr s = refl
+      holds_hash CStr s = refl
+      holds_hash kind s = absurd (cc)
+
+      holds_quote : (k : Kind) → is_string k ≡ true → is_raw_character k 34 ≡ true
+      holds_quote Str s = refl
+      holds_quote ByteStr s = refl
+      holds_quote CStr s = refl
+      holds_quote kind s = absurd (cc)
+
+  spoiled : (c : ℕ) (cs : List ℕ) → rest ≡ c ∷ cs → is_raw_character k c ≡ false
+      → FlawInside RawForm k (held_flaw_of k c) whole rest rest
+  spoiled c cs at not_held = record {
+    stops = stops_at (stuck_at c cs at not_held);
+    has = inl (held_kind k n whole rest c cs s opened at not_held);
+  }
+
+  -- its closer
+  closer : Closer RawForm k
+  closer = record {
+    before = before ++ (34 ∷ hs);
+    good = λ x h. subst (ClosesRaw k) (sym (append_assoc before (34 ∷ hs) x)) (closed_at x h);
+    bad = λ x h c. bad (34 ∷ (hs ++ x)) refl (raw_close k hs x ∙ h) (subst (ClosesRaw k)
+        (append_assoc before (34 ∷ hs) x) c);
+  }
+
+  closed : (f : FlawKind) (suffix piece after : List ℕ) → rest ≡ 34 ∷ (hs ++ suffix) → (ClosesRaw k whole → ⊥)
+      → found_flaw f after ≡ closed_flaw_at RawForm suffix → piece ≡ suffix_piece f rest suffix
+      → FlawInside RawForm k f whole piece after
+  unfolding closer
+  closed f suffix piece after at none same spoils = closed_flaw RawForm k f whole rest suffix piece after closer
+      (cut ∙ ap (λ z. before ++ z) at ∙ sym (append_assoc before (34 ∷ hs) suffix)) (n, opened, at) none same spoils
+
+-- ---- the flaw after the opening quote, by what the code finds
+
+-- hashes, their number, and what the walk leaves
+found_walk : (k : Kind) (n : ℕ) (hashes inside rest : List ℕ) → hashes ≡ replicate n 35 → rest
+    ≡ raw_stop k hashes inside
+    → RawWalk k (replicate n 35) inside rest
+found_walk k n hashes inside rest e at = subst (RawWalk k (replicate n 35) inside)
+    (sym (at ∙ ap (λ z. raw_stop k z inside) e)) (raw_walk k (replicate n 35) inside)
+
+-- in the text as the code has it
+as_found : (k : Kind) (f : FlawKind) (n : ℕ) (hashes inside p q r z : List ℕ) → hashes ≡ replicate n 35 → q ≡ p → z ≡ r
+    → FlawInside RawForm k f (replicate n 35 ++ (34 ∷ inside)) p r
+    → FlawInside RawForm k f (hashes ++ (34 ∷ inside)) q z
+as_found k f n hashes inside p q r z e piece at h =
+    subst (λ y. FlawInside RawForm k f (y ++ (34 ∷ inside)) q z) (sym e)
+    (subst (λ y. FlawInside RawForm k f (replicate n 35 ++ (34 ∷ inside)) y z) (sym piece)
+    (subst (FlawInside RawForm k f (replicate n 35 ++ (34 ∷ inside)) p) (sym at) h))
+
+pub raw_ended : (k : Kind) (f : FlawKind) (n : ℕ) (hashes inside rest q z : List ℕ) → is_string k ≡ true → n ≤ 255
+    → hashes ≡ replicate n 35 → rest ≡ raw_stop k hashes inside → rest ≡ [] → f ≡ Unclosed → q ≡ rest → z ≡ rest
+    → FlawInside RawForm k f (hashes ++ (34 ∷ inside)) q z
+raw_ended k f n hashes inside rest q z s few e at end kind piece place =
+    let less : n < 256 = omega (arith, few) in
+    as_found k f n hashes inside rest q rest z e piece place
+    (subst (λ y. FlawInside RawForm k y (replicate n 35 ++ (34 ∷ inside)) rest rest) (sym kind)
+    (ended k n inside rest s less (found_walk k n hashes inside rest e at) end))
+
+pub raw_spoiled : (k : Kind) (f : FlawKind) (n : ℕ) (hashes inside rest q z : List ℕ) (c : ℕ) (cs : List ℕ)
+    → is_string k
+    ≡ true → n ≤ 255 → hashes ≡ replicate n 35 → rest ≡ raw_stop k hashes inside → rest ≡ c ∷ cs
+    → (c == 34 && begins hashes cs) ≡ false → f ≡ held_flaw_of k c → q ≡ rest → z ≡ rest
+    → FlawInside RawForm k f (hashes ++ (34 ∷ inside)) q z
+raw_spoiled k f n hashes inside rest q z c cs s few e at is no_closer kind piece place =
+    let less : n < 256 = omega (arith, few) in
+    let halts = raw_halts k hashes inside cs c (sym at ∙ is) in
+    as_found k f n hashes inside rest q rest z e piece place
+    (subst (λ y. FlawInside RawForm k y (replicate n 35 ++ (34 ∷ inside)) rest rest) (sym kind)
+    (spoiled k n inside rest s less (found_walk k n hashes inside rest e at) c cs is
+    (not_held (c == 34 && begins hashes cs) (is_raw_character k c) no_closer halts)))
+  where
+    not_held : (a b : Bool) → a ≡ false → (a || not b) ≡ true → b ≡ false
+    not_held true b n h = absurd (cc)
+    not_held false true n h = absurd (cc)
+    not_held false false n h = refl
+
+pub raw_closed : (k : Kind) (f : FlawKind) (n : ℕ) (hashes inside rest suffix q z : List ℕ) (c : ℕ) (cs : List ℕ)
+    → is_string k ≡ true → n ≤ 255 → hashes ≡ replicate n 35 → rest ≡ raw_stop k hashes inside → rest ≡ c ∷ cs → c ≡ 34
+    → cs ≡ hashes ++ suffix → (ClosesRaw k (hashes ++ (34 ∷ inside)) → ⊥) → found_flaw f z
+    ≡ closed_flaw_at RawForm suffix → q ≡ suffix_piece f rest suffix
+    → FlawInside RawForm k f (hashes ++ (34 ∷ inside)) q z
+raw_closed k f n hashes inside rest suffix q z c cs s few e at is quote more none same piece =
+    let less : n < 256 = omega (arith, few) in
+    let text : rest ≡ 34 ∷ (replicate n 35 ++ suffix) = is ∙ ap (λ y. y ∷ cs) quote
+    ∙ ap (λ y. 34 ∷ y) (more ∙ ap (λ y. y ++ suffix) e) in
+    as_found k f n hashes inside q q z z e refl refl
+    (closed k n inside rest s less (found_walk k n hashes inside rest e at) f suffix q z text
+    (λ y. none (subst (λ v. ClosesRaw k (v ++ (34 ∷ inside))) (sym e) y)) same piece)
+
+-- ---- the flaw before it
+
+-- what follows hashes where none goes on
+hash_run : (n : ℕ) (z : List ℕ) → first_passes is_hash z ≡ false → after_run is_hash (replicate n 35 ++ z) ≡ z
+hash_run zero [] h = refl
+hash_run zero (c ∷ cs) h = ap (λ b. cond b (after_run is_hash cs) (c ∷ cs)) h
+hash_run (suc n) z h = hash_run n z h
+
+-- hashes with which a raw string begins
+hashes_begin : (k : Kind) (n : ℕ) → is_string k ≡ true → n < 256 → ClosesRaw k (replicate n 35
+    ++ (34 ∷ (34 ∷ (replicate n 35 ++ []))))
+unfolding is_strict_suffix
+hashes_begin k n s few = raw_good k n (34 ∷ (replicate n 35 ++ [])) s few (raw_close k (replicate n 35) [])
+
+hashes_characters : (m : ℕ) → AllByRecursion IsScalar (replicate m 35 ++ [])
+hashes_characters zero = tt
+hashes_characters (suc m) = (refl, hashes_characters m)
+
+hashes_stop : (k : Kind) (n : ℕ) (t rest : List ℕ) → is_string k ≡ true → n ≤ 255 → t ≡ replicate n 35 ++ rest
+    → ((c : ℕ) (cs e : List ℕ) → rest ≡ c ∷ cs → ClosesRaw k (replicate n 35 ++ (c ∷ e)) → ⊥)
+    → StopsBefore (ClosesForm RawForm k) t rest
+hashes_stop k n t rest s few text stuck = record {
+  front = replicate n 35;
+  text_is = text;
+  begins = record { ending = 34 ∷ (34 ∷ (replicate n 35 ++ [])); are_characters = (refl, (refl, hashes_characters n)); is_taken = hashes_begin k n s (omega (arith, few)) };
+  stuck = stuck;
+}
+
+-- nothing after them
+pub raw_unfinished : (k : Kind) (f : FlawKind) (n : ℕ) (t rest q z : List ℕ) → is_string k ≡ true → n ≤ 255 → t
+    ≡ replicate n 35 ++ rest → rest ≡ [] → f ≡ Unfinished → q ≡ rest → z ≡ rest → FlawInside RawForm k f t q z
+raw_unfinished k f n t rest q z s few text end kind piece place =
+    let there : FlawInside RawForm k Unfinished t rest rest = record {
+      stops = hashes_stop k n t rest s few text
+          (λ c cs e h y. let bad_end : c ∷ cs ≡ [] = sym h ∙ end in absurd (cc));
+      has = inl (
+        record { hashes = n; text_is = text; no_hash = ap (first_passes is_hash) end; no_quote = ap (first_passes (λ c. c == 34)) end },
+        end,
+        refl,
+      );
+    } in
+    subst (λ y. FlawInside RawForm k y t q z) (sym kind) (subst (λ y. FlawInside RawForm k Unfinished t y z) (sym piece)
+    (subst (FlawInside RawForm k Unfinished t rest) (sym place) there))
+
+-- another character
+pub raw_no_quote : (k : Kind) (f : FlawKind) (n : ℕ) (t rest q z cs : List ℕ) (c : ℕ) → is_string k ≡ true → n ≤ 255 → t
+    ≡ replicate n 35 ++ rest → rest ≡ c ∷ cs → (c == 35) ≡ false → (c == 34) ≡ false → f ≡ NoQuote → q ≡ rest → z ≡ rest
+    → FlawInside RawForm k f t q z
+raw_no_quote k f n t rest q z cs c s few text is no_hash no_quote kind piece place =
+    let there : FlawInside RawForm k NoQuote t rest rest = record {
+      stops = hashes_stop k n t rest s few text stuck;
+      has = inl (
+        record { hashes = n; text_is = text; no_hash = ap (first_passes is_hash) is ∙ no_hash; no_quote = ap (first_passes (λ c. c == 34)) is ∙ no_quote },
+        (λ e. let bad_end : c ∷ cs ≡ [] = sym is ∙ e in absurd (cc)),
+        refl,
+      );
+    } in
+    subst (λ y. FlawInside RawForm k y t q z) (sym kind) (subst (λ y. FlawInside RawForm k NoQuote t y z) (sym piece)
+    (subst (FlawInside RawForm k NoQuote t rest) (sym place) there))
+  where
+    stuck : (d : ℕ) (ds e : List ℕ) → rest ≡ d ∷ ds → ClosesRaw k (replicate n 35 ++ (d ∷ e)) → ⊥
+    stuck d ds e h y =
+        let both : c ∷ cs ≡ d ∷ ds = sym is ∙ h in
+        let same : c ≡ d = cc in
+        let off : (d == 35) ≡ false = sym (ap (λ x. x == 35) same) ∙ no_hash in
+        let quote : d ∷ e ≡ 34 ∷ y.rest = sym (hash_run n (d ∷ e) off) ∙ ap (after_run is_hash) y.text_is
+        ∙ hashes_past y.hashes y.rest in
+        both_ways (c == 34) no_quote (ap (λ x. x == 34) same ∙ ap (first_passes (λ x. x == 34)) quote)
+
+-- one hash too many
+pub raw_many_hashes : (k : Kind) (f : FlawKind) (n : ℕ) (t rest q z cs : List ℕ) (c : ℕ) → is_string k ≡ true → n ≤ 255
+    → t ≡ replicate n 35 ++ rest → (n < 255 → first_passes is_hash rest ≡ false) → rest ≡ c ∷ cs → (c == 35) ≡ true → f
+    ≡ TooManyHashes → q ≡ t → z ≡ rest → FlawInside RawForm k f t q z
+raw_many_hashes k f n t rest q z cs c s few text last is hash kind piece place =
+    let begins_hash : first_passes is_hash rest ≡ true = ap (first_passes is_hash) is ∙ hash in
+    let full : n ≡ 255 = go (cases_Bool (nat_lt n 255)) in
+    let there : FlawInside RawForm k TooManyHashes t t rest = record {
+      stops = hashes_stop k n t rest s few text stuck;
+      has = inl (text ∙ ap (λ m. replicate m 35 ++ rest) full, begins_hash, refl);
+    } in
+    subst (λ y. FlawInside RawForm k y t q z) (sym kind) (subst (λ y. FlawInside RawForm k TooManyHashes t y z)
+    (sym piece)
+    (subst (FlawInside RawForm k TooManyHashes t t) (sym place) there))
+  where
+    go : (nat_lt n 255 ≡ true) ⊎ (nat_lt n 255 ≡ false) → n ≡ 255
+    go (inl a) = absurd (both_ways (first_passes is_hash rest) (last (ltb-true n 255 a)) (ap (first_passes is_hash) is
+        ∙ hash))
+    go (inr a) = let more : 255 ≤ n = ltb-false n 255 a in omega arith
+
+    stuck : (d : ℕ) (ds e : List ℕ) → rest ≡ d ∷ ds → ClosesRaw k (replicate n 35 ++ (d ∷ e)) → ⊥
+    stuck d ds e h y =
+        let both : c ∷ cs ≡ d ∷ ds = sym is ∙ h in
+        let same : c ≡ d = cc in
+        let at : d ≡ 35 = sym same ∙ eqb-true c 35 hash in
+        let many = many_hashes n y.hashes e y.rest (ap (λ x. replicate n 35 ++ (x ∷ e)) (sym at) ∙ y.text_is) in
+        let less = y.few in
+        let full = go (cases_Bool (nat_lt n 255)) in
+        absurd (omega (arith, many, less, full))

@@ -1,0 +1,260 @@
+-- Where the suffix of a closed literal stops, and how its front is completed.
+use Rattle.rl_text.proofs.Common.{◌≡◌, ℕ, ◌||◌, ◌&&◌, Bool, true, false, not, ◌==◌, cond, List, [], ◌∷◌, ◌++◌, refl, sym, ap, subst, ◌∙◌, inl, inr, arith, append-nil, append_assoc, and_from, and_parts, both_ways, cases_Bool, eqb-true, list_all, list_all-append, AllByRecursion, is_xid_continue, is_xid_start}
+use Rattle.rl_reading.proofs.Names.{and_right, cond_both, false_from_ne_true, after_run, first_passes, IsScalar, Kind}
+use Rattle.std.proofs.lemmas.Bool.{and_left}
+use Rattle.unicode_ident.proofs.IdentLemmas.{is_xid_start-ascii, is_xid_continue-ascii}
+use Rattle.rl_text.specs.Texts.{is_continue, is_start, is_white}
+use Rattle.rl_reasons.specs.declared.flaws.FlawKind.{FlawKind}
+use Rattle.rl_reasons.specs.declared.flaws.FlawKind.TheVariants.{BadSuffix, EarlyQuote, ExtraHash}
+use Rattle.rl_reading.specs.declared.quoted_forms.QuotedForm.{QuotedForm}
+use Rattle.rl_reasons.specs.Flaws.{StopsBefore}
+use Rattle.rl_reasons.specs.StrictFlawKinds.{IsClosed, StrictQuotedFlaw, SuffixFlaw, form_quote, goes_on_with_suffix, is_raw_form, is_suffix_front, suffix_piece}
+use Rattle.rl_strict.specs.StrictShapes.{ClosesForm}
+use Rattle.rl_reading.specs.Mirrors.NumberAt.{run}
+use Rattle.rl_reading.specs.Mirrors.PlainAt.{is_some_text}
+use Rattle.rl_strict.specs.Mirrors.StrictAt.{is_strict_suffix}
+use Rattle.rl_reasons.specs.Mirrors.StrictFlawAt.{suffix_rest, suffix_end_flaw_at, begins_hash, closed_flaw_at}
+use Rattle.rl_reasons.specs.Mirrors.UnitFlawAt.{FoundFlaw, found_flaw}
+use Rattle.rl_reading.proofs.RunLemmas.{run_all, run_ends, run_join}
+use Rattle.rl_reading.proofs.TestLemmas.{all_breaks}
+
+-- ---- the first characters of a suffix
+
+-- they stand at the front, and the rest doesn't go on with them
+pub record SuffixCut (t rest : List ℕ) : Type 0 where
+  pub front : List ℕ
+  pub text_is : t ≡ front ++ rest
+  pub is_front : is_suffix_front front ≡ true
+  pub ends : goes_on_with_suffix front rest ≡ false
+
+-- so the code cuts the text
+pub suffix_cut : (t : List ℕ) → SuffixCut t (suffix_rest t)
+unfolding suffix_rest
+suffix_cut [] = record { front = []; text_is = refl; is_front = refl; ends = refl }
+suffix_cut (c ∷ cs) = go (is_start c) refl
+  where
+    go : (b : Bool) → is_start c ≡ b → SuffixCut (c ∷ cs) (cond b (after_run is_continue cs) (c ∷ cs))
+    go true e = record {
+      front = c ∷ run is_continue cs;
+      text_is = ap (λ z. c ∷ z) (run_join is_continue cs);
+      is_front = and_from (is_start c) (list_all is_continue (run is_continue cs)) e (run_all is_continue cs);
+      ends = run_ends is_continue cs;
+    }
+    go false e = record { front = []; text_is = refl; is_front = refl; ends = e }
+
+-- only the first character of the rest counts
+pub goes_on_first : (x cs e : List ℕ) (c : ℕ) → goes_on_with_suffix x (c ∷ cs) ≡ false → goes_on_with_suffix x (c ∷ e)
+    ≡ false
+goes_on_first [] cs e c h = h
+goes_on_first (d ∷ ds) cs e c h = h
+
+-- ---- how a suffix is completed
+
+-- a letter goes on with a word
+letter_continues : is_continue 97 ≡ true
+letter_continues = and_from (is_xid_continue 97) (not (is_white 97)) (is_xid_continue-ascii 97 (omega arith)) refl
+
+-- what makes a suffix of its first characters
+pub suffix_ending : List ℕ → List ℕ
+suffix_ending [] = []
+suffix_ending (c ∷ cs) = 97 ∷ []
+
+pub ending_characters : (x : List ℕ) → AllByRecursion IsScalar (suffix_ending x)
+unfolding suffix_ending
+ending_characters [] = tt
+ending_characters (c ∷ cs) = (refl, tt)
+
+-- some text stands before a letter
+some_before : (cs : List ℕ) → is_some_text (cs ++ (97 ∷ [])) ≡ true
+some_before [] = refl
+some_before (c ∷ cs) = refl
+
+pub suffix_begins : (x : List ℕ) → is_suffix_front x ≡ true → is_strict_suffix (x ++ suffix_ending x) ≡ true
+unfolding is_strict_suffix suffix_ending
+suffix_begins [] h = refl
+suffix_begins (c ∷ cs) h =
+    let p = and_parts (is_start c) (list_all is_continue cs) h in
+    and_from (cond (c == 95) (is_some_text (cs ++ (97 ∷ []))) (is_start c)) (list_all is_continue (cs ++ (97 ∷ [])))
+    (cond_both (c == 95) _ _ (λ b. b ≡ true) (λ e. some_before cs) (λ e. p.0))
+    (list_all-append is_continue cs (97 ∷ [])
+    ∙ and_from (list_all is_continue cs) (list_all is_continue (97 ∷ [])) p.1
+    (and_from (is_continue 97) true letter_continues refl))
+
+-- only `_` is no suffix by itself
+pub only_underscore : (x : List ℕ) → is_suffix_front x ≡ true → is_strict_suffix x ≡ false → x ≡ 95 ∷ []
+unfolding is_strict_suffix
+only_underscore [] h n = absurd (cc)
+only_underscore (c ∷ cs) h n =
+    let p = and_parts (is_start c) (list_all is_continue cs) h in
+    elim (cases_Bool (c == 95)) [
+      | inl a ↦ ap (λ z. z ∷ cs) (eqb-true c 95 a) ∙ ap (λ z. 95 ∷ z) (alone cs (λ s. both_ways
+          (cond (c == 95) (is_some_text cs) (is_start c) && list_all is_continue cs) n
+          (and_from (cond (c == 95) (is_some_text cs) (is_start c)) (list_all is_continue cs)
+          (ap (λ b. cond b (is_some_text cs) (is_start c)) a ∙ s) p.1)))
+      | inr a ↦ absurd (both_ways (cond (c == 95) (is_some_text cs) (is_start c) && list_all is_continue cs) n
+          (and_from (cond (c == 95) (is_some_text cs) (is_start c)) (list_all is_continue cs)
+          (ap (λ b. cond b (is_some_text cs) (is_start c)) a ∙ p.0) p.1))
+    ]
+  where
+    alone : (cs : List ℕ) → (is_some_text cs ≡ true → ⊥) → cs ≡ []
+    alone [] s = refl
+    alone (d ∷ ds) s = absurd (s refl)
+
+-- ---- where it stops
+
+-- no word begins so
+pub no_start_no_suffix : (c : ℕ) (e : List ℕ) → is_start c ≡ false → is_strict_suffix (c ∷ e) ≡ false
+unfolding is_strict_suffix
+no_start_no_suffix c e h =
+    let At : ℕ → Type 0 = λ z. is_start z ≡ false in
+    elim (cases_Bool (c == 95)) [
+      | inl a ↦ absurd (both_ways (is_start 95) (subst At (eqb-true c 95 a) h) refl)
+      | inr a ↦ and_left (cond (c == 95) (is_some_text e) (is_start c)) (list_all is_continue e)
+          (ap (λ b. cond b (is_some_text e) (is_start c)) a ∙ h)
+    ]
+
+-- a character that doesn't go on with the first ones spoils the suffix
+pub suffix_stuck : (x : List ℕ) (c : ℕ) (e : List ℕ) → goes_on_with_suffix x (c ∷ e) ≡ false
+    → is_strict_suffix (x ++ (c ∷ e)) ≡ false
+unfolding is_strict_suffix
+suffix_stuck [] c e h = no_start_no_suffix c e h
+suffix_stuck (d ∷ ds) c e h = and_right (cond (d == 95) (is_some_text (ds ++ (c ∷ e))) (is_start d))
+    (list_all is_continue (ds ++ (c ∷ e))) (all_breaks is_continue ds c e h)
+
+-- a hash begins no word
+hash_no_start : is_start 35 ≡ false
+hash_no_start = and_left (35 == 95 || is_xid_start 35) (not (is_white 35)) (is_xid_start-ascii 35 (omega arith))
+
+-- ---- the flaw after a closer
+
+-- What follows the closer stops there, for the code's reason.
+pub record SuffixSpoiled (form : QuotedForm) (k : FlawKind) (t rest : List ℕ) : Type 0 where
+  pub front : List ℕ
+  pub text_is : t ≡ front ++ rest
+  pub spoils : SuffixFlaw form k front rest
+  pub ending : List ℕ
+  pub are_characters : AllByRecursion IsScalar ending
+  pub completes : is_strict_suffix (front ++ ending) ≡ true
+  pub stuck : (c : ℕ) (cs e : List ℕ) → rest ≡ c ∷ cs → is_strict_suffix (front ++ (c ∷ e)) ≡ false
+
+-- a hash too much
+hash_spoils : (form : QuotedForm) (t : List ℕ) → begins_hash form t ≡ true → SuffixSpoiled form ExtraHash t t
+unfolding is_strict_suffix
+hash_spoils form t h =
+    let p = and_parts (is_raw_form form) (first_passes (λ c. c == 35) t) h in
+    let At : ℕ → Type 0 = λ z. is_start z ≡ false in
+    record {
+      front = [];
+      text_is = refl;
+      spoils = (p.0, refl, p.1);
+      ending = [];
+      are_characters = tt;
+      completes = refl;
+      stuck = λ c cs e same. no_start_no_suffix c e (subst At
+          (sym (eqb-true c 35 (sym (ap (first_passes (λ c. c == 35)) same) ∙ p.1))) hash_no_start);
+    }
+
+-- what stands after the first characters
+cut_spoils : (form : QuotedForm) (t rest : List ℕ) → SuffixCut t rest → is_strict_suffix t ≡ false → begins_hash form t
+    ≡ false → SuffixSpoiled form (suffix_end_flaw_at form rest).0 t (suffix_end_flaw_at form rest).1
+unfolding is_strict_suffix
+cut_spoils form t [] k off hash =
+    let same : k.front ≡ t = sym (append-nil k.front) ∙ sym k.text_is in
+    record {
+      front = k.front;
+      text_is = k.text_is;
+      spoils = (only_underscore k.front k.is_front (ap is_strict_suffix same ∙ off), refl);
+      ending = suffix_ending k.front;
+      are_characters = ending_characters k.front;
+      completes = suffix_begins k.front k.is_front;
+      stuck = λ c cs e h. absurd (cc);
+    }
+cut_spoils form t (c ∷ cs) k off hash = cond_both (c == form_quote form) _ _ P quote other
+  where
+    P : FoundFlaw → Type 0
+    P f = SuffixSpoiled form f.0 t f.1
+
+    spoiled : (kind : FlawKind) → SuffixFlaw form kind k.front (c ∷ cs) → SuffixSpoiled form kind t (c ∷ cs)
+    spoiled kind s = record {
+      front = k.front;
+      text_is = k.text_is;
+      spoils = s;
+      ending = suffix_ending k.front;
+      are_characters = ending_characters k.front;
+      completes = suffix_begins k.front k.is_front;
+      stuck = λ d ds e h.
+          let At : ℕ → Type 0 = λ z. is_strict_suffix (k.front ++ (z ∷ e)) ≡ false in
+          let same : c ≡ d = cc in
+          subst At same (suffix_stuck k.front c e (goes_on_first k.front cs e c k.ends));
+    }
+
+    quote : (c == form_quote form) ≡ true → SuffixSpoiled form EarlyQuote t (c ∷ cs)
+    quote e = spoiled EarlyQuote (k.is_front, e)
+
+    other : (c == form_quote form) ≡ false → SuffixSpoiled form BadSuffix t (c ∷ cs)
+    other e = spoiled BadSuffix (
+      k.is_front,
+      (λ n. absurd (cc)),
+      k.ends,
+      e,
+      λ x.
+          let at : t ≡ c ∷ cs = k.text_is ∙ ap (λ z. z ++ (c ∷ cs)) x.1 in
+          both_ways (begins_hash form t) hash (and_from (is_raw_form form) (first_passes (λ c. c == 35) t) x.0
+          (ap (first_passes (λ c. c == 35)) at ∙ x.2)),
+    )
+
+pub suffix_spoils : (form : QuotedForm) (t : List ℕ) → is_strict_suffix t ≡ false
+    → SuffixSpoiled form (closed_flaw_at form t).0 t (closed_flaw_at form t).1
+suffix_spoils form t off = cond_both (begins_hash form t) _ _ (λ (f : FoundFlaw). SuffixSpoiled form f.0 t f.1)
+    (hash_spoils form t)
+    (cut_spoils form t (suffix_rest t) (suffix_cut t) off)
+
+-- ---- in a literal
+
+-- The text stops there after the opener, and has that flaw.
+pub record FlawInside (form : QuotedForm) (kind : Kind) (k : FlawKind) (inside piece rest : List ℕ) : Type 0 where
+  pub stops : StopsBefore (ClosesForm form kind) inside rest
+  pub has : StrictQuotedFlaw form kind k inside piece rest
+
+-- in a piece that is the same
+pub same_piece : (form : QuotedForm) (kind : Kind) (k : FlawKind) (inside p q rest : List ℕ) → q ≡ p
+    → FlawInside form kind k inside p rest → FlawInside form kind k inside q rest
+same_piece form kind k inside p q rest e h = subst (λ z. FlawInside form kind k inside z rest) (sym e) h
+
+-- What stands before the suffix closes the literal, whatever suffix follows.
+pub record Closer (form : QuotedForm) (kind : Kind) : Type 0 where
+  pub before : List ℕ
+  pub good : (x : List ℕ) → is_strict_suffix x ≡ true → ClosesForm form kind (before ++ x)
+  pub bad : (x : List ℕ) → is_strict_suffix x ≡ false → ClosesForm form kind (before ++ x) → ⊥
+
+-- so the flaw is that of the suffix
+pub closed_flaw : (form : QuotedForm) (kind : Kind) (k : FlawKind) (inside closing suffix piece rest : List ℕ)
+    (c : Closer form kind) → inside ≡ c.before ++ suffix → IsClosed form kind inside closing suffix
+    → (ClosesForm form kind inside → ⊥) → found_flaw k rest ≡ closed_flaw_at form suffix → piece
+    ≡ suffix_piece k closing suffix → FlawInside form kind k inside piece rest
+closed_flaw form kind k inside closing suffix piece rest c text closed none same spoiled =
+    let off : is_strict_suffix suffix ≡ false = false_from_ne_true (is_strict_suffix suffix)
+    (λ h. none (subst (ClosesForm form kind) (sym text) (c.good suffix h))) in
+    let s : SuffixSpoiled form k suffix rest = subst (λ (f : FoundFlaw). SuffixSpoiled form f.0 suffix f.1) (sym same)
+    (suffix_spoils form suffix off) in
+    record {
+      stops = record {
+        front = c.before ++ s.front;
+        text_is = text ∙ ap (λ z. c.before ++ z) s.text_is ∙ sym (append_assoc c.before s.front rest);
+        begins = record {
+          ending = s.ending;
+          are_characters = s.are_characters;
+          is_taken = subst (ClosesForm form kind) (sym (append_assoc c.before s.front s.ending))
+              (c.good (s.front ++ s.ending) s.completes);
+        };
+        stuck = λ d ds e h y. c.bad (s.front ++ (d ∷ e)) (s.stuck d ds e h)
+            (subst (ClosesForm form kind) (append_assoc c.before s.front (d ∷ e)) y);
+      };
+      has = inr (record {
+        closing = closing;
+        front = s.front;
+        closed = subst (IsClosed form kind inside closing) s.text_is closed;
+        spoils = s.spoils;
+        piece_is = spoiled ∙ ap (suffix_piece k closing) s.text_is;
+      });
+    }

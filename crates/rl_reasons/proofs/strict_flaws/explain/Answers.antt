@@ -1,0 +1,55 @@
+use Rattle.rl_text.proofs.Common.{rules, arith, ap, ◌+◌, length, IsUtf8}
+use Rattle.std.proofs.Common.{◌-◌}
+use Rattle.std.specs.Str.{chars}
+use Rattle.rl_reasons.proofs.StrictExplainLemmas.{front_bytes, piece_bytes, piece_front, never_token}
+use Rattle.rl_reasons.proofs.strict_flaws.explain.Goals as goal
+
+pub flaw_at-found-requires : goal.flaw_at-found-requires
+flaw_at-found-requires c = never_token _ _ c.is_token.ensures c.if-is_token.false
+
+pub overflow_sub-lo : goal.overflow_sub-lo
+overflow_sub-lo c =
+    let rest : IsUtf8 c.flaw_at-found.result.rest.now = search rules in
+    omega (
+      arith,
+      front_bytes c.args.text.now c.flaw_at-found.result.rest.now c.utf8.text rest
+          c.flaw_at-found.ensures.stops,
+    )
+
+pub overflow_sub-result : goal.overflow_sub-result
+overflow_sub-result c =
+    let piece : IsUtf8 c.flaw_at-found.result.piece.now = search rules in
+    omega (
+      arith,
+      piece_bytes c.flaw_at-found.result.kind c.args.text.now c.flaw_at-found.result.piece.now
+          c.flaw_at-found.result.rest.now
+          c.utf8.text piece c.flaw_at-found.ensures.stops c.flaw_at-found.ensures.kind,
+    )
+
+pub returns-clause-some : goal.returns-clause-some
+returns-clause-some c =
+    let rest : IsUtf8 c.flaw_at-found.result.rest.now = search rules in
+    let piece : IsUtf8 c.flaw_at-found.result.piece.now = search rules in
+    let whole = front_bytes c.args.text.now c.flaw_at-found.result.rest.now c.utf8.text rest
+    c.flaw_at-found.ensures.stops in
+    let spoiled = piece_bytes c.flaw_at-found.result.kind c.args.text.now c.flaw_at-found.result.piece.now
+    c.flaw_at-found.result.rest.now c.utf8.text piece c.flaw_at-found.ensures.stops c.flaw_at-found.ensures.kind in
+    let cut = piece_front c.flaw_at-found.result.kind (chars c.args.text.now) (chars c.flaw_at-found.result.piece.now)
+    (chars c.flaw_at-found.result.rest.now) c.flaw_at-found.ensures.stops c.flaw_at-found.ensures.kind in
+    record {
+      no_token = never_token _ _ c.is_token.ensures c.if-is_token.false;
+      place = record {
+        rest = chars c.flaw_at-found.result.rest.now;
+        stops = c.flaw_at-found.ensures.stops;
+        lo_is = omega (arith, whole);
+        hi_is = ap (λ z. (length c.args.text.now - length c.flaw_at-found.result.rest.now) + z) c.first_len.ensures.len;
+      };
+      before = cut.0;
+      piece = chars c.flaw_at-found.result.piece.now;
+      text_is = cut.1;
+      from_is = omega (arith, spoiled);
+      kind = c.flaw_at-found.ensures.kind;
+    }
+
+pub returns-then-is_token-clause-none : goal.returns-then-is_token-clause-none
+returns-then-is_token-clause-none c = c.is_token.ensures.0 c.if-is_token.true

@@ -1,0 +1,155 @@
+-- What each kind of flaw says of a quoted literal of the strict grammar. `text` is what follows the opener, of a raw
+-- string from
+-- the hashes on; `piece` is what stands from the piece on that the flaw spoils, and `rest` from the flaw's place on.
+pub use Rattle.rl_reading.specs.StrictUnits.{BreakEnds, BreaksEnd, BeginsStrictUnit, BeginsStrictUnits, HasNoStrictUnit}
+use Rattle.std.specs.Prelude.{◌≡◌, ◌≢◌, ◌⊎◌, ℕ, ◌<◌, ◌==◌, ◌&&◌, Bool, true, false, not, nat_lt, List, [], codes, ◌∷◌, ◌++◌, replicate, IsTrue, IsFalse}
+use Rattle.std.specs.List.{list_all}
+use Prim.Native.Char.{code}
+use Rattle.rl_forms.specs.declared.kind.Kind.{Kind}
+use Rattle.rl_forms.specs.declared.kind.Kind.TheVariants.{ByteStr, CStr}
+use Rattle.rl_text.specs.Texts.{first_passes, is_among, is_continue, is_start}
+use Rattle.rl_forms.specs.Quoted.{is_single, is_string}
+use Rattle.rl_text.specs.Classes.{is_hash}
+use Rattle.rl_lexer.specs.Sources.{is_apostrophe}
+use Rattle.rl_forms.specs.Strict.{IsRawInside}
+use Rattle.rl_reasons.specs.declared.flaws.FlawKind.{FlawKind}
+use Rattle.rl_reasons.specs.declared.flaws.FlawKind.TheVariants.{Unfinished, NoQuote, Unclosed, Nul, NotAscii, LoneCr, MustEscape, NoCharacter, TwoCharacters, BadSuffix, TooManyHashes, CarriageReturn, EarlyQuote, ExtraHash, UnderscoreSuffix}
+use Rattle.rl_reading.specs.declared.quoted_forms.QuotedForm.{QuotedForm}
+use Rattle.rl_reading.specs.declared.quoted_forms.QuotedForm.TheVariants.{Cooked as CookedForm, Raw as RawForm, Single as SingleForm}
+use Rattle.rl_reasons.specs.FlawKinds.{Begins, IsUnopened, UnitFlaw}
+use Rattle.rl_reading.specs.Forms.{form_opener, has_form}
+use Rattle.rl_reading.specs.StrictBytes.{HasNoCarriageReturn}
+
+-- What the kinds say of a text that no unit begins: what they say in the lenient grammar, but that strings hold no CR,
+-- and that
+-- characters have to be written as escapes where bytes have.
+abbrev pub StrictUnitFlaw : Kind → FlawKind → List ℕ → List ℕ → Type 0
+StrictUnitFlaw kind CarriageReturn text rest =
+    IsTrue (is_string kind) × ((text ≡ rest) ⊎ (text ≡ codes "\\" ++ rest)) × Begins (λ c. c == code "\r") rest
+StrictUnitFlaw kind MustEscape text rest = IsTrue (is_single kind) × (text ≡ rest)
+    × Begins (is_among (codes "\n\r\t")) rest
+StrictUnitFlaw kind NoCharacter text rest = IsTrue (is_single kind) × (text ≡ rest) × Begins is_apostrophe rest
+StrictUnitFlaw kind LoneCr text rest = ⊥
+StrictUnitFlaw kind flaw text rest = UnitFlaw kind flaw text rest
+
+-- ---- the end of a closed literal
+
+-- the quote that closes the form
+abbrev pub form_quote : QuotedForm → ℕ
+form_quote SingleForm = code "'"
+form_quote _ = code "\""
+
+-- the form has hashes
+abbrev pub is_raw_form : QuotedForm → Bool
+is_raw_form RawForm = true
+is_raw_form _ = false
+
+-- nothing, or the first characters of a suffix: perhaps `_` alone
+abbrev pub is_suffix_front : List ℕ → Bool
+is_suffix_front [] = true
+is_suffix_front (c ∷ cs) = is_start c && list_all is_continue cs
+
+-- the character after these goes on with the suffix
+abbrev pub goes_on_with_suffix : List ℕ → List ℕ → Bool
+goes_on_with_suffix [] rest = first_passes is_start rest
+goes_on_with_suffix (c ∷ cs) rest = first_passes is_continue rest
+
+-- a hash after the closer, which has all its hashes
+abbrev pub IsExtraHash : QuotedForm → List ℕ → List ℕ → Type 0
+IsExtraHash form front rest = IsTrue (is_raw_form form) × (front ≡ []) × Begins is_hash rest
+
+-- After the closer stand the front and the rest. In turn: a hash too much; the quote once more; `_` and nothing; what
+-- is part of
+-- no suffix.
+abbrev pub SuffixFlaw : QuotedForm → FlawKind → List ℕ → List ℕ → Type 0
+SuffixFlaw form ExtraHash front rest = IsExtraHash form front rest
+SuffixFlaw form EarlyQuote front rest = IsTrue (is_suffix_front front) × Begins (λ c. c == form_quote form) rest
+SuffixFlaw form UnderscoreSuffix front rest = (front ≡ codes "_") × (rest ≡ [])
+SuffixFlaw form BadSuffix front rest =
+    IsTrue (is_suffix_front front) × (rest ≢ []) × IsFalse (goes_on_with_suffix front rest)
+    × IsFalse (first_passes (λ c. c == form_quote form) rest) × (IsExtraHash form front rest → ⊥)
+SuffixFlaw form _ front rest = ⊥
+
+-- the piece of such a flaw: the closing quote or the suffix
+abbrev pub suffix_piece : FlawKind → List ℕ → List ℕ → List ℕ
+suffix_piece ExtraHash closing suffix = closing
+suffix_piece EarlyQuote closing suffix = closing
+suffix_piece _ closing suffix = suffix
+
+-- ---- raw strings
+
+-- From the quote up to the rest, all characters may stand in a raw string of the kind, and nothing closes it.
+pub record IsOpen (kind : Kind) (hashes : ℕ) (text rest : List ℕ) : Type 0 where
+  pub few : hashes < 256
+  pub body : List ℕ
+  pub allowed : IsRawInside kind body
+  pub no_carriage_return : HasNoCarriageReturn body
+  pub no_closer : (front after : List ℕ) → body ≢ front ++ (code "\"" ∷ (replicate hashes (code "#") ++ after))
+  pub text_is : text ≡ replicate hashes (code "#") ++ (code "\"" ∷ (body ++ rest))
+
+-- and the rest begins with a character that may not
+abbrev pub IsSpoiledBy : Kind → (ℕ → Bool) → List ℕ → List ℕ → Type 0
+IsSpoiledBy kind test text rest = (hashes : ℕ) × IsOpen kind hashes text rest × Begins test rest
+
+abbrev pub StrictRawFlaw : Kind → FlawKind → List ℕ → List ℕ → List ℕ → Type 0
+StrictRawFlaw kind TooManyHashes text piece rest =
+    (text ≡ replicate 255 (code "#") ++ rest) × Begins is_hash rest × (piece ≡ text)
+StrictRawFlaw kind Unfinished text piece rest = IsUnopened text rest × (rest ≡ []) × (piece ≡ rest)
+StrictRawFlaw kind NoQuote text piece rest = IsUnopened text rest × (rest ≢ []) × (piece ≡ rest)
+StrictRawFlaw kind Unclosed text piece rest = ((hashes : ℕ) × IsOpen kind hashes text rest) × (rest ≡ [])
+    × (piece ≡ rest)
+StrictRawFlaw kind CarriageReturn text piece rest = IsSpoiledBy kind (λ c. c == code "\r") text rest × (piece ≡ rest)
+StrictRawFlaw kind Nul text piece rest = (kind ≡ CStr) × IsSpoiledBy kind (λ c. c == 0) text rest × (piece ≡ rest)
+StrictRawFlaw kind NotAscii text piece rest =
+    (kind ≡ ByteStr) × IsSpoiledBy kind (λ c. not (nat_lt c 128)) text rest × (piece ≡ rest)
+StrictRawFlaw kind _ text piece rest = ⊥
+
+-- ---- each form
+
+-- what stands after the unit of a character or a byte
+abbrev pub StrictCloserFlaw : Kind → FlawKind → List ℕ → List ℕ → Type 0
+StrictCloserFlaw kind Unclosed text rest = BeginsStrictUnit kind text rest × (rest ≡ [])
+StrictCloserFlaw kind TwoCharacters text rest =
+    BeginsStrictUnit kind text rest × (rest ≢ []) × IsFalse (first_passes is_apostrophe rest)
+StrictCloserFlaw kind _ text rest = ⊥
+
+-- The flaw stands before the literal is closed.
+abbrev pub OpenFlaw : QuotedForm → Kind → FlawKind → List ℕ → List ℕ → List ℕ → Type 0
+OpenFlaw CookedForm kind flaw text piece rest =
+    BeginsStrictUnits kind text piece × HasNoStrictUnit kind piece × StrictUnitFlaw kind flaw piece rest
+    × IsFalse (first_passes (λ c. c == code "\"") piece)
+OpenFlaw SingleForm kind flaw text piece rest =
+    ((HasNoStrictUnit kind text × StrictUnitFlaw kind flaw text rest) ⊎ StrictCloserFlaw kind flaw text rest)
+    × (piece ≡ text)
+OpenFlaw RawForm kind flaw text piece rest = StrictRawFlaw kind flaw text piece rest
+
+-- The literal is closed by what stands between its contents and the suffix.
+abbrev pub IsClosed : QuotedForm → Kind → List ℕ → List ℕ → List ℕ → Type 0
+IsClosed CookedForm kind text closing suffix = BeginsStrictUnits kind text closing × (closing ≡ code "\"" ∷ suffix)
+IsClosed SingleForm kind text closing suffix = BeginsStrictUnit kind text closing × (closing ≡ code "'" ∷ suffix)
+IsClosed RawForm kind text closing suffix =
+    (hashes : ℕ) × IsOpen kind hashes text closing × (closing ≡ code "\"" ∷ (replicate hashes (code "#") ++ suffix))
+
+-- The flaw stands after the closer.
+pub record ClosedFlaw (form : QuotedForm) (kind : Kind) (flaw : FlawKind) (text piece rest : List ℕ) : Type 0 where
+  pub closing : List ℕ
+  pub front : List ℕ
+  pub closed : IsClosed form kind text closing (front ++ rest)
+  pub spoils : SuffixFlaw form flaw front rest
+  pub piece_is : piece ≡ suffix_piece flaw closing (front ++ rest)
+
+-- in either place
+abbrev pub StrictQuotedFlaw : QuotedForm → Kind → FlawKind → List ℕ → List ℕ → List ℕ → Type 0
+StrictQuotedFlaw form kind flaw text piece rest =
+    OpenFlaw form kind flaw text piece rest ⊎ ClosedFlaw form kind flaw text piece rest
+
+-- ---- in the whole text
+
+-- The text begins with the opener of a form, and has the flaw after it.
+pub record HasStrictQuotedFlaw (flaw : FlawKind) (text piece rest : List ℕ) : Type 0 where
+  pub form : QuotedForm
+  pub kind : Kind
+  pub inside : List ℕ
+  pub is_form : IsTrue (has_form form kind)
+  pub text_is : text ≡ form_opener form kind ++ inside
+  pub spoils : StrictQuotedFlaw form kind flaw inside piece rest

@@ -1,0 +1,89 @@
+//! Why a text is no literal token of the strict grammar, and where.
+
+ghost use Rattle.std.specs.Prelude.{◌≡◌, ◌==◌, IfNone, IfSome, IsFalse, None};
+ghost use Rattle.std.specs.Char.{is_ascii_digit};
+ghost use Rattle.std.specs.Str.{chars};
+ghost use Rattle.rl_text.specs.Texts.{code, first_passes};
+ghost use Rattle.rl_reasons.specs.Flaws.{StopsBefore};
+ghost use Rattle.rl_reasons.specs.NumberFlaws.{HasKind};
+ghost use Rattle.rl_reasons.specs.StrictFlaws.{ExplainsStrictly, IsStrictFlawOf};
+ghost use Rattle.rl_reasons.specs.StrictNumberFlaws.{IsStrictWordFlaw};
+ghost use Rattle.rl_strict.specs.StrictShapes.{IsToken};
+ghost use Rattle.rl_reading.specs.Mirrors.OpenerAt.{opener_at};
+
+use crate::flaws::{Flaw, FlawAt, FlawKind, first_flaw, first_len, make_flaw};
+use crate::strict_number_flaws::number_flaw;
+use crate::strict_quoted_flaws::quoted_flaw;
+use rl_reading::digit_rows::begins_digit;
+use rl_reading::quoted_forms::split_opener;
+use rl_strict::strict::is_token;
+use rl_text::text::split_char;
+
+/// Whether the text begins with a minus.
+fn begins_minus(text: &str) -> bool
+    ensures { result ≡ first_passes (λ c. c == code "-") (chars text.now) }
+{
+    matches!(split_char(text), Some(('-', _)))
+}
+
+/// Why a text that begins neither with a digit nor as a quoted literal is no token, and the text from there on.
+fn word_flaw(text: &str) -> FlawAt<'_>
+    requires no_number { IsFalse (first_passes is_ascii_digit (chars text.now)) }
+    requires no_opener { opener_at (chars text.now) ≡ None }
+    ensures stops { StopsBefore IsToken (chars text.now) (chars result.rest.now) }
+    ensures kind { HasKind (IsStrictWordFlaw result.kind) (chars text.now) (chars result.rest.now) }
+{
+    if begins_minus(text) {
+        make_flaw(FlawKind::Minus, text)
+    } else {
+        first_flaw(text)
+    }
+}
+
+/// Why a text is no token, and the text from there on.
+fn flaw_at(text: &str) -> FlawAt<'_>
+    requires { IsToken (chars text.now) → ⊥ }
+    ensures stops { StopsBefore IsToken (chars text.now) (chars result.rest.now) }
+    ensures kind { IsStrictFlawOf result.kind (chars text.now) (chars result.piece.now) (chars result.rest.now) }
+{
+    if begins_digit(text) {
+        return number_flaw(text).in_piece(text);
+    }
+    match split_opener(text) {
+        Some((form, kind, inside)) => quoted_flaw(form, kind, inside),
+        None => word_flaw(text).in_piece(text),
+    }
+}
+
+/// Why the text is no literal token of the strict grammar, and where; `None` exactly where it is one. No memory is taken.
+///
+/// What stands before `lo` is the longest front of the text that some token begins with: with another ending it is one, and
+/// with the text's next character it can't become one.
+///
+/// # Example
+///
+/// ```
+/// use rl_grammar::strict::explain;
+///
+/// pub fn rust_reason(text: &str) -> Option<&'static str> {
+///     Some(explain(text)?.kind.words())
+/// }
+/// // rust_reason("0b102") == Some("not a digit of the base")
+/// // rust_reason("0b101") == None
+/// ```
+pub fn explain(text: &str) -> Option<Flaw>
+    ensures none { IfNone result (IsToken (chars text.now)) }
+    ensures some { IfSome result (ExplainsStrictly (chars text.now)) }
+{
+    if is_token(text) {
+        return None;
+    }
+    let found = flaw_at(text);
+    let lo = text.len() - found.rest.len();
+    Some(Flaw {
+        kind: found.kind,
+        from: text.len() - found.piece.len(),
+        lo,
+        hi: lo + first_len(found.rest),
+    })
+}
