@@ -63,6 +63,26 @@ pub enum FlawKind {
     BadSuffix,
     /// The integer is past 128 bits.
     TooLarge,
+    /// A literal token has no sign.
+    Minus,
+    /// A raw string begins with more than 255 hashes.
+    TooManyHashes,
+    /// A CR in a string.
+    CarriageReturn,
+    /// The literal is closed, and its quote stands once more.
+    EarlyQuote,
+    /// After the closer of a raw string stands a hash more than it began with.
+    ExtraHash,
+    /// `_` alone is no suffix of a quoted literal.
+    UnderscoreSuffix,
+    /// No digit stands after the prefix of the base.
+    NoDigits,
+    /// The base lacks the digit.
+    DigitOfBase,
+    /// Floats have base ten alone.
+    BasedFloat,
+    /// No digit stands after the dot of a float.
+    NoFractionDigit,
 }
 
 impl FlawKind {
@@ -95,6 +115,16 @@ impl FlawKind {
             FlawKind::NoExponentDigit => "no digit in the exponent",
             FlawKind::BadSuffix => "not part of a number or its suffix",
             FlawKind::TooLarge => "integer past 128 bits",
+            FlawKind::Minus => "a literal token has no sign",
+            FlawKind::TooManyHashes => "more than 255 hashes",
+            FlawKind::CarriageReturn => "CR in a string",
+            FlawKind::EarlyQuote => "an earlier quote closes the literal",
+            FlawKind::ExtraHash => "more hashes than the literal began with",
+            FlawKind::UnderscoreSuffix => "`_` alone is no suffix",
+            FlawKind::NoDigits => "no digits after the base",
+            FlawKind::DigitOfBase => "not a digit of the base",
+            FlawKind::BasedFloat => "floats have base ten alone",
+            FlawKind::NoFractionDigit => "expected a digit after the dot",
         }
     }
 }
@@ -206,7 +236,7 @@ fn letters_flaw<'t>(word: &str, text: &'t str) -> FlawAt<'t> {
 }
 
 /// The flaw of a text that begins neither as a number nor as a quoted literal.
-fn first_flaw(text: &str) -> FlawAt<'_> {
+pub(crate) fn first_flaw(text: &str) -> FlawAt<'_> {
     match split_char(text) {
         None => make_flaw(FlawKind::Empty, text),
         Some(('b' | 'c', rest)) => end_flaw(FlawKind::Unfinished, FlawKind::NoLiteral, rest),
@@ -233,7 +263,7 @@ fn flaw_at(text: &str) -> FlawAt<'_> {
 }
 
 /// How many bytes the first character of the text has; 0 of an empty one.
-fn first_len(text: &str) -> usize {
+pub(crate) fn first_len(text: &str) -> usize {
     match split_char(text) {
         Some((_, after)) => text.len() - after.len(),
         None => 0,
@@ -243,8 +273,8 @@ fn first_len(text: &str) -> usize {
 /// Why the text is no literal, and where; `None` exactly where it is one. No memory is taken.
 ///
 /// The grammar is that of [`find`], which is `syn`'s and wider than Rust's: `0b102`, `1e` and `'''` are literals there, so
-/// they have no flaw. Whether Rust has such a token, `crate::rl_strict::is_token` says, without a place. An
-/// integer past 128 bits is no literal.
+/// they have no flaw. Why Rust has no such token, [`strict::explain`](crate::rl_reasons::strict_flaws::explain) says. An integer past 128 bits
+/// is no literal.
 pub fn explain(text: &str) -> Option<Flaw> {
     if find(text).is_some() {
         return None;

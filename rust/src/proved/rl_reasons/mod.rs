@@ -4,5 +4,8 @@
 mod flaws;
 mod number_flaws;
 mod quoted_flaws;
+pub mod strict_flaws;
+mod strict_number_flaws;
+mod strict_quoted_flaws;
 
 pub use crate::rl_reasons::flaws::{Flaw, FlawKind, explain};

@@ -82,7 +82,7 @@ fn unicode_flaw(kind: Kind, text: &str) -> FlawAt<'_> {
 }
 
 /// The first flaw after a backslash.
-fn escape_flaw(kind: Kind, text: &str) -> FlawAt<'_> {
+pub(crate) fn escape_flaw(kind: Kind, text: &str) -> FlawAt<'_> {
     match split_char(text) {
         None => make_flaw(FlawKind::Unclosed, text),
         Some(('x', digits)) => hex_flaw(kind, digits),
@@ -107,7 +107,7 @@ fn line_end_flaw(text: &str) -> FlawAt<'_> {
 }
 
 /// Why a character doesn't stand for itself.
-fn character_flaw(c: char) -> FlawKind {
+pub(crate) fn character_flaw(c: char) -> FlawKind {
     match c {
         '\0' => FlawKind::Nul,
         '\'' => FlawKind::NoCharacter,
@@ -155,7 +155,7 @@ fn closes(hashes: &str, text: &str) -> bool {
 }
 
 /// The flaw at a character that a raw string of the kind can't hold.
-fn spoiled_flaw(kind: Kind) -> FlawKind {
+pub(crate) fn spoiled_flaw(kind: Kind) -> FlawKind {
     match kind {
         Kind::CStr => FlawKind::Nul,
         _ => FlawKind::NotAscii,

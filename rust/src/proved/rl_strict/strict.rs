@@ -61,7 +61,7 @@ fn is_number_suffix(text: &str) -> bool {
 }
 
 /// The text after the sign at its front, if one stands there.
-fn after_sign(text: &str) -> &str {
+pub fn after_sign(text: &str) -> &str {
     match split_char(text) {
         Some(('+' | '-', rest)) => rest,
         _ => text,
@@ -150,7 +150,7 @@ fn skip_escape<'t>(kind: Kind, text: &'t str, following: &'t str) -> Option<&'t 
 }
 
 /// The text after the unit at the front: `None` where no unit of the kind stands there.
-fn skip_unit(kind: Kind, text: &str) -> Option<&str> {
+pub fn skip_unit(kind: Kind, text: &str) -> Option<&str> {
     match split_char(text) {
         Some(('\\', following)) => skip_escape(kind, text, following),
         Some((first, following)) if is_bare(kind, first) => Some(following),
@@ -174,7 +174,7 @@ fn skip_bare(kind: Kind, text: &str) -> &str {
 }
 
 /// The text after the units at its front, as far as they go.
-fn skip_units(kind: Kind, text: &str) -> &str {
+pub fn skip_units(kind: Kind, text: &str) -> &str {
     let mut rest = skip_bare(kind, text);
     while let Some(after) = skip_unit(kind, rest) {
         rest = skip_bare(kind, after);
@@ -196,7 +196,7 @@ fn closes_one(kind: Kind, text: &str) -> bool {
 }
 
 /// Whether a raw string of the kind may hold the character.
-fn is_raw_character(kind: Kind, c: char) -> bool {
+pub fn is_raw_character(kind: Kind, c: char) -> bool {
     match kind {
         Kind::Str => c != '\r',
         Kind::ByteStr => c.is_ascii() && c != '\r',
@@ -206,7 +206,7 @@ fn is_raw_character(kind: Kind, c: char) -> bool {
 }
 
 /// The text after the closer that begins with the character, if the hashes follow it.
-fn after_closer<'t>(hashes: &str, c: char, after: &'t str) -> Option<&'t str> {
+pub fn after_closer<'t>(hashes: &str, c: char, after: &'t str) -> Option<&'t str> {
     if c == '"' {
         after_prefix(hashes, after)
     } else {
@@ -216,7 +216,7 @@ fn after_closer<'t>(hashes: &str, c: char, after: &'t str) -> Option<&'t str> {
 
 /// The text after characters at its front that a raw string of the kind holds and that close none.
 #[inline(always)]
-fn skip_inside(kind: Kind, text: &str) -> &str {
+pub fn skip_inside(kind: Kind, text: &str) -> &str {
     match kind {
         Kind::Str => split_before(Marks::two(b'"', b'\r'), text).1,
         Kind::ByteStr => split_ascii_run(Marks::two(b'"', b'\r'), text).1,

@@ -1,0 +1,53 @@
+// Rendered from crates/rl_reasons/src/strict_flaws.rt by tools/render, which erases contracts: change that file, and render anew.
+//! Why a text is no literal token of the strict grammar, and where.
+
+use crate::rl_reasons::flaws::{Flaw, FlawAt, FlawKind, first_flaw, first_len, make_flaw};
+use crate::rl_reasons::strict_number_flaws::number_flaw;
+use crate::rl_reasons::strict_quoted_flaws::quoted_flaw;
+use crate::rl_reading::digit_rows::begins_digit;
+use crate::rl_reading::quoted_forms::split_opener;
+use crate::rl_strict::strict::is_token;
+use crate::rl_text::text::split_char;
+
+/// Whether the text begins with a minus.
+fn begins_minus(text: &str) -> bool {
+    matches!(split_char(text), Some(('-', _)))
+}
+
+/// Why a text that begins neither with a digit nor as a quoted literal is no token, and the text from there on.
+fn word_flaw(text: &str) -> FlawAt<'_> {
+    if begins_minus(text) {
+        make_flaw(FlawKind::Minus, text)
+    } else {
+        first_flaw(text)
+    }
+}
+
+/// Why a text is no token, and the text from there on.
+fn flaw_at(text: &str) -> FlawAt<'_> {
+    if begins_digit(text) {
+        return number_flaw(text).in_piece(text);
+    }
+    match split_opener(text) {
+        Some((form, kind, inside)) => quoted_flaw(form, kind, inside),
+        None => word_flaw(text).in_piece(text),
+    }
+}
+
+/// Why the text is no literal token of the strict grammar, and where; `None` exactly where it is one. No memory is taken.
+///
+/// What stands before `lo` is the longest front of the text that some token begins with: with another ending it is one, and
+/// with the text's next character it can't become one.
+pub fn explain(text: &str) -> Option<Flaw> {
+    if is_token(text) {
+        return None;
+    }
+    let found = flaw_at(text);
+    let lo = text.len() - found.rest.len();
+    Some(Flaw {
+        kind: found.kind,
+        from: text.len() - found.piece.len(),
+        lo,
+        hi: lo + first_len(found.rest),
+    })
+}
