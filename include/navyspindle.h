@@ -75,6 +75,7 @@ enum {
     RL_FLAW_NO_EXPONENT_DIGIT = 23,
     RL_FLAW_BAD_SUFFIX = 24,
     RL_FLAW_TOO_LARGE = 25,
+    /* Of the strict grammar, which no call here asks. */
     RL_FLAW_MINUS = 26,
     RL_FLAW_TOO_MANY_HASHES = 27,
     RL_FLAW_CARRIAGE_RETURN = 28,

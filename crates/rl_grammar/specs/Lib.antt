@@ -19,6 +19,7 @@ pub use Rattle.rl_reasons.specs.StrictFlawKinds
 pub use Rattle.rl_reasons.specs.StrictNumberFlaws
 pub use Rattle.rl_reasons.specs.StrictFlaws
 pub use Rattle.rl_reasons.specs.OneStrictFlaw
+pub use Rattle.rl_reasons.specs.SignedFlaws
 pub use Rattle.rl_reading.specs.Bodies
 pub use Rattle.rl_reading.specs.Founds
 pub use Rattle.rl_reading.specs.Segments

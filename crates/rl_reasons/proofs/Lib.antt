@@ -20,6 +20,7 @@ pub mod StrictNumberKinds
 pub mod OneStrictUnit
 pub mod OneStrictRaw
 pub mod OneStrictFlaw
+pub mod SignedFlaws
 pub mod OneUnitFlaw
 pub mod OneRawFlaw
 pub mod OneNumberFlaw

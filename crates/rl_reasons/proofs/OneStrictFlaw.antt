@@ -68,14 +68,14 @@ number_once k BadSuffix front rest p q = absurd (q.2 k p)
 number_once k l front rest p q = sym (digit_kind k front rest p) ∙ digit_kind l front rest q
 
 -- a digit is a number
-one_digit : (c : ℕ) → is_ascii_digit c ≡ true → IsToken (c ∷ [])
+pub one_digit : (c : ℕ) → is_ascii_digit c ≡ true → IsToken (c ∷ [])
 unfolding is_strict_number radix_at is_decimal
 one_digit c h =
     let row : after_digits 10 (c ∷ []) ≡ [] = ap (λ b. cond (b || (c == 95)) [] (c ∷ [])) (sym (digit_is_ten c) ∙ h) in
     number_is_token (c ∷ []) (and_from (is_ascii_digit c) (ends_whole (after_digits 10 (c ∷ []))) h (ap ends_whole row))
 
 -- a number isn't stuck at its first character
-goes_on : (t front rest : List ℕ) → t ≡ front ++ rest → ((c : ℕ) (cs e : List ℕ) → rest ≡ c ∷ cs
+pub goes_on : (t front rest : List ℕ) → t ≡ front ++ rest → ((c : ℕ) (cs e : List ℕ) → rest ≡ c ∷ cs
     → IsToken (front ++ (c ∷ e)) → ⊥) → first_passes is_ascii_digit t ≡ true → first_passes is_ascii_digit front ≡ true
 goes_on t (c ∷ cs) rest e stuck h = sym (ap (first_passes is_ascii_digit) e) ∙ h
 goes_on t [] [] e stuck h = absurd (both_ways false refl (sym (ap (first_passes is_ascii_digit) e) ∙ h))

@@ -102,6 +102,14 @@ strict_word t flaw d m none same =
           (λ e. ap (first_passes (λ c. c == 45)) (sym (is ∙ ap (λ z. z ++ flaw.1) e)) ∙ m) (f.kind front is);
     }
 
+-- no token begins with a minus
+truth_other : (e : List ℕ) (b : Bool) → 45 ∷ e ≢ truth_text b
+truth_other e true h = both_ways false refl (sym (ap (first_passes (λ z. z == 45)) h))
+truth_other e false h = both_ways false refl (sym (ap (first_passes (λ z. z == 45)) h))
+
+pub minus_no_token : (e : List ℕ) → IsToken (45 ∷ e) → ⊥
+minus_no_token e y = no_token (45 ∷ e) (front_not_quoted (45 ∷ e) refl) refl (truth_other e) y
+
 -- a minus
 pub strict_minus : (t : List ℕ) (k : FlawKind) (rest : List ℕ) → first_passes (λ c. c == 45) t ≡ true → k ≡ Minus → rest
     ≡ t → IsStrictFlaw IsStrictWordFlaw t (k, rest)
@@ -118,11 +126,6 @@ strict_minus t k rest m kind place =
     subst (λ z. IsStrictFlaw IsStrictWordFlaw t (z, rest)) (sym kind)
     (subst (λ z. IsStrictFlaw IsStrictWordFlaw t (Minus, z)) (sym place) there)
   where
-    truth_other : (e : List ℕ) (b : Bool) → 45 ∷ e ≢ truth_text b
-    truth_other e true h = both_ways false refl (sym (ap (first_passes (λ z. z == 45)) h))
-    truth_other e false h = both_ways false refl (sym (ap (first_passes (λ z. z == 45)) h))
-
     minus_stuck : (c : ℕ) (e : List ℕ) → (c == 45) ≡ true → IsToken (c ∷ e) → ⊥
     minus_stuck c e h y =
-        let is = eqb-true c 45 h in
-        no_token (45 ∷ e) (front_not_quoted (45 ∷ e) refl) refl (truth_other e) (subst (λ z. IsToken (z ∷ e)) is y)
+        minus_no_token e (subst (λ z. IsToken (z ∷ e)) (eqb-true c 45 h) y)

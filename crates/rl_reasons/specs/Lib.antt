@@ -7,4 +7,5 @@ pub mod StrictFlawKinds
 pub mod StrictNumberFlaws
 pub mod StrictFlaws
 pub mod OneStrictFlaw
+pub mod SignedFlaws
 pub mod Mirrors

@@ -5,6 +5,7 @@ mod flaws;
 pub mod laws;
 mod number_flaws;
 mod quoted_flaws;
+pub mod signed_flaws;
 pub mod strict_flaws;
 mod strict_number_flaws;
 mod strict_quoted_flaws;

@@ -20,7 +20,7 @@ use rl_strict::strict::is_token;
 use rl_text::text::split_char;
 
 /// Whether the text begins with a minus.
-fn begins_minus(text: &str) -> bool
+pub(crate) fn begins_minus(text: &str) -> bool
     ensures { result ≡ first_passes (λ c. c == code "-") (chars text.now) }
 {
     matches!(split_char(text), Some(('-', _)))
