@@ -4,6 +4,7 @@
 mod flaws;
 mod number_flaws;
 mod quoted_flaws;
+pub mod signed_flaws;
 pub mod strict_flaws;
 mod strict_number_flaws;
 mod strict_quoted_flaws;

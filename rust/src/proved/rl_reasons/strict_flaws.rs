@@ -10,7 +10,7 @@ use crate::rl_strict::strict::is_token;
 use crate::rl_text::text::split_char;
 
 /// Whether the text begins with a minus.
-fn begins_minus(text: &str) -> bool {
+pub(crate) fn begins_minus(text: &str) -> bool {
     matches!(split_char(text), Some(('-', _)))
 }
 
