@@ -17,7 +17,7 @@ extern "C" {
 #endif
 
 /* The version of the exports and structs below. */
-#define RL_VERSION 6
+#define RL_VERSION 7
 
 /* What a literal is: RlReading.kind. */
 enum {
@@ -151,6 +151,10 @@ bool rl_find(const uint8_t *text, size_t len, RlReading *reading);
 
 /* Whether the text has no reading; why, and where, goes into `explanation`, which stays else. */
 bool rl_explain(const uint8_t *text, size_t len, RlExplanation *explanation);
+
+/* Whether the text is neither a literal token of Rust nor a minus and a number; why, and where, goes into `explanation`,
+ * which stays else. */
+bool rl_explain_signed(const uint8_t *text, size_t len, RlExplanation *explanation);
 
 /* Whether the text is a literal token of the Rust Reference. */
 bool rl_is_token(const uint8_t *text, size_t len);

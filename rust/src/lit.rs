@@ -118,11 +118,11 @@ impl<'t> Lit<'t> {
     /// The text is none, or an integer past 128 bits: why, and where.
     ///
     /// ```
-    /// use navyspindle::{FlawKind, Lit, ParseErrorKind};
+    /// use navyspindle::{FlawKind, Lit};
     ///
     /// assert_eq!(Lit::parse("-1_000")?.text(), "-1_000");
     /// assert_eq!(Lit::parse("'ab'").unwrap_err().kind(), FlawKind::TwoCharacters);
-    /// assert_eq!(Lit::parse("1e").unwrap_err().kind(), ParseErrorKind::NotRust);
+    /// assert_eq!(Lit::parse("1e").unwrap_err().kind(), FlawKind::NoExponentDigit);
     /// # Ok::<(), navyspindle::ParseError>(())
     /// ```
     #[inline]
@@ -157,10 +157,10 @@ impl<'t> Lit<'t> {
     /// Rust rejects the text: why, and where in it.
     ///
     /// ```
-    /// use navyspindle::{Lit, ParseErrorKind};
+    /// use navyspindle::{FlawKind, Lit};
     ///
     /// assert_eq!(Lit::new("\"a\r\nb\"").check(), Ok(()));
-    /// assert_eq!(Lit::new("0b12").check().unwrap_err().kind(), ParseErrorKind::NotRust);
+    /// assert_eq!(Lit::new("0b12").check().unwrap_err().kind(), FlawKind::DigitOfBase);
     /// ```
     pub fn check(&self) -> Result<(), ParseError> {
         let text = self.text();

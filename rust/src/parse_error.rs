@@ -2,6 +2,8 @@
 
 use crate::kind::Kind;
 use crate::rl_reasons::explain;
+use crate::rl_reasons::signed_flaws::explain_signed;
+use crate::rl_reasons::Flaw;
 pub use crate::rl_reasons::FlawKind;
 use core::fmt;
 use core::ops::Range;
@@ -19,16 +21,17 @@ impl fmt::Display for FlawKind {
 ///
 /// let kind = |text| Lit::parse(text).unwrap_err().kind();
 /// assert_eq!(kind(r#""\q""#), ParseErrorKind::Flaw(FlawKind::UnknownEscape));
-/// assert_eq!(kind("0b102"), ParseErrorKind::NotRust);
+/// assert_eq!(kind("0b102"), ParseErrorKind::Flaw(FlawKind::DigitOfBase));
 /// let other = ParseErrorKind::Kind { expected: Kind::Int, found: Kind::Float };
 /// assert_eq!(LitInt::parse("1.5").unwrap_err().kind(), other);
 /// ```
 #[derive(Clone, Copy, Debug, PartialEq, Eq, Hash)]
 #[non_exhaustive]
 pub enum ParseErrorKind {
-    /// It is no literal, for this reason.
+    /// It is no literal of Rust, for this reason.
     Flaw(FlawKind),
-    /// `syn` reads it as a literal, and Rust rejects it: `0b102`, `1e`, `'''`.
+    /// `syn` reads it as a literal, and Rust rejects it for a reason that has no kind. None is known: each text that Rust rejects has a
+    /// flaw.
     NotRust,
     /// It is a literal of another kind than the one that was asked for.
     Kind {
@@ -78,21 +81,27 @@ pub struct ParseError {
 }
 
 impl ParseError {
-    /// Why a text isn't one of Rust's own literals, which it isn't.
+    /// Why a text isn't one of Rust's own literals with a value, which it isn't: an integer past 128 bits is a token of Rust.
     #[cold]
     pub(crate) fn of(text: &str) -> ParseError {
-        ParseError::lenient(text).unwrap_or(ParseError::whole(text, ParseErrorKind::NotRust))
+        match explain_signed(text).or_else(|| explain(text)) {
+            Some(flaw) => ParseError::of_flaw(flaw),
+            None => ParseError::whole(text, ParseErrorKind::NotRust),
+        }
     }
 
     /// Why a text has no reading.
     pub(crate) fn lenient(text: &str) -> Option<ParseError> {
-        let flaw = explain(text)?;
-        Some(ParseError {
+        explain(text).map(ParseError::of_flaw)
+    }
+
+    fn of_flaw(flaw: Flaw) -> ParseError {
+        ParseError {
             kind: ParseErrorKind::Flaw(flaw.kind),
             from: flaw.from,
             lo: flaw.lo,
             hi: flaw.hi,
-        })
+        }
     }
 
     /// That a text of one kind was found where another was asked for.

@@ -391,6 +391,7 @@ fn range_in(entry: &Entry<'_>, error: ParseError) -> Range<usize> {
 #[cfg(test)]
 mod tests {
     use super::*;
+    use crate::FlawKind;
 
     const PORT: Setting = Setting {
         name: "port",
@@ -407,9 +408,11 @@ mod tests {
     fn errors_say_what_is_wrong_with_a_value_and_where() {
         let suffix = SettingErrorKind::Suffix(PORT);
         assert_eq!(rejected("port = 1u8"), (suffix, 8..10));
-        let not_rust = SettingErrorKind::Literal(PORT, ParseErrorKind::NotRust);
-        assert_eq!(rejected("a = 1, port = 0b12"), (not_rust.clone(), 14..18));
-        assert_eq!(rejected("port = - 1e"), (not_rust, 7..11));
+        let flaw = |kind| SettingErrorKind::Literal(PORT, ParseErrorKind::Flaw(kind));
+        let digit = flaw(FlawKind::DigitOfBase);
+        assert_eq!(rejected("a = 1, port = 0b12"), (digit, 17..18));
+        let exponent = flaw(FlawKind::NoExponentDigit);
+        assert_eq!(rejected("port = - 1e"), (exponent, 7..11));
         assert_eq!(
             rejected("port = 'a'"),
             (SettingErrorKind::Kind(PORT), 7..10)

@@ -5,6 +5,7 @@ use Rattle.rl_reasons.specs.declared.flaws.Flaw.{Flaw}
 use Rattle.rl_reasons.specs.declared.flaws.FlawKind.{FlawKind}
 use Rattle.rl_reasons.specs.declared.flaws.FlawKind.TheVariants.{Empty, NoLiteral, Unfinished, NoQuote, NoNumber, Unclosed, UnknownEscape, NoUnicode, NoHexDigit, NoBrace, EmptyBraces, TooManyDigits, PastAscii, PastUnicode, Surrogate, Nul, NotAscii, LateQuote, LoneCr, MustEscape, NoCharacter, TwoCharacters, NoExponentDigit, BadSuffix, TooLarge, Minus, TooManyHashes, CarriageReturn, EarlyQuote, ExtraHash, UnderscoreSuffix, NoDigits, DigitOfBase, BasedFloat, NoFractionDigit}
 use Rattle.rl_reasons.specs.Flaws.{Explains}
+use Rattle.rl_reasons.specs.SignedFlaws.{ExplainsSigned}
 use Rattle.rl_c.specs.declared.explain.Explanation.{Explanation}
 
 -- the numbers of the kinds of flaws
@@ -45,11 +46,19 @@ flaw_number DigitOfBase = 33
 flaw_number BasedFloat = 34
 flaw_number NoFractionDigit = 35
 
--- The numbers report a flaw that explains why the text, in bytes, has no reading.
-pub record ReportsFlaw (text : List ℕ) (explanation : Explanation) : Type 0 where
+-- The numbers report a flaw of the text, in bytes, by a relation that says what explains a text.
+pub record ReportsFlawOf (IsFlaw : List ℕ → Flaw → Type 0) (text : List ℕ) (explanation : Explanation) : Type 0 where
   pub flaw : Flaw
-  pub explains : Explains (chars text) flaw
+  pub explains : IsFlaw (chars text) flaw
   pub kind_is : explanation.kind ≡ flaw_number flaw.kind
   pub from_is : explanation.from ≡ flaw.from
   pub lo_is : explanation.lo ≡ flaw.lo
   pub hi_is : explanation.hi ≡ flaw.hi
+
+-- why the text has no reading
+abbrev pub ReportsFlaw : List ℕ → Explanation → Type 0
+ReportsFlaw text explanation = ReportsFlawOf Explains text explanation
+
+-- why it is neither a token of the strict grammar nor a minus and a number
+abbrev pub ReportsSignedFlaw : List ℕ → Explanation → Type 0
+ReportsSignedFlaw text explanation = ReportsFlawOf ExplainsSigned text explanation

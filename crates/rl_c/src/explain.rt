@@ -3,9 +3,11 @@
 ghost use Rattle.std.specs.Prelude.{◌≡◌, IsTrue, IsFalse};
 ghost use Rattle.std.specs.Str.{chars, IsUtf8};
 ghost use Rattle.rl_forms.specs.Reading.{HasReading};
-ghost use Rattle.rl_c.specs.Explanations.{ReportsFlaw, flaw_number};
+ghost use Rattle.rl_reasons.specs.SignedFlaws.{IsSignedToken};
+ghost use Rattle.rl_c.specs.Explanations.{ReportsFlaw, ReportsSignedFlaw, flaw_number};
 
-use rl_grammar::{FlawKind, explain};
+use rl_grammar::strict::explain_signed;
+use rl_grammar::{Flaw, FlawKind, explain};
 
 /// Why a text is no literal, and where, with the kind of flaw as a number.
 #[derive(Clone, Copy)]
@@ -18,7 +20,7 @@ pub struct Explanation {
     pub lo: usize,
     /// The place after that character.
     pub hi: usize,
-    /// What is wrong: 1 to 25, in the order of `FlawKind`.
+    /// What is wrong: 1 to 35, in the order of `FlawKind`.
     pub kind: u8,
 }
 
@@ -66,6 +68,21 @@ fn flaw_number(kind: FlawKind) -> u8
     }
 }
 
+/// What crosses of a flaw.
+fn explanation_of(flaw: Flaw) -> Explanation
+    ensures kind { result.kind ≡ flaw_number flaw.kind }
+    ensures from { result.from ≡ flaw.from }
+    ensures lo { result.lo ≡ flaw.lo }
+    ensures hi { result.hi ≡ flaw.hi }
+{
+    Explanation {
+        from: flaw.from,
+        lo: flaw.lo,
+        hi: flaw.hi,
+        kind: flaw_number(flaw.kind),
+    }
+}
+
 /// Whether the text has no reading; why, and where, goes into `explanation`, which stays else.
 #[unsafe(no_mangle)]
 pub extern "C" fn rl_explain(text: &[u8], explanation: &mut Explanation) -> bool
@@ -77,14 +94,26 @@ pub extern "C" fn rl_explain(text: &[u8], explanation: &mut Explanation) -> bool
     // SAFETY: the bytes are UTF-8, as the export requires.
     match explain(unsafe { std::str::from_utf8_unchecked(text) }) {
         Some(flaw) => {
-            *explanation = Explanation {
-                from: flaw.from,
-                lo: flaw.lo,
-                hi: flaw.hi,
-                kind: flaw_number(flaw.kind),
-            };
+            *explanation = explanation_of(flaw);
             true
         }
         None => false,
     }
+}
+
+/// Whether the text is neither a literal token of Rust nor a minus and a number; why, and where, goes into `explanation`,
+/// which stays else.
+#[unsafe(no_mangle)]
+pub extern "C" fn rl_explain_signed(text: &[u8], explanation: &mut Explanation) -> bool
+    requires utf8 { IsUtf8 text.now }
+    ensures flaw { IsTrue result → ReportsSignedFlaw text.now explanation.new }
+    ensures none { IsFalse result → IsSignedToken (chars text.now) }
+    ensures stays { IsFalse result → explanation.new ≡ explanation.old }
+{
+    // SAFETY: the bytes are UTF-8, as the export requires.
+    let Some(flaw) = explain_signed(unsafe { std::str::from_utf8_unchecked(text) }) else {
+        return false;
+    };
+    *explanation = explanation_of(flaw);
+    true
 }

@@ -22,7 +22,7 @@ mod reading;
 mod source;
 mod write;
 
-pub use crate::explain::{Explanation, rl_explain};
+pub use crate::explain::{Explanation, rl_explain, rl_explain_signed};
 pub use crate::layout::{Layout, rl_layout, rl_probe, rl_version};
 pub use crate::next::Next;
 use crate::next::{END, LITERAL, rejection_number};

@@ -8,7 +8,7 @@ const KINDS: [&str; 9] = [
 ];
 
 /// The flaws, by their numbers.
-const FLAWS: [&str; 25] = [
+const FLAWS: [&str; 35] = [
     "Empty",
     "NoLiteral",
     "Unfinished",
@@ -34,6 +34,16 @@ const FLAWS: [&str; 25] = [
     "NoExponentDigit",
     "BadSuffix",
     "TooLarge",
+    "Minus",
+    "TooManyHashes",
+    "CarriageReturn",
+    "EarlyQuote",
+    "ExtraHash",
+    "UnderscoreSuffix",
+    "NoDigits",
+    "DigitOfBase",
+    "BasedFloat",
+    "NoFractionDigit",
 ];
 
 /// The errors of lists and sources, by their numbers from 2 on.
@@ -171,8 +181,8 @@ pub mod library {
         );
     }
 
-    fn flaw(out: &mut String, text: &str) {
-        match library::explain(text) {
+    fn flaw(out: &mut String, text: &str, found: Option<library::Explanation>) {
+        match found {
             Some(why) => push_flaw(
                 out,
                 FLAWS[usize::from(why.kind) - 1],
@@ -197,14 +207,18 @@ pub mod library {
         assert_eq!(reading.is_none(), library::explain(text).is_some());
         match &reading {
             Some(reading) => literal(out, text, reading),
-            None => push_literal(out, "Verbatim", text, None, "", &Value::None),
+            None => {
+                push_literal(out, "Verbatim", text, None, "", &Value::None);
+                flaw(out, text, library::explain(text));
+            }
         }
         let is_number = reading.is_some_and(|it| matches!(it.kind, 6 | 7));
         let unsigned = text.strip_prefix('-').filter(|_| is_number).unwrap_or(text);
         if reading.is_some() && library::is_token(unsigned) {
             out.push_str("of Rust\n");
         } else {
-            flaw(out, text);
+            let why = library::explain_signed(text).or_else(|| library::explain(text));
+            flaw(out, text, why);
         }
         let _ = writeln!(out, "{}", library::is_token(text));
     }
@@ -462,7 +476,8 @@ pub mod package {
         literal(out, &read);
         check_values(&read);
         if let Lit::Verbatim(verbatim) = &read {
-            assert_eq!(Lit::parse(text), Err(verbatim.explain()));
+            flaw(out, verbatim.explain());
+            assert!(Lit::parse(text).is_err());
         }
         let parsed = Lit::parse(text);
         check_parsers(text, &parsed);

@@ -62,6 +62,7 @@ mod exports {
         pub fn rl_layout(layout: &mut [usize; 8]);
         pub fn rl_find(text: *const u8, len: usize, reading: &mut Reading) -> bool;
         pub fn rl_explain(text: *const u8, len: usize, explanation: &mut Explanation) -> bool;
+        pub fn rl_explain_signed(text: *const u8, len: usize, explanation: &mut Explanation) -> bool;
         pub fn rl_place_of(text: *const u8, len: usize, at: usize, place: &mut Place) -> bool;
         pub fn rl_is_token(text: *const u8, len: usize) -> bool;
         pub fn rl_next(text: *const u8, len: usize, next: &mut Next) -> u8;
@@ -117,7 +118,7 @@ fn placed<T: Default, R>(export: impl FnOnce(&mut T) -> R) -> (R, T) {
 /// That the library has the version and the structs of this side.
 pub fn check() {
     // SAFETY: it requires nothing.
-    assert_eq!(unsafe { exports::rl_version() }, 6);
+    assert_eq!(unsafe { exports::rl_version() }, 7);
     // SAFETY: it requires nothing, and writes eight numbers.
     let ((), layout) = placed(|it| unsafe { exports::rl_layout(it) });
     let sizes = [
@@ -139,6 +140,14 @@ pub fn find(text: &str) -> Option<Reading> {
 pub fn explain(text: &str) -> Option<Explanation> {
     // SAFETY: the text is UTF-8.
     let (is_none, why) = placed(|it| unsafe { exports::rl_explain(text.as_ptr(), text.len(), it) });
+    is_none.then_some(why)
+}
+
+/// Why the text is neither a token of Rust nor a minus and a number.
+pub fn explain_signed(text: &str) -> Option<Explanation> {
+    // SAFETY: the text is UTF-8.
+    let (is_none, why) =
+        placed(|it| unsafe { exports::rl_explain_signed(text.as_ptr(), text.len(), it) });
     is_none.then_some(why)
 }
 
