@@ -1,7 +1,7 @@
 //! Why texts are no literals, and where: for each kind of flaw the byte where the piece begins that it spoils, and the
 //! bytes of the character that no literal goes on with.
 
-use navyspindle::{literals, source, FlawKind, Lit, ParseErrorKind};
+use navyspindle::{literals, source, FlawKind, Lit, ParseError, ParseErrorKind};
 use std::collections::HashSet;
 
 /// The least integer past 128 bits.
@@ -10,7 +10,7 @@ const PAST: &str = "340282366920938463463374607431768211456";
 /// A text, its kind of flaw, the byte where the piece begins, that of the character, and the one after it.
 type Row<'t> = (&'t str, FlawKind, usize, usize, usize);
 
-/// A row for each kind.
+/// A row for each kind of a text that `syn` has no literal for.
 const ROWS: &[Row] = &[
     ("", FlawKind::Empty, 0, 0, 0),
     ("truex", FlawKind::NoLiteral, 0, 4, 5),
@@ -39,17 +39,73 @@ const ROWS: &[Row] = &[
     (PAST, FlawKind::TooLarge, 0, 39, 39),
 ];
 
-#[test]
-fn each_kind() {
-    for &(text, kind, from, lo, hi) in ROWS {
-        let error = Lit::parse(text).unwrap_err();
+/// A row for each kind of a text that is no literal of Rust.
+const OF_RUST: &[Row] = &[
+    ("", FlawKind::Empty, 0, 0, 0),
+    ("truex", FlawKind::NoLiteral, 0, 4, 5),
+    ("r#", FlawKind::Unfinished, 2, 2, 2),
+    ("r#x", FlawKind::NoQuote, 2, 2, 3),
+    ("--1", FlawKind::NoNumber, 0, 1, 2),
+    (r#""\x4"#, FlawKind::Unclosed, 1, 4, 4),
+    (r#""\q""#, FlawKind::UnknownEscape, 1, 2, 3),
+    (r#"b"\u{1}""#, FlawKind::NoUnicode, 2, 3, 4),
+    (r#""\xg""#, FlawKind::NoHexDigit, 1, 3, 4),
+    (r#""\u1""#, FlawKind::NoBrace, 1, 3, 4),
+    (r#""\u{}""#, FlawKind::EmptyBraces, 1, 4, 5),
+    (r#""\u{0000001}""#, FlawKind::TooManyDigits, 1, 10, 11),
+    (r#""\x80""#, FlawKind::PastAscii, 1, 3, 4),
+    (r#""\u{110000}""#, FlawKind::PastUnicode, 1, 9, 10),
+    (r#""\u{D800}""#, FlawKind::Surrogate, 1, 8, 9),
+    (r#"c"\0""#, FlawKind::Nul, 2, 3, 4),
+    ("br\"é\"", FlawKind::NotAscii, 3, 3, 5),
+    ("'\t'", FlawKind::MustEscape, 1, 1, 2),
+    ("'''", FlawKind::NoCharacter, 1, 1, 2),
+    ("'ab'", FlawKind::TwoCharacters, 1, 2, 3),
+    ("1e", FlawKind::NoExponentDigit, 0, 2, 2),
+    ("1.5.0", FlawKind::BadSuffix, 0, 3, 4),
+    (PAST, FlawKind::TooLarge, 0, 39, 39),
+    ("\"a\rb\"", FlawKind::CarriageReturn, 2, 2, 3),
+    (r#"r"a"b""#, FlawKind::EarlyQuote, 3, 5, 6),
+    ("r#\"a\"##", FlawKind::ExtraHash, 4, 6, 7),
+    (r#""a"_"#, FlawKind::UnderscoreSuffix, 3, 4, 4),
+    ("0xg", FlawKind::NoDigits, 0, 2, 3),
+    ("0b102", FlawKind::DigitOfBase, 0, 4, 5),
+    ("0x1.5", FlawKind::BasedFloat, 0, 3, 4),
+    ("1.foo", FlawKind::NoFractionDigit, 0, 2, 3),
+];
+
+/// The kinds of the rows, each of which has the flaw that the call returns.
+fn kinds(rows: &[Row], explain: impl Fn(&str) -> ParseError) -> HashSet<FlawKind> {
+    for &(text, kind, from, lo, hi) in rows {
+        let error = explain(text);
         assert_eq!(error.kind(), kind, "{text}");
         assert_eq!((error.piece(), error.range()), (from..hi, lo..hi), "{text}");
         assert_eq!(error.to_string(), format!("{kind} at byte {lo}"));
-        assert_eq!(text.parse::<Lit>().unwrap_err(), error);
     }
-    let kinds: HashSet<FlawKind> = ROWS.iter().map(|row| row.1).collect();
-    assert_eq!((kinds.len(), ROWS.len()), (25, 25));
+    rows.iter().map(|row| row.1).collect()
+}
+
+/// Why `syn` has no literal for the text.
+fn of_syn(text: &str) -> ParseError {
+    let Lit::Verbatim(literal) = Lit::new(text) else {
+        panic!("{text} reads")
+    };
+    literal.explain()
+}
+
+fn of_rust(text: &str) -> ParseError {
+    let error = Lit::parse(text).unwrap_err();
+    assert_eq!(text.parse::<Lit>().unwrap_err(), error);
+    error
+}
+
+#[test]
+fn each_kind() {
+    assert_eq!((kinds(ROWS, of_syn).len(), ROWS.len()), (25, 25));
+    assert_eq!((kinds(OF_RUST, of_rust).len(), OF_RUST.len()), (31, 31));
+    let hashes = format!("r{}\"\"{0}", "#".repeat(256));
+    let row = [(hashes.as_str(), FlawKind::TooManyHashes, 1, 256, 257)];
+    assert_eq!(kinds(&row, of_rust).len(), 1);
 }
 
 #[test]
@@ -69,11 +125,20 @@ fn other_places() {
         ("0x1.5", FlawKind::BadSuffix, 0, 3, 4),
         (&format!("{PAST}u8"), FlawKind::TooLarge, 0, 39, 40),
     ];
-    for &(text, kind, from, lo, hi) in rows {
-        let error = Lit::parse(text).unwrap_err();
-        assert_eq!(error.kind(), kind, "{text}");
-        assert_eq!((error.piece(), error.range()), (from..hi, lo..hi), "{text}");
-    }
+    kinds(rows, of_syn);
+    let rows: &[Row] = &[
+        ("-", FlawKind::Unfinished, 0, 1, 1),
+        ("-\"a\"", FlawKind::NoNumber, 0, 1, 2),
+        ("-0x", FlawKind::NoDigits, 0, 3, 3),
+        ("0b17e", FlawKind::DigitOfBase, 0, 3, 4),
+        ("1..2", FlawKind::NoFractionDigit, 0, 2, 3),
+        ("1e_+5", FlawKind::NoExponentDigit, 0, 3, 4),
+        ("\"a\"\"", FlawKind::EarlyQuote, 2, 3, 4),
+        ("\"a\" ", FlawKind::BadSuffix, 3, 3, 4),
+        ("''", FlawKind::NoCharacter, 1, 1, 2),
+        ("\"\\u{1234567\"", FlawKind::PastUnicode, 1, 9, 10),
+    ];
+    kinds(rows, of_rust);
 }
 
 /// The reason and the place in the whole text of each literal that has no reading.
@@ -82,7 +147,7 @@ fn flaws<'t>(literals: impl Iterator<Item = (usize, Lit<'t>)>) -> Vec<(usize, Fl
         .filter_map(|(at, literal)| match literal {
             Lit::Verbatim(literal) => {
                 let error = literal.explain();
-                assert_eq!(Lit::parse(literal.text()).unwrap_err(), error);
+                assert!(Lit::parse(literal.text()).is_err());
                 let ParseErrorKind::Flaw(kind) = error.kind() else {
                     panic!("{error}")
                 };
