@@ -15,12 +15,16 @@ import source_model
 import source_texts
 
 NOT_TEXT = b'error: input is not UTF-8'
+# What rl_scan prints as an escape: control characters, separators, and what Unicode lists as ignorable by default or formats
+# without a width, but for the variation selectors from FE00 on.
+HIDING = re.compile('[\0-\x1f\x7f-\x9f\xad\u034f\u061c\u115f\u1160\u17b4\u17b5\u180b-\u180f\u200b-\u200f\u2028-\u202e\u2060-\u206f\u3164'
+                    '\ufeff\uffa0\ufff0-\ufffb\U0001d173-\U0001d17a\U000e0000-\U000e0fff]')
 # How many bytes of sources are asked about at once.
 AT_ONCE = 4_000_000
 PLACED = re.compile(rb'(\d+)\.\.(\d+) (.*)', re.S)
 # What rl_scan is asked for beside all lines.
-WORDS = (('--lines',), ('--lines', '--no-stray', '--only', 'Int,Float,Verbatim'), ('--bad',))
-NO_CALLS = (('--x',), ('x',), ('--only',), ('--only', ''), ('--only', 'Str,'), ('--only', 'str'), ('--bad', '--only', 'Str'), ('--only', 'Str', '--bad'), ('--only', 'Str', '--only', 'Int'), ('--bad', '--bad'))
+WORDS = (('--lines',), ('--lines', '--no-stray', '--only', 'int,FLOAT,Verbatim'), ('--only', 'verbatim'))
+NO_CALLS = (('--x',), ('-x',), ('--only',), ('--only', ''), ('--only', 'Str,'), ('--only', 'strs'), ('--bad', '--only', 'Str'), ('--only', 'Str', '--bad'), ('--only', 'Str', '--only', 'Int'), ('--bad', '--bad'))
 # The edition that is asked about sources with prefixes that are reserved since.
 OLDER = '2018'
 
@@ -62,6 +66,11 @@ def text_of(data):
         return None
 
 
+def visible(line):
+    """The line as rl_scan prints it."""
+    return HIDING.sub(lambda it: '\\u{%x}' % ord(it[0]), line.decode()).encode()
+
+
 def is_long_past(text):
     """Whether the text is so long an integer past 128 bits that the other program would take too long."""
     digits = re.fullmatch('(?:0x[0-9a-fA-F_]*|0o[0-7_]*|0b[01_]*|[0-9_]*)', text) if len(text) > 10_000 else None
@@ -93,7 +102,7 @@ class Model:
     def lines(self, cut):
         if cut is None:
             return [NOT_TEXT]
-        out = [b'%d..%d %s' % (token.lo, token.hi, self.known[token.text]) for token in cut.literals()]
+        out = [b'%d..%d %s' % (token.lo, token.hi, visible(self.known[token.text])) for token in cut.literals()]
         if cut.fault:
             out.append(b'error at %d..%d: %s' % (cut.fault.at, cut.fault.at, cut.fault.kind.encode()))
         return out
@@ -137,17 +146,24 @@ def front_of(data):
 def moved(lines, by):
     """The lines, with their places that many bytes further on."""
     found = [PLACED.fullmatch(line) for line in lines.split(b'\n')] if lines else []
-    return [b'%d..%d %s' % (int(placed[1]) + by, int(placed[2]) + by, placed[3]) for placed in found]
+    return [b'%d..%d %s' % (int(placed[1]) + by, int(placed[2]) + by, visible(placed[3])) for placed in found]
 
 
 def scanned(program, words, data):
-    """The lines of rl_scan, and the line of its error; another line where its status is another than these ask for."""
+    """The lines of rl_scan, and the line of its error, as rl_rows has it; another line where its status is another than these
+    ask for."""
     ended = subprocess.run([program, *words], input=data, stdout=subprocess.PIPE, stderr=subprocess.PIPE)
     lines, error = ended.stdout.split(b'\n'), ended.stderr
-    status = 2 if error.startswith(b'usage: ') else 1 if error or '--bad' in words and len(lines) > 1 else 0
-    if lines.pop() or ended.returncode != status or error and not error.endswith(b'\n'):
+    if lines.pop() or ended.returncode != (2 if error else 0) or error and not error.endswith(b'\n'):
         return [b'ended with the status %d, and said %s' % (ended.returncode, ended.stderr)]
-    return lines + ([error[:-1]] if error else [])
+    return lines + ([in_rows(error[:-1])] if error else [])
+
+
+def in_rows(error):
+    """The line of an error of rl_scan, of standard input, as rl_rows has it."""
+    if re.fullmatch(rb'rl_scan: -: not UTF-8 at byte \d+', error):
+        return NOT_TEXT
+    return re.sub(rb'^(\d+(?:\.\.|:)\d+) error: ', rb'error at \1: ', error)
 
 
 def by_process(options, datas, *words):
@@ -184,9 +200,9 @@ def under(words, data, lines, cut):
         if stray:
             lines = [line for line in lines if PLACED.fullmatch(line) and int(PLACED.fullmatch(line)[1]) < stray.lo]
             lines.append(b'error at %d..%d: stray character' % (stray.lo, stray.lo))
-    if '--bad' in words or '--only' in words:
-        kinds = ['Verbatim'] if '--bad' in words else words[words.index('--only') + 1].split(',')
-        lines = [line for line in lines if not line[:1].isdigit() or line.split(b' ')[1].decode() in kinds]
+    if '--only' in words:
+        kinds = words[words.index('--only') + 1].lower().split(',')
+        lines = [line for line in lines if not line[:1].isdigit() or line.split(b' ')[1].decode().lower() in kinds]
     return line_places(data, lines) if '--lines' in words else lines
 
 
@@ -387,7 +403,7 @@ def calls(sides):
     """What rl_scan says of words that ask for nothing, and with all words that go together."""
     for words in NO_CALLS:
         lines = scanned(sides.options.scan, words, b'1')
-        if len(lines) == 1 and lines[0].startswith(b'usage: rl_scan '):
+        if len(lines) == 1 and lines[0].startswith(b'rl_scan: '):
             sides.count.add('rl_scan', 'refuses words that ask for nothing', 1, 0)
         else:
-            sides.count.differs('rl_scan', ' '.join(words), b'1', [b'usage: ..'], lines)
+            sides.count.differs('rl_scan', ' '.join(words), b'1', [b'rl_scan: ..'], lines)

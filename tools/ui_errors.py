@@ -39,7 +39,10 @@ ALLOWED = re.compile(r'character constant must be escaped|bare CR not allowed in
 LIFETIME = re.compile(r'(character literal may only contain one codepoint|empty character literal|lifetimes cannot start with a number)')
 HEAD = re.compile(r'error(?:\[E\d+\])?: (.*)')
 AT = re.compile(r' *--> \$DIR/(\S+?):(\d+):(\d+)')
-OURS = re.compile(r'(\d+):(\d+) (?:Verbatim "(.*)" -|error: (.*))')
+# What we say of a literal, before the piece.
+MESSAGES = sorted({it for _, ours in SAME for it in ours}, key=len, reverse=True)
+LITERAL = re.compile(r'(\d+):(\d+) Verbatim "(.*)" -')
+FLAW = re.compile(r'(\d+):(\d+) error: (.*)')
 
 Theirs = collections.namedtuple('Theirs', 'message line column end')
 Ours = collections.namedtuple('Ours', 'message begin end lo')
@@ -79,18 +82,22 @@ def after(begin, written):
 
 def scanned(options, path):
     """The bad literals that rl_scan reports in a file, and the place of the error of the source that it ends with, if it does."""
+    literals = [LITERAL.fullmatch(row).groups() for row in lines_of(options, path, '--only', 'Verbatim')]
+    flaws = [FLAW.fullmatch(row).groups() for row in lines_of(options, path, '--bad')]
+    found = []
+    for (line, column, written), (at_line, at_column, told) in zip(literals, flaws):
+        begin = int(line), int(column)
+        message = next((it for it in MESSAGES if told == it or told.startswith(it + ': ')), told)
+        found.append(Ours(message, begin, after(begin, written), (int(at_line), int(at_column))))
+    end = flaws[len(literals):]
+    return found, (int(end[0][0]), int(end[0][1])) if end else None
+
+
+def lines_of(options, path, *words):
+    """The lines that rl_scan prints of a file with these words."""
     with open(path, 'rb') as source:
-        ended = subprocess.run([options.scan, '--lines', '--why', '--bad'], stdin=source, capture_output=True)
-    found, begin, end = [], None, None
-    for row in ended.stdout.decode().split('\n')[:-1]:
-        line, column, written, message = OURS.fullmatch(row).groups()
-        if message is None:
-            begin = int(line), int(column)
-            end = after(begin, written)
-        else:
-            found.append(Ours(message, begin, end, (int(line), int(column))))
-    said = re.search(r'error at (\d+):(\d+): ', ended.stderr.decode())
-    return found, (int(said[1]), int(said[2])) if said else None
+        ended = subprocess.run([options.scan, '--lines', *words], stdin=source, capture_output=True)
+    return ended.stdout.decode().split('\n')[:-1]
 
 
 def words_of(their):

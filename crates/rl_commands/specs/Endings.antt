@@ -4,7 +4,7 @@ use Rattle.std.specs.Io.KnownBytes.{Keeps}
 use Rattle.rl_commands.specs.declared.command.Command.{Command}
 use Rattle.rl_program.specs.declared.fault.Fault.{Fault}
 use Rattle.rl_program.specs.declared.ending.Ending.{Ending}
-use Rattle.rl_program.specs.declared.ending.Ending.TheVariants.{Done, FoundBad, Usage, Failed}
+use Rattle.rl_program.specs.declared.ending.Ending.TheVariants.{Done, FoundBad, Reported, Closed, Usage, Failed}
 use Rattle.rl_commands.specs.Commands.{AskFor}
 use Rattle.rl_commands.specs.Runs.{Prints, IsErrorOf}
 
@@ -19,6 +19,8 @@ abbrev pub EndsAs : {A B : Type 0} → List (String A) → Option (List ℕ) →
 EndsAs args input old new Done =
     (command : Command) × AskFor args command × IfSome input (λ bytes. Prints command bytes old new)
 EndsAs args input old new FoundBad = ⊥
+EndsAs args input old new Reported = ⊥
+EndsAs args input old new Closed = ⊥
 EndsAs args input old new (Usage line) =
     ((command : Command) → AskFor args command → ⊥) × (line.now ≡ usage_line) × Keeps old new
 EndsAs args input old new (Failed fault) =

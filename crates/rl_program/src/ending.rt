@@ -23,6 +23,10 @@ pub enum Ending<E> {
     Done,
     /// All lines were written, of literals without a reading, and there was one.
     FoundBad,
+    /// All lines were written that could be, and each error was reported as it came.
+    Reported,
+    /// Nobody reads the output: a beginning of it was written.
+    Closed,
     /// The arguments ask for nothing that the program does; the line says how it is used.
     Usage(&'static str),
     /// The run failed.
@@ -30,27 +34,28 @@ pub enum Ending<E> {
 }
 
 impl<E: RunError> Ending<E> {
-    /// The status that the program ends with: 0 where all lines were written, 1 where bad literals were found, 2 where
-    /// the arguments ask for nothing, else that of the error.
+    /// The status that the program ends with: 0 where all lines were written or nobody reads them, 1 where bad
+    /// literals were found, 2 where errors were reported or the arguments ask for nothing, else that of the error.
     pub fn status(&self) -> u8
         ensures { result ≡ status_of E.error_status self.now }
     {
         match self {
-            Ending::Done => 0,
+            Ending::Done | Ending::Closed => 0,
             Ending::FoundBad => 1,
-            Ending::Usage(_) => 2,
+            Ending::Reported | Ending::Usage(_) => 2,
             Ending::Failed(error) => error.status(),
         }
     }
 }
 
-/// The line on standard error: how the program is used, or the error; nothing where all lines were written.
+/// The line on standard error: how the program is used, or the error; nothing where all lines were
+/// written, or errors were reported before.
 impl<E: fmt::Display> fmt::Display for Ending<E> {
     ghost output = { λ ending. ending_line E.output ending };
 
     fn fmt<W: fmt::Write>(&self, f: &mut fmt::Formatter<W>) -> fmt::Result {
         match self {
-            Ending::Done | Ending::FoundBad => Ok(()),
+            Ending::Done | Ending::FoundBad | Ending::Reported | Ending::Closed => Ok(()),
             Ending::Usage(line) => f.write_str(line),
             Ending::Failed(error) => write!(f, "{error}"),
         }
@@ -71,7 +76,7 @@ pub fn finish<E: RunError + Drop>(rt: &impl Eprint, ending: Ending<E>) -> ExitCo
 {
     let status = ending.status();
     match ending {
-        Ending::Done | Ending::FoundBad => {}
+        Ending::Done | Ending::FoundBad | Ending::Reported | Ending::Closed => {}
         reported => {
             let _ = rt.eprintln(reported);
         }

@@ -8,4 +8,4 @@ mod streams;
 
 pub use crate::ending::{Ending, RunError, arguments, finish};
 pub use crate::fault::Fault;
-pub use crate::streams::{read_whole, text_of, write_whole};
+pub use crate::streams::{WriteError, read_whole, text_of, write_bytes, write_whole};

@@ -1,6 +1,6 @@
 //! Reading a whole input, its text, and writing whole lines.
 
-ghost use Rattle.std.specs.Prelude.{◌≡◌, ◌⊎◌, OnOk, IfOk, IfErr, IfSome};
+ghost use Rattle.std.specs.Prelude.{◌≡◌, ◌⊎◌, OnOk, OnErr, IfOk, IfErr, IfSome};
 ghost use Rattle.std.specs.Str.{IsUtf8};
 ghost use Rattle.std.specs.Io.KnownBytes.{Appends};
 ghost use Rattle.rl_program.specs.Streams.{AppendsBeginning};
@@ -8,7 +8,7 @@ ghost use Rattle.rl_program.specs.declared.fault.Fault.TheVariants.{Read, Write,
 
 use crate::fault::Fault;
 use std::alloc::Allocator;
-use std::io::{Read, Write};
+use std::io::{ErrorKind, Read, Write};
 
 /// How many bytes a turn of reading asks for.
 const TURN: usize = 8192;
@@ -62,6 +62,44 @@ pub fn text_of<A: Allocator>(bytes: &[u8]) -> Result<&str, Fault<A>>
     }
 }
 
+/// Why bytes could not be written.
+#[derive(Clone, Copy, PartialEq, Eq, Debug)]
+pub enum WriteError {
+    /// Nobody reads them: the other end of the pipe is closed.
+    Closed,
+    /// A call of the writer failed, or took no byte.
+    Failed,
+}
+
+/// Why a call of the writer failed.
+fn write_error(kind: ErrorKind) -> WriteError {
+    match kind {
+        ErrorKind::BrokenPipe => WriteError::Closed,
+        _ => WriteError::Failed,
+    }
+}
+
+/// Writes all bytes. A write that takes none counts as failed.
+///
+/// # Errors
+///
+/// Where a call of the writer failed. A beginning of the bytes may have been written then.
+pub fn write_bytes<W: Write>(out: &mut W, bytes: &[u8]) -> Result<(), WriteError>
+    ensures all { OnOk result (Appends (W.contents out.old) (W.contents out.new) bytes.now) }
+    ensures beginning { OnErr result
+        (AppendsBeginning (W.contents out.old) (W.contents out.new) bytes.now) }
+{
+    let mut rest = bytes;
+    while !rest.is_empty() {
+        match out.write(rest) {
+            Ok(0) => return Err(WriteError::Failed),
+            Ok(count) => rest = &rest[count..],
+            Err(error) => return Err(write_error(error.kind())),
+        }
+    }
+    Ok(())
+}
+
 /// Writes all bytes. A write that takes none counts as failed.
 ///
 /// # Errors
@@ -72,12 +110,8 @@ pub fn write_whole<A: Allocator, W: Write>(out: &mut W, bytes: &[u8]) -> Result<
     ensures beginning { IfErr result (λ fault. (fault ≡ Write)
         × AppendsBeginning (W.contents out.old) (W.contents out.new) bytes.now) }
 {
-    let mut rest = bytes;
-    while !rest.is_empty() {
-        match out.write(rest) {
-            Ok(count) if count > 0 => rest = &rest[count..],
-            _ => return Err(Fault::Write),
-        }
+    match write_bytes(out, bytes) {
+        Ok(()) => Ok(()),
+        Err(_) => Err(Fault::Write),
     }
-    Ok(())
 }

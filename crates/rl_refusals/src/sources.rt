@@ -30,6 +30,7 @@ pub fn scanned<A: Scarce>(trial: &Trial<'_, A>, text: &str, page: &mut Page) {
         by_line: false,
         rejects_strays: false,
         explains: false,
+        path: None,
     };
     let mut written = Vec::new(trial.alloc);
     let answer = scan(trial.begins(), options, text, &mut written);

@@ -1,12 +1,10 @@
-//! Calls of the two programs, for texts, lists and attributes and for whole sources. A US (0x1F) parts a program's words from
-//! its input, and what its streams are like from the words. Between the words stands a LF, or a space where the program is
-//! that for sources, whose own name is left out.
+//! Calls of the program for texts, lists and attributes. A US (0x1F) parts its words from its input, and what its streams
+//! are like from the words. Between the words stands a LF.
 
 use crate::streams::{Input, Output, Streams};
 use rl_commands::{Fault, call};
 use rl_program::{Ending, RunError};
 use rl_refusing::Page;
-use rl_sources::call as call_of_sources;
 use rl_tokens::{Error, ErrorKind, Span};
 use std::alloc::{AllocError, Global};
 
@@ -16,10 +14,6 @@ pub(crate) fn told(alloc: Global, name: &str, bytes: &[u8], out: &mut Page) -> b
         "call" => called(alloc, bytes, out),
         "call_by" => called_by(alloc, bytes, out),
         "endings" => endings(out),
-        "scan" => scanned(alloc, bytes, "", out),
-        "scan_slow" => scanned(alloc, bytes, "3", out),
-        "scan_unread" => scanned(alloc, bytes, "3 6", out),
-        "scan_unwritten" => scanned(alloc, bytes, "3 all 6", out),
         _ => return false,
     }
     true
@@ -66,24 +60,6 @@ fn called_by(alloc: Global, bytes: &[u8], out: &mut Page) {
         text_of(streams),
         out,
     )
-}
-
-/// Prints a call of the program for sources, over streams that words ask for.
-fn scanned(alloc: Global, bytes: &[u8], streams: &str, out: &mut Page) {
-    let (words, input) = parts_of(bytes);
-    let mut args = out.another();
-    args.put(SCAN);
-    for word in text_of(words).split(' ') {
-        put_word(word, &mut args);
-    }
-    put_call(alloc, args.text(), input, streams, out)
-}
-
-/// Puts a word last, after a LF; nothing where it is empty.
-fn put_word(word: &str, args: &mut Page) {
-    if !word.is_empty() {
-        args.say("\n", word);
-    }
 }
 
 /// Puts pieces last that a character parts, each after how often it stands there, as `3*a`.
@@ -133,24 +109,8 @@ fn put_call_of(args: &[String], input: &[u8], streams: Streams, out: &mut Page) 
         left: streams.writable,
         is_full: streams.is_full,
     };
-    if is_scan(args) {
-        let ending = call_of_sources(alloc, args, &mut input, &mut output);
-        put_ending(held.as_slice(), ending, out)
-    } else {
-        let ending = call(alloc, args, &mut input, &mut output);
-        put_ending(held.as_slice(), ending, out)
-    }
-}
-
-/// The name of the program for sources.
-const SCAN: &str = "rl_scan";
-
-/// Whether the program for sources is called.
-fn is_scan(args: &[String]) -> bool {
-    match args.first() {
-        Some(name) => name.as_str() == SCAN,
-        None => false,
-    }
+    let ending = call(alloc, args, &mut input, &mut output);
+    put_ending(held.as_slice(), ending, out)
 }
 
 /// Prints what was written, the status of an ending, and the line that it reports.

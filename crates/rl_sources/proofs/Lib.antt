@@ -3,3 +3,7 @@ pub mod OptionLemmas
 pub mod StepLemmas
 pub mod ReasonLemmas
 pub mod WriteLemmas
+pub mod ReportLemmas
+pub mod RunLemmas
+pub mod WordLemmas
+pub mod EndingLemmas

@@ -1,6 +1,6 @@
 -- The place of a flaw in the source, and its line.
-use Rattle.rl_reading.proofs.Names.{HasReading, IsTail, byte_len}
-use Rattle.rl_text.proofs.Common.{IsAscii, IsCharBoundary, IsTrue, IsUtf8, List, [], and_parts, ap, append_assoc, arith, chars, chars-IsAscii, codes, drop, encode_utf8, encodes-append, encodes-chars, inl, inr, is_ascii, length, length-append, list_all, ltb-true, refl, subst, sym, true, ℕ, ◌++◌, ◌+◌, ◌∙◌, ◌∷◌, ◌≡◌, ◌≤◌}
+use Rattle.rl_reading.proofs.Names.{IsTail, byte_len}
+use Rattle.rl_text.proofs.Common.{IsAscii, IsCharBoundary, IsUtf8, List, [], and_parts, ap, append_assoc, arith, chars, chars-IsAscii, chars-nil, codes, drop, encode_utf8, encodes-append, encodes-chars, is_ascii, length, length-append, list_all, ltb-true, refl, subst, sym, suc, false, true, ℕ, ◌==◌, ◌++◌, ◌+◌, ◌∙◌, ◌∷◌, ◌≡◌, ◌≤◌, inl, inr, take, ◌-◌}
 use Rattle.std.specs.Prelude.{encode_utf8_all}
 use Rattle.std.proofs.Math.Seq.{drop-append_seam}
 use Rattle.std.proofs.lemmas.List.{append-nil}
@@ -10,19 +10,25 @@ use Rattle.rl_lexer.specs.Cursors.{CursorState, IsCursorState}
 use Rattle.rl_lexer.specs.declared.sources.SourceToken.{SourceToken}
 use Rattle.rl_text.proofs.TailLemmas.{tail_step}
 use Rattle.rl_lexer.proofs.CutLemmas.{byte_len-append}
+use Rattle.rl_lexer.specs.LexErrors.{lex_message}
+use Rattle.rl_lexer.specs.declared.lex_error.LexKind.{LexKind}
+use Rattle.rl_lexer.specs.declared.lex_error.LexKind.TheVariants.{DocComment, UnclosedComment, UnclosedQuote, Lifetime, RawIdentifier, StrayCharacter, UnmatchedClose, UnclosedGroup, TooDeep, Memory}
 use Rattle.rl_reasons.specs.declared.flaws.Flaw.{Flaw}
 use Rattle.rl_reasons.specs.declared.flaws.FlawKind.{FlawKind}
 use Rattle.rl_reasons.specs.declared.flaws.FlawKind.TheVariants.{Empty, NoLiteral, Unfinished, NoQuote, NoNumber, Unclosed, UnknownEscape, NoUnicode, NoHexDigit, NoBrace, EmptyBraces, TooManyDigits, PastAscii, PastUnicode, Surrogate, Nul, NotAscii, LateQuote, LoneCr, MustEscape, NoCharacter, TwoCharacters, NoExponentDigit, BadSuffix, TooLarge}
 use Rattle.rl_reasons.specs.Flaws.{Explains, first_len}
 use Rattle.rl_reasons.specs.FlawWords.{flaw_message}
+use Rattle.std.proofs.Common.{rules}
+use Rattle.std.proofs.lemmas.Bool.{false≢true}
+use Rattle.rl_files.specs.Visible.{visible}
 use Rattle.rl_lines.specs.Lines.{Appends}
 use Rattle.rl_lines.proofs.LineLemmas.{pushed}
 use Rattle.rl_sources.specs.declared.options.Options.{Options}
 use Rattle.rl_sources.specs.declared.place.Place.{Place}
-use Rattle.rl_sources.specs.Places.{place_text, HoldsPlaces, IsPlaceIn}
-use Rattle.rl_sources.specs.Scans.{IsReasonLine}
+use Rattle.rl_sources.specs.Places.{line_front, HoldsPlaces, IsPlaceIn}
+use Rattle.rl_sources.specs.Scans.{IsFlawLine, IsPieceOf, IsSlice, error_words}
 use Rattle.rl_sources.specs.Steps.{BeginsRest}
-use Rattle.rl_sources.proofs.StepLemmas.{place_ascii}
+use Rattle.rl_sources.proofs.StepLemmas.{back_utf8}
 
 -- a rest that isn't longer stands after another
 tail_by : (x y a b : List ℕ) → x ++ a ≡ y ++ b → length b ≤ length a → (z : List ℕ) × (a ≡ z ++ b)
@@ -41,12 +47,6 @@ pub places_on : (text rest next : List ℕ) (lines : CursorState) → HoldsPlace
 places_on text rest next lines holds cursor le =
     subst (λ (r : List ℕ). IsTail r next) (sym holds.rest_is) (later_tail text rest next holds.cursor.following
     cursor.following le)
-
--- what is left after the front of a text is a text
-back_utf8 : (front back : List ℕ) → IsUtf8 (encode_utf8_all (front ++ back)) → IsUtf8 (encode_utf8_all back)
-back_utf8 [] back u = u
-back_utf8 (c ∷ cs) back u = back_utf8 cs back (IsUtf8-past_char (encode_utf8_all (c ∷ (cs ++ back)))
-    (encode_utf8_all (cs ++ back)) c u refl)
 
 -- the first character is within the text
 first_within : (cs : List ℕ) → first_len cs ≤ byte_len cs
@@ -100,7 +100,7 @@ flaw_within token text rest flaw begins explains =
 -- ---- the line
 
 -- what ASCII passes
-low_text : (cs : List ℕ) → list_all is_ascii cs ≡ true → IsAscii cs
+pub low_text : (cs : List ℕ) → list_all is_ascii cs ≡ true → IsAscii cs
 low_text [] h = IsAscii-nil
 low_text (c ∷ cs) h =
     let both = and_parts (is_ascii c) (list_all is_ascii cs) h in
@@ -133,33 +133,99 @@ message_low NoExponentDigit = refl
 message_low BadSuffix = refl
 message_low TooLarge = refl
 
-abbrev pub flaw_line : Place → FlawKind → List ℕ
-flaw_line place kind = place_text place ++ (codes " error: " ++ (flaw_message kind ++ codes "\n"))
+-- the words of an error, as they are written
+message_ascii : (message after : List ℕ) → list_all is_ascii message ≡ true → list_all is_ascii after ≡ true
+    → IsAscii (codes "error: " ++ (message ++ after))
+message_ascii message after is_low low =
+    IsAscii-append (codes "error: ") (message ++ after) (low_text (codes "error: ") refl)
+    (IsAscii-append message after (low_text message is_low) (low_text after low))
 
-line_ascii : (place : Place) (kind : FlawKind) → IsAscii (flaw_line place kind)
-line_ascii place kind =
-    let after : IsAscii (flaw_message kind ++ codes "\n") = IsAscii-append (flaw_message kind) (codes "\n")
-    (low_text (flaw_message kind) (message_low kind)) (low_text (codes "\n") refl) in
-    IsAscii-append (place_text place) (codes " error: " ++ (flaw_message kind ++ codes "\n")) (place_ascii place)
-    (IsAscii-append (codes " error: ") (flaw_message kind ++ codes "\n") (low_text (codes " error: ") refl) after)
+pub words_written : (message after old new : List ℕ) → list_all is_ascii message ≡ true
+    → list_all is_ascii after ≡ true → IsUtf8 old → new ≡ old ++ (codes "error: " ++ (message ++ after))
+    → chars new ≡ chars old ++ (codes "error: " ++ (message ++ after))
+words_written message after old new is_low low utf8 written =
+    pushed old new (codes "error: " ++ (message ++ after)) utf8 written
+    ∙ ap (λ z. chars old ++ z)
+    (chars-IsAscii (codes "error: " ++ (message ++ after)) (message_ascii message after is_low low))
 
--- the line was appended
-pub explains_why : (options : Options) (whole text : List ℕ) (lo : ℕ) (flaw : Flaw) (place : Place) (old new : List ℕ)
-    → IsUtf8 old → IsTrue options.explains → Explains text flaw
-    → IsPlaceIn options.by_line whole (lo + flaw.lo) (lo + flaw.hi) place → new ≡ old ++ flaw_line place flaw.kind
-    → Appends (IsReasonLine options whole text lo) (chars old) (chars new)
-explains_why options whole text lo flaw place old new utf8 asked explains is_place written =
-    let line = flaw_line place flaw.kind in (
+lex_low : (kind : LexKind) → list_all is_ascii (lex_message kind) ≡ true
+lex_low DocComment = refl
+lex_low UnclosedComment = refl
+lex_low UnclosedQuote = refl
+lex_low Lifetime = refl
+lex_low RawIdentifier = refl
+lex_low StrayCharacter = refl
+lex_low UnmatchedClose = refl
+lex_low UnclosedGroup = refl
+lex_low TooDeep = refl
+lex_low Memory = refl
+
+-- the line of a source's error
+pub source_error : (kind : LexKind) (front old mid new : List ℕ) → IsUtf8 mid → chars mid ≡ chars old ++ front
+    → new ≡ mid ++ (codes "error: " ++ (lex_message kind ++ codes "\n"))
+    → chars new ≡ chars old ++ (front ++ error_words (lex_message kind) [])
+source_error kind front old mid new utf8 begun written =
+    words_written (lex_message kind) (codes "\n") mid new (lex_low kind) refl utf8 written
+    ∙ ap (λ z. z ++ error_words (lex_message kind) []) begun
+    ∙ append_assoc (chars old) front (error_words (lex_message kind) [])
+
+-- without a piece
+pub error_alone : (kind : FlawKind) (piece old new : List ℕ) → (length piece == 0) ≡ true → IsUtf8 old
+    → new ≡ old ++ (codes "error: " ++ (flaw_message kind ++ codes "\n"))
+    → chars new ≡ chars old ++ error_words (flaw_message kind) (chars piece)
+error_alone kind [] old new none utf8 written =
+    words_written (flaw_message kind) (codes "\n") old new (message_low kind) refl utf8 written
+    ∙ ap (λ z. chars old ++ error_words (flaw_message kind) z) (sym chars-nil)
+error_alone kind (b ∷ bs) old new none utf8 written = absurd (false≢true (sym (not_empty (length bs)) ∙ none))
+  where
+    not_empty : (n : ℕ) → (suc n == 0) ≡ false
+    not_empty n = search rules
+
+-- with one
+pub error_of_piece : (kind : FlawKind) (piece old a b new : List ℕ) → (length piece == 0) ≡ false → IsUtf8 piece
+    → IsUtf8 old → IsUtf8 b → a ≡ old ++ (codes "error: " ++ (flaw_message kind ++ codes ": "))
+    → chars b ≡ chars a ++ visible (chars piece) → new ≡ b ++ codes "\n"
+    → chars new ≡ chars old ++ error_words (flaw_message kind) (chars piece)
+error_of_piece kind piece old a b new some utf8 u v begun shown ended = go (chars piece) refl shown
+  where
+    message : List ℕ
+    message = flaw_message kind
+
+    tail : (cs : List ℕ) → chars b ≡ chars a ++ visible cs → chars new
+        ≡ chars old ++ (codes "error: " ++ (message ++ (codes ": " ++ (visible cs ++ codes "\n"))))
+    tail cs e =
+        pushed b new (codes "\n") v ended
+        ∙ ap (λ z. chars b ++ z) (chars-IsAscii (codes "\n") (low_text (codes "\n") refl))
+        ∙ ap (λ z. z ++ codes "\n") e
+        ∙ ap (λ z. (z ++ visible cs) ++ codes "\n") (words_written message (codes ": ") old a (message_low kind) refl u
+        begun)
+        ∙ append_assoc (chars old ++ (codes "error: " ++ (message ++ codes ": "))) (visible cs) (codes "\n")
+        ∙ append_assoc (chars old) (codes "error: " ++ (message ++ codes ": ")) (visible cs ++ codes "\n")
+        ∙ ap (λ z. chars old ++ z) (append_assoc (codes "error: ") (message ++ codes ": ") (visible cs ++ codes "\n")
+        ∙ ap (λ z. codes "error: " ++ z) (append_assoc message (codes ": ") (visible cs ++ codes "\n")))
+
+    go : (cs : List ℕ) → chars piece ≡ cs → chars b ≡ chars a ++ visible (chars piece) → chars new
+        ≡ chars old ++ error_words message (chars piece)
+    go [] none e =
+        let empty : piece ≡ [] = sym (encodes-chars piece utf8) ∙ ap encode_utf8_all none in
+        absurd (false≢true (sym some ∙ ap (λ (z : List ℕ). length z == 0) empty))
+    go (c ∷ cs) is e =
+        tail (c ∷ cs) (e ∙ ap (λ z. chars a ++ visible z) is)
+        ∙ ap (λ z. chars old ++ error_words message z) (sym is)
+
+-- what stands before the line, and what is wrong
+pub flaw_shown : (options : Options) (whole text : List ℕ) (lo : ℕ) (flaw : Flaw) (place : Place)
+    (piece old a new : List ℕ) → Explains text flaw
+    → IsPlaceIn options.by_line whole (lo + flaw.lo) (lo + flaw.hi) place → IsPieceOf text flaw piece
+    → a ≡ old ++ line_front options.path place → new ≡ a ++ error_words (flaw_message flaw.kind) piece
+    → Appends (IsFlawLine options whole text lo) old new
+flaw_shown options whole text lo flaw place piece old a new explains is_place is_piece front words =
+    let line = line_front options.path place ++ error_words (flaw_message flaw.kind) piece in (
       line,
-      inl (asked, (flaw, place, explains, is_place, refl)),
-      pushed old new line utf8 written
-          ∙ ap (λ z. chars old ++ z) (chars-IsAscii line (line_ascii place flaw.kind)),
+      (flaw, place, piece, explains, is_place, is_piece, refl),
+      words ∙ ap (λ z. z ++ error_words (flaw_message flaw.kind) piece) front
+          ∙ append_assoc old (line_front options.path place) (error_words (flaw_message flaw.kind) piece),
     )
-
--- nothing was appended
-pub explains_nothing : (options : Options) (whole text : List ℕ) (lo : ℕ) (old : List ℕ)
-    → (IsTrue options.explains → HasReading text) → Appends (IsReasonLine options whole text lo) old old
-explains_nothing options whole text lo old reads = ([], inr (reads, refl), sym (append-nil old))
 
 -- ---- the steps
 
@@ -177,3 +243,19 @@ flaw_rest token text rest inside flaw begins explains is =
       is_text = begins.cursor.is_text;
       following = tail_step text rest (drop flaw.lo rest) begins.cursor.following within.following;
     })
+
+-- ---- the piece
+
+pub piece_is : (text piece : List ℕ) (flaw : Flaw) → IsUtf8 text → IsUtf8 piece → IsSlice text flaw.from flaw.hi
+    → piece ≡ take (flaw.hi - flaw.from) (drop flaw.from text) → IsPieceOf (chars text) flaw (chars piece)
+piece_is text piece flaw u v slice is =
+    let same = encodes-chars text u in
+    inl (
+      subst (λ (t : List ℕ). IsSlice t flaw.from flaw.hi) (sym same) slice,
+      encodes-chars piece v ∙ is ∙ ap (λ t. take (flaw.hi - flaw.from) (drop flaw.from t)) (sym same),
+    )
+
+pub no_piece : (text : List ℕ) (flaw : Flaw) → IsUtf8 text → (IsSlice text flaw.from flaw.hi → ⊥)
+    → IsPieceOf (chars text) flaw (chars [])
+no_piece text flaw u none =
+    inr (λ slice. none (subst (λ (t : List ℕ). IsSlice t flaw.from flaw.hi) (encodes-chars text u) slice), chars-nil)

@@ -1,11 +1,14 @@
 -- What is appended for one token.
 use Rattle.rl_reading.proofs.Names.{HasNoReading, Kind}
-use Rattle.rl_text.proofs.Common.{Bool, IsAscii, IsUtf8, List, None, Option, Some, [], ap, append_assoc, arith, chars, chars-IsAscii, cond, false, inl, inr, lit<, nat_tests, refl, subst, suc, sym, true, zero, ℕ, ◌%◌, ◌++◌, ◌/◌, ◌<◌, ◌==◌, ◌∙◌, ◌∷◌, ◌≡◌, ◌⊎◌}
+use Rattle.rl_text.proofs.Common.{Bool, IsAscii, IsUtf8, List, None, Option, Some, [], ap, append_assoc, arith, chars, chars-IsAscii, cond, false, inl, inr, lit<, nat_tests, refl, subst, suc, sym, true, zero, ℕ, ◌%◌, ◌++◌, ◌/◌, ◌<◌, ◌==◌, ◌∙◌, ◌∷◌, ◌≡◌, ◌⊎◌, IsCharBoundary, length, take, drop, ◌+◌, chars-append, chars_from_encodes, encodes-append, encodes-chars, length-append, take-append_seam}
 use Rattle.std.specs.Fmt.{digits, decimal, digits_onto, digit_glyph}
 use Rattle.std.proofs.lemmas.List.{append-nil}
-use Rattle.std.proofs.lemmas.Str.{IsAscii-append}
+use Rattle.std.proofs.lemmas.Str.{IsAscii-append, IsUtf8-past_char, IsCharBoundary-from_drop}
 use Rattle.std.proofs.lemmas.Str.Ascii.{IsAscii-nil, IsAscii-cons}
-use Rattle.std.specs.Prelude.{IfNone, IfSome, MatchOption}
+use Rattle.std.specs.Prelude.{IfNone, IfSome, MatchOption, IsTrue, encode_utf8_all}
+use Rattle.std.proofs.Math.Seq.{drop-append_seam}
+use Rattle.rl_forms.specs.Reading.{HasReading}
+use Rattle.rl_files.specs.Visible.{visible_lines}
 use Rattle.rl_lexer.specs.Sources.{SourceKind, SourceBefore, BeginsNoSource}
 use Rattle.rl_lexer.specs.Cursors.{CursorState}
 use Rattle.rl_reading.specs.declared.found.Found.{Found}
@@ -16,9 +19,9 @@ use Rattle.rl_sources.specs.declared.options.Options.{Options}
 use Rattle.rl_sources.specs.declared.place.Place.{Place}
 use Rattle.rl_sources.specs.declared.place.Place.TheVariants.{Bytes, Line}
 use Rattle.rl_sources.specs.Options.{Picks}
-use Rattle.rl_sources.specs.Places.{place_text, IsPlaceIn}
-use Rattle.rl_sources.specs.Scans.{IsReasonLine, IsShownLiteral}
-use Rattle.rl_sources.specs.Steps.{IsPlacedText}
+use Rattle.rl_sources.specs.Places.{line_front, place_text, IsPlaceIn}
+use Rattle.rl_sources.specs.Scans.{IsFlawLine, IsLineIn, IsShownLiteral}
+use Rattle.rl_sources.specs.Steps.{IsTextLine}
 
 -- ---- places are ASCII
 
@@ -36,7 +39,7 @@ onto_ascii (suc k) n acc h =
     let is_now : IsAscii now = IsAscii-cons (digit_glyph false (n % 10)) acc (glyph_ascii (n % 10) (omega arith)) h in
     chosen_ascii (n / 10 == 0) now (digits_onto k 10 false (n / 10) now) is_now (onto_ascii k (n / 10) now is_now)
 
-decimal_ascii : (n : ℕ) → IsAscii (decimal n)
+pub decimal_ascii : (n : ℕ) → IsAscii (decimal n)
 unfolding digits
 decimal_ascii n = onto_ascii 64 n [] IsAscii-nil
 
@@ -52,17 +55,90 @@ pub spaced_ascii : (place : Place) → IsAscii (place_text place ++ 32 ∷ [])
 spaced_ascii place = IsAscii-append (place_text place) (32 ∷ []) (place_ascii place)
     (IsAscii-cons 32 [] (lit< tt) IsAscii-nil)
 
--- a place, a space and a text's line
-pub placed : (place : Place) (text old mid new : List ℕ) → IsUtf8 old → mid ≡ old ++ (place_text place ++ 32 ∷ [])
-    → Appends (IsLineOf text) (chars mid) (chars new) → Appends (IsPlacedText place text) (chars old) (chars new)
-placed place text old mid new utf8 written (line, is_line, e) =
-    let shown = place_text place ++ 32 ∷ line in
-    let before : chars mid ≡ chars old ++ (place_text place ++ 32 ∷ []) = pushed old mid (place_text place ++ 32 ∷ [])
-    utf8 written ∙ ap (λ z. chars old ++ z) (chars-IsAscii (place_text place ++ 32 ∷ []) (spaced_ascii place)) in
-    let joined : (chars old ++ (place_text place ++ 32 ∷ [])) ++ line ≡ chars old ++ shown =
-    append_assoc (chars old) (place_text place ++ 32 ∷ []) line
-    ∙ ap (λ z. chars old ++ z) (append_assoc (place_text place) (32 ∷ []) line) in
-    (shown, (line, is_line, refl), e ∙ ap (λ z. z ++ line) before ∙ joined)
+-- what stands before a line
+pub front_bare : (place : Place) (old new : List ℕ) → IsUtf8 old → new ≡ old ++ (place_text place ++ 32 ∷ [])
+    → chars new ≡ chars old ++ (place_text place ++ 32 ∷ [])
+front_bare place old new utf8 written =
+    pushed old new (place_text place ++ 32 ∷ []) utf8 written
+    ∙ ap (λ z. chars old ++ z) (chars-IsAscii (place_text place ++ 32 ∷ []) (spaced_ascii place))
+
+-- four pieces, one after another
+pub four_pieces : (old a b d new p q r s : List ℕ) → a ≡ old ++ p → b ≡ a ++ q → d ≡ b ++ r → new ≡ d ++ s
+    → new ≡ old ++ (p ++ (q ++ (r ++ s)))
+four_pieces old a b d new p q r s e f g h =
+    h ∙ ap (λ z. z ++ s) (g ∙ ap (λ z. z ++ r) (f ∙ ap (λ z. z ++ q) e))
+    ∙ append_assoc ((old ++ p) ++ q) r s ∙ append_assoc (old ++ p) q (r ++ s) ∙ append_assoc old p (q ++ (r ++ s))
+
+pub front_in_file : (path : List ℕ) (place : Place) (old new : List ℕ) → IsUtf8 old → IsUtf8 path
+    → new ≡ old ++ (path ++ (58 ∷ (place_text place ++ 58 ∷ 32 ∷ [])))
+    → chars new ≡ chars old ++ (chars path ++ (58 ∷ (place_text place ++ 58 ∷ 32 ∷ [])))
+front_in_file path place old new utf8 is_path written =
+    let after : List ℕ = 58 ∷ (place_text place ++ 58 ∷ 32 ∷ []) in
+    let ascii : IsAscii after = IsAscii-cons 58 (place_text place ++ 58 ∷ 32 ∷ []) (lit< tt)
+    (IsAscii-append (place_text place) (58 ∷ 32 ∷ []) (place_ascii place)
+    (IsAscii-cons 58 (32 ∷ []) (lit< tt) (IsAscii-cons 32 [] (lit< tt) IsAscii-nil))) in
+    pushed old new (path ++ after) utf8 written
+    ∙ ap (λ z. chars old ++ z) (chars-append path after is_path
+    ∙ ap (λ z. chars path ++ z) (chars-IsAscii after ascii))
+
+-- what is left after the front of a text is a text
+pub back_utf8 : (front back : List ℕ) → IsUtf8 (encode_utf8_all (front ++ back)) → IsUtf8 (encode_utf8_all back)
+back_utf8 [] back u = u
+back_utf8 (c ∷ cs) back u = back_utf8 cs back (IsUtf8-past_char (encode_utf8_all (c ∷ (cs ++ back)))
+    (encode_utf8_all (cs ++ back)) c u refl)
+
+-- The line that was appended begins where the text ended before.
+pub record EndsInLine (old now line : List ℕ) : Type 0 where
+  pub boundary : IsCharBoundary now (length old)
+  pub front_is : take (length old) now ≡ old
+  pub line_is : chars (drop (length old) now) ≡ line
+
+pub ends_in_line : (old now line : List ℕ) → IsUtf8 old → IsUtf8 now → chars now ≡ chars old ++ line
+    → EndsInLine old now line
+ends_in_line old now line u v e =
+    let text : now ≡ encode_utf8_all (chars old ++ line) = sym (encodes-chars now v) ∙ ap encode_utf8_all e in
+    let bytes : now ≡ old ++ encode_utf8_all line = text ∙ encodes-append (chars old) line
+    ∙ ap (λ z. z ++ encode_utf8_all line) (encodes-chars old u) in
+    let is_line : IsUtf8 (encode_utf8_all line) = back_utf8 (chars old) line (subst IsUtf8 text v) in
+    let dropped : drop (length old) now ≡ encode_utf8_all line = ap (drop (length old)) bytes
+    ∙ drop-append_seam old (encode_utf8_all line) in
+    let long : length now ≡ length old + length (encode_utf8_all line) = ap length bytes
+    ∙ length-append old (encode_utf8_all line) in
+    record {
+      boundary = IsCharBoundary-from_drop now (length old) (omega (arith, long)) (subst IsUtf8 (sym dropped) is_line);
+      front_is = ap (take (length old)) bytes ∙ take-append_seam old (encode_utf8_all line);
+      line_is = ap chars dropped ∙ sym (chars_from_encodes line (encode_utf8_all line) is_line refl);
+    }
+
+-- the line is as it is printed
+pub line_printed : (text old now new : List ℕ) → IsUtf8 old → IsUtf8 now
+    → Appends (IsLineOf text) (chars old) (chars now)
+    → chars new ≡ chars (take (length old) now) ++ visible_lines (chars (drop (length old) now))
+    → Appends (IsTextLine [] text) (chars old) (chars new)
+line_printed text old now new u v (line, is_line, e) made =
+    let ends = ends_in_line old now line u v e in (
+      visible_lines line,
+      (line, is_line, refl),
+      made ∙ ap (λ z. chars z
+          ++ visible_lines (chars (drop (length old) now)))
+          ends.front_is ∙ ap (λ z. chars old ++ visible_lines z) ends.line_is,
+    )
+
+-- what stands before it, and the line
+pub placed : (options : Options) (whole text : List ℕ) (lo hi : ℕ) (place : Place) (old mid new : List ℕ)
+    → (IsTrue options.explains → HasReading text) → IsPlaceIn options.by_line whole lo hi place
+    → mid ≡ old ++ line_front options.path place → Appends (IsTextLine [] text) mid new
+    → Appends (IsLineIn options whole text lo hi) old new
+placed options whole text lo hi place old mid new reads is_place front (shown, (line, is_line, is), e) = (
+  line_front options.path place ++ shown,
+  inr (reads, (place, line, is_place, is_line, ap (λ z. line_front options.path place ++ z) is)),
+  e ∙ ap (λ z. z ++ shown) front ∙ append_assoc old (line_front options.path place) shown,
+)
+
+-- a line that says why
+pub explained : (options : Options) (whole text : List ℕ) (lo hi : ℕ) (old new : List ℕ) → IsTrue options.explains
+    → Appends (IsFlawLine options whole text lo) old new → Appends (IsLineIn options whole text lo hi) old new
+explained options whole text lo hi old new asked (shown, is, e) = (shown, inl (asked, is), e)
 
 -- the word of a text's line, by what was found
 pub found_label : (text label : List ℕ) (kind : Option Kind) (found : Option Found)
@@ -75,30 +151,12 @@ found_label text label kind (Some f) none is k e = (
 )
 found_label text label kind None none is k e = (None, none, e ∙ ap label_of k)
 
--- a text's line, and what follows it
-pub explained : (options : Options) (whole text label : List ℕ) (place : Place) (lo hi : ℕ) (old mid new : List ℕ)
-    → IsLabelOf text label → Picks options.shown label → IsPlaceIn options.by_line whole lo hi place
-    → Appends (IsPlacedText place text) old mid → Appends (IsReasonLine options whole text lo) mid new
+-- the line of a text that is picked
+pub picked_line : (options : Options) (whole text label : List ℕ) (lo hi : ℕ) (old new : List ℕ)
+    → IsLabelOf text label → Picks options.shown label → Appends (IsLineIn options whole text lo hi) old new
     → Appends (IsShownLiteral options whole text lo hi) old new
-explained options whole text label place lo hi old mid new is_label picked is_place
-    (first, (line, is_line, first_is), e) (reason, is_reason, f) = (
-      first ++ reason,
-      (
-        label,
-        is_label,
-        inl (
-          picked,
-          (
-            first,
-            reason,
-            (place, line, is_place, is_line, first_is),
-            is_reason,
-            refl,
-          ),
-        ),
-      ),
-      f ∙ ap (λ z. z ++ reason) e ∙ append_assoc old first reason,
-    )
+picked_line options whole text label lo hi old new is_label picked (shown, is, e) =
+    (shown, (label, is_label, inl (picked, is)), e)
 
 -- nothing of a text that isn't picked
 pub not_picked : (options : Options) (whole text label : List ℕ) (lo hi : ℕ) (old : List ℕ) → IsLabelOf text label

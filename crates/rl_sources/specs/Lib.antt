@@ -2,7 +2,8 @@ pub mod Options
 pub mod Places
 pub mod Scans
 pub mod Steps
-pub mod Words
-pub mod Runs
-pub mod Endings
 pub mod ScanErrors
+pub mod Reports
+pub mod Runs
+pub mod Words
+pub mod Endings

@@ -1,14 +1,23 @@
 -- Which literals are shown.
-use Rattle.std.specs.Prelude.{◌≡◌, ℕ, ◌==◌, List, ⊤, None}
+use Rattle.std.specs.Prelude.{◌≡◌, ℕ, ◌==◌, List, map, ⊤, None}
 use Prim.Native.Char.{code}
-use Rattle.std.specs.List.{slice_split, Contains}
+use Rattle.std.specs.List.{slice_split, Any}
+use Rattle.std.specs.Char.{to_ascii_lowercase}
 use Rattle.rl_lines.specs.Lines.{label_of}
 use Rattle.rl_sources.specs.declared.options.Shown.{Shown}
 use Rattle.rl_sources.specs.declared.options.Shown.TheVariants.{All, Only, Bad}
 
--- this is one of the words of a list; commas separate the words
+-- the same word, but for the case of its letters
+abbrev pub IsSameWord : List ℕ → List ℕ → Type 0
+IsSameWord word other = map to_ascii_lowercase word ≡ map to_ascii_lowercase other
+
+-- the words of a list; commas separate them
+abbrev pub words_of : List ℕ → List (List ℕ)
+words_of list = slice_split (λ b. b == code ",") list
+
+-- this is one of the words of a list
 abbrev pub Names : List ℕ → List ℕ → Type 0
-Names list word = Contains (slice_split (λ b. b == code ",") list) word
+Names list word = Any (λ w. IsSameWord w word) (words_of list)
 
 -- a literal is shown whose line begins with this word
 abbrev pub Picks : Shown → List ℕ → Type 0

@@ -1,5 +1,7 @@
 -- Places of a source, as they are printed.
-use Rattle.std.specs.Prelude.{◌≡◌, ℕ, ◌+◌, Bool, false, true, List, ◌++◌, codes}
+use Rattle.std.specs.Prelude.{◌≡◌, ℕ, ◌+◌, Bool, false, true, List, ◌++◌, codes, Option, Some, None}
+use denote.Ref.{Bor}
+use Rattle.std.specs.Str.{chars}
 use Rattle.std.specs.Fmt.{decimal}
 use Rattle.rl_text.specs.Texts.{byte_len}
 use Rattle.rl_lexer.specs.Cursors.{CursorState, IsCursorState}
@@ -11,6 +13,12 @@ use Rattle.rl_sources.specs.declared.place.Place.TheVariants.{Bytes, Line}
 abbrev pub place_text : Place → List ℕ
 place_text (Bytes lo hi) = decimal lo ++ (codes ".." ++ decimal hi)
 place_text (Line at) = decimal at.line ++ (codes ":" ++ decimal at.column)
+
+-- what stands before a line: its place and a space; in a file the path and the place, each with a
+-- colon, and a space
+abbrev pub line_front : Option (Bor (List ℕ)) → Place → List ℕ
+line_front None place = place_text place ++ codes " "
+line_front (Some path) place = chars path.now ++ (codes ":" ++ (place_text place ++ codes ": "))
 
 -- the place of these bytes of a text: by its bytes, or by the line and column where it begins
 abbrev pub IsPlaceIn : Bool → List ℕ → ℕ → ℕ → Place → Type 0

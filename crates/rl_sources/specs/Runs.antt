@@ -1,29 +1,59 @@
--- What a run does with its whole input, where the reader and the writer tell their bytes.
-use Rattle.std.specs.Prelude.{◌⊎◌, ℕ, Bool, List, Option, IfSome}
-use Rattle.std.specs.Str.{chars, IsUtf8}
-use Rattle.std.specs.Io.KnownBytes.{Keeps}
-use Rattle.rl_program.specs.declared.fault.Fault.TheVariants.{Read, Write, NotText, Memory, Literal}
-use Rattle.rl_sources.specs.declared.options.Options.{Options}
-use Rattle.rl_sources.specs.declared.scan_error.ScanError.{ScanError}
-use Rattle.rl_sources.specs.declared.scan_error.ScanError.TheVariants.{Fault, Source}
-use Rattle.rl_sources.specs.Scans.{Scans, FailsScan}
+-- What a run over a walk writes, and the status that it ends with.
+use Rattle.std.specs.Prelude.{◌≡◌, ◌⊎◌, ℕ, ◌==◌, Bool, true, false, cond, not, ◌&&◌, List, length, ◌++◌, Option}
+use Rattle.std.specs.Io.KnownBytes.{Appends, Keeps}
+use Rattle.rl_files.specs.Trees.{World}
+use Rattle.rl_files.specs.Walks.{Spot, Visited, Visits}
+use Rattle.rl_program.specs.Streams.{AppendsBeginning}
+use Rattle.rl_sources.specs.declared.command.Command.{Command}
+use Rattle.rl_sources.specs.declared.options.Shown.{Shown}
+use Rattle.rl_sources.specs.declared.runs.Tally.{Tally}
+use Rattle.rl_sources.specs.Reports.{Findings, IsReport, AreReports, is_bad}
 
--- the bytes are a text, and the lines of its literals are what was written
-abbrev pub PrintsSource : Options → List ℕ → Option (List ℕ) → Option (List ℕ) → Bool → Type 0
-PrintsSource options bytes old new any = IsUtf8 bytes × Scans options (chars bytes) old new any
+-- The bytes that two writers held before and hold now: standard output and standard error.
+pub record Streams : Type 0 where
+  pub out_old : Option (List ℕ)
+  pub out_new : Option (List ℕ)
+  pub err_old : Option (List ℕ)
+  pub err_new : Option (List ℕ)
 
--- why a run failed, and what it wrote: nothing where the input was no text or wasn't read whole,
--- else as the scan of its text
-abbrev pub FailsRun : {A : Type 0} → Options → Option (List ℕ) → Option (List ℕ) → Option (List ℕ)
-    → ScanError A → Type 0
-FailsRun options input old new (Fault Read) = Keeps old new
-FailsRun options input old new (Fault NotText) =
-    Keeps old new × IfSome input (λ bytes. IsUtf8 bytes → ⊥)
-FailsRun {A} options input old new (Fault Memory) =
-    Keeps old new
-    ⊎ IfSome input (λ bytes. IsUtf8 bytes × FailsScan {A = A} options (chars bytes) old new (Fault Memory))
-FailsRun options input old new (Fault (Literal error)) = ⊥
-FailsRun {A} options input old new (Fault Write) =
-    IfSome input (λ bytes. IsUtf8 bytes × FailsScan {A = A} options (chars bytes) old new (Fault Write))
-FailsRun {A} options input old new (Source place kind) =
-    IfSome input (λ bytes. IsUtf8 bytes × FailsScan {A = A} options (chars bytes) old new (Source place kind))
+-- All of this was written, and it is told whether something was found, and whether an error was told.
+pub record IsWritten (streams : Streams) (printed : Findings) (tally : Tally) : Type 0 where
+  pub on_out : Appends streams.out_old streams.out_new printed.out
+  pub on_err : Appends streams.err_old streams.err_new printed.told
+  pub found : tally.found ≡ printed.found
+  pub failed : tally.failed ≡ not (length printed.told == 0)
+
+-- what was written of one visit
+abbrev pub WritesReport : Command → World → Visited → Streams → Tally → Type 0
+WritesReport command w visit streams tally =
+    (printed : Findings) × IsReport command w visit printed × IsWritten streams printed tally
+
+-- What was written of a walk from these places on: what is reported of all that is visited, in order.
+abbrev pub WritesWalk : Command → World → List Spot → Streams → Tally → Type 0
+WritesWalk command w spots streams tally =
+    (visits : List Visited) × (printed : Findings) × Visits w spots visits
+    × AreReports command w visits printed × IsWritten streams printed tally
+
+-- a beginning of this was written
+abbrev pub WritesBeginning : Streams → Findings → Type 0
+WritesBeginning streams printed =
+    AppendsBeginning streams.out_old streams.out_new printed.out
+    × AppendsBeginning streams.err_old streams.err_new printed.told
+
+-- what was written of one visit where that failed: nothing, or a beginning of what is reported
+abbrev pub WritesSome : Command → World → Visited → Streams → Type 0
+WritesSome command w visit streams =
+    (Keeps streams.out_old streams.out_new × Keeps streams.err_old streams.err_new)
+    ⊎ ((printed : Findings) × IsReport command w visit printed × WritesBeginning streams printed)
+
+-- What was written where the run ended early: a beginning of what is reported of the first that a walk
+-- visits.
+abbrev pub WritesFront : Command → World → List Spot → Streams → Type 0
+WritesFront command w spots streams =
+    (visits others : List Visited) × (printed : Findings) × Visits w spots (visits ++ others)
+    × AreReports command w visits printed × WritesBeginning streams printed
+
+-- The status of a run: 2 where an error was told; else 1 where what is bad was asked for, and some was
+-- found; else 0.
+abbrev pub run_status : Shown → Tally → ℕ
+run_status shown tally = cond tally.failed 2 (cond (is_bad shown && tally.found) 1 0)

@@ -1,9 +1,9 @@
--- What is shown of a source: a line for each of its literals, after its place, and where it is asked
--- for one more that says why it has no reading. Texts and what is shown are lists of characters, what
+-- What is shown of a source: a line for each of its literals, after its place, or where it is asked
+-- for one that says why it has no reading. Texts and what is shown are lists of characters, what
 -- is written lists of bytes.
-use Rattle.std.specs.Prelude.{◌≡◌, ◌≢◌, ◌⊎◌, ◌↔◌, ℕ, ◌+◌, Bool, List, [], ◌∷◌, ◌++◌, IsTrue, codes, encode_utf8_all, Option}
-use Prim.Native.Char.{code}
+use Rattle.std.specs.Prelude.{◌≡◌, ◌≢◌, ◌⊎◌, ◌↔◌, ℕ, ◌+◌, ◌-◌, ◌≤◌, Bool, List, [], ◌∷◌, ◌++◌, IsTrue, take, drop, codes, encode_utf8_all, Option}
 use Rattle.std.specs.List.{All}
+use Rattle.std.specs.Str.{IsCharBoundary}
 use Rattle.std.specs.Io.KnownBytes.{Appends}
 use Rattle.rl_text.specs.Texts.{byte_len}
 use Rattle.rl_lexer.specs.Lexemes.{LiteralForm, IdentifierForm}
@@ -15,6 +15,7 @@ use Rattle.rl_reasons.specs.declared.flaws.Flaw.{Flaw}
 use Rattle.rl_reasons.specs.Flaws.{Explains}
 use Rattle.rl_reasons.specs.FlawWords.{flaw_message}
 use Rattle.rl_lines.specs.Lines.{IsLineOf, IsLabelOf, Joins}
+use Rattle.rl_files.specs.Visible.{visible, visible_lines}
 use Rattle.rl_program.specs.Streams.{AppendsBeginning}
 use Rattle.rl_program.specs.declared.fault.Fault.TheVariants.{Write, Memory}
 use Rattle.rl_sources.specs.declared.options.Options.{Options}
@@ -22,40 +23,51 @@ use Rattle.rl_sources.specs.declared.place.Place.{Place}
 use Rattle.rl_sources.specs.declared.scan_error.ScanError.{ScanError}
 use Rattle.rl_sources.specs.declared.scan_error.ScanError.TheVariants.{Fault, Source}
 use Rattle.rl_sources.specs.Options.{Picks}
-use Rattle.rl_sources.specs.Places.{place_text, IsPlaceIn}
+use Rattle.rl_sources.specs.Places.{line_front, IsPlaceIn}
 
 -- the line of a text as a literal, after its place in the whole source
-abbrev pub IsPlacedLine : Bool → List ℕ → List ℕ → ℕ → ℕ → List ℕ → Type 0
-IsPlacedLine by_line whole text lo hi shown =
-    (place : Place) × (line : List ℕ) × IsPlaceIn by_line whole lo hi place × IsLineOf text line
-    × (shown ≡ place_text place ++ (code " " ∷ line))
+abbrev pub IsPlacedLine : Options → List ℕ → List ℕ → ℕ → ℕ → List ℕ → Type 0
+IsPlacedLine options whole text lo hi shown =
+    (place : Place) × (line : List ℕ) × IsPlaceIn options.by_line whole lo hi place × IsLineOf text line
+    × (shown ≡ line_front options.path place ++ visible_lines line)
+
+-- the bytes from `lo` to `hi` are a text
+abbrev pub IsSlice : List ℕ → ℕ → ℕ → Type 0
+IsSlice text lo hi = (lo ≤ hi) × IsCharBoundary text lo × IsCharBoundary text hi
+
+-- the piece of a text that the flaw spoils, up to the character that makes it no literal; nothing
+-- where that is no piece of it
+abbrev pub IsPieceOf : List ℕ → Flaw → List ℕ → Type 0
+IsPieceOf text flaw piece =
+    (IsSlice (encode_utf8_all text) flaw.from flaw.hi
+    × (encode_utf8_all piece ≡ take (flaw.hi - flaw.from) (drop flaw.from (encode_utf8_all text))))
+    ⊎ ((IsSlice (encode_utf8_all text) flaw.from flaw.hi → ⊥) × (piece ≡ []))
+
+-- what is wrong: a message and, where there is one, a piece as it is printed
+abbrev pub error_words : List ℕ → List ℕ → List ℕ
+error_words message [] = codes "error: " ++ (message ++ codes "\n")
+error_words message piece = codes "error: " ++ (message ++ (codes ": " ++ (visible piece ++ codes "\n")))
 
 -- the line that says why a text, which begins at this byte of the whole source, is no literal: the
--- place of a flaw that explains it, and what is wrong
-abbrev pub IsFlawLine : Bool → List ℕ → List ℕ → ℕ → List ℕ → Type 0
-IsFlawLine by_line whole text lo shown =
-    (flaw : Flaw) × (place : Place) × Explains text flaw
-    × IsPlaceIn by_line whole (lo + flaw.lo) (lo + flaw.hi) place
-    × (shown ≡ place_text place ++ (codes " error: " ++ (flaw_message flaw.kind ++ codes "\n")))
+-- place of a flaw that explains it, what is wrong, and the piece that it spoils
+abbrev pub IsFlawLine : Options → List ℕ → List ℕ → ℕ → List ℕ → Type 0
+IsFlawLine options whole text lo shown =
+    (flaw : Flaw) × (place : Place) × (piece : List ℕ) × Explains text flaw
+    × IsPlaceIn options.by_line whole (lo + flaw.lo) (lo + flaw.hi) place × IsPieceOf text flaw piece
+    × (shown ≡ line_front options.path place ++ error_words (flaw_message flaw.kind) piece)
 
--- what follows the line of a text: where it is asked for, and the text is no literal, the line that
--- says why; else nothing
-abbrev pub IsReasonLine : Options → List ℕ → List ℕ → ℕ → List ℕ → Type 0
-IsReasonLine options whole text lo shown =
-    (IsTrue options.explains × IsFlawLine options.by_line whole text lo shown)
-    ⊎ ((IsTrue options.explains → HasReading text) × (shown ≡ []))
+-- the line of a text: where it is asked for, and the text is no literal, the line that says why;
+-- else its line as a literal
+abbrev pub IsLineIn : Options → List ℕ → List ℕ → ℕ → ℕ → List ℕ → Type 0
+IsLineIn options whole text lo hi shown =
+    (IsTrue options.explains × IsFlawLine options whole text lo shown)
+    ⊎ ((IsTrue options.explains → HasReading text) × IsPlacedLine options whole text lo hi shown)
 
--- the line of a text as a literal, after its place, and what follows it
-abbrev pub IsExplainedLine : Options → List ℕ → List ℕ → ℕ → ℕ → List ℕ → Type 0
-IsExplainedLine options whole text lo hi shown =
-    (line reason : List ℕ) × IsPlacedLine options.by_line whole text lo hi line
-    × IsReasonLine options whole text lo reason × (shown ≡ line ++ reason)
-
--- what is shown of a literal: its line, and what follows it, where it is picked, else nothing
+-- what is shown of a literal: its line, where it is picked, else nothing
 abbrev pub IsShownLiteral : Options → List ℕ → List ℕ → ℕ → ℕ → List ℕ → Type 0
 IsShownLiteral options whole text lo hi shown =
     (label : List ℕ) × IsLabelOf text label
-    × ((Picks options.shown label × IsExplainedLine options whole text lo hi shown)
+    × ((Picks options.shown label × IsLineIn options whole text lo hi shown)
     ⊎ ((Picks options.shown label → ⊥) × (shown ≡ [])))
 
 -- what is shown of a token: of a literal, and of the words `true` and `false`, what is shown of

@@ -7,18 +7,18 @@ use Rattle.rl_lexer.specs.Sources.{CutSource, StrayKind, source_view, TakesSourc
 use Rattle.rl_lexer.specs.declared.lex_error.LexError.{LexError}
 use Rattle.rl_lexer.specs.declared.sources.SourceToken.{SourceToken}
 use Rattle.rl_lines.specs.Lines.{IsLineOf}
-use Prim.Native.Char.{code}
+use Rattle.rl_files.specs.Visible.{visible_lines}
 use Rattle.rl_sources.specs.declared.options.Options.{Options}
 use Rattle.rl_sources.specs.declared.place.Place.{Place}
 use Rattle.rl_sources.specs.declared.step.Step.{Step}
 use Rattle.rl_sources.specs.declared.step.Step.TheVariants.{More, End, Error}
-use Rattle.rl_sources.specs.Places.{place_text, IsPlaceIn}
+use Rattle.rl_sources.specs.Places.{IsPlaceIn}
 use Rattle.rl_sources.specs.Scans.{ShowsUpTo, IsErrorAt}
 
--- the line of a text, after a place
-abbrev pub IsPlacedText : Place → List ℕ → List ℕ → Type 0
-IsPlacedText place text shown =
-    (line : List ℕ) × IsLineOf text line × (shown ≡ place_text place ++ (code " " ∷ line))
+-- the line of a text, after what stands before it
+abbrev pub IsTextLine : List ℕ → List ℕ → List ℕ → Type 0
+IsTextLine front text shown =
+    (line : List ℕ) × IsLineOf text line × (shown ≡ front ++ visible_lines line)
 
 -- where strays are rejected, no token is one
 abbrev pub IsAcceptedToken : Bool → Option SourceToken → Type 0

@@ -1,29 +1,56 @@
--- The options of the command line. Words are lists of bytes.
-use Rattle.std.specs.Prelude.{◌≡◌, ℕ, Bool, true, false, ◌==◌, List, [], ◌∷◌, codes, ⊤, Option}
-use Prim.Native.Char.{code}
-use Rattle.std.specs.List.{slice_split, All}
-use Rattle.rl_forms.specs.declared.kind.Kind.{Kind}
-use Rattle.rl_lines.specs.Lines.{label_of}
-use Rattle.rl_sources.specs.declared.options.Options.{Options}
+-- What the words of a command line ask for. Words are lists of bytes.
+use Rattle.std.specs.Prelude.{◌≡◌, ◌≢◌, ◌⊎◌, ℕ, ◌==◌, Bool, true, false, not, ◌||◌, List, [], ◌∷◌, ◌++◌, map, codes, string_bytes, ⊤}
+use Rattle.std.specs.List.{All, starts_with}
+use Rattle.std.specs.Str.{chars, bytes_eq}
+use Rattle.rl_files.specs.Trees.{string_texts}
+use Rattle.rl_files.specs.Visible.{visible}
+use Rattle.rl_sources.specs.declared.command.Wish.{Wish}
+use Rattle.rl_sources.specs.declared.command.Wish.TheVariants as wish
+use Rattle.rl_sources.specs.declared.command.PlaceForm.{PlaceForm}
+use Rattle.rl_sources.specs.declared.command.PlaceForm.TheVariants as form
+use Rattle.rl_sources.specs.declared.command.Output.{Output}
+use Rattle.rl_sources.specs.declared.command.Output.TheVariants as output
+use Rattle.rl_sources.specs.declared.command.Command.{Command}
 use Rattle.rl_sources.specs.declared.options.Shown.{Shown}
 use Rattle.rl_sources.specs.declared.options.Shown.TheVariants as shown
 use Rattle.rl_sources.specs.declared.words.Flag.{Flag}
-use Rattle.rl_sources.specs.declared.words.Flag.TheVariants.{Lines, NoStray, Bad, Only, Why}
+use Rattle.rl_sources.specs.declared.words.Flag.TheVariants.{Bad, Only, Bytes, Lines, NoStray, Count, Files, Quiet, Help, Version, Paths}
+use Rattle.rl_sources.specs.declared.words.Next.{Next}
+use Rattle.rl_sources.specs.declared.words.Next.TheVariants as next
+use Rattle.rl_sources.specs.declared.words.Asked.{Asked}
+use Rattle.rl_sources.specs.declared.words.WordError.{WordError}
+use Rattle.rl_sources.specs.declared.words.WordError.TheVariants.{Memory, UnknownOption, UnknownKind, NoKinds, TwoChoices}
+use Rattle.rl_sources.specs.Options.{Names, words_of}
 
--- a line may begin with this word
+-- the words of an option
+abbrev pub IsOptionWord : Flag → List ℕ → Type 0
+IsOptionWord Bad word = (word ≡ codes "-b") ⊎ (word ≡ codes "--bad")
+IsOptionWord Only word = (word ≡ codes "-k") ⊎ (word ≡ codes "--only")
+IsOptionWord Bytes word = (word ≡ codes "-o") ⊎ (word ≡ codes "--bytes")
+IsOptionWord Lines word = word ≡ codes "--lines"
+IsOptionWord NoStray word = word ≡ codes "--no-stray"
+IsOptionWord Count word = (word ≡ codes "-c") ⊎ (word ≡ codes "--count")
+IsOptionWord Files word = (word ≡ codes "-l") ⊎ (word ≡ codes "--files")
+IsOptionWord Quiet word = (word ≡ codes "-q") ⊎ (word ≡ codes "--quiet")
+IsOptionWord Help word = (word ≡ codes "-h") ⊎ (word ≡ codes "--help")
+IsOptionWord Version word = (word ≡ codes "-V") ⊎ (word ≡ codes "--version")
+IsOptionWord Paths word = word ≡ codes "--"
+
+-- the kinds of literals, and `Verbatim` for those without a reading
+abbrev pub kind_list : List ℕ
+kind_list = codes "Str,ByteStr,CStr,Byte,Char,Int,Float,Bool,Verbatim"
+
+-- one of them, in any case of its letters
 abbrev pub IsKindWord : List ℕ → Type 0
-IsKindWord word = (kind : Option Kind) × (word ≡ label_of kind)
+IsKindWord word = Names kind_list word
 
--- each word of a list is such a word; commas separate the words
+-- each word of a list is one; commas separate the words
 abbrev pub AreKindWords : List ℕ → Type 0
-AreKindWords list = All IsKindWord (slice_split (λ b. b == code ",") list)
+AreKindWords list = All IsKindWord (words_of list)
 
-abbrev pub flag_word : Flag → List ℕ
-flag_word Lines = codes "--lines"
-flag_word NoStray = codes "--no-stray"
-flag_word Bad = codes "--bad"
-flag_word Only = codes "--only"
-flag_word Why = codes "--why"
+-- `-`, and what doesn't begin with a dash
+abbrev pub is_path_word : List ℕ → Bool
+is_path_word word = bytes_eq word (codes "-") || not (starts_with ◌==◌ word (codes "-"))
 
 -- which literals are wanted: all, those of a list's kinds, those without a reading
 pub data Wanted : Type 0 where
@@ -31,59 +58,122 @@ pub data Wanted : Type 0 where
   OnlyWanted : (list : List ℕ) → Wanted
   BadWanted : Wanted
 
--- what the command line asks for
-pub record Wishes : Type 0 where
-  pub wanted : Wanted
-  pub by_line : Bool
-  pub rejects_strays : Bool
-  pub explains : Bool
-
--- what is asked for where no option is given
-abbrev pub first_wishes : Wishes
-first_wishes =
-    record { wanted = AllWanted; by_line = false; rejects_strays = false; explains = false }
-
 abbrev pub wanted_of : Shown → Wanted
 wanted_of shown.All = AllWanted
 wanted_of (shown.Only list) = OnlyWanted list.now
 wanted_of shown.Bad = BadWanted
 
--- the options that the code holds
-abbrev pub wishes_of : Options → Wishes
-wishes_of o = record {
-  wanted = wanted_of o.shown;
-  by_line = o.by_line;
-  rejects_strays = o.rejects_strays;
-  explains = o.explains;
+-- what a command line asks for
+pub record Wishes : Type 0 where
+  pub wish : Wish
+  pub wanted : Wanted
+  pub places : PlaceForm
+  pub output : Output
+  pub rejects_strays : Bool
+  pub paths : List (List ℕ)
+
+-- what is asked for where nothing is said
+abbrev pub first_wishes : Wishes
+first_wishes = record {
+  wish = wish.Scan;
+  wanted = AllWanted;
+  places = form.Usual;
+  output = output.Lines;
+  rejects_strays = false;
+  paths = [];
 }
+
+-- what the code holds
+abbrev pub wishes_of : Command → List (List ℕ) → Wishes
+wishes_of command paths = record {
+  wish = command.wish;
+  wanted = wanted_of command.shown;
+  places = command.places;
+  output = command.output;
+  rejects_strays = command.rejects_strays;
+  paths = paths;
+}
+
+abbrev pub wishes_in : {A : Type 0} → Asked A → Wishes
+wishes_in asked = wishes_of asked.command (string_texts asked.paths.items)
 
 -- only one option may say which literals are wanted
 abbrev pub IsAllowed : Flag → Wishes → Type 0
-IsAllowed Lines w = ⊤
-IsAllowed NoStray w = ⊤
 IsAllowed Bad w = w.wanted ≡ AllWanted
 IsAllowed Only w = w.wanted ≡ AllWanted
-IsAllowed Why w = ⊤
+IsAllowed _ w = ⊤
 
 abbrev pub with_flag : Flag → Wishes → Wishes
-with_flag Lines w = record w { by_line = true }
-with_flag NoStray w = record w { rejects_strays = true }
 with_flag Bad w = record w { wanted = BadWanted }
 with_flag Only w = w
-with_flag Why w = record w { explains = true }
+with_flag Bytes w = record w { places = form.Bytes }
+with_flag Lines w = record w { places = form.Lines }
+with_flag NoStray w = record w { rejects_strays = true }
+with_flag Count w = record w { output = output.Count }
+with_flag Files w = record w { output = output.Path }
+with_flag Quiet w = record w { output = output.Nothing }
+with_flag Help w = record w { wish = wish.Help }
+with_flag Version w = record w { wish = wish.Version }
+with_flag Paths w = w
 
--- a list of kinds follows
-abbrev pub wants_list : Flag → Bool
-wants_list Only = true
-wants_list _ = false
+-- after `--only` stands a list of kinds, after `--` stand paths
+abbrev pub next_after : Flag → Next
+next_after Only = next.Kinds
+next_after Paths = next.Path
+next_after _ = next.Any
 
--- What words ask for, after what was asked for before them; the first is a list of kinds where one
--- has to follow.
-abbrev pub Asks : Bool → Wishes → List (List ℕ) → Wishes → Type 0
-Asks true old [] new = ⊥
-Asks false old [] new = new ≡ old
-Asks true old (word ∷ words) new =
-    AreKindWords word × Asks false (record old { wanted = OnlyWanted word }) words new
-Asks false old (word ∷ words) new =
-    (flag : Flag) × (word ≡ flag_word flag) × IsAllowed flag old
-    × Asks (wants_list flag) (with_flag flag old) words new
+abbrev pub with_path : List ℕ → Wishes → Wishes
+with_path path w = record w { paths = w.paths ++ path ∷ [] }
+
+-- With this word more, where such a word may stand, so much is asked for, and such a word may stand
+-- next.
+abbrev pub IsStep : Next → Wishes → List ℕ → Next → Wishes → Type 0
+IsStep next.Kinds old word then new =
+    AreKindWords word × (then ≡ next.Any) × (new ≡ record old { wanted = OnlyWanted word })
+IsStep next.Path old word then new = (then ≡ next.Path) × (new ≡ with_path word old)
+IsStep next.Any old word then new =
+    ((is_path_word word ≡ true) × (then ≡ next.Any) × (new ≡ with_path word old))
+    ⊎ ((is_path_word word ≡ false) × ((flag : Flag) × IsOptionWord flag word × IsAllowed flag old
+    × (then ≡ next_after flag) × (new ≡ with_flag flag old)))
+
+abbrev pub AreSteps : Next → Wishes → List (List ℕ) → Next → Wishes → Type 0
+AreSteps first old [] then new = (then ≡ first) × (new ≡ old)
+AreSteps first old (word ∷ words) then new =
+    (between : Next) × (middle : Wishes) × IsStep first old word between middle
+    × AreSteps between middle words then new
+
+-- all words ask for this
+abbrev pub Asks : List (List ℕ) → Wishes → Type 0
+Asks words wishes =
+    (then : Next) × AreSteps next.Any first_wishes words then wishes × (then ≢ next.Kinds)
+
+-- what is wrong
+abbrev pub word_message : {A : Type 0} → WordError A → List ℕ
+word_message Memory = codes "out of memory"
+word_message (UnknownOption word) =
+    codes "unknown option '" ++ (string_bytes word ++ codes "': rl_scan --help lists them")
+word_message (UnknownKind word) =
+    codes "unknown kind '" ++ (string_bytes word
+    ++ codes "': one of Str, ByteStr, CStr, Byte, Char, Int, Float, Bool, Verbatim")
+word_message NoKinds = codes "--only: which kinds? as in --only Str,ByteStr"
+word_message TwoChoices = codes "--bad and --only: one of them, once"
+
+-- why this word can't be asked for, where such a word may stand
+abbrev pub IsRejectedWord : {A : Type 0} → Next → Wishes → List ℕ → WordError A → Type 0
+IsRejectedWord first old word Memory = ⊤
+IsRejectedWord first old word (UnknownOption said) =
+    (first ≡ next.Any) × (is_path_word word ≡ false) × ((flag : Flag) → IsOptionWord flag word → ⊥)
+    × (chars (string_bytes said) ≡ visible (chars word))
+IsRejectedWord first old word (UnknownKind said) = (first ≡ next.Kinds) × (AreKindWords word → ⊥)
+IsRejectedWord first old word TwoChoices =
+    (first ≡ next.Any) × ((flag : Flag) × IsOptionWord flag word × (IsAllowed flag old → ⊥))
+IsRejectedWord first old word NoKinds = ⊥
+
+-- The words ask for something up to one that can't be asked for; or a list of kinds is missing at
+-- their end.
+abbrev pub AreRejected : {A : Type 0} → List (List ℕ) → WordError A → Type 0
+AreRejected words NoKinds = (old : Wishes) × AreSteps next.Any first_wishes words next.Kinds old
+AreRejected words error =
+    (before after : List (List ℕ)) × (word : List ℕ) × (first : Next) × (old : Wishes)
+    × (words ≡ before ++ word ∷ after) × AreSteps next.Any first_wishes before first old
+    × IsRejectedWord first old word error

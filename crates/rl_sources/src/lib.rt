@@ -1,22 +1,25 @@
-//! The literals of whole Rust sources as lines, each after its place; and the command line of the
-//! program that prints them.
+//! The literals of whole Rust sources as lines, each after its place; of the files that a walk visits what is reported;
+//! and the command line of the program that does so.
 #![tactic(auto)]
 
+mod command;
 mod ending;
 mod options;
 mod place;
-mod program;
 mod reason;
+mod report;
+mod runs;
 mod scan_error;
 mod scanner;
 mod step;
 mod words;
 
-pub use crate::ending::call;
+pub use crate::command::{Command, Output, PlaceForm, Wish};
+pub use crate::ending::{CallError, HELP, VERSION, call};
 pub use crate::options::{Options, Shown};
 pub use crate::place::Place;
-pub use crate::program::run;
+pub use crate::report::{Report, report_of};
+pub use crate::runs::{RunStop, Tally, run};
 pub use crate::scan_error::ScanError;
 pub use crate::scanner::scan;
-pub use crate::words::options_of;
-pub use rl_program::Ending;
+pub use crate::words::WordError;

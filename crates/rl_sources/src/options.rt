@@ -8,7 +8,7 @@ ghost use Rattle.rl_sources.specs.Options.{Names, Picks};
 pub enum Shown<'a> {
     /// All of them.
     All,
-    /// Those whose lines begin with one of these words; commas separate the words.
+    /// Those whose lines begin with one of these words, in any case of their letters; commas separate the words.
     Only(&'a str),
     /// Those that have no reading.
     Bad,
@@ -23,15 +23,17 @@ pub struct Options<'a> {
     pub by_line: bool,
     /// Whether a stray character is an error, as it is in Rust.
     pub rejects_strays: bool,
-    /// Whether the line of a literal without a reading is followed by one that says why it has none.
+    /// Whether the line of a literal without a reading says why it has none.
     pub explains: bool,
+    /// What stands before each place: a file's path, as it is printed.
+    pub path: Option<&'a str>,
 }
 
-/// Whether this is one of the words of a list; commas separate the words.
-fn names(list: &str, label: &str) -> bool
+/// Whether this is one of the words of a list, in any case of its letters; commas separate the words.
+pub(crate) fn names(list: &str, label: &str) -> bool
     ensures { IsTrue result ↔ Names list.now label.now }
 {
-    list.split(',').any(|word| word == label)
+    list.split(',').any(|word| word.eq_ignore_ascii_case(label))
 }
 
 impl Shown<'_> {

@@ -1,12 +1,13 @@
 //! Places of a source, as they are printed.
 
-ghost use Rattle.std.specs.Prelude.{◌≡◌, ◌+◌, drop, length, Some};
+ghost use Rattle.std.specs.Prelude.{◌≡◌, ◌+◌, ◌++◌, drop, length, Some, codes, OnOk, string_bytes};
 ghost use Rattle.std.specs.Str.{chars, IsCharBoundary};
 ghost use Rattle.rl_lexer.specs.Cursors.{IsCursorState};
 ghost use Rattle.rl_lexer.specs.Lines.{BeginsAt};
-ghost use Rattle.rl_sources.specs.Places.{place_text, IsPlaceIn};
+ghost use Rattle.rl_sources.specs.Places.{line_front, place_text, IsPlaceIn};
 
 use rl_tokens::{LineColumn, Lines};
+use std::alloc::{AllocError, Allocator};
 use std::fmt;
 use std::marker::Model;
 
@@ -17,6 +18,38 @@ pub enum Place {
     Bytes(usize, usize),
     /// The line and column where it begins.
     Line(LineColumn),
+}
+
+/// Appends what stands before a line in a file: the path and the place, each with a colon, and a space.
+fn push_in_file<A: Allocator>(
+    out: &mut String<A>,
+    path: &str,
+    place: Place,
+) -> Result<(), AllocError>
+    ensures { OnOk result (chars (string_bytes out.new) ≡ chars (string_bytes out.old)
+        ++ (chars path.now ++ (codes ":" ++ (place_text place ++ codes ": ")))) }
+{
+    write!(out, "{path}:{place}: ")?;
+    Ok(())
+}
+
+/// Appends what stands before a line: its place, after the path where there is one.
+#[inline(always)]
+pub(crate) fn push_front<A: Allocator>(
+    out: &mut String<A>,
+    path: Option<&str>,
+    place: Place,
+) -> Result<(), AllocError>
+    ensures { OnOk result (chars (string_bytes out.new)
+        ≡ chars (string_bytes out.old) ++ line_front path.entry place) }
+{
+    match path {
+        Some(path) => push_in_file(out, path, place),
+        None => {
+            write!(out, "{place} ")?;
+            Ok(())
+        }
+    }
 }
 
 impl fmt::Display for Place {

@@ -1,16 +1,18 @@
 //! Why a token of a source is no literal.
 
-ghost use Rattle.std.specs.Prelude.{◌≡◌, ◌+◌, OnOk, string_bytes};
+ghost use Rattle.std.specs.Prelude.{◌≡◌, ◌+◌, ◌++◌, ◌↔◌, IsTrue, OnOk, string_bytes};
 ghost use Rattle.std.specs.Str.{chars};
 ghost use Rattle.rl_lines.specs.Lines.{Appends};
 ghost use Rattle.rl_reasons.specs.Flaws.{Explains};
+ghost use Rattle.rl_reasons.specs.FlawWords.{flaw_message};
 ghost use Rattle.rl_sources.specs.Places.{IsPlaceIn};
-ghost use Rattle.rl_sources.specs.Scans.{IsReasonLine};
+ghost use Rattle.rl_sources.specs.Scans.{IsFlawLine, IsPieceOf, IsSlice, error_words};
 ghost use Rattle.rl_sources.specs.Steps.{BeginsRest};
 
 use crate::options::Options;
-use crate::place::{Place, Places, place_of};
-use rl_grammar::{Flaw, explain};
+use crate::place::{Place, Places, place_of, push_front};
+use rl_files::push_visible;
+use rl_grammar::{Flaw, FlawKind};
 use rl_tokens::SourceToken;
 use std::alloc::{AllocError, Allocator};
 
@@ -34,27 +36,58 @@ fn flaw_place<'t>(
     place_of(by_line, places, inside, lo, hi)
 }
 
-/// Appends the line that says why a token's text is no literal, and where; nothing where it is one, or the line isn't
-/// asked for.
-pub(crate) fn push_reason<'t, A: Allocator>(
+/// Whether the bytes from `lo` to `hi` are a text.
+fn is_slice(text: &str, lo: usize, hi: usize) -> bool
+    ensures { IsTrue result ↔ IsSlice text.now lo hi }
+{
+    lo <= hi && text.is_char_boundary(lo) && text.is_char_boundary(hi)
+}
+
+/// The piece of a text that a flaw spoils, up to the character that makes it no literal.
+fn piece_of(text: &str, flaw: Flaw) -> &str
+    ensures { IsPieceOf (chars text.now) flaw (chars result.now) }
+{
+    if is_slice(text, flaw.from, flaw.hi) {
+        return &text[flaw.from..flaw.hi];
+    }
+    ""
+}
+
+/// Appends what is wrong: a message, and a piece of the text where there is one.
+fn push_error<A: Allocator>(
+    out: &mut String<A>,
+    kind: FlawKind,
+    piece: &str,
+) -> Result<(), AllocError>
+    ensures { OnOk result (chars (string_bytes out.new)
+        ≡ chars (string_bytes out.old) ++ error_words (flaw_message kind) (chars piece.now)) }
+{
+    if piece.is_empty() {
+        return writeln!(out, "error: {kind}");
+    }
+    write!(out, "error: {kind}: ")?;
+    push_visible(out, piece)?;
+    out.push_str("\n")?;
+    Ok(())
+}
+
+/// Appends the line that says why a token's text is no literal, and where.
+pub(crate) fn push_flaw<'t, A: Allocator>(
     out: &mut String<A>,
     options: Options<'_>,
     token: SourceToken<'t>,
     rest: &'t str,
     places: &mut Places<'t>,
+    flaw: Flaw,
 ) -> Result<(), AllocError>
-    requires { BeginsRest token places.old rest.now }
+    requires rest { BeginsRest token places.old rest.now }
+    requires flaw { Explains (chars token.text.now) flaw }
     ensures shown { OnOk result (Appends
-        (IsReasonLine options.entry (chars places.old) (chars token.entry.text.now) token.entry.lo)
+        (IsFlawLine options.entry (chars places.old) (chars token.entry.text.now) token.entry.lo)
         (chars (string_bytes out.old)) (chars (string_bytes out.new))) }
     ensures same { places.new ≡ places.old }
 {
-    if !options.explains {
-        return Ok(());
-    }
-    let Some(flaw) = explain(token.text) else {
-        return Ok(());
-    };
     let place = flaw_place(options.by_line, places, token, rest, flaw);
-    writeln!(out, "{place} error: {}", flaw.kind)
+    push_front(out, options.path, place)?;
+    push_error(out, flaw.kind, piece_of(token.text, flaw))
 }

@@ -1,19 +1,21 @@
 //! What is shown of the tokens of a source, one after another.
 
-ghost use Rattle.std.specs.Prelude.{◌≡◌, ◌+◌, ◌<◌, [], length, Some, None, IfSome, IfNone, IfOk, IfErr, OnOk, MatchOption, string_bytes};
+ghost use Rattle.std.specs.Prelude.{◌≡◌, ◌+◌, ◌<◌, [], length, Some, None, IfSome, IfNone, IfOk, IfErr, OnOk, MatchOption, IsTrue, string_bytes};
 ghost use Rattle.std.specs.Str.{chars};
-ghost use Rattle.rl_forms.specs.Reading.{HasNoReading};
+ghost use Rattle.rl_forms.specs.Reading.{HasNoReading, HasReading};
 ghost use Rattle.rl_lexer.specs.Cursors.{IsCursorState};
 ghost use Rattle.rl_lexer.specs.Sources.{TakesSource};
+ghost use Rattle.rl_reasons.specs.Flaws.{Explains};
 ghost use Rattle.rl_reading.specs.Founds.{IsFound};
 ghost use Rattle.rl_lines.specs.Lines.{Appends};
-ghost use Rattle.rl_sources.specs.Scans.{IsShownLiteral, IsErrorAt};
-ghost use Rattle.rl_sources.specs.Steps.{IsPlacedText, IsAcceptedToken, BeginsRest, IsCursorOver, TakesShown, EndsUnshown, StopsUnshown, IsStepOf};
+ghost use Rattle.rl_sources.specs.Scans.{IsLineIn, IsShownLiteral, IsErrorAt};
+ghost use Rattle.rl_sources.specs.Steps.{IsTextLine, IsAcceptedToken, BeginsRest, IsCursorOver, TakesShown, EndsUnshown, StopsUnshown, IsStepOf};
 
 use crate::options::Options;
-use crate::place::{Place, Places, place_of};
-use crate::reason::push_reason;
-use rl_grammar::{Found, Kind, find};
+use crate::place::{Place, Places, place_of, push_front};
+use crate::reason::push_flaw;
+use rl_files::make_visible;
+use rl_grammar::{Flaw, Found, Kind, explain, find};
 use rl_lines::{label_of, push_found};
 use rl_tokens::{LexError, LexKind, SourceForm, SourceToken, Sources};
 use std::alloc::{AllocError, Allocator};
@@ -31,24 +33,64 @@ fn kind_of(found: &Option<Found>) -> Option<Kind>
     }
 }
 
-/// Appends a place, and the line of a text, of what reading it found.
-fn push_placed<A: Allocator + Copy>(
+/// Appends the line of a text, of what reading it found, as it is printed.
+fn push_text_line<A: Allocator + Copy>(
     alloc: A,
     out: &mut String<A>,
-    place: Place,
     text: &str,
     found: Option<Found>,
 ) -> Result<(), AllocError>
     requires none { IfNone found (HasNoReading (chars text.now)) }
     requires found { IfSome found (IsFound text.now) }
-    ensures { OnOk result (Appends (IsPlacedText place (chars text.now))
+    ensures { OnOk result (Appends (IsTextLine [] (chars text.now))
         (chars (string_bytes out.old)) (chars (string_bytes out.new))) }
 {
-    write!(out, "{place} ")?;
-    push_found(alloc, out, text, found)
+    let from = out.as_str().len();
+    push_found(alloc, out, text, found)?;
+    make_visible(alloc, out, from)
 }
 
-/// Appends what is shown of a literal: its line after its place, and what follows it, where it is picked.
+/// Why a text is no literal, where it is asked for.
+fn flaw_of(explains: bool, text: &str) -> Option<Flaw>
+    ensures some { IfSome result (λ flaw. IsTrue explains × Explains (chars text.now) flaw) }
+    ensures none { IfNone result (IsTrue explains → HasReading (chars text.now)) }
+{
+    if !explains {
+        return None;
+    }
+    explain(text)
+}
+
+/// Appends the line of a literal: where it is asked for and it has no reading, the line that says why.
+fn push_line_in<'t, A: Allocator + Copy>(
+    alloc: A,
+    out: &mut String<A>,
+    options: Options<'_>,
+    token: SourceToken<'t>,
+    found: Option<Found>,
+    rest: &'t str,
+    places: &mut Places<'t>,
+) -> Result<(), AllocError>
+    requires rest { BeginsRest token places.old rest.now }
+    requires none { IfNone found (HasNoReading (chars token.text.now)) }
+    requires found { IfSome found (IsFound token.text.now) }
+    ensures shown { OnOk result (Appends
+        (IsLineIn options.entry (chars places.old) (chars token.entry.text.now)
+        token.entry.lo token.entry.hi)
+        (chars (string_bytes out.old)) (chars (string_bytes out.new))) }
+    ensures same { places.new ≡ places.old }
+{
+    match flaw_of(options.explains, token.text) {
+        Some(flaw) => push_flaw(out, options, token, rest, places, flaw),
+        None => {
+            let place = place_of(options.by_line, places, rest, token.lo, token.hi);
+            push_front(out, options.path, place)?;
+            push_text_line(alloc, out, token.text, found)
+        }
+    }
+}
+
+/// Appends what is shown of a literal: its line, where it is picked.
 #[inline(never)]
 fn push_literal_token<'t, A: Allocator + Copy>(
     alloc: A,
@@ -69,9 +111,7 @@ fn push_literal_token<'t, A: Allocator + Copy>(
     if !options.shown.picks(label_of(kind_of(&found))) {
         return Ok(());
     }
-    let place = place_of(options.by_line, places, rest, token.lo, token.hi);
-    push_placed(alloc, out, place, token.text, found)?;
-    push_reason(out, options, token, rest, places)
+    push_line_in(alloc, out, options, token, found, rest, places)
 }
 
 /// Cuts off the next token: `None` at the end of the source.

@@ -1,157 +1,284 @@
-//! The options of the command line.
+//! The words of the command line.
 
-ghost use Rattle.std.specs.Prelude.{◌≡◌, ◌≢◌, ◌↔◌, ◌∷◌, ℕ, false, List, Option, map, IsTrue, IfSome, IfNone, string_bytes};
-ghost use Rattle.rl_forms.specs.declared.kind.Kind.{Kind};
-ghost use Rattle.rl_lines.specs.Lines.{label_of};
+ghost use Rattle.std.specs.Prelude.{◌≡◌, ◌↔◌, ℕ, false, List, map, string_bytes, IsTrue, IfOk, IfErr, IfSome, IfNone, OnOk};
+ghost use Rattle.rl_files.specs.Trees.{string_texts};
 ghost use Rattle.rl_sources.specs.declared.words.Flag.{Flag};
-ghost use Rattle.rl_sources.specs.Words.{IsKindWord, AreKindWords, Wishes, wishes_of, flag_word, first_wishes, IsAllowed, with_flag, wants_list, Asks};
+ghost use Rattle.rl_sources.specs.declared.words.Next.TheVariants as next;
+ghost use Rattle.rl_sources.specs.Words.{IsOptionWord, IsKindWord, AreKindWords, is_path_word, wishes_of, wishes_in, IsAllowed, with_flag as flagged, next_after as follows, with_path, IsStep, Asks, IsRejectedWord, AreRejected};
 
-use crate::options::{Options, Shown};
-use rl_tokens::Kind;
-use std::alloc::Allocator;
+use crate::command::{Command, Output, PlaceForm, Wish};
+use crate::options::{Shown, names};
+use crate::report::visible_text;
+use std::alloc::{AllocError, Allocator, Global};
+use std::fmt;
 
-/// A word of the command line that begins with two dashes.
+/// An option.
 #[derive(Clone, Copy)]
 enum Flag {
-    /// Places are lines and columns.
-    Lines,
-    /// Stray characters are errors.
-    NoStray,
-    /// Literals without a reading alone.
     Bad,
-    /// Literals of some kinds alone; the next word lists these.
     Only,
-    /// Why a literal has no reading is printed.
-    Why,
+    Bytes,
+    Lines,
+    NoStray,
+    Count,
+    Files,
+    Quiet,
+    Help,
+    Version,
+    Paths,
 }
 
-/// The flag that a word is.
+/// What is wrong with the words of a command line.
+#[derive(Drop)]
+pub enum WordError<A: Allocator = Global> {
+    /// An allocation failed.
+    Memory,
+    /// There is no such option.
+    UnknownOption(String<A>),
+    /// There is no such kind of literal.
+    UnknownKind(String<A>),
+    /// After `--only` stands no list of kinds.
+    NoKinds,
+    /// Two options say which literals are printed.
+    TwoChoices,
+}
+
+impl<A: Allocator> From<AllocError> for WordError<A> {
+    ghost use Rattle.std.specs.Prelude.{◌≡◌};
+    ghost use Rattle.rl_sources.specs.declared.words.WordError.TheVariants.{Memory};
+
+    ghost from_gives = { λ rejected error. error ≡ Memory };
+
+    fn from(_: AllocError) -> Self {
+        Self::Memory
+    }
+}
+
+impl<A: Allocator> fmt::Display for WordError<A> {
+    ghost use Rattle.std.specs.Prelude.{Some};
+    ghost use Rattle.rl_sources.specs.Words.{word_message};
+
+    ghost output = { λ error. Some (word_message error) };
+
+    fn fmt<W: fmt::Write>(&self, f: &mut fmt::Formatter<W>) -> fmt::Result {
+        match self {
+            WordError::Memory => write!(f, "out of memory"),
+            WordError::UnknownOption(word) => {
+                write!(f, "unknown option '{word}': rl_scan --help lists them")
+            }
+            WordError::UnknownKind(word) => write!(
+                f,
+                "unknown kind '{word}': one of Str, ByteStr, CStr, Byte, Char, Int, Float, Bool, Verbatim"
+            ),
+            WordError::NoKinds => write!(f, "--only: which kinds? as in --only Str,ByteStr"),
+            WordError::TwoChoices => write!(f, "--bad and --only: one of them, once"),
+        }
+    }
+}
+
+/// The option that a word is.
 fn flag_of(word: &str) -> Option<Flag>
-    ensures known { IfSome result (λ flag. word.now ≡ flag_word flag) }
-    ensures unknown { IfNone result ((flag : Flag) → word.now ≢ flag_word flag) }
+    ensures known { IfSome result (λ flag. IsOptionWord flag word.now) }
+    ensures unknown { IfNone result ((flag : Flag) → IsOptionWord flag word.now → ⊥) }
 {
     match word {
+        "-b" | "--bad" => Some(Flag::Bad),
+        "-k" | "--only" => Some(Flag::Only),
+        "-o" | "--bytes" => Some(Flag::Bytes),
         "--lines" => Some(Flag::Lines),
         "--no-stray" => Some(Flag::NoStray),
-        "--bad" => Some(Flag::Bad),
-        "--only" => Some(Flag::Only),
-        "--why" => Some(Flag::Why),
+        "-c" | "--count" => Some(Flag::Count),
+        "-l" | "--files" => Some(Flag::Files),
+        "-q" | "--quiet" => Some(Flag::Quiet),
+        "-h" | "--help" => Some(Flag::Help),
+        "-V" | "--version" => Some(Flag::Version),
+        "--" => Some(Flag::Paths),
         _ => None,
     }
 }
 
-/// What a line that begins with this word is of: a kind, or none for `Verbatim`.
-fn kind_named(word: &str) -> Option<Option<Kind>>
-    ensures known { IfSome result (λ kind. word.now ≡ label_of kind) }
-    ensures unknown { IfNone result ((kind : Option Kind) → word.now ≢ label_of kind) }
-{
-    match word {
-        "Str" => Some(Some(Kind::Str)),
-        "ByteStr" => Some(Some(Kind::ByteStr)),
-        "CStr" => Some(Some(Kind::CStr)),
-        "Byte" => Some(Some(Kind::Byte)),
-        "Char" => Some(Some(Kind::Char)),
-        "Int" => Some(Some(Kind::Int)),
-        "Float" => Some(Some(Kind::Float)),
-        "Bool" => Some(Some(Kind::Bool)),
-        "Verbatim" => Some(None),
-        _ => None,
-    }
-}
+/// The kinds of literals, and `Verbatim` for those without a reading.
+const KINDS: &str = "Str,ByteStr,CStr,Byte,Char,Int,Float,Bool,Verbatim";
 
-/// Whether a line may begin with this word.
+/// Whether this is the word of a kind of literal, in any case of its letters.
 fn is_kind_word(word: &str) -> bool
     ensures { IsTrue result ↔ IsKindWord word.now }
 {
-    kind_named(word).is_some()
+    names(KINDS, word)
 }
 
-/// Whether each word of a list is one that a line may begin with; commas separate the words.
+/// Whether each word of a list is one; commas separate the words.
 fn are_kind_words(list: &str) -> bool
     ensures { IsTrue result ↔ AreKindWords list.now }
 {
     list.split(',').all(|word| is_kind_word(word))
 }
 
-/// The options with a flag more; `None` where the flag doesn't go with them.
-fn with_flag(options: Options<'_>, flag: Flag) -> Option<Options<'_>>
-    ensures some { IfSome result (λ next. IsAllowed flag (wishes_of options.entry)
-        × (wishes_of next ≡ with_flag flag (wishes_of options.entry))) }
-    ensures none { IfNone result (IsAllowed flag (wishes_of options.entry) → ⊥) }
+/// The first word of a list that is no kind of literal; the list, where there is none.
+fn unknown_kind(list: &str) -> &str {
+    list.split(',')
+        .find(|word| !is_kind_word(word))
+        .unwrap_or(list)
+}
+
+/// What the next word may be.
+#[derive(Clone, Copy)]
+enum Next {
+    /// An option or a path.
+    Any,
+    /// A list of kinds.
+    Kinds,
+    /// A path.
+    Path,
+}
+
+/// Whether a list of kinds has to follow.
+fn wants_kinds(wanted: Next) -> bool
+    ensures { IsTrue result ↔ (wanted ≡ next.Kinds) }
 {
-    let mut next = options;
-    match (flag, options.shown) {
-        (Flag::Lines, _) => next.by_line = true,
-        (Flag::NoStray, _) => next.rejects_strays = true,
-        (Flag::Why, _) => next.explains = true,
+    matches!(wanted, Next::Kinds)
+}
+
+/// What the words so far ask for.
+#[derive(Drop)]
+pub(crate) struct Asked<'a, A: Allocator = Global> {
+    pub command: Command<'a>,
+    pub paths: Vec<String<A>, A>,
+    next: Next,
+}
+
+/// The command with an option more; `None` where the option doesn't go with it.
+fn with_flag(command: Command<'_>, flag: Flag) -> Option<Command<'_>>
+    ensures some { IfSome result (λ next. (paths : List (List ℕ))
+        → IsAllowed flag (wishes_of command.entry paths)
+        × (wishes_of next paths ≡ flagged flag (wishes_of command.entry paths))) }
+    ensures none { IfNone result ((paths : List (List ℕ))
+        → IsAllowed flag (wishes_of command.entry paths) → ⊥) }
+{
+    let mut next = command;
+    match (flag, command.shown) {
         (Flag::Bad, Shown::All) => next.shown = Shown::Bad,
         (Flag::Only, Shown::All) => {}
-        _ => return None,
+        (Flag::Bad | Flag::Only, _) => return None,
+        (Flag::Bytes, _) => next.places = PlaceForm::Bytes,
+        (Flag::Lines, _) => next.places = PlaceForm::Lines,
+        (Flag::NoStray, _) => next.rejects_strays = true,
+        (Flag::Count, _) => next.output = Output::Count,
+        (Flag::Files, _) => next.output = Output::Path,
+        (Flag::Quiet, _) => next.output = Output::Nothing,
+        (Flag::Help, _) => next.wish = Wish::Help,
+        (Flag::Version, _) => next.wish = Wish::Version,
+        (Flag::Paths, _) => {}
     }
     Some(next)
 }
 
-/// What the words so far ask for.
-#[derive(Clone, Copy)]
-struct Asked<'a> {
-    options: Options<'a>,
-    // whether the next word is a list of kinds
-    wants_list: bool,
-}
-
-/// What the words so far and one more ask for; `None` where that can't be asked for.
-fn with_word<'a>(asked: Asked<'a>, word: &'a str) -> Option<Asked<'a>>
-    ensures some { IfSome result (λ next. (words : List (List ℕ)) (new : Wishes)
-        → Asks asked.entry.wants_list (wishes_of asked.entry.options) (word.now ∷ words) new
-        ↔ Asks next.wants_list (wishes_of next.options) words new) }
-    ensures none { IfNone result ((words : List (List ℕ)) (new : Wishes)
-        → Asks asked.entry.wants_list (wishes_of asked.entry.options) (word.now ∷ words) new → ⊥) }
+/// What a word after an option may be.
+fn next_after(flag: Flag) -> Next
+    ensures { result ≡ follows flag }
 {
-    if asked.wants_list {
-        if !are_kind_words(word) {
-            return None;
-        }
-        let options = Options {
-            shown: Shown::Only(word),
-            by_line: asked.options.by_line,
-            rejects_strays: asked.options.rejects_strays,
-            explains: asked.options.explains,
-        };
-        return Some(Asked {
-            options,
-            wants_list: false,
-        });
+    match flag {
+        Flag::Only => Next::Kinds,
+        Flag::Paths => Next::Path,
+        _ => Next::Any,
     }
-    let flag = flag_of(word)?;
-    let options = with_flag(asked.options, flag)?;
-    Some(Asked {
-        options,
-        wants_list: matches!(flag, Flag::Only),
-    })
 }
 
-/// The options that the words ask for; `None` where they ask for none.
-pub fn options_of<A: Allocator>(words: &[String<A>]) -> Option<Options<'_>>
-    ensures some { IfSome result (λ options.
-        Asks false first_wishes (map string_bytes words.now) (wishes_of options)) }
-    ensures none { IfNone result ((new : Wishes)
-        → Asks false first_wishes (map string_bytes words.now) new → ⊥) }
+/// Whether a word is a path, and no option.
+fn is_path(word: &str) -> bool
+    ensures { result ≡ is_path_word word.now }
 {
-    let options = Options {
+    word == "-" || !word.as_bytes().starts_with(b"-".as_slice())
+}
+
+impl<'a, A: Allocator + Copy> Asked<'a, A> {
+    /// Takes a path.
+    fn take_path(&mut self, alloc: A, word: &str) -> Result<(), AllocError>
+        ensures wishes { OnOk result (wishes_in self.new ≡ with_path word.now (wishes_in self.old)) }
+        ensures next { OnOk result (self.new.next ≡ self.old.next) }
+    {
+        self.paths.push(String::from_str(alloc, word)?)?;
+        Ok(())
+    }
+
+    /// Takes a list of kinds.
+    fn take_kinds(&mut self, alloc: A, list: &'a str) -> Result<(), WordError<A>>
+        ensures step { OnOk result (IsStep next.Kinds (wishes_in self.old) list.now self.new.next (wishes_in self.new)) }
+        ensures rejected { IfErr result (IsRejectedWord next.Kinds (wishes_in self.old) list.now) }
+    {
+        if !are_kind_words(list) {
+            let word = unknown_kind(list);
+            return Err(WordError::UnknownKind(visible_text(alloc, word)?));
+        }
+        self.command.shown = Shown::Only(list);
+        self.next = Next::Any;
+        Ok(())
+    }
+
+    /// Takes an option.
+    fn take_option(&mut self, alloc: A, word: &str) -> Result<(), WordError<A>>
+        requires { is_path_word word.now ≡ false }
+        ensures step { OnOk result (IsStep next.Any (wishes_in self.old) word.now self.new.next (wishes_in self.new)) }
+        ensures rejected { IfErr result (IsRejectedWord next.Any (wishes_in self.old) word.now) }
+    {
+        let Some(flag) = flag_of(word) else {
+            return Err(WordError::UnknownOption(visible_text(alloc, word)?));
+        };
+        let Some(command) = with_flag(self.command, flag) else {
+            return Err(WordError::TwoChoices);
+        };
+        self.command = command;
+        self.next = next_after(flag);
+        Ok(())
+    }
+
+    /// Takes the next word.
+    fn take_word(&mut self, alloc: A, word: &'a str) -> Result<(), WordError<A>>
+        ensures step { OnOk result
+            (IsStep self.old.next (wishes_in self.old) word.now self.new.next (wishes_in self.new)) }
+        ensures rejected { IfErr result (IsRejectedWord self.old.next (wishes_in self.old) word.now) }
+    {
+        match self.next {
+            Next::Kinds => self.take_kinds(alloc, word),
+            Next::Path => Ok(self.take_path(alloc, word)?),
+            Next::Any if is_path(word) => Ok(self.take_path(alloc, word)?),
+            Next::Any => self.take_option(alloc, word),
+        }
+    }
+}
+
+/// What the words ask for.
+///
+/// # Errors
+///
+/// The first word that can't be asked for, or `NoKinds` at the end.
+pub(crate) fn asked_by<A: Allocator + Copy>(
+    alloc: A,
+    words: &[String<A>],
+) -> Result<Asked<'_, A>, WordError<A>>
+    ensures asked { IfOk result (λ asked. Asks (map string_bytes words.now) (wishes_in asked)) }
+    ensures rejected { IfErr result (AreRejected (map string_bytes words.now)) }
+{
+    let command = Command {
+        wish: Wish::Scan,
         shown: Shown::All,
-        by_line: false,
+        places: PlaceForm::Usual,
+        output: Output::Lines,
         rejects_strays: false,
-        explains: false,
     };
     let mut asked = Asked {
-        options,
-        wants_list: false,
+        command,
+        paths: Vec::new(alloc),
+        next: Next::Any,
     };
     for word in words {
-        asked = with_word(asked, word.as_str())?;
+        match asked.take_word(alloc, word.as_str()) {
+            Ok(()) => {}
+            Err(error) => return Err(error),
+        }
     }
-    if asked.wants_list {
-        return None;
+    if wants_kinds(asked.next) {
+        return Err(WordError::NoKinds);
     }
-    Some(asked.options)
+    Ok(asked)
 }

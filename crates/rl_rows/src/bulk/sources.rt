@@ -22,6 +22,7 @@ pub(crate) fn source_answer(alloc: Global, text: &str) -> Result<String, AllocEr
         by_line: false,
         rejects_strays: false,
         explains: false,
+        path: None,
     };
     let mut lines = Vec::new(alloc);
     let answer = scan(alloc, options, text, &mut lines);

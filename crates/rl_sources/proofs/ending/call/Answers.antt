@@ -1,11 +1,15 @@
-use Rattle.std.proofs.Common.{rules, refl}
-use Rattle.rl_sources.proofs.OptionLemmas.{asks_words}
+use Rattle.rl_sources.specs.Words.{wishes_in}
+use Rattle.rl_sources.proofs.EndingLemmas.{call_asked, keeps_same}
+use Rattle.rl_sources.proofs.WordLemmas.{ask_for, cannot_ask}
 use Rattle.rl_sources.proofs.ending.call.Goals as goal
 
-pub returns-in_default-options_of : goal.returns-in_default-options_of
-returns-in_default-options_of g c = (
-  (λ wishes asks. c.in_default-options_of.ensures.none wishes (asks_words c.args.args.now wishes asks)),
-  refl,
-  search
-      rules,
+pub returns-in-Ok : goal.returns-in-Ok
+returns-in-Ok g c = call_asked c.args.args.now c.args.is_terminal (g.T.Tree.holds c.args.tree.now) _ c.answer.result
+    (wishes_in c.in-Ok.asked) (ask_for c.args.args.now _ c.in-len1-up.len_at_least c.in-Ok.ensures.asked)
+    c.answer.ensures
+
+pub returns-in-Err : goal.returns-in-Err
+returns-in-Err g c = (
+  cannot_ask c.args.args.now c.in-Err.error c.in-len1-up.len_at_least c.in-Err.ensures.rejected,
+  (keeps_same _, keeps_same _),
 )

@@ -1,6 +1,6 @@
 use Rattle.rl_text.proofs.Common.{chars, on_ok_weaker, refl, string_bytes}
 use Rattle.std.proofs.lemmas.Bool.{false≢true}
-use Rattle.rl_sources.proofs.StepLemmas.{found_label, explained, not_picked}
+use Rattle.rl_sources.proofs.StepLemmas.{found_label, picked_line, not_picked}
 use Rattle.rl_sources.proofs.step.push_literal_token.Goals as goal
 
 pub returns-then-not-picks-clause-shown : goal.returns-then-not-picks-clause-shown
@@ -16,7 +16,5 @@ returns-clause-shown g c =
     let text = c.args.token.text.now in
     let is_label = found_label text c.label_of.result.now c.kind_of.result c.find-found.result c.find-found.ensures.none
     c.find-found.ensures.found c.kind_of.ensures c.label_of.ensures in
-    on_ok_weaker c.push_reason.result (explained c.args.options (chars c.args.places.now) (chars text) _
-    c.place_of-place.result c.args.token.lo c.args.token.hi _ _ _ is_label (c.if-not-picks.ensures.0 refl)
-    c.place_of-place.ensures.place c.in_ok-push_placed.ensures)
-    (rw c.place_of-place.ensures.same at c.push_reason.ensures.shown)
+    on_ok_weaker c.push_line_in.result (picked_line c.args.options (chars c.args.places.now) (chars text) _
+    c.args.token.lo c.args.token.hi _ _ is_label (c.if-not-picks.ensures.0 refl)) c.push_line_in.ensures.shown

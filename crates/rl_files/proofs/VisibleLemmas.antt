@@ -1,0 +1,69 @@
+-- Characters that are appended as they are printed.
+use Rattle.std.proofs.Common.{◌≡◌, ℕ, List, [], ◌∷◌, ◌++◌, ap, ◌∙◌, sym, append_assoc, append-nil, encode_utf8_all, Bool, true, false, ◌&&◌, ◌||◌, ◌<◌, arith, cond, nat_le, nat_lt, ◌==◌, refl, subst, take, drop, take-append-drop}
+use Rattle.std.specs.Str.{chars, IsUtf8, IsAscii}
+use Rattle.std.specs.List.{flat_map, list_all}
+use Rattle.std.proofs.lemmas.Bool.Decides.{nat_tests}
+use Rattle.std.proofs.lemmas.Bool.{and_parts}
+use Rattle.std.specs.Char.{is_control}
+use Rattle.rl_files.specs.Visible.{is_hiding, visible_char, visible_in_line, visible_lines, is_plain_byte}
+use Rattle.std.proofs.lemmas.Grind.{flat_map-append}
+use Rattle.std.proofs.lemmas.Str.{encodes-append, encodes-chars, chars_from_encodes, chars-append, chars-IsAscii}
+use Rattle.std.proofs.lemmas.Str.Ascii.{IsAscii-nil, IsAscii-cons}
+
+-- one character more is appended, as `f` writes it
+pub written_more : (f : ℕ → List ℕ) (first old new done : List ℕ) (c : ℕ) → old ≡ first
+    ++ encode_utf8_all (flat_map f done)
+    → new ≡ old ++ encode_utf8_all (f c) → new ≡ first ++ encode_utf8_all (flat_map f (done ++ c ∷ []))
+written_more f first old new done c before now =
+    now ∙ ap (λ (z : List ℕ). z ++ encode_utf8_all (f c)) before
+    ∙ append_assoc first (encode_utf8_all (flat_map f done)) (encode_utf8_all (f c))
+    ∙ ap (λ (z : List ℕ). first ++ z) (sym (encodes-append (flat_map f done) (f c)))
+    ∙ ap (λ (z : List ℕ). first ++ encode_utf8_all z)
+    (ap (λ (z : List ℕ). flat_map f done ++ z) (sym (append-nil (f c))) ∙ sym (flat_map-append f done (c ∷ [])))
+
+-- what is appended, as characters
+pub chars_written : (old new piece : List ℕ) → IsUtf8 old → IsUtf8 new → new ≡ old ++ encode_utf8_all piece
+    → chars new ≡ chars old ++ piece
+chars_written old new piece u v e =
+    sym (chars_from_encodes (chars old ++ piece) new v (encodes-append (chars old) piece
+    ∙ ap (λ (z : List ℕ). z ++ encode_utf8_all piece) (encodes-chars old u) ∙ sym e))
+
+-- ASCII hides nothing
+low_not_hiding : (c : ℕ) → c < 127 → is_hiding c ≡ false
+low_not_hiding c h = grind (arith, nat_tests)
+
+not_control : (c : ℕ) → nat_le 32 c ≡ true → c < 127 → is_control c ≡ false
+not_control c low high = grind (arith, nat_tests)
+
+-- a plain byte is printed as it is
+plain_byte : (b : ℕ) → is_plain_byte b ≡ true → visible_in_line b ≡ b ∷ []
+plain_byte b h = go (b == 10) h
+  where
+    go : (t : Bool) → (t || (nat_le 32 b && nat_lt b 127)) ≡ true → cond t (b ∷ []) (visible_char b) ≡ b ∷ []
+    go true k = refl
+    go false k =
+        let parts = and_parts _ _ k in
+        let high : b < 127 = grind (arith, nat_tests, parts.1) in
+        rw (not_control b parts.0 high, low_not_hiding b high) refl
+
+plain_is_ascii : (b : ℕ) → is_plain_byte b ≡ true → b < 128
+plain_is_ascii b h = grind (arith, nat_tests)
+
+-- so are plain bytes
+plain_lines : (bs : List ℕ) → list_all is_plain_byte bs ≡ true → (visible_lines bs ≡ bs) × IsAscii bs
+plain_lines [] h = (refl, IsAscii-nil)
+plain_lines (b ∷ bs) h =
+    let parts = and_parts _ _ h in
+    let rest = plain_lines bs parts.1 in (
+      ap (λ (z : List ℕ). z ++ visible_lines bs) (plain_byte b parts.0) ∙ ap (λ (z : List ℕ). b ∷ z) rest.0,
+      IsAscii-cons b bs (plain_is_ascii b parts.0) rest.1,
+    )
+
+-- lines at the end of a text that are printed as they are
+pub plain_end : (text : List ℕ) (from : ℕ) → IsUtf8 (take from text) → list_all is_plain_byte (drop from text) ≡ true
+    → chars text ≡ chars (take from text) ++ visible_lines (chars (drop from text))
+plain_end text from utf8 plain =
+    let same = plain_lines (drop from text) plain in
+    ap chars (sym (take-append-drop from text)) ∙ chars-append (take from text) (drop from text) utf8
+    ∙ ap (λ (z : List ℕ). chars (take from text) ++ z) (chars-IsAscii (drop from text) same.1 ∙ sym same.0
+    ∙ ap visible_lines (sym (chars-IsAscii (drop from text) same.1)))

@@ -1,0 +1,123 @@
+-- A walk of a tree: which files are visited, and in which order.
+use Rattle.std.specs.Prelude.{◌≡◌, ◌⊎◌, ℕ, ◌==◌, Bool, true, false, cond, not, ◌&&◌, ◌||◌, List, [], ◌∷◌, ◌++◌, map, length, codes, string_bytes, Option, IfSome}
+use Rattle.std.specs.Fmt.{decimal}
+use Rattle.std.specs.List.{starts_with, ends_with, flat_map}
+use Rattle.std.specs.List.Sorted.{IsSorted, IsPermutation}
+use Rattle.std.specs.Cmp.Lexicographic.{slice_cmp}
+use Rattle.std.specs.Ordering.{nat_cmp}
+use Rattle.std.specs.declared.result.Result.TheVariants.{Ok, Err}
+use Rattle.rl_files.specs.declared.tree.PathError.{PathError}
+use Rattle.rl_files.specs.declared.tree.PathError.TheVariants.{NotFound, PermissionDenied, IsADirectory, NotADirectory, PathTooLong, NameNotUtf8, NotUtf8, OutOfMemory, ReadFailed}
+use Rattle.rl_files.specs.declared.walk.WalkError.{WalkError}
+use Rattle.rl_files.specs.declared.walk.WalkError.TheVariants as walk
+use Rattle.rl_files.specs.declared.walk.Pending.{Pending}
+use Rattle.rl_files.specs.declared.walk.Pending.TheVariants.{Directory, File, BadName}
+use Rattle.rl_files.specs.declared.walk.Visit.{Visit}
+use Rattle.rl_files.specs.declared.walk.Visit.TheVariants as visit
+use Rattle.rl_files.specs.Trees.{World}
+
+-- why a path can't be read
+abbrev pub path_error_message : PathError → List ℕ
+path_error_message NotFound = codes "no such file or directory"
+path_error_message PermissionDenied = codes "permission denied"
+path_error_message IsADirectory = codes "is a directory"
+path_error_message NotADirectory = codes "not a directory"
+path_error_message PathTooLong = codes "path too long"
+path_error_message NameNotUtf8 = codes "holds a name that is not UTF-8"
+path_error_message (NotUtf8 at) = codes "not UTF-8 at byte " ++ decimal at
+path_error_message OutOfMemory = codes "out of memory"
+path_error_message ReadFailed = codes "read failed"
+
+-- why a walk ends early
+abbrev pub walk_error_message : WalkError → List ℕ
+walk_error_message walk.OutOfMemory = codes "out of memory"
+walk_error_message walk.TooManyDirectories = codes "too many directories"
+
+-- a name and a slash is a directory's
+abbrev pub is_directory : List ℕ → Bool
+is_directory name = ends_with ◌==◌ name (codes "/")
+
+-- A walk goes on to directories that are neither hidden nor `target`, and to files whose names end in
+-- `.rs`; a name that is no text is visited too.
+abbrev pub is_wanted : List ℕ → Bool
+is_wanted name = cond (is_directory name)
+    (not (starts_with ◌==◌ name (codes ".")) && not (starts_with ◌==◌ name (codes "target/")))
+    (ends_with ◌==◌ name (codes ".rs") || (length name == 0))
+
+-- the path of a name in a directory
+abbrev pub path_in : List ℕ → List ℕ → List ℕ
+path_in directory name = cond (is_directory directory) directory (directory ++ codes "/") ++ name
+
+-- What a walk has still to go to: a directory, or what an argument names and may be a file; a file; a
+-- name in a directory that is no text.
+pub data Spot : Type 0 where
+  AtDirectory : (is_given : Bool) → (path : List ℕ) → Spot
+  AtFile : (path : List ℕ) → Spot
+  AtBadName : (directory : List ℕ) → Spot
+
+-- what a walk meets: a file to read, or a path that it can't go into
+pub data Visited : Type 0 where
+  FileAt : (path : List ℕ) → Visited
+  ErrorAt : (path : List ℕ) → (why : PathError) → Visited
+
+abbrev pub spot : {A : Type 0} → Pending A → Spot
+spot (Directory is_given path) = AtDirectory is_given (string_bytes path)
+spot (File path) = AtFile (string_bytes path)
+spot (BadName directory) = AtBadName (string_bytes directory)
+
+abbrev pub visited : {A : Type 0} → Visit A → Visited
+visited (visit.File path) = FileAt (string_bytes path)
+visited (visit.Failed path why) = ErrorAt (string_bytes path) why
+
+-- where a walk goes to for what arguments name
+abbrev pub given_spots : List (List ℕ) → List Spot
+given_spots paths = map (λ path. AtDirectory true path) paths
+
+-- where a walk goes to for a name in a directory
+abbrev pub spots_of : List ℕ → List ℕ → List Spot
+spots_of directory name = cond (is_wanted name)
+    (cond (is_directory name) (AtDirectory false (path_in directory name))
+    (cond (length name == 0) (AtBadName directory) (AtFile (path_in directory name))) ∷ []) []
+
+-- these are the same names, in the order of their bytes
+abbrev pub IsOrderOf : List (List ℕ) → List (List ℕ) → Type 0
+IsOrderOf names sorted = IsPermutation names sorted × IsSorted (slice_cmp nat_cmp) sorted
+
+-- What is visited from these places on, in order: of a directory what is visited in it, in the order of the
+-- names, before what comes after it.
+pub data Visits (w : World) : List Spot → List Visited → Type 0 where
+  VisitsNothing : Visits w [] []
+  VisitsFile : {path : List ℕ} {rest : List Spot} {visits : List Visited} → Visits w rest visits
+      → Visits w (AtFile path ∷ rest) (FileAt path ∷ visits)
+  VisitsBadName : {directory : List ℕ} {rest : List Spot} {visits : List Visited} → Visits w rest visits
+      → Visits w (AtBadName directory ∷ rest) (ErrorAt directory NameNotUtf8 ∷ visits)
+  EntersDirectory : {is_given : Bool} {path : List ℕ} {rest : List Spot} {visits : List Visited}
+      (names sorted : List (List ℕ))
+      → w.names path ≡ Ok names → IsOrderOf names sorted
+      → Visits w (flat_map (spots_of path) sorted ++ rest) visits
+      → Visits w (AtDirectory is_given path ∷ rest) visits
+  MissesDirectory : {is_given : Bool} {path : List ℕ} {rest : List Spot} {visits : List Visited} (why : PathError)
+      → (why ≡ OutOfMemory) ⊎ (w.names path ≡ Err why) → Visits w rest visits
+      → Visits w (AtDirectory is_given path ∷ rest) (ErrorAt path why ∷ visits)
+  IsGivenFile : {path : List ℕ} {rest : List Spot} {visits : List Visited} → w.names path ≡ Err NotADirectory
+      → Visits w rest visits
+      → Visits w (AtDirectory true path ∷ rest) (FileAt path ∷ visits)
+
+-- whatever is visited from the new places on is visited from the old ones on
+abbrev pub WalksOn : Option World → List Spot → List Spot → Type 0
+WalksOn holds old new = IfSome holds (λ w. (visits : List Visited) → Visits w new visits → Visits w old visits)
+
+-- this is visited first, and then whatever is visited from the new places on
+abbrev pub VisitsFirst : Option World → List Spot → Visited → List Spot → Type 0
+VisitsFirst holds old first new =
+    IfSome holds (λ w. (visits : List Visited) → Visits w new visits → Visits w old (first ∷ visits))
+
+-- nothing more is visited
+abbrev pub VisitsNone : Option World → List Spot → Type 0
+VisitsNone holds old = IfSome holds (λ w. Visits w old [])
+
+-- a walk goes to the names in a directory, in the order of their bytes, before the other places
+abbrev pub EntersInOrder : List ℕ → List (List ℕ) → List Spot → List Spot → Type 0
+EntersInOrder directory names old new =
+    (sorted : List (List ℕ)) × IsOrderOf names sorted
+    × (new ≡ flat_map (spots_of directory) sorted ++ old)

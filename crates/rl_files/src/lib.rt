@@ -1,0 +1,14 @@
+//! Trees of files: what a path holds, and which files a walk visits, in which order.
+#![tactic(auto)]
+
+mod host;
+mod memory;
+mod tree;
+mod visible;
+mod walk;
+
+pub use crate::host::Host;
+pub use crate::memory::{MemoryDirectory, MemoryFile, MemoryTree};
+pub use crate::tree::{PathError, Tree};
+pub use crate::visible::{is_hiding, make_visible, push_visible};
+pub use crate::walk::{Pending, Visit, Walk, WalkError};

@@ -1,0 +1,246 @@
+//! A walk of a tree: which files are visited, and in which order.
+
+ghost use Rattle.std.specs.Prelude.{◌≡◌, true, [], ◌∷◌, ◌++◌, OnOk, IfOk, MatchOption, string_bytes};
+ghost use Rattle.std.specs.List.{flat_map};
+ghost use Rattle.rl_files.specs.declared.walk.Pending.TheVariants.{Directory};
+ghost use Rattle.rl_files.specs.Trees.{string_texts};
+ghost use Rattle.rl_files.specs.Walks.{is_wanted as wanted, is_directory as directory, path_in as path_of, spot, visited, spots_of, given_spots, Spot, EntersInOrder, WalksOn, VisitsFirst, VisitsNone};
+
+use crate::tree::{PathError, Tree};
+use std::alloc::{AllocError, Allocator, Global};
+use std::fmt;
+use std::marker::Model;
+
+/// How many directories a walk goes into at most, from one file to the next.
+const TURNS: u32 = u32::MAX;
+
+/// What a walk has still to go to.
+#[derive(Drop)]
+pub enum Pending<A: Allocator = Global> {
+    /// A directory; one that an argument names may be a file.
+    Directory(bool, String<A>),
+    /// A file.
+    File(String<A>),
+    /// A name in a directory that isn't UTF-8.
+    BadName(String<A>),
+}
+
+/// What a walk meets.
+#[derive(Drop)]
+pub enum Visit<A: Allocator = Global> {
+    /// A file to read.
+    File(String<A>),
+    /// A path that it can't go into.
+    Failed(String<A>, PathError),
+}
+
+/// Why a walk ends early.
+#[derive(Clone, Copy)]
+pub enum WalkError {
+    /// An allocation failed.
+    OutOfMemory,
+    /// There are more than 4,294,967,295 directories.
+    TooManyDirectories,
+}
+
+impl fmt::Display for WalkError {
+    ghost use Rattle.std.specs.Prelude.{Some};
+    ghost use Rattle.rl_files.specs.Walks.{walk_error_message};
+
+    ghost output = { λ error. Some (walk_error_message error) };
+
+    fn fmt<W: fmt::Write>(&self, f: &mut fmt::Formatter<W>) -> fmt::Result {
+        match self {
+            WalkError::OutOfMemory => write!(f, "out of memory"),
+            WalkError::TooManyDirectories => write!(f, "too many directories"),
+        }
+    }
+}
+
+/// A walk of a tree.
+#[derive(Drop)]
+pub struct Walk<A: Allocator = Global> {
+    // the last is the first to go to
+    pending: Vec<Pending<A>, A>,
+}
+
+impl<A: Allocator> Model for Walk<A> {
+    ghost use Rattle.std.specs.Prelude.{List, map, reverse};
+    ghost use Rattle.rl_files.specs.Walks.{spot, Spot};
+
+    ghost Value = { List Spot };
+
+    ghost view = { λ w. reverse (map spot w.pending.items) };
+}
+
+/// Whether a name is a directory's.
+fn is_directory(name: &str) -> bool
+    ensures { result ≡ directory name.now }
+{
+    name.as_bytes().ends_with(b"/".as_slice())
+}
+
+/// Whether a walk goes on to a name.
+fn is_wanted(name: &str) -> bool
+    ensures { result ≡ wanted name.now }
+{
+    let bytes = name.as_bytes();
+    if is_directory(name) {
+        !bytes.starts_with(b".".as_slice()) && !bytes.starts_with(b"target/".as_slice())
+    } else {
+        bytes.ends_with(b".rs".as_slice()) || bytes.len() == 0
+    }
+}
+
+/// The path of a name in a directory.
+fn path_in<A: Allocator>(alloc: A, directory: &str, name: &str) -> Result<String<A>, AllocError>
+    ensures { IfOk result (λ path. string_bytes path ≡ path_of directory.now name.now) }
+{
+    let mut path = String::from_str(alloc, directory)?;
+    if !is_directory(directory) {
+        path.push_str("/")?;
+    }
+    path.push_str(name)?;
+    Ok(path)
+}
+
+/// Where a walk goes to for a wanted name in a directory.
+fn pending_of<A: Allocator>(alloc: A, directory: &str, name: &str) -> Result<Pending<A>, AllocError>
+    requires { wanted name.now ≡ true }
+    ensures { IfOk result (λ pending. spots_of directory.now name.now ≡ spot pending ∷ []) }
+{
+    if is_directory(name) {
+        return Ok(Pending::Directory(false, path_in(alloc, directory, name)?));
+    }
+    if name.len() == 0 {
+        return Ok(Pending::BadName(String::from_str(alloc, directory)?));
+    }
+    Ok(Pending::File(path_in(alloc, directory, name)?))
+}
+
+impl<A: Allocator> Walk<A> {
+    /// From nowhere.
+    fn new(alloc: A) -> Walk<A>
+        ensures { result ≡ [] }
+    {
+        Walk {
+            pending: Vec::new(alloc),
+        }
+    }
+
+    /// Goes to this pending before the others.
+    fn push(&mut self, pending: Pending<A>) -> Result<(), AllocError>
+        ensures { OnOk result (self.new ≡ spot pending ∷ self.old) }
+    {
+        self.pending.push(pending)?;
+        Ok(())
+    }
+
+    /// Goes to what an argument names before the other places.
+    fn push_given(&mut self, path: String<A>) -> Result<(), AllocError>
+        ensures { OnOk result (self.new ≡ spot (Directory true path) ∷ self.old) }
+    {
+        self.push(Pending::Directory(true, path))
+    }
+
+    /// A walk of what these paths name, in their order.
+    ///
+    /// # Errors
+    ///
+    /// An allocation failure.
+    pub fn of_paths(alloc: A, paths: &mut Vec<String<A>, A>) -> Result<Walk<A>, AllocError>
+    where
+        A: Copy,
+        ensures { IfOk result (λ walk. walk ≡ given_spots (string_texts paths.old.items)) }
+    {
+        let mut walk = Walk::new(alloc);
+        while let Some(path) = paths.pop() {
+            walk.push_given(path)?;
+        }
+        Ok(walk)
+    }
+
+    /// Takes the first pending.
+    fn take(&mut self) -> Option<Pending<A>>
+        ensures { MatchOption result (self.old ≡ []) (λ pending. self.old ≡ spot pending ∷ self.new) }
+    {
+        self.pending.pop()
+    }
+
+    /// Goes to a name in a directory before the other places, if it is wanted.
+    fn push_name(&mut self, alloc: A, directory: &str, name: &str) -> Result<(), AllocError>
+        ensures { OnOk result (self.new ≡ spots_of directory.now name.now ++ self.old) }
+    {
+        if !is_wanted(name) {
+            return Ok(());
+        }
+        let pending = pending_of(alloc, directory, name)?;
+        self.push(pending)
+    }
+
+    /// Goes to the names in a directory before the other places, the last of them the last.
+    fn push_names(
+        &mut self,
+        alloc: A,
+        directory: &str,
+        names: &mut Vec<String<A>, A>,
+    ) -> Result<(), AllocError>
+    where
+        A: Copy,
+        ensures { OnOk result (self.new ≡ flat_map (spots_of directory.now) (string_texts names.old.items) ++ self.old) }
+    {
+        while let Some(name) = names.pop() {
+            self.push_name(alloc, directory, name.as_str())?;
+        }
+        Ok(())
+    }
+
+    /// Goes to the names in a directory before the other places, in the order of their bytes.
+    fn enter(
+        &mut self,
+        alloc: A,
+        directory: &str,
+        names: &mut Vec<String<A>, A>,
+    ) -> Result<(), AllocError>
+    where
+        A: Copy,
+        ensures { OnOk result (EntersInOrder directory.now (string_texts names.old.items) self.old self.new) }
+    {
+        names.sort_unstable();
+        self.push_names(alloc, directory, names)?;
+        Ok(())
+    }
+
+    /// What is visited next.
+    ///
+    /// # Errors
+    ///
+    /// Where an allocation failed, or there was no end of directories.
+    pub fn next<T: Tree>(&mut self, alloc: A, tree: &T) -> Result<Option<Visit<A>>, WalkError>
+    where
+        A: Copy,
+        ensures { IfOk result (λ r. MatchOption r (VisitsNone (T.holds tree.now) self.old)
+            (λ visit. VisitsFirst (T.holds tree.now) self.old (visited visit) self.new)) }
+    {
+        for _ in 0..TURNS {
+            let Some(pending) = self.take() else {
+                return Ok(None);
+            };
+            match pending {
+                Pending::File(path) => return Ok(Some(Visit::File(path))),
+                Pending::BadName(directory) => {
+                    return Ok(Some(Visit::Failed(directory, PathError::NameNotUtf8)));
+                }
+                Pending::Directory(is_given, path) => match tree.names(alloc, path.as_str()) {
+                    Ok(mut names) => match self.enter(alloc, path.as_str(), &mut names) {
+                        Ok(()) => {}
+                        Err(_) => return Err(WalkError::OutOfMemory),
+                    },
+                    Err(PathError::NotADirectory) if is_given => return Ok(Some(Visit::File(path))),
+                    Err(why) => return Ok(Some(Visit::Failed(path, why))),
+                },
+            }
+        }
+        Err(WalkError::TooManyDirectories)
+    }
+}

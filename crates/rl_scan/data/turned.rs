@@ -1,0 +1,2 @@
+let turned = "\u{202e}";
+let list = [1, 'a'];

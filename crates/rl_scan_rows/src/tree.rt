@@ -1,0 +1,138 @@
+//! A small tree, and calls of the program over it.
+
+use crate::writers::Narrow;
+use rl_files::{PathError, Tree};
+use rl_program::Ending;
+use rl_sources::{CallError, call};
+use std::alloc::{AllocError, Allocator, Global};
+use std::io;
+use std::io::Write;
+
+/// Standard input, some files and directories, and some that can't be read.
+#[derive(Clone, Copy)]
+struct Sample;
+
+/// What a file of the tree holds.
+fn bytes_at(path: &str) -> Result<&'static [u8], PathError> {
+    match path {
+        "-" => Ok(b"f(\"a\\n\", '\\q', 0xFF_u8)".as_slice()),
+        "./a.rs" => Ok(b"let x = 1;\n\"a b\"q true".as_slice()),
+        "./b.rs" => Err(PathError::ReadFailed),
+        "./b/c.rs" => Ok(b"2 '\\u{d800}' \"\\u{202e}\" \"".as_slice()),
+        "./n.rs" => Ok(b"1 \"a\xff\"".as_slice()),
+        "./t\n.rs" => Ok(b"3.5".as_slice()),
+        "./none.rs" => Ok(b"fn f() {}".as_slice()),
+        "alone" => Ok(b"b'\xc3\xa9' /*".as_slice()),
+        "./.git/x.rs" => Ok(b"4".as_slice()),
+        "./target/x.rs" => Ok(b"5".as_slice()),
+        _ => Err(PathError::NotFound),
+    }
+}
+
+/// The names in a directory of the tree, with a bar between them.
+fn names_at(path: &str) -> Result<&'static str, PathError> {
+    match path {
+        "." => Ok(
+            "n.rs|b/|t\n.rs|b.rs|x.txt|.git/|target/|none.rs|a.rs|locked/||targets/",
+        ),
+        "./b/" => Ok("c.rs"),
+        "./.git/" | "./target/" => Ok("x.rs"),
+        "./targets/" => Ok("none"),
+        "./locked/" => Err(PathError::PermissionDenied),
+        _ => Err(PathError::NotADirectory),
+    }
+}
+
+/// A copy of the bytes.
+fn copy_of<A: Allocator>(alloc: A, bytes: &[u8]) -> Result<Vec<u8, A>, AllocError> {
+    let mut copy = Vec::new(alloc);
+    copy.extend_from_slice(bytes)?;
+    Ok(copy)
+}
+
+/// The pieces of a text that a character parts.
+fn pieces<A: Allocator + Copy>(
+    alloc: A,
+    text: &str,
+    between: char,
+) -> Result<Vec<String<A>, A>, AllocError> {
+    let mut pieces = Vec::new(alloc);
+    for piece in text.split(between) {
+        pieces.push(String::from_str(alloc, piece)?)?;
+    }
+    Ok(pieces)
+}
+
+impl Tree for Sample {
+    ghost use Rattle.std.specs.Prelude.{None};
+
+    ghost holds = { λ _. None };
+
+    fn bytes<A: Allocator>(&self, alloc: A, path: &str) -> Result<Vec<u8, A>, PathError> {
+        match bytes_at(path) {
+            Ok(bytes) => match copy_of(alloc, bytes) {
+                Ok(copy) => Ok(copy),
+                Err(_) => Err(PathError::OutOfMemory),
+            },
+            Err(error) => Err(error),
+        }
+    }
+
+    fn names<A: Allocator + Copy>(
+        &self,
+        alloc: A,
+        path: &str,
+    ) -> Result<Vec<String<A>, A>, PathError> {
+        match names_at(path) {
+            Ok(names) => match pieces(alloc, names, '|') {
+                Ok(copy) => Ok(copy),
+                Err(_) => Err(PathError::OutOfMemory),
+            },
+            Err(error) => Err(error),
+        }
+    }
+}
+
+/// Calls the program over the tree, with the words of a line.
+fn call_over(
+    alloc: Global,
+    line: &str,
+    out: &mut Narrow,
+    err: &mut Vec<u8>,
+) -> Result<Ending<CallError>, AllocError> {
+    let mut all = String::from_str(alloc, "rl_scan")?;
+    if !line.is_empty() {
+        all.push(' ')?;
+        all.push_str(line)?;
+    }
+    let words = pieces(alloc, all.as_str(), ' ')?;
+    Ok(call(alloc, words.as_slice(), false, &Sample, out, err))
+}
+
+/// Writes what a call writes, and how it ends.
+fn show<W: Write>(
+    alloc: Global,
+    line: &str,
+    mut narrow: Narrow,
+    page: &mut W,
+) -> io::Result<()> {
+    let mut err = Vec::new(alloc);
+    let ending = call_over(alloc, line, &mut narrow, &mut err)?;
+    page.write_all(narrow.held.as_slice())?;
+    page.write_all(b"--\n".as_slice())?;
+    page.write_all(err.as_slice())?;
+    let end = format!(in alloc; "status {} {ending}\n", ending.status())?;
+    page.write_all(end.as_bytes())
+}
+
+/// Writes a line of input and the answer to it.
+pub(crate) fn answer<W: Write>(alloc: Global, line: &str, page: &mut W) -> io::Result<()> {
+    page.write_all(b"== ".as_slice())?;
+    page.write_all(line.as_bytes())?;
+    page.write_all(b"\n".as_slice())?;
+    let (front, rest) = line.split_once(' ').unwrap_or((line, ""));
+    match Narrow::of_word(alloc, front) {
+        Some(narrow) => show(alloc, rest, narrow, page),
+        None => show(alloc, line, Narrow::wide(alloc), page),
+    }
+}

@@ -1,0 +1,9 @@
+use Rattle.rl_text.proofs.Common.{chars, on_ok_weaker, string_bytes}
+use Rattle.rl_sources.proofs.ReasonLemmas.{flaw_shown}
+use Rattle.rl_sources.proofs.reason.push_flaw.Goals as goal
+
+pub returns-clause-shown : goal.returns-clause-shown
+returns-clause-shown g c = on_ok_weaker c.push_error.result (flaw_shown c.args.options (chars c.args.places.now)
+    (chars c.args.token.text.now) c.args.token.lo c.args.flaw c.flaw_place-place.result (chars c.piece_of.result.now)
+    _ _ _ c.requires.flaw c.flaw_place-place.ensures.place c.piece_of.ensures c.in_ok-push_front.ensures)
+    c.push_error.ensures

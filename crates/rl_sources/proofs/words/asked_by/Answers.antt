@@ -1,0 +1,14 @@
+use Rattle.std.proofs.Common.{string_bytes}
+use Rattle.rl_sources.specs.Words.{wishes_in}
+use Rattle.rl_sources.proofs.WordLemmas.{word_taken, word_rejected}
+use Rattle.rl_sources.proofs.words.asked_by.Goals as goal
+
+pub returns-in-Err-clause-rejected : goal.returns-in-Err-clause-rejected
+returns-in-Err-clause-rejected g c = word_rejected string_bytes c.args.words.now c.loop-word.word-index
+    c.word-item.result c.as_str.result.now _ (wishes_in c.loop-word.asked) c.in-Err.error c.loop-word-test.true
+    c.word-item.is c.as_str.ensures.value c.loop-word.invariant c.in-Err.ensures.rejected
+
+pub loop-word-preserved : goal.loop-word-preserved
+loop-word-preserved g c = word_taken string_bytes c.args.words.now c.loop-word.word-index c.word-item.result
+    c.as_str.result.now _ _ (wishes_in c.loop-word.asked) _ c.loop-word-test.true c.word-item.is
+    c.as_str.ensures.value c.loop-word.invariant c.in-Ok.ensures.step

@@ -1,0 +1,160 @@
+-- What is reported of what a walk visits. All are lists of bytes, but where `chars` makes characters of
+-- them.
+use Rattle.std.specs.Prelude.{◌≡◌, ◌⊎◌, ℕ, ◌==◌, Bool, true, false, cond, not, ◌||◌, List, [], ◌∷◌, ◌++◌, length, codes, string_bytes, encode_utf8_all, Option, Some, None}
+use denote.Ref.{Bor}
+use Rattle.std.specs.declared.result.Result.TheVariants.{Ok, Err}
+use Rattle.std.specs.Fmt.{decimal}
+use Rattle.std.specs.List.{count_by}
+use Rattle.std.specs.Str.{chars, bytes_eq, IsUtf8, IsValidUpTo}
+use Rattle.rl_files.specs.Trees.{World}
+use Rattle.rl_files.specs.Visible.{visible}
+use Rattle.rl_files.specs.Walks.{Visited, FileAt, ErrorAt, path_error_message}
+use Rattle.rl_files.specs.declared.tree.PathError.{PathError}
+use Rattle.rl_files.specs.declared.tree.PathError.TheVariants.{NotUtf8, OutOfMemory}
+use Rattle.rl_lexer.specs.LexErrors.{lex_message}
+use Rattle.rl_lexer.specs.declared.lex_error.LexKind.{LexKind}
+use Rattle.rl_sources.specs.declared.command.Command.{Command}
+use Rattle.rl_sources.specs.declared.command.PlaceForm.{PlaceForm}
+use Rattle.rl_sources.specs.declared.command.PlaceForm.TheVariants as form
+use Rattle.rl_sources.specs.declared.command.Output.{Output}
+use Rattle.rl_sources.specs.declared.command.Output.TheVariants as output
+use Rattle.rl_sources.specs.declared.options.Options.{Options}
+use Rattle.rl_sources.specs.declared.options.Shown.{Shown}
+use Rattle.rl_sources.specs.declared.options.Shown.TheVariants.{All, Only, Bad}
+use Rattle.rl_sources.specs.declared.place.Place.{Place}
+use Rattle.rl_sources.specs.declared.report.Report.{Report}
+use Rattle.rl_sources.specs.Places.{line_front}
+use Rattle.rl_sources.specs.Scans.{Scans, StopsAtError, error_words}
+
+-- the path of standard input
+abbrev pub is_input : List ℕ → Bool
+is_input path = bytes_eq path (codes "-")
+
+-- whether places are printed by lines and columns
+abbrev pub is_by_line : PlaceForm → List ℕ → Bool
+is_by_line form.Usual path = not (is_input path)
+is_by_line form.Bytes path = false
+is_by_line form.Lines path = true
+
+-- whether what is bad is asked for
+abbrev pub is_bad : Shown → Bool
+is_bad All = false
+is_bad (Only list) = false
+is_bad Bad = true
+
+-- a path as it stands before each place: what is printed of it; that of standard input doesn't
+abbrev pub IsShownPath : List ℕ → Option (Bor (List ℕ)) → Type 0
+IsShownPath path None = is_input path ≡ true
+IsShownPath path (Some shown) = (is_input path ≡ false) × (chars shown.now ≡ visible (chars path))
+
+-- How a file of this path is scanned.
+pub record IsOptionsFor (command : Command) (path : List ℕ) (options : Options) : Type 0 where
+  pub shown : options.shown ≡ command.shown
+  pub by_line : options.by_line ≡ is_by_line command.places path
+  pub rejects_strays : options.rejects_strays ≡ command.rejects_strays
+  pub explains : options.explains ≡ is_bad command.shown
+  pub before : IsShownPath path options.path
+
+-- the lines of a text, and its error where it has one
+abbrev pub IsScannedAs : Options → List ℕ → List ℕ → Option (Place × LexKind) → Type 0
+IsScannedAs options text lines None = (any : Bool) × Scans options (chars text) (Some []) (Some lines) any
+IsScannedAs options text lines (Some (place, kind)) =
+    (shown : List ℕ) × StopsAtError options (chars text) shown place kind × (lines ≡ encode_utf8_all shown)
+
+-- the line of a text's error, in characters; nothing where it has none
+abbrev pub error_text : Option (Bor (List ℕ)) → Option (Place × LexKind) → List ℕ
+error_text path None = []
+error_text path (Some (place, kind)) = line_front path place ++ error_words (lex_message kind) []
+
+-- how many lines there are
+abbrev pub line_count : List ℕ → ℕ
+line_count lines = count_by (λ b. b == 10) lines
+
+abbrev pub count_line : Option (Bor (List ℕ)) → ℕ → List ℕ
+count_line None count = decimal count ++ codes "\n"
+count_line (Some path) count = path.now ++ (codes ":" ++ (decimal count ++ codes "\n"))
+
+abbrev pub path_line : Option (Bor (List ℕ)) → List ℕ
+path_line None = codes "-\n"
+path_line (Some path) = path.now ++ codes "\n"
+
+-- what is printed of the lines of a file: where there are none, nothing
+abbrev pub printed_of : Output → Option (Bor (List ℕ)) → List ℕ → List ℕ
+printed_of output.Lines path lines = lines
+printed_of output.Count path lines = cond (length lines == 0) [] (count_line path (line_count lines))
+printed_of output.Path path lines = cond (length lines == 0) [] (path_line path)
+printed_of output.Nothing path lines = []
+
+-- What is written on standard output and on standard error, and whether something was found.
+pub record Printed : Type 0 where
+  pub out : List ℕ
+  pub told : List ℕ
+  pub found : Bool
+
+abbrev pub in_report : {A : Type 0} → Report A → Printed
+in_report report = record { out = report.out.items; told = string_bytes report.told; found = report.found }
+
+-- what is found in a text: its lines, and its error where what is bad is asked for
+abbrev pub found_in : Bool → List ℕ → List ℕ → List ℕ
+found_in true lines error = lines ++ error
+found_in false lines error = lines
+
+-- what is told of it: its error where that isn't found
+abbrev pub told_of : Bool → List ℕ → List ℕ
+told_of true error = []
+told_of false error = error
+
+-- What is reported of a text with these lines and this error.
+pub record IsReportOf (output : Output) (options : Options) (lines error : List ℕ) (printed : Printed) : Type 0 where
+  pub out : printed.out ≡ printed_of output options.path (found_in options.explains lines error)
+  pub told : printed.told ≡ told_of options.explains error
+  pub found : printed.found ≡ not (length (found_in options.explains lines error) == 0)
+
+-- what is reported of a text
+abbrev pub IsTextReport : Command → List ℕ → List ℕ → Printed → Type 0
+IsTextReport command path text printed =
+    (options : Options) × (lines : List ℕ) × (error : Option (Place × LexKind))
+    × IsOptionsFor command path options × IsScannedAs options text lines error
+    × IsReportOf command.output options lines (encode_utf8_all (error_text options.path error)) printed
+
+-- Of a path that can't be read one line is told.
+pub record IsErrorReport (path : List ℕ) (why : PathError) (printed : Printed) : Type 0 where
+  pub out : printed.out ≡ []
+  pub found : printed.found ≡ false
+  pub told : chars printed.told
+      ≡ codes "rl_scan: " ++ (visible (chars path) ++ (codes ": " ++ (path_error_message why ++ codes "\n")))
+
+-- these bytes are no text, from the byte on that the error says
+abbrev pub IsNoText : List ℕ → PathError → Type 0
+IsNoText bytes why = (at : ℕ) × (why ≡ NotUtf8 at) × (IsUtf8 bytes → ⊥) × IsValidUpTo bytes at
+
+-- why a file isn't scanned: what the tree says, or an allocation failed, or it is no text
+abbrev pub IsReadError : World → List ℕ → PathError → Type 0
+IsReadError w path why =
+    (why ≡ OutOfMemory) ⊎ (w.bytes path ≡ Err why)
+    ⊎ ((bytes : List ℕ) × (w.bytes path ≡ Ok bytes) × IsNoText bytes why)
+
+-- what is reported of a file, or of a path that can't be gone into
+abbrev pub IsReport : Command → World → Visited → Printed → Type 0
+IsReport command w (FileAt path) printed =
+    ((text : List ℕ) × (w.bytes path ≡ Ok text) × IsUtf8 text × IsTextReport command path text printed)
+    ⊎ ((why : PathError) × IsReadError w path why × IsErrorReport path why printed)
+IsReport command w (ErrorAt path why) printed = IsErrorReport path why printed
+
+-- nothing, and one after another
+abbrev pub nothing : Printed
+nothing = record { out = []; told = []; found = false }
+
+abbrev pub joined : Printed → Printed → Printed
+joined first second = record {
+  out = first.out ++ second.out;
+  told = first.told ++ second.told;
+  found = first.found || second.found;
+}
+
+-- what is reported of all that is visited, in order
+abbrev pub AreReports : Command → World → List Visited → Printed → Type 0
+AreReports command w [] printed = printed ≡ nothing
+AreReports command w (visit ∷ visits) printed =
+    (first : Printed) × (others : Printed) × IsReport command w visit first × AreReports command w visits others
+    × (printed ≡ joined first others)
