@@ -9,29 +9,30 @@ use Rattle.std.specs.String.{string_cmp}
 use Rattle.std.proofs.lemmas.List.{get_or-map, map-append, length-map}
 use Rattle.std.proofs.lemmas.Grind.{flat_map-append}
 use Rattle.std.proofs.lemmas.List.Sorted.{IsPermutation-map}
-use Rattle.rl_files.specs.Trees.{World, texts}
+use Rattle.rl_files.specs.Trees.{World, string_texts}
 use Rattle.rl_files.specs.declared.tree.PathError.{PathError}
 use Rattle.rl_files.specs.declared.tree.PathError.TheVariants.{NotADirectory, OutOfMemory, NameNotUtf8}
-use Rattle.rl_files.specs.Walks.{Spot, AtDirectory, AtFile, AtBadName, Visited, FileAt, ErrorAt, Visits, VisitsNothing, VisitsFile, VisitsBadName, EntersDirectory, MissesDirectory, IsGivenFile, IsOrderOf, GoesOn, VisitsFirst, VisitsNone, EntersInOrder, spots_of, given_spots}
+use Rattle.rl_files.specs.Walks.{Spot, AtDirectory, AtFile, AtBadName, Visited, FileAt, ErrorAt, Visits, VisitsNothing, VisitsFile, VisitsBadName, EntersDirectory, MissesDirectory, IsGivenFile, IsOrderOf, WalksOn, VisitsFirst, VisitsNone, EntersInOrder, spots_of, given_spots}
 
 -- the last name of some, and those before it
 pub pieces_last : {A X : Type 0} (f : List ℕ → List X) (xs : List (String A)) (n : String A) (rest : List X)
-    → flat_map f (texts (xs ++ n ∷ [])) ++ rest ≡ flat_map f (texts xs) ++ (f (string_bytes n) ++ rest)
+    → flat_map f (string_texts (xs ++ n ∷ [])) ++ rest ≡ flat_map f (string_texts xs) ++ (f (string_bytes n) ++ rest)
 pieces_last {A} {X} f [] n rest = ap (λ (z : List X). z ++ rest) (append-nil (f (string_bytes n)))
 pieces_last {A} {X} f (x ∷ xs) n rest =
-    append_assoc (f (string_bytes x)) (flat_map f (texts (xs ++ n ∷ []))) rest
+    append_assoc (f (string_bytes x)) (flat_map f (string_texts (xs ++ n ∷ []))) rest
     ∙ ap (λ (z : List X). f (string_bytes x) ++ z) (pieces_last f xs n rest)
-    ∙ sym (append_assoc (f (string_bytes x)) (flat_map f (texts xs)) (f (string_bytes n) ++ rest))
+    ∙ sym (append_assoc (f (string_bytes x)) (flat_map f (string_texts xs)) (f (string_bytes n) ++ rest))
 
 -- the last path of some, and those before it
 pub given_last : {A : Type 0} (xs : List (String A)) (n : String A) (rest : List Spot)
-    → given_spots (texts (xs ++ n ∷ [])) ++ rest ≡ given_spots (texts xs) ++ (AtDirectory true (string_bytes n) ∷ rest)
+    → given_spots (string_texts (xs ++ n ∷ [])) ++ rest ≡ given_spots (string_texts xs)
+    ++ (AtDirectory true (string_bytes n) ∷ rest)
 given_last [] n rest = refl
 given_last (x ∷ xs) n rest = ap (λ (z : List Spot). AtDirectory true (string_bytes x) ∷ z) (given_last xs n rest)
 
 -- texts in order are lists of bytes in order
 pub texts_sorted : {A : Type 0} (xs : List (String A)) → IsSorted string_cmp xs
-    → IsSorted (slice_cmp nat_cmp) (texts xs)
+    → IsSorted (slice_cmp nat_cmp) (string_texts xs)
 texts_sorted [] h k d low high = absurd (omega arith)
 texts_sorted {A} (x ∷ xs) h k d low high =
     let short : k + 1 < length (x ∷ xs) = subst (λ (n : ℕ). k + 1 < n)
@@ -42,10 +43,11 @@ texts_sorted {A} (x ∷ xs) h k d low high =
 
 -- names that were sorted and gone to
 pub enters : {A : Type 0} (directory : List ℕ) (names sorted : List (String A)) (old new : List Spot)
-    → IsPermutation names sorted → IsSorted string_cmp sorted → new ≡ flat_map (spots_of directory) (texts sorted)
-    ++ old → EntersInOrder directory (texts names) old new
+    → IsPermutation names sorted → IsSorted string_cmp sorted → new
+    ≡ flat_map (spots_of directory) (string_texts sorted)
+    ++ old → EntersInOrder directory (string_texts names) old new
 enters {A} directory names sorted old new same inorder is = (
-  texts sorted,
+  string_texts sorted,
   (
     IsPermutation-map (λ (s : String A). string_bytes s) names sorted same,
     texts_sorted sorted
@@ -55,19 +57,19 @@ enters {A} directory names sorted old new same inorder is = (
 )
 
 -- nothing is left
-pub go_none : (holds : Option World) (old mid : List Spot) → GoesOn holds old mid → mid ≡ [] → VisitsNone holds old
+pub go_none : (holds : Option World) (old mid : List Spot) → WalksOn holds old mid → mid ≡ [] → VisitsNone holds old
 go_none None old mid on is = tt
 go_none (Some w) old mid on is = on [] (subst (λ (z : List Spot). Visits w z []) (sym is) VisitsNothing)
 
 -- a file is first
-pub go_file : (holds : Option World) (old mid rest : List Spot) (path : List ℕ) → GoesOn holds old mid → mid
+pub go_file : (holds : Option World) (old mid rest : List Spot) (path : List ℕ) → WalksOn holds old mid → mid
     ≡ AtFile path ∷ rest → VisitsFirst holds old (FileAt path) rest
 go_file None old mid rest path on is = tt
 go_file (Some w) old mid rest path on is = λ visited m. on (FileAt path ∷ visited)
     (subst (λ (z : List Spot). Visits w z (FileAt path ∷ visited)) (sym is) (VisitsFile m))
 
 -- a name that is no text is first
-pub go_bad_name : (holds : Option World) (old mid rest : List Spot) (path : List ℕ) → GoesOn holds old mid → mid
+pub go_bad_name : (holds : Option World) (old mid rest : List Spot) (path : List ℕ) → WalksOn holds old mid → mid
     ≡ AtBadName path ∷ rest → VisitsFirst holds old (ErrorAt path NameNotUtf8) rest
 go_bad_name None old mid rest path on is = tt
 go_bad_name (Some w) old mid rest path on is = λ visited m. on (ErrorAt path NameNotUtf8 ∷ visited)
@@ -75,14 +77,14 @@ go_bad_name (Some w) old mid rest path on is = λ visited m. on (ErrorAt path Na
 
 -- a directory is first, and can't be gone into
 pub go_missing : (holds : Option World) (old mid rest : List Spot) (given : Bool) (path : List ℕ) (why : PathError)
-    → GoesOn holds old mid → mid ≡ AtDirectory given path ∷ rest → (why ≡ OutOfMemory)
+    → WalksOn holds old mid → mid ≡ AtDirectory given path ∷ rest → (why ≡ OutOfMemory)
     ⊎ IfSome holds (λ w. w.names path ≡ Err why) → VisitsFirst holds old (ErrorAt path why) rest
 go_missing None old mid rest given path why on is found = tt
 go_missing (Some w) old mid rest given path why on is found = λ visited m. on (ErrorAt path why ∷ visited)
     (subst (λ (z : List Spot). Visits w z (ErrorAt path why ∷ visited)) (sym is) (MissesDirectory why found m))
 
 -- what an argument names is first, and is no directory
-pub go_given : (holds : Option World) (old mid rest : List Spot) (given : Bool) (path : List ℕ) → GoesOn holds old mid
+pub go_given : (holds : Option World) (old mid rest : List Spot) (given : Bool) (path : List ℕ) → WalksOn holds old mid
     → mid ≡ AtDirectory given path ∷ rest → given ≡ true → (NotADirectory ≡ OutOfMemory)
     ⊎ IfSome holds (λ w. w.names path ≡ Err NotADirectory) → VisitsFirst holds old (FileAt path) rest
 go_given holds old mid rest given path on is given_is (inl bad) = cc
@@ -93,8 +95,8 @@ go_given (Some w) old mid rest given path on is given_is (inr found) = λ visite
 
 -- a directory is first, and is gone into
 pub go_enter : (holds : Option World) (old mid rest new : List Spot) (given : Bool) (path : List ℕ)
-    (names : List (List ℕ)) → GoesOn holds old mid → mid ≡ AtDirectory given path ∷ rest
-    → IfSome holds (λ w. w.names path ≡ Ok names) → EntersInOrder path names rest new → GoesOn holds old new
+    (names : List (List ℕ)) → WalksOn holds old mid → mid ≡ AtDirectory given path ∷ rest
+    → IfSome holds (λ w. w.names path ≡ Ok names) → EntersInOrder path names rest new → WalksOn holds old new
 go_enter None old mid rest new given path names on is found enters = tt
 go_enter (Some w) old mid rest new given path names on is found (sorted, order, new_is) = λ visited m. on visited
     (subst (λ (z : List Spot). Visits w z visited) (sym is) (EntersDirectory names sorted found order

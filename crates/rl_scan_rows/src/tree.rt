@@ -32,9 +32,7 @@ fn bytes_at(path: &str) -> Result<&'static [u8], PathError> {
 /// The names in a directory of the tree, with a bar between them.
 fn names_at(path: &str) -> Result<&'static str, PathError> {
     match path {
-        "." => Ok(
-            "n.rs|b/|t\n.rs|b.rs|x.txt|.git/|target/|none.rs|a.rs|locked/||targets/",
-        ),
+        "." => Ok("n.rs|b/|t\n.rs|b.rs|x.txt|.git/|target/|none.rs|a.rs|locked/||targets/"),
         "./b/" => Ok("c.rs"),
         "./.git/" | "./target/" => Ok("x.rs"),
         "./targets/" => Ok("none"),
@@ -110,12 +108,7 @@ fn call_over(
 }
 
 /// Writes what a call writes, and how it ends.
-fn show<W: Write>(
-    alloc: Global,
-    line: &str,
-    mut narrow: Narrow,
-    page: &mut W,
-) -> io::Result<()> {
+fn show<W: Write>(alloc: Global, line: &str, mut narrow: Narrow, page: &mut W) -> io::Result<()> {
     let mut err = Vec::new(alloc);
     let ending = call_over(alloc, line, &mut narrow, &mut err)?;
     page.write_all(narrow.held.as_slice())?;

@@ -18,7 +18,7 @@ use Rattle.rl_sources.specs.Reports.{nothing}
 use Rattle.rl_sources.specs.Runs.{Streams, WritesFront}
 use Rattle.rl_files.specs.declared.walk.WalkError.{WalkError}
 use Rattle.rl_sources.specs.Words.{Wishes, wishes_of}
-use Rattle.rl_sources.specs.Endings.{paths_read, AskFor, EndsText, EndsWish, EndsAsked, EndsAsScan}
+use Rattle.rl_sources.specs.Endings.{paths_read, AskForWishes, EndsText, EndsWish, EndsAsked, EndsAsScan}
 
 -- what wasn't written to is kept
 pub keeps_same : (a : Option (List ℕ)) → Keeps a a
@@ -68,7 +68,7 @@ no_word error Help wishes is_terminal holds streams (text, (never, begun), kept)
 no_word error Version wishes is_terminal holds streams (text, (never, begun), kept) = never
 
 pub call_asked : {A B : Type 0} (args : List (String A)) (is_terminal : Bool) (holds : Option World) (streams : Streams)
-    (ending : Ending (CallError B)) (wishes : Wishes) → AskFor args wishes
+    (ending : Ending (CallError B)) (wishes : Wishes) → AskForWishes args wishes
     → EndsAsked wishes is_terminal holds streams ending → EndsAsScan args is_terminal holds streams ending
 call_asked args is_terminal holds streams Done wishes asks ends = (wishes, asks, ends)
 call_asked args is_terminal holds streams FoundBad wishes asks ends = (wishes, asks, ends)

@@ -26,7 +26,7 @@ use Rattle.rl_lines.proofs.LineLemmas.{pushed}
 use Rattle.rl_sources.specs.declared.options.Options.{Options}
 use Rattle.rl_sources.specs.declared.place.Place.{Place}
 use Rattle.rl_sources.specs.Places.{line_front, HoldsPlaces, IsPlaceIn}
-use Rattle.rl_sources.specs.Scans.{IsFlawLine, IsPieceOf, IsSlice, error_words}
+use Rattle.rl_sources.specs.Scans.{IsFlawLine, IsFlawPiece, IsSlice, error_words}
 use Rattle.rl_sources.specs.Steps.{BeginsRest}
 use Rattle.rl_sources.proofs.StepLemmas.{back_utf8}
 
@@ -216,7 +216,7 @@ error_of_piece kind piece old a b new some utf8 u v begun shown ended = go (char
 -- what stands before the line, and what is wrong
 pub flaw_shown : (options : Options) (whole text : List ℕ) (lo : ℕ) (flaw : Flaw) (place : Place)
     (piece old a new : List ℕ) → Explains text flaw
-    → IsPlaceIn options.by_line whole (lo + flaw.lo) (lo + flaw.hi) place → IsPieceOf text flaw piece
+    → IsPlaceIn options.by_line whole (lo + flaw.lo) (lo + flaw.hi) place → IsFlawPiece text flaw piece
     → a ≡ old ++ line_front options.path place → new ≡ a ++ error_words (flaw_message flaw.kind) piece
     → Appends (IsFlawLine options whole text lo) old new
 flaw_shown options whole text lo flaw place piece old a new explains is_place is_piece front words =
@@ -247,7 +247,7 @@ flaw_rest token text rest inside flaw begins explains is =
 -- ---- the piece
 
 pub piece_is : (text piece : List ℕ) (flaw : Flaw) → IsUtf8 text → IsUtf8 piece → IsSlice text flaw.from flaw.hi
-    → piece ≡ take (flaw.hi - flaw.from) (drop flaw.from text) → IsPieceOf (chars text) flaw (chars piece)
+    → piece ≡ take (flaw.hi - flaw.from) (drop flaw.from text) → IsFlawPiece (chars text) flaw (chars piece)
 piece_is text piece flaw u v slice is =
     let same = encodes-chars text u in
     inl (
@@ -256,6 +256,6 @@ piece_is text piece flaw u v slice is =
     )
 
 pub no_piece : (text : List ℕ) (flaw : Flaw) → IsUtf8 text → (IsSlice text flaw.from flaw.hi → ⊥)
-    → IsPieceOf (chars text) flaw (chars [])
+    → IsFlawPiece (chars text) flaw (chars [])
 no_piece text flaw u none =
     inr (λ slice. none (subst (λ (t : List ℕ). IsSlice t flaw.from flaw.hi) (encodes-chars text u) slice), chars-nil)

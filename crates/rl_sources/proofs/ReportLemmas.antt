@@ -11,7 +11,7 @@ use Rattle.rl_files.specs.declared.tree.PathError.TheVariants.{NotFound, Permiss
 use Rattle.rl_lines.proofs.LineLemmas.{pushed}
 use Rattle.rl_sources.specs.declared.command.Command.{Command}
 use Rattle.rl_sources.specs.declared.report.Report.{Report}
-use Rattle.rl_sources.specs.Reports.{Printed, in_report, IsTextReport, IsErrorReport, IsNoText, IsReport}
+use Rattle.rl_sources.specs.Reports.{Findings, in_report, IsTextReport, IsErrorReport, IsNotUtf8, IsReport}
 use Rattle.rl_sources.proofs.StepLemmas.{decimal_ascii}
 use Rattle.rl_sources.proofs.ReasonLemmas.{low_text}
 
@@ -68,7 +68,7 @@ not_read command (Some w) path why (Err e) found is = tt
 -- a file that was read
 pub was_read : {A : Type 0} (command : Command) (holds : Option World) (path bytes : List ℕ) (p : Report A)
     → IfSome holds (λ w. w.bytes path ≡ Ok bytes) → (IsUtf8 bytes × IsTextReport command path bytes (in_report p))
-    ⊎ ((why : PathError) × IsNoText bytes why × IsErrorReport path why (in_report p))
+    ⊎ ((why : PathError) × IsNotUtf8 bytes why × IsErrorReport path why (in_report p))
     → IfSome holds (λ w. IsReport command w (FileAt path) (in_report p))
 was_read command None path bytes p found is = tt
 was_read command (Some w) path bytes p found (inl (utf8, is)) = inl (bytes, found, utf8, is)
@@ -76,8 +76,8 @@ was_read command (Some w) path bytes p found (inr (why, no_text, is)) = inr (why
 
 -- what is no text
 pub no_text_told : {A E : Type 0} (command : Command) (path bytes : List ℕ) (why : PathError) (r : Result (Report A) E)
-    → IsNoText bytes why → IfOk r (λ p. IsErrorReport path why (in_report p))
+    → IsNotUtf8 bytes why → IfOk r (λ p. IsErrorReport path why (in_report p))
     → IfOk r (λ p. (IsUtf8 bytes × IsTextReport command path bytes (in_report p))
-    ⊎ ((other : PathError) × IsNoText bytes other × IsErrorReport path other (in_report p)))
+    ⊎ ((other : PathError) × IsNotUtf8 bytes other × IsErrorReport path other (in_report p)))
 no_text_told command path bytes why (Ok p) no_text is = inr (why, no_text, is)
 no_text_told command path bytes why (Err e) no_text is = tt

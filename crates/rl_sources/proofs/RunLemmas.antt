@@ -11,14 +11,14 @@ use Rattle.rl_files.specs.Walks.{Spot, Visited, Visits, VisitsNone, VisitsFirst}
 use Rattle.rl_files.proofs.WalkLemmas.{some_visits}
 use Rattle.rl_sources.specs.declared.command.Command.{Command}
 use Rattle.rl_sources.specs.declared.runs.Tally.{Tally}
-use Rattle.rl_sources.specs.Reports.{Printed, IsReport, AreReports, nothing, joined}
+use Rattle.rl_sources.specs.Reports.{Findings, IsReport, AreReports, nothing, both_of}
 use Rattle.rl_sources.specs.Runs.{Streams, IsWritten, WritesReport, WritesSome, WritesWalk, WritesFront, WritesBeginning}
 
 -- what was written so far, of what was visited so far, and what is visited from the new places on comes
 -- after it
 pub record Ran (command : Command) (w : World) (old new : List Spot) (streams : Streams) (tally : Tally) : Type 0 where
   pub visits : List Visited
-  pub printed : Printed
+  pub printed : Findings
   pub goes : (more : List Visited) → Visits w new more → Visits w old (visits ++ more)
   pub reports : AreReports command w visits printed
   pub written : IsWritten streams printed tally
@@ -55,27 +55,27 @@ or_assoc true b d = refl
 or_assoc false b d = refl
 
 -- one more is reported after the others
-reports_more : (command : Command) (w : World) (visits : List Visited) (visit : Visited) (done one : Printed)
+reports_more : (command : Command) (w : World) (visits : List Visited) (visit : Visited) (done one : Findings)
     → AreReports command w visits done → IsReport command w visit one
-    → AreReports command w (visits ++ visit ∷ []) (joined done one)
+    → AreReports command w (visits ++ visit ∷ []) (both_of done one)
 reports_more command w [] visit done one are is =
-    (one, nothing, is, refl, ap (λ (z : Printed). joined z one) are ∙ sym (joined_nothing one))
+    (one, nothing, is, refl, ap (λ (z : Findings). both_of z one) are ∙ sym (joined_nothing one))
   where
-    joined_nothing : (p : Printed) → joined p nothing ≡ p
+    joined_nothing : (p : Findings) → both_of p nothing ≡ p
     joined_nothing p = record_is p (append-nil p.out) (append-nil p.told) (or_false p.found)
       where
-        record_is : (q : Printed) {a b : List ℕ} {f : Bool} → a ≡ q.out → b ≡ q.told → f ≡ q.found
+        record_is : (q : Findings) {a b : List ℕ} {f : Bool} → a ≡ q.out → b ≡ q.told → f ≡ q.found
             → record { out = a; told = b; found = f } ≡ q
         record_is q e g h = rw (e, g, h) refl
 reports_more command w (v ∷ vs) visit done one (first, others, is_first, are, done_is) is = (
   first,
-  joined others one,
+  both_of others one,
   is_first,
   reports_more command w vs visit others one are is,
-  ap (λ (z : Printed). joined z one) done_is ∙ joined_assoc first others one,
+  ap (λ (z : Findings). both_of z one) done_is ∙ joined_assoc first others one,
 )
   where
-    joined_assoc : (p q r : Printed) → joined (joined p q) r ≡ joined p (joined q r)
+    joined_assoc : (p q r : Findings) → both_of (both_of p q) r ≡ both_of p (both_of q r)
     joined_assoc p q r = rw (
       append_assoc p.out q.out r.out,
       append_assoc p.told q.told r.told,
@@ -84,11 +84,11 @@ reports_more command w (v ∷ vs) visit done one (first, others, is_first, are, 
     ) refl
 
 -- both writes together
-written_more : (o0 o1 o2 e0 e1 e2 : Option (List ℕ)) (done one : Printed) (before more after : Tally)
+written_more : (o0 o1 o2 e0 e1 e2 : Option (List ℕ)) (done one : Findings) (before more after : Tally)
     → IsWritten (record { out_old = o0; out_new = o1; err_old = e0; err_new = e1 }) done before
     → IsWritten (record { out_old = o1; out_new = o2; err_old = e1; err_new = e2 }) one more
     → after.found ≡ (before.found || more.found) → after.failed ≡ (before.failed || more.failed)
-    → IsWritten (record { out_old = o0; out_new = o2; err_old = e0; err_new = e2 }) (joined done one) after
+    → IsWritten (record { out_old = o0; out_new = o2; err_old = e0; err_new = e2 }) (both_of done one) after
 written_more o0 o1 o2 e0 e1 e2 done one before more after first second found failed = record {
   on_out = Appends-trans o0 o1 o2 done.out one.out first.on_out second.on_out;
   on_err = Appends-trans e0 e1 e2 done.told one.told first.on_err second.on_err;
@@ -111,8 +111,9 @@ ran_more command None old mid new visit o0 o1 o2 e0 e1 e2 before more after ran 
 ran_more command (Some w) old mid new visit o0 o1 o2 e0 e1 e2 before more after ran visits (one, is, written) found
     failed = record {
       visits = ran.visits ++ visit ∷ [];
-      printed = joined ran.printed one;
-      goes = λ others m. subst (λ (z : List Visited). Visits w old z) (sym (append_assoc ran.visits (visit ∷ []) others))
+      printed = both_of ran.printed one;
+      goes = λ others m. subst (λ (z : List Visited). Visits w old z)
+          (sym (append_assoc ran.visits (visit ∷ []) others))
           (ran.goes (visit ∷ others) (visits others m));
       reports = reports_more command w ran.visits visit ran.printed one ran.reports is;
       written = written_more o0 o1 o2 e0 e1 e2 ran.printed one before more after ran.written written found failed;
@@ -196,7 +197,7 @@ ran_some command (Some w) old mid new visit o0 o1 o2 e0 e1 e2 before ran visits 
     let more = some_visits w new in (
       ran.visits ++ visit ∷ [],
       more.0,
-      joined ran.printed one,
+      both_of ran.printed one,
       subst (λ (z : List Visited). Visits w old z)
           (sym (append_assoc ran.visits (visit ∷ []) more.0)) (ran.goes (visit ∷ more.0) (visits more.0 more.1)),
       reports_more command w ran.visits visit ran.printed one ran.reports is,
@@ -208,14 +209,14 @@ ran_some command (Some w) old mid new visit o0 o1 o2 e0 e1 e2 before ran visits 
     )
 
 -- the first write failed
-pub out_failed : (command : Command) (holds : Option World) (visit : Visited) (one : Printed)
+pub out_failed : (command : Command) (holds : Option World) (visit : Visited) (one : Findings)
     (o0 o1 e0 : Option (List ℕ)) → IfSome holds (λ w. IsReport command w visit one) → AppendsBeginning o0 o1 one.out
     → IfSome holds (λ w. WritesSome command w visit (record { out_old = o0; out_new = o1; err_old = e0; err_new = e0 }))
 out_failed command None visit one o0 o1 e0 is begun = tt
 out_failed command (Some w) visit one o0 o1 e0 is begun = inr (one, is, (begun, (0, Appends-nil e0)))
 
 -- the second write failed
-pub err_failed : (command : Command) (holds : Option World) (visit : Visited) (one : Printed)
+pub err_failed : (command : Command) (holds : Option World) (visit : Visited) (one : Findings)
     (o0 o1 e0 e1 : Option (List ℕ)) → IfSome holds (λ w. IsReport command w visit one) → Appends o0 o1 one.out
     → AppendsBeginning e0 e1 one.told → IfSome holds (λ w. WritesSome command w visit
     (record { out_old = o0; out_new = o1; err_old = e0; err_new = e1 }))

@@ -5,8 +5,8 @@ use Rattle.rl_sources.specs.declared.words.Next.{Next}
 use Rattle.rl_sources.specs.declared.words.Next.TheVariants as next
 use Rattle.rl_sources.specs.declared.words.WordError.{WordError}
 use Rattle.rl_sources.specs.declared.words.WordError.TheVariants.{Memory, UnknownOption, UnknownKind, NoKinds, TwoChoices}
-use Rattle.rl_sources.specs.Endings.{AskFor, CannotAsk}
-use Rattle.rl_sources.specs.Words.{Wishes, first_wishes, IsStep, AreSteps, Asks, IsRejected, AreRejected}
+use Rattle.rl_sources.specs.Endings.{AskForWishes, CannotAsk}
+use Rattle.rl_sources.specs.Words.{Wishes, first_wishes, IsStep, AreSteps, Asks, IsRejectedWord, AreRejected}
 
 -- one step more
 steps_more : (first between then : Next) (old middle new : Wishes) (words : List (List ℕ)) (word : List ℕ)
@@ -52,7 +52,8 @@ word_taken bytes words i item word between then middle new within is word_is ste
 pub word_rejected : {S A : Type 0} (bytes : S → List ℕ) (words : List S) (i : ℕ) (item : S) (word : List ℕ)
     (between : Next) (middle : Wishes) (error : WordError A) → i < length words → item ≡ get_or words i item → word
     ≡ bytes item
-    → AreSteps next.Any first_wishes (map bytes (take i words)) between middle → IsRejected between middle word error
+    → AreSteps next.Any first_wishes (map bytes (take i words)) between middle
+    → IsRejectedWord between middle word error
     → AreRejected (map bytes words) error
 word_rejected bytes words i item word between middle Memory within is word_is steps rejected = (
   map bytes (take i words),
@@ -113,7 +114,7 @@ words_after : {A : Type 0} (program : String A) (words : List (String A)) → ta
 words_after program words = take_all (length (program ∷ words) - 1) words (omega arith)
 
 pub ask_for : {A : Type 0} (args : List (String A)) (wishes : Wishes) → 1 ≤ length args
-    → Asks (map string_bytes (take (length args - 1) (drop 1 args))) wishes → AskFor args wishes
+    → Asks (map string_bytes (take (length args - 1) (drop 1 args))) wishes → AskForWishes args wishes
 ask_for [] wishes some asks = absurd (omega (arith, some))
 ask_for (program ∷ words) wishes some asks = subst (λ ws. Asks (map string_bytes ws) wishes) (words_after program words)
     asks

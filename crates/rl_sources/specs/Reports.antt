@@ -86,12 +86,12 @@ printed_of output.Path path lines = cond (length lines == 0) [] (path_line path)
 printed_of output.Nothing path lines = []
 
 -- What is written on standard output and on standard error, and whether something was found.
-pub record Printed : Type 0 where
+pub record Findings : Type 0 where
   pub out : List ℕ
   pub told : List ℕ
   pub found : Bool
 
-abbrev pub in_report : {A : Type 0} → Report A → Printed
+abbrev pub in_report : {A : Type 0} → Report A → Findings
 in_report report = record { out = report.out.items; told = string_bytes report.told; found = report.found }
 
 -- what is found in a text: its lines, and its error where what is bad is asked for
@@ -105,56 +105,56 @@ told_of true error = []
 told_of false error = error
 
 -- What is reported of a text with these lines and this error.
-pub record IsReportOf (output : Output) (options : Options) (lines error : List ℕ) (printed : Printed) : Type 0 where
+pub record IsReportOf (output : Output) (options : Options) (lines error : List ℕ) (printed : Findings) : Type 0 where
   pub out : printed.out ≡ printed_of output options.path (found_in options.explains lines error)
   pub told : printed.told ≡ told_of options.explains error
   pub found : printed.found ≡ not (length (found_in options.explains lines error) == 0)
 
 -- what is reported of a text
-abbrev pub IsTextReport : Command → List ℕ → List ℕ → Printed → Type 0
+abbrev pub IsTextReport : Command → List ℕ → List ℕ → Findings → Type 0
 IsTextReport command path text printed =
     (options : Options) × (lines : List ℕ) × (error : Option (Place × LexKind))
     × IsOptionsFor command path options × IsScannedAs options text lines error
     × IsReportOf command.output options lines (encode_utf8_all (error_text options.path error)) printed
 
 -- Of a path that can't be read one line is told.
-pub record IsErrorReport (path : List ℕ) (why : PathError) (printed : Printed) : Type 0 where
+pub record IsErrorReport (path : List ℕ) (why : PathError) (printed : Findings) : Type 0 where
   pub out : printed.out ≡ []
   pub found : printed.found ≡ false
   pub told : chars printed.told
       ≡ codes "rl_scan: " ++ (visible (chars path) ++ (codes ": " ++ (path_error_message why ++ codes "\n")))
 
 -- these bytes are no text, from the byte on that the error says
-abbrev pub IsNoText : List ℕ → PathError → Type 0
-IsNoText bytes why = (at : ℕ) × (why ≡ NotUtf8 at) × (IsUtf8 bytes → ⊥) × IsValidUpTo bytes at
+abbrev pub IsNotUtf8 : List ℕ → PathError → Type 0
+IsNotUtf8 bytes why = (at : ℕ) × (why ≡ NotUtf8 at) × (IsUtf8 bytes → ⊥) × IsValidUpTo bytes at
 
 -- why a file isn't scanned: what the tree says, or an allocation failed, or it is no text
 abbrev pub IsReadError : World → List ℕ → PathError → Type 0
 IsReadError w path why =
     (why ≡ OutOfMemory) ⊎ (w.bytes path ≡ Err why)
-    ⊎ ((bytes : List ℕ) × (w.bytes path ≡ Ok bytes) × IsNoText bytes why)
+    ⊎ ((bytes : List ℕ) × (w.bytes path ≡ Ok bytes) × IsNotUtf8 bytes why)
 
 -- what is reported of a file, or of a path that can't be gone into
-abbrev pub IsReport : Command → World → Visited → Printed → Type 0
+abbrev pub IsReport : Command → World → Visited → Findings → Type 0
 IsReport command w (FileAt path) printed =
     ((text : List ℕ) × (w.bytes path ≡ Ok text) × IsUtf8 text × IsTextReport command path text printed)
     ⊎ ((why : PathError) × IsReadError w path why × IsErrorReport path why printed)
 IsReport command w (ErrorAt path why) printed = IsErrorReport path why printed
 
 -- nothing, and one after another
-abbrev pub nothing : Printed
+abbrev pub nothing : Findings
 nothing = record { out = []; told = []; found = false }
 
-abbrev pub joined : Printed → Printed → Printed
-joined first second = record {
+abbrev pub both_of : Findings → Findings → Findings
+both_of first second = record {
   out = first.out ++ second.out;
   told = first.told ++ second.told;
   found = first.found || second.found;
 }
 
 -- what is reported of all that is visited, in order
-abbrev pub AreReports : Command → World → List Visited → Printed → Type 0
+abbrev pub AreReports : Command → World → List Visited → Findings → Type 0
 AreReports command w [] printed = printed ≡ nothing
 AreReports command w (visit ∷ visits) printed =
-    (first : Printed) × (others : Printed) × IsReport command w visit first × AreReports command w visits others
-    × (printed ≡ joined first others)
+    (first : Findings) × (others : Findings) × IsReport command w visit first × AreReports command w visits others
+    × (printed ≡ both_of first others)

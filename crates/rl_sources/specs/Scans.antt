@@ -37,8 +37,8 @@ IsSlice text lo hi = (lo ≤ hi) × IsCharBoundary text lo × IsCharBoundary tex
 
 -- the piece of a text that the flaw spoils, up to the character that makes it no literal; nothing
 -- where that is no piece of it
-abbrev pub IsPieceOf : List ℕ → Flaw → List ℕ → Type 0
-IsPieceOf text flaw piece =
+abbrev pub IsFlawPiece : List ℕ → Flaw → List ℕ → Type 0
+IsFlawPiece text flaw piece =
     (IsSlice (encode_utf8_all text) flaw.from flaw.hi
     × (encode_utf8_all piece ≡ take (flaw.hi - flaw.from) (drop flaw.from (encode_utf8_all text))))
     ⊎ ((IsSlice (encode_utf8_all text) flaw.from flaw.hi → ⊥) × (piece ≡ []))
@@ -53,7 +53,7 @@ error_words message piece = codes "error: " ++ (message ++ (codes ": " ++ (visib
 abbrev pub IsFlawLine : Options → List ℕ → List ℕ → ℕ → List ℕ → Type 0
 IsFlawLine options whole text lo shown =
     (flaw : Flaw) × (place : Place) × (piece : List ℕ) × Explains text flaw
-    × IsPlaceIn options.by_line whole (lo + flaw.lo) (lo + flaw.hi) place × IsPieceOf text flaw piece
+    × IsPlaceIn options.by_line whole (lo + flaw.lo) (lo + flaw.hi) place × IsFlawPiece text flaw piece
     × (shown ≡ line_front options.path place ++ error_words (flaw_message flaw.kind) piece)
 
 -- the line of a text: where it is asked for, and the text is no literal, the line that says why;

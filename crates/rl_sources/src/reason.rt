@@ -6,7 +6,7 @@ ghost use Rattle.rl_lines.specs.Lines.{Appends};
 ghost use Rattle.rl_reasons.specs.Flaws.{Explains};
 ghost use Rattle.rl_reasons.specs.FlawWords.{flaw_message};
 ghost use Rattle.rl_sources.specs.Places.{IsPlaceIn};
-ghost use Rattle.rl_sources.specs.Scans.{IsFlawLine, IsPieceOf, IsSlice, error_words};
+ghost use Rattle.rl_sources.specs.Scans.{IsFlawLine, IsFlawPiece, IsSlice, error_words};
 ghost use Rattle.rl_sources.specs.Steps.{BeginsRest};
 
 use crate::options::Options;
@@ -45,7 +45,7 @@ fn is_slice(text: &str, lo: usize, hi: usize) -> bool
 
 /// The piece of a text that a flaw spoils, up to the character that makes it no literal.
 fn piece_of(text: &str, flaw: Flaw) -> &str
-    ensures { IsPieceOf (chars text.now) flaw (chars result.now) }
+    ensures { IsFlawPiece (chars text.now) flaw (chars result.now) }
 {
     if is_slice(text, flaw.from, flaw.hi) {
         return &text[flaw.from..flaw.hi];

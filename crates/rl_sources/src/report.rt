@@ -8,7 +8,7 @@ ghost use Rattle.rl_files.specs.declared.tree.PathError.{PathError};
 ghost use Rattle.rl_lexer.specs.LexErrors.{lex_message};
 ghost use Rattle.rl_sources.specs.Places.{line_front};
 ghost use Rattle.rl_sources.specs.Scans.{error_words};
-ghost use Rattle.rl_sources.specs.Reports.{is_input as input, is_by_line as by_line, is_bad as bad, IsShownPath, IsOptionsFor, IsScannedAs, error_text, line_count, printed_of, in_report, IsTextReport, IsErrorReport, IsNoText, IsReport};
+ghost use Rattle.rl_sources.specs.Reports.{is_input as input, is_by_line as by_line, is_bad as bad, IsShownPath, IsOptionsFor, IsScannedAs, error_text, line_count, printed_of, in_report, IsTextReport, IsErrorReport, IsNotUtf8, IsReport};
 
 use crate::command::{Command, Output, PlaceForm};
 use crate::options::{Options, Shown};
@@ -230,7 +230,7 @@ fn report_bytes<A: Allocator + Copy>(
     bytes: &[u8],
 ) -> Result<Report<A>, AllocError>
     ensures { IfOk result (λ r. (IsUtf8 bytes.now × IsTextReport command.entry path.now bytes.now (in_report r))
-        ⊎ ((why : PathError) × IsNoText bytes.now why × IsErrorReport path.now why (in_report r))) }
+        ⊎ ((why : PathError) × IsNotUtf8 bytes.now why × IsErrorReport path.now why (in_report r))) }
 {
     match std::str::from_utf8(bytes) {
         Ok(text) => report_text(alloc, command, path, text),
@@ -258,7 +258,11 @@ fn report_file<A: Allocator + Copy, T: Tree>(
     }
 }
 
-/// What is reported of what a walk visits.
+/// What is reported of what a walk visits: of a file what is printed of its text, of what can't be read one line.
+///
+/// # Errors
+///
+/// An allocation failure, where not even that line could be made.
 pub fn report_of<A: Allocator + Copy, T: Tree>(
     alloc: A,
     command: Command<'_>,
