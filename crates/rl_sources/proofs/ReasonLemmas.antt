@@ -15,7 +15,7 @@ use Rattle.rl_lexer.specs.declared.lex_error.LexKind.{LexKind}
 use Rattle.rl_lexer.specs.declared.lex_error.LexKind.TheVariants.{DocComment, UnclosedComment, UnclosedQuote, Lifetime, RawIdentifier, StrayCharacter, UnmatchedClose, UnclosedGroup, TooDeep, Memory}
 use Rattle.rl_reasons.specs.declared.flaws.Flaw.{Flaw}
 use Rattle.rl_reasons.specs.declared.flaws.FlawKind.{FlawKind}
-use Rattle.rl_reasons.specs.declared.flaws.FlawKind.TheVariants.{Empty, NoLiteral, Unfinished, NoQuote, NoNumber, Unclosed, UnknownEscape, NoUnicode, NoHexDigit, NoBrace, EmptyBraces, TooManyDigits, PastAscii, PastUnicode, Surrogate, Nul, NotAscii, LateQuote, LoneCr, MustEscape, NoCharacter, TwoCharacters, NoExponentDigit, BadSuffix, TooLarge}
+use Rattle.rl_reasons.specs.declared.flaws.FlawKind.TheVariants.{Empty, NoLiteral, Unfinished, NoQuote, NoNumber, Unclosed, UnknownEscape, NoUnicode, NoHexDigit, NoBrace, EmptyBraces, TooManyDigits, PastAscii, PastUnicode, Surrogate, Nul, NotAscii, LateQuote, LoneCr, MustEscape, NoCharacter, TwoCharacters, NoExponentDigit, BadSuffix, TooLarge, Minus, TooManyHashes, CarriageReturn, EarlyQuote, ExtraHash, UnderscoreSuffix, NoDigits, DigitOfBase, BasedFloat, NoFractionDigit}
 use Rattle.rl_reasons.specs.Flaws.{Explains, first_len}
 use Rattle.rl_reasons.specs.FlawWords.{flaw_message}
 use Rattle.std.proofs.Common.{rules}
@@ -132,6 +132,16 @@ message_low TwoCharacters = refl
 message_low NoExponentDigit = refl
 message_low BadSuffix = refl
 message_low TooLarge = refl
+message_low Minus = refl
+message_low TooManyHashes = refl
+message_low CarriageReturn = refl
+message_low EarlyQuote = refl
+message_low ExtraHash = refl
+message_low UnderscoreSuffix = refl
+message_low NoDigits = refl
+message_low DigitOfBase = refl
+message_low BasedFloat = refl
+message_low NoFractionDigit = refl
 
 -- the words of an error, as they are written
 message_ascii : (message after : List ℕ) → list_all is_ascii message ≡ true → list_all is_ascii after ≡ true
