@@ -1,10 +1,10 @@
 -- White space and plain comments, and the rest of a text after them: `skip` of `syn` 3.0.9,
 -- src/whitespace.rs, and of the Rust Reference the chapters Comments and Whitespace. A text is a
 -- list of characters, each its code.
-use Rattle.std.specs.Prelude.{◌≡◌, ℕ, Bool, not, ◌&&◌, ◌||◌, ◌==◌, List, [], ◌∷◌, ◌++◌, IsTrue, ⊤, slice_index}
+use Rattle.std.specs.Prelude.{◌≡◌, ℕ, Bool, not, ◌&&◌, ◌||◌, ◌==◌, List, [], ◌∷◌, ◌++◌, IsTrue, ⊤, drop}
 use Rattle.std.specs.List.{AllByRecursion, list_all}
 use Prim.Native.Char.{code}
-use Rattle.rl_text.specs.Texts.{is_white}
+use Rattle.rl_text.specs.Texts.{is_white, starts_with}
 
 -- What stands after the `/*` of a block comment, its `*/` with it. Each block inside it is one in
 -- turn.
@@ -32,16 +32,16 @@ IsInside (Nested inner rest) = IsInside inner × IsInside rest
 -- By what follows its `//`, a line comment is plain: not `///`, unless it is `////`, and not `//!`.
 abbrev pub is_comment_line : List ℕ → Bool
 is_comment_line body =
-    not (slice_index body 0 == code "!"
-    || (slice_index body 0 == code "/" && not (slice_index body 1 == code "/")))
+    not (starts_with (code "!") body
+    || (starts_with (code "/") body && not (starts_with (code "/") (drop 1 body))))
 
 -- By what follows its `/*`, a block is plain: `/**/`, or not `/**`, unless it is `/***`, and not
 -- `/*!`.
 abbrev pub is_comment_block : List ℕ → Bool
 is_comment_block inside =
-    not (slice_index inside 0 == code "!"
-    || (slice_index inside 0 == code "*"
-    && not (slice_index inside 1 == code "/" || slice_index inside 1 == code "*")))
+    not (starts_with (code "!") inside
+    || (starts_with (code "*") inside
+    && not (starts_with (code "/") (drop 1 inside) || starts_with (code "*") (drop 1 inside))))
 
 -- A white character, a plain line comment with its LF, or a plain block.
 pub data TriviaPiece : Type 0 where

@@ -15,7 +15,7 @@ use Rattle.rl_text.proofs.TailLemmas.{tail_step, cut_join}
 use Rattle.rl_lexer.proofs.CutLemmas.{byte_len-append}
 use Rattle.rl_lexer.proofs.ErrorKinds.{char_len, rest_place, chars_some}
 use Rattle.rl_lexer.proofs.LexemeOpeners.{quote_begins}
-use Rattle.rl_lexer.proofs.SourceFronts.{proper_source, apostrophe, closed_here}
+use Rattle.rl_lexer.proofs.SourceFronts.{proper_source, closed_here}
 use Rattle.rl_text.proofs.Rests.{tail_length}
 
 -- nothing is cut yet
@@ -167,8 +167,7 @@ opens_one r some none o = go (begins (codes "/*") r) refl
     go false a = (none, quote a)
 
 open_bits : (r : List ℕ) → opens r ≡ true → Opens r
-open_bits r h = go (begins (codes "/*") r) (begins_quote r) (first_passes is_apostrophe r) refl refl refl
-    (ap (λ z. begins (codes "/*") r || (begins_quote r || z)) (sym (apostrophe r)) ∙ h)
+open_bits r h = go (begins (codes "/*") r) (begins_quote r) (first_passes is_apostrophe r) refl refl refl h
   where
     go : (a b d : Bool) → begins (codes "/*") r ≡ a → begins_quote r ≡ b → first_passes is_apostrophe r ≡ d
         → (begins (codes "/*") r || (begins_quote r || first_passes is_apostrophe r)) ≡ true → Opens r

@@ -1,8 +1,8 @@
 -- What a source has beside lexemes, at the front of a text: what `other_at` takes off is such a
 -- token, and each such token is what it takes off.
-use Rattle.rl_text.proofs.Common.{◌≡◌, ℕ, inl, inr, Bool, true, false, not, ◌||◌, ◌==◌, cond, List, [], ◌∷◌, ◌++◌, append-nil, Option, Some, None, slice_index, drop, refl, sym, ◌∙◌, ap, subst, Bor, arith, or_parts, ltb-false, none-some, is_ascii, ⊤, codes, list_all, IfSome, IfNone, option_map, option_and_then, chars}
+use Rattle.rl_text.proofs.Common.{◌≡◌, ℕ, inl, inr, Bool, true, false, not, ◌||◌, ◌==◌, cond, List, [], ◌∷◌, ◌++◌, append-nil, Option, Some, None, drop, refl, sym, ◌∙◌, ap, subst, Bor, arith, or_parts, ltb-false, none-some, is_ascii, ⊤, codes, list_all, IfSome, IfNone, option_map, option_and_then, chars}
 use Rattle.rl_text.proofs.ScanLemmas.{not_false}
-use Rattle.rl_text.specs.Texts.{first_passes, begins, is_start, is_continue}
+use Rattle.rl_text.specs.Texts.{first_passes, begins, is_start, is_continue, starts_with}
 use Rattle.rl_forms.specs.Trivia.{Inside, inside_text, IsInside, is_comment_line, is_comment_block}
 use Rattle.rl_lexer.specs.Skipping.{Skipped}
 use Rattle.rl_text.specs.Scanning.{is_one_of, is_other}
@@ -44,12 +44,8 @@ line_plain body (c ∷ t) h = ap (λ x. is_comment_line (body ++ x ∷ t)) (is_e
 
 -- ---- the front of a whole source
 
-first_not : (s : List ℕ) → (slice_index s 0 == 91) ≡ false → first_passes (λ c. c == 91) s ≡ false
-first_not [] h = refl
-first_not (c ∷ s) h = h
-
 pub script_line : (t second following s r : List ℕ) → t ≡ 35 ∷ second → second ≡ 33 ∷ following → Skipped following s
-    → (slice_index s 0 == 91) ≡ false → r ≡ after_run is_in_line following → IsScriptLine t r
+    → starts_with 91 s ≡ false → r ≡ after_run is_in_line following → IsScriptLine t r
 script_line t second following s r a b skipped other rest =
     let (row, is, same) = run_found is_in_line following in
     let e : following ≡ row ++ r = same ∙ ap (λ x. row ++ x) (sym rest) in
@@ -58,7 +54,7 @@ script_line t second following s r a b skipped other rest =
       text_is = a ∙ ap (λ x. 35 ∷ x) b ∙ ap (λ x. 35 ∷ 33 ∷ x) e;
       is_line = subst (λ (x : List ℕ). IsRow is_in_line row x) (sym rest) is;
       no_attribute = λ u v. let q : u ≡ s = one_rest following u s (subst (λ (x : List ℕ). Skipped x u) (sym e) v)
-          skipped in ap (first_passes (λ c. c == 91)) q ∙ first_not s other;
+          skipped in ap (first_passes (λ c. c == 91)) q ∙ other;
     }
 
 -- ---- each token is taken off
@@ -257,10 +253,6 @@ proper_source (DocLineToken body) t is = is
 proper_source (DocBlockToken i) t is = is
 proper_source (StrayToken c) t is = absurd is
 
-pub apostrophe : (r : List ℕ) → (slice_index r 0 == 39) ≡ first_passes is_apostrophe r
-apostrophe [] = refl
-apostrophe (c ∷ r) = refl
-
 true_false : (b : Bool) → b ≡ true → b ≡ false → ⊥
 true_false true h k = absurd (cc)
 true_false false h k = absurd (cc)
@@ -268,24 +260,24 @@ true_false false h k = absurd (cc)
 -- what opens nothing
 pub closed_here : (r : List ℕ) → opens r ≡ false → Opens r → ⊥
 closed_here r h o =
-    let e = or_parts (begins (codes "/*") r) (begins_quote r || slice_index r 0 == 39) h in
-    let d = or_parts (begins_quote r) (slice_index r 0 == 39) e.1 in
+    let e = or_parts (begins (codes "/*") r) (begins_quote r || starts_with 39 r) h in
+    let d = or_parts (begins_quote r) (starts_with 39 r) e.1 in
     elim o [
       | inl q ↦ no_quote_begins r d.0 q
       | inr x ↦ elim x [
-        | inl q ↦ true_false (first_passes is_apostrophe r) q (sym (apostrophe r) ∙ d.1)
+        | inl q ↦ true_false (first_passes is_apostrophe r) q d.1
         | inr q ↦ true_false (begins (codes "/*") r) q e.0
       ]
     ]
 
 pub opens_here : (r : List ℕ) → (Opens r → ⊥) → opens r ≡ false
-opens_here r none = go (begins (codes "/*") r) (begins_quote r) (slice_index r 0 == 39) refl refl refl
+opens_here r none = go (begins (codes "/*") r) (begins_quote r) (starts_with 39 r) refl refl refl
   where
-    go : (a b d : Bool) → begins (codes "/*") r ≡ a → begins_quote r ≡ b → (slice_index r 0 == 39) ≡ d → (a || (b || d))
+    go : (a b d : Bool) → begins (codes "/*") r ≡ a → begins_quote r ≡ b → (starts_with 39 r) ≡ d → (a || (b || d))
         ≡ false
     go true b d p q s = absurd (none (inr (inr p)))
     go false true d p q s = absurd (none (inl (quote_begins r q)))
-    go false false true p q s = absurd (none (inr (inl (sym (apostrophe r) ∙ s))))
+    go false false true p q s = absurd (none (inr (inl s)))
     go false false false p q s = refl
 
 -- ---- in the words of the definitions

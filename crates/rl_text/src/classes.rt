@@ -3,7 +3,7 @@
 
 ghost use Rattle.std.specs.Prelude.{◌≡◌, ◌≤◌, length, true, false, IsTrue, IsFalse};
 ghost use Rattle.std.specs.Str.{chars};
-ghost use Rattle.rl_text.specs.Texts.{IsTail, first_passes, is_white};
+ghost use Rattle.rl_text.specs.Texts.{IsTail, first_passes, is_continue, is_white};
 ghost use Rattle.rl_text.specs.Classes.{after_run, class_test, is_hash};
 ghost use Rattle.rl_text.specs.Mirrors.RunsAt.{run_class};
 
@@ -116,7 +116,7 @@ fn skip_run<const WORD: bool>(text: &str) -> &str
 /// What follows the characters at the front that go on with an identifier.
 #[inline(always)]
 pub fn skip_word(text: &str) -> &str
-    ensures rest { chars result.now ≡ after_run (class_test (run_class true)) (chars text.now) }
+    ensures rest { chars result.now ≡ after_run is_continue (chars text.now) }
     ensures following { IsTail text.now result.now }
     ensures shorter { length result.now ≤ length text.now }
 {
@@ -126,7 +126,7 @@ pub fn skip_word(text: &str) -> &str
 /// What follows the white space at the front. Most tokens have none before them, or one space.
 #[inline(always)]
 pub fn skip_white(text: &str) -> &str
-    ensures rest { chars result.now ≡ after_run (class_test (run_class false)) (chars text.now) }
+    ensures rest { chars result.now ≡ after_run is_white (chars text.now) }
     ensures following { IsTail text.now result.now }
     ensures shorter { length result.now ≤ length text.now }
 {
@@ -155,7 +155,7 @@ fn begins_nonblank(text: &str) -> bool
 /// What follows the white space at the front, of which more is likely, or some past ASCII.
 #[inline(never)]
 fn skip_white_run(text: &str) -> &str
-    ensures rest { chars result.now ≡ after_run (class_test (run_class false)) (chars text.now) }
+    ensures rest { chars result.now ≡ after_run is_white (chars text.now) }
     ensures following { IsTail text.now result.now }
     ensures shorter { length result.now ≤ length text.now }
 {

@@ -1,9 +1,9 @@
 //! Walking a text by its characters, and what it begins with.
 
-ghost use Rattle.std.specs.Prelude.{◌≡◌, ◌<◌, ◌==◌, ◌++◌, ◌∷◌, ◌≢◌, ℕ, List, [], length, drop, slice_index, encode_utf8, MatchOption, IfSome, IfNone, IsFalse};
+ghost use Rattle.std.specs.Prelude.{◌≡◌, ◌<◌, ◌==◌, ◌++◌, ◌∷◌, ◌≢◌, ℕ, List, [], length, drop, encode_utf8, MatchOption, IfSome, IfNone, IsFalse};
 ghost use Rattle.std.specs.Char.{is_ascii};
 ghost use Rattle.std.specs.Str.{chars};
-ghost use Rattle.rl_text.specs.Texts.{first_passes, IsTail};
+ghost use Rattle.rl_text.specs.Texts.{first_passes, IsTail, starts_with};
 
 /// The first character, and the text after it: `None` where the text is empty.
 pub fn split_char(text: &str) -> Option<(char, &str)>
@@ -36,10 +36,9 @@ pub fn split_ascii(text: &str) -> Option<(u8, &str)>
     Some((bytes[0], &text[1..]))
 }
 
-/// Whether the text begins with a character, which isn't NUL.
+/// Whether the text begins with a character.
 pub fn begins_with(text: &str, c: char) -> bool
-    requires { 0 < c }
-    ensures { result ≡ (slice_index (chars text.now) 0 == c) }
+    ensures { result ≡ starts_with c (chars text.now) }
 {
     match split_char(text) {
         Some((first, _)) => first == c,

@@ -1,10 +1,10 @@
 -- A mirror of the code, for proofs alone: what a source has beside lexemes at the front of a text,
 -- as the code finds it.
-use Rattle.std.specs.Prelude.{ℕ, Bool, ◌==◌, ◌||◌, List, [], ◌∷◌, drop, cond, codes, slice_index, if◌then◌else◌}
+use Rattle.std.specs.Prelude.{ℕ, Bool, ◌==◌, ◌||◌, List, [], ◌∷◌, drop, cond, codes, if◌then◌else◌}
 use Rattle.std.proofs.Common.{Option, Some, None}
 use Rattle.std.specs.Option.{option_map, option_and_then}
 use Prim.Native.Char.{code}
-use Rattle.rl_text.specs.Texts.{first_passes, begins, is_start, is_continue}
+use Rattle.rl_text.specs.Texts.{first_passes, begins, is_start, is_continue, starts_with}
 use Rattle.rl_lexer.specs.declared.lex_error.LexKind.{LexKind}
 use Rattle.rl_lexer.specs.declared.lex_error.LexKind.TheVariants.{UnclosedComment, UnclosedQuote}
 use Rattle.rl_forms.specs.Trivia.{is_comment_line, is_comment_block}
@@ -57,7 +57,7 @@ abbrev pub source_error_kind : List ℕ → LexKind
 source_error_kind r = if begins (codes "/*") r then UnclosedComment else UnclosedQuote
 
 abbrev pub opens : List ℕ → Bool
-opens r = begins (codes "/*") r || (begins_quote r || slice_index r 0 == code "'")
+opens r = begins (codes "/*") r || (begins_quote r || starts_with (code "'") r)
 
 -- a stray character
 abbrev pub stray_at : List ℕ → Option (SourceKind × List ℕ)
