@@ -1,4 +1,4 @@
--- What the quoted structs hold beside their token: the places of its parts.
+-- What the quoted structs hold beside their token, the places of its parts; and where contents stand in the file.
 use Rattle.std.specs.Prelude.{◌≡◌, ◌≢◌, ◌+◌, ◌-◌, ◌<◌, ◌≤◌, ◌↔◌, ℕ, List, length, IsTrue}
 use Rattle.std.specs.Str.{chars}
 use Rattle.rl_forms.specs.declared.kind.Kind.{Kind}

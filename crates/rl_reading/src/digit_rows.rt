@@ -1,4 +1,4 @@
-//! Rows of digits and underscores, what their digits spell, and what may stand before and after them.
+//! Rows of digits and underscores: what they spell within 128 bits, the minus before them and the suffix after them.
 
 ghost use Rattle.std.specs.Prelude.{◌≡◌, ◌<◌, ◌≤◌, None, Option, Some, drop, false, nat_lt, if◌then◌else◌, ℕ};
 ghost use Rattle.std.specs.Char.{digit_value, is_ascii_digit};

@@ -1,4 +1,5 @@
--- Texts: lists of characters, each character its code, as `code "x"` says it; and white space.
+-- Texts: lists of characters, each character its code, as `code "x"` says it; which begin and continue
+-- identifiers, and white space.
 use Rattle.std.specs.Prelude.{◌≡◌, ◌≢◌, ℕ, Bool, true, false, not, ◌&&◌, ◌||◌, ◌==◌, List, [], ◌∷◌, ◌++◌, IsTrue, length, codes, encode_utf8_all}
 use Rattle.std.specs.Char.{is_whitespace}
 use Rattle.std.specs.Str.{IsUtf8}

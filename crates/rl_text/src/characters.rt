@@ -1,4 +1,4 @@
-//! The classes of characters that tokens are cut by.
+//! Which characters begin and continue identifiers, and which are white space.
 
 ghost use Rattle.std.specs.Prelude.{◌≡◌};
 ghost use Rattle.unicode_ident.specs.Ident.{is_xid_start, is_xid_continue};

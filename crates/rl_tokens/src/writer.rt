@@ -12,7 +12,7 @@ use crate::c_string::CString;
 use crate::error::Error;
 use crate::literal::Literal;
 use rl_forms::Kind;
-use rl_forms::escapes::{closer, escape};
+use rl_forms::written_unit::{closer, escape};
 use rl_text::Span;
 use std::alloc::{AllocError, Allocator};
 

@@ -1,7 +1,7 @@
 use Rattle.rl_text.proofs.Common.{arith, [], ◌∷◌}
 use Rattle.std.proofs.lemmas.Str.{IsUtf8-from_ascii}
 use Rattle.rl_forms.proofs.WritingLemmas.{ascii_nil, ascii_cons}
-use Rattle.rl_forms.proofs.escapes.number.Goals as goal
+use Rattle.rl_forms.proofs.written_unit.number.Goals as goal
 
 pub unreachable-requires : goal.unreachable-requires
 unreachable-requires c =

@@ -1,6 +1,6 @@
 use Rattle.rl_forms.specs.Written.{written_unit}
 use Rattle.rl_text.proofs.Common.{common_steps, arith}
-use Rattle.rl_forms.proofs.escapes.named_escape.Goals as goal
+use Rattle.rl_forms.proofs.written_unit.named_escape.Goals as goal
 
 pub returns-in-0-clause-some : goal.returns-in-0-clause-some
 unfolding written_unit
