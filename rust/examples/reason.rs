@@ -1,4 +1,4 @@
-//! Reads texts as literals, or says why one is none: `cargo run --example reason 0x1F '"a\qb"'`
+//! Reads texts as literals, or says why one is none: `cargo run --example reason 0x1F '"a\qb"' 0b102`
 
 use navyspindle::Lit;
 use std::env;
@@ -8,7 +8,7 @@ fn main() {
         match Lit::parse(&text) {
             Ok(Lit::Int(number)) => println!("{}", number.base10_digits()),
             Ok(literal) => println!("{}", literal.kind()),
-            Err(error) => println!("{error}: {}", &text[error.piece()]),
+            Err(error) => println!("{text}: {error}"),
         }
     }
 }
