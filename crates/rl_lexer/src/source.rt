@@ -1,6 +1,8 @@
 //! The token at the front of a source.
 #![tactic(auto, using(rl_text::proofs::TailLemmas::tail_step))]
 
+mod bad_quote;
+
 ghost use Rattle.std.specs.Prelude.{◌≡◌, ◌↔◌, ◌<◌, ◌≤◌, Bool, length, option_map, IfSome, IfNone, IsTrue};
 ghost use Rattle.std.specs.Str.{chars};
 ghost use Rattle.rl_text.specs.Texts.{IsTail};
@@ -15,6 +17,7 @@ ghost use Rattle.rl_lexer.specs.Mirrors.SourceAt.{after_doc, after_name, after_m
 use crate::lexeme::{Form, first_lexeme, word_or_mark};
 use crate::no_token::{begins_raw_identifier, opens};
 use crate::whitespace::{after_block, is_comment_block, is_comment_line, skip};
+use bad_quote::after_bad_quote;
 use rl_text::characters::is_start;
 use rl_text::classes::skip_word;
 use rl_text::lanes::{byte_before, is_word_byte, unlikely_len};
@@ -24,7 +27,8 @@ use rl_text::text::{begins_with, split_ascii, split_char, strip_byte, without_fi
 /// What a token of a source is: what [`Sources`](crate::Sources) cuts off.
 #[derive(Clone, Copy)]
 pub enum SourceForm {
-    /// What [`Tokens`](crate::Tokens) cuts off too.
+    /// What [`Tokens`](crate::Tokens) cuts off too. A quote that begins nothing else is a literal as well, up to where
+    /// it ends: `''`, `'ab'`, `b'hello'`, `'1a`. It doesn't read.
     Token(Form),
     /// `r#` and an identifier.
     RawIdentifier,
@@ -136,8 +140,8 @@ fn source_by_characters(text: &str) -> Option<(SourceForm, &str)>
     stray(text)
 }
 
-/// The stray character at the front of a text, and the rest after it. `None` where a comment or a quoted literal is opened
-/// there, and at the end.
+/// The stray character or the bad quote at the front of a text, and the rest after it. `None` where a comment or a quoted
+/// literal is opened that isn't closed, and at the end.
 fn stray(text: &str) -> Option<(SourceForm, &str)>
     ensures rest { option_map (λ p. (source_view p.0, chars p.1.now)) result
         ≡ stray_at (chars text.now) }
@@ -146,7 +150,7 @@ fn stray(text: &str) -> Option<(SourceForm, &str)>
 {
     let (_, following) = split_char(text)?;
     if opens(text) {
-        return None;
+        return ended(SourceForm::Token(Form::Literal), after_bad_quote(text));
     }
     Some((SourceForm::Stray, following))
 }
