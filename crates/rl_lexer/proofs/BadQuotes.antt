@@ -6,7 +6,7 @@ use Rattle.rl_text.specs.Classes.{after_run}
 use Rattle.rl_lexer.specs.Lexemes.{BodyPart, PlainPart, EscapedPart, body_text, IsRow, IsLexedSuffix, begins_raw_identifier}
 use Rattle.rl_lexer.specs.Mirrors.LexemeAt.{after_suffix, begins_quote}
 use Rattle.rl_lexer.specs.Mirrors.SourceAt.{after_name, after_any_name, opens, stops_quote, after_any, after_part, after_next_quote, after_other, after_closing, past_closing, after_bare, after_bad_quote}
-use Rattle.rl_lexer.specs.BadQuotes.{BadQuote, WordQuote, RawWordQuote, DigitQuote, OtherQuote, ByteQuote, bad_quote_text, IsQuoteBody, is_backslash, begins_word_or_escape, IsBadQuote}
+use Rattle.rl_lexer.specs.BadQuotes.{BadQuote, WordQuote, RawWordQuote, DigitQuote, OtherQuote, ByteQuote, bad_quote_text, IsQuoteBody, begins_escape, begins_word_or_escape, IsBadQuote}
 use Rattle.rl_lexer.proofs.Comments.{chosen, chosen3, same_Some}
 use Rattle.rl_lexer.proofs.LexemeFound.{run_found, suffix_found}
 use Rattle.rl_lexer.proofs.LexemeFronts.{start_ascii}
@@ -114,16 +114,16 @@ body_past (PlainPart c ∷ parts) t (plain, last, is) =
     sym (next_passes (c ∷ rest) rest rest c refl other part) ∙ body_past parts t is
 body_past (EscapedPart c ∷ parts) t is = body_past parts t is
 
-backslash_here : (t : List ℕ) → (slice_index t 0 == 92) ≡ first_passes is_backslash t
+backslash_here : (t : List ℕ) → (slice_index t 0 == 92) ≡ first_passes begins_escape t
 backslash_here [] = refl
 backslash_here (c ∷ t) = refl
 
-other_past : (parts : List BodyPart) (x t : List ℕ) → first_passes is_backslash (body_text parts) ≡ false
+other_past : (parts : List BodyPart) (x t : List ℕ) → first_passes begins_escape (body_text parts) ≡ false
     → IsQuoteBody parts → IsLexedSuffix x t → after_other (body_text parts ++ 39 ∷ (x ++ t)) ≡ Some t
 other_past parts x t first is suffix =
     let whole = body_text parts ++ 39 ∷ (x ++ t) in
     ap (λ b. cond b None (option_map after_suffix (after_next_quote whole)))
-    (backslash_here whole ∙ first_on is_backslash (body_text parts) (39 ∷ (x ++ t)) first refl)
+    (backslash_here whole ∙ first_on begins_escape (body_text parts) (39 ∷ (x ++ t)) first refl)
     ∙ ap (option_map after_suffix) (body_past parts (x ++ t) is)
     ∙ ap Some (suffix_past x t suffix)
 
@@ -190,7 +190,7 @@ next_found (c ∷ e ∷ t) r h =
 record OtherFound (t r : List ℕ) : Type 0 where
   pub parts : List BodyPart
   pub suffix : List ℕ
-  pub first : first_passes is_backslash t ≡ false
+  pub first : first_passes begins_escape t ≡ false
   pub is_body : IsQuoteBody parts
   pub is_suffix : IsLexedSuffix suffix r
   pub text_is : t ≡ body_text parts ++ 39 ∷ (suffix ++ r)
@@ -324,11 +324,11 @@ bad_quote_found (c ∷ t) r h =
         → FoundQuote (c ∷ t) r
     byte [] (letter, quote) found = absurd (cc)
     byte (d ∷ t) (letter, quote) found =
-        let held : first_passes is_backslash (body_text found.parts ++ 39 ∷ (found.suffix ++ r)) ≡ false =
-        ap (first_passes is_backslash) (sym found.text_is) ∙ found.first in (
+        let held : first_passes begins_escape (body_text found.parts ++ 39 ∷ (found.suffix ++ r)) ≡ false =
+        ap (first_passes begins_escape) (sym found.text_is) ∙ found.first in (
           ByteQuote found.parts found.suffix,
           (
-            first_of is_backslash (body_text found.parts) (39 ∷ (found.suffix ++ r)) held,
+            first_of begins_escape (body_text found.parts) (39 ∷ (found.suffix ++ r)) held,
             found.is_body,
             found.is_suffix,
           ),
@@ -388,16 +388,16 @@ stays (c ∷ t) h = ap (λ b. cond b t (c ∷ t)) h
 bare_other : (t : List ℕ) → first_passes begins_word_or_escape t ≡ false → after_bare t ≡ after_other t
 bare_other [] h = refl
 bare_other (c ∷ t) h =
-    let p = or_parts (is_backslash c) (is_ascii_digit c || is_start c) h in
+    let p = or_parts (begins_escape c) (is_ascii_digit c || is_start c) h in
     let q = or_parts (is_ascii_digit c) (is_start c) p.1 in
     ap (λ b. cond b (Some (past_closing (after_run is_continue t)))
     (cond (is_start c) (option_and_then after_closing (after_any_name (c ∷ t))) (after_other (c ∷ t)))) q.0
     ∙ ap (λ b. cond b (option_and_then after_closing (after_any_name (c ∷ t))) (after_other (c ∷ t))) q.1
 
 -- what begins with none of them, begins with no backslash
-no_escape : (t : List ℕ) → first_passes begins_word_or_escape t ≡ false → first_passes is_backslash t ≡ false
+no_escape : (t : List ℕ) → first_passes begins_word_or_escape t ≡ false → first_passes begins_escape t ≡ false
 no_escape [] h = refl
-no_escape (c ∷ t) h = (or_parts (is_backslash c) (is_ascii_digit c || is_start c) h).0
+no_escape (c ∷ t) h = (or_parts (begins_escape c) (is_ascii_digit c || is_start c) h).0
 
 pub bad_quote_past : (q : BadQuote) (t : List ℕ) → IsBadQuote q t → after_bad_quote (bad_quote_text q ++ t) ≡ Some t
 bad_quote_past (WordQuote c more) t (kind, each) =

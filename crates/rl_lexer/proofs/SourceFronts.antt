@@ -5,14 +5,14 @@ use Rattle.rl_text.proofs.ScanLemmas.{not_false}
 use Rattle.rl_text.specs.Texts.{first_passes, begins}
 use Rattle.rl_forms.specs.Trivia.{Inside, inside_text, IsInside, is_comment_line, is_comment_block}
 use Rattle.rl_lexer.specs.Skipping.{Skipped}
-use Rattle.rl_text.specs.Scanning.{is_one_of, is_other}
+use Rattle.rl_text.specs.Scanning.{is_one_of, is_other, IsNextMark}
 use Rattle.rl_lexer.specs.Lexemes.{lexeme_text, IsRow, LexemeBefore, LexemeForm, LiteralForm, begins_raw_identifier}
 use Rattle.rl_lexer.specs.BadQuotes.{bad_quote_text}
 use Rattle.rl_lexer.specs.Mirrors.LexemeAt.{begins_quote, FormBefore}
 use Rattle.rl_text.specs.Classes.{after_run}
 use Rattle.rl_lexer.specs.Mirrors.SkippedAt.{after_block}
 use Rattle.rl_lexer.specs.Mirrors.SourceAt.{after_doc, after_name, after_marked, after_any_name, unless_quoted, after_lifetime, of_kind, other_at, opens, after_bad_quote, stray_at, or_stray, any_at}
-use Rattle.rl_lexer.specs.Sources.{is_in_line, is_apostrophe, SourceLexeme, PlainToken, RawIdentifierToken, LifetimeToken, RawLifetimeToken, DocLineToken, DocBlockToken, BadQuoteToken, StrayToken, source_text, IsName, IsProper, BeginsProper, Opens, IsSource, SourceKind, PlainKind, RawIdentifierKind, LifetimeKind, DocCommentKind, StrayKind, source_kind, source_view, SourceBefore, BeginsNoSource, IsScriptLine}
+use Rattle.rl_lexer.specs.Sources.{is_in_line, IsAfterLine, is_apostrophe, SourceLexeme, PlainToken, RawIdentifierToken, LifetimeToken, RawLifetimeToken, DocLineToken, DocBlockToken, BadQuoteToken, StrayToken, source_text, IsName, IsProper, BeginsProper, Opens, IsSource, SourceKind, PlainKind, RawIdentifierKind, LifetimeKind, DocCommentKind, StrayKind, source_kind, source_view, SourceBefore, BeginsNoSource, IsScriptLine}
 use Rattle.rl_text.specs.declared.scan.Marks.{Marks}
 use Rattle.rl_lexer.specs.declared.source.SourceForm.{SourceForm}
 use Rattle.rl_text.proofs.LowBytes.{not_equal}
@@ -38,6 +38,19 @@ pub line_ends : (m : Marks) (t a r : List ℕ) → m ≡ record { first = 10; se
 line_ends m t a r is cut others stops =
     let row : IsRow is_in_line a r = record { each = one_line m a (ap (λ z. z.first) is) others; ends = line_stops m r is stops } in
     sym (ap (after_run is_in_line) cut ∙ run_past is_in_line a r row)
+
+pub first_line : (m : Marks) (s t : List ℕ) (k : ℕ) → m ≡ record { first = 10; second = 10; third = 10; fourth = 10 }
+    → IsNextMark m s k t → IsAfterLine s t
+first_line m s t k is next = (
+  next.front,
+  one_line m next.front (ap (λ z. z.first) is) next.others,
+  next.text_is
+      ∙ ap (λ c. next.front ++ c ∷ t) (only m 10 k is next.is_mark),
+)
+
+pub no_line : (m : Marks) (s : List ℕ) → m ≡ record { first = 10; second = 10; third = 10; fourth = 10 }
+    → list_all (is_other m) s ≡ true → list_all is_in_line s ≡ true
+no_line m s is others = one_line m s (ap (λ z. z.first) is) others
 
 -- what ends a line doesn't change whether it is plain
 line_plain : (body t : List ℕ) → first_passes is_in_line t ≡ false → is_comment_line (body ++ t) ≡ is_comment_line body

@@ -34,12 +34,12 @@ IsQuoteBody (PlainPart c ∷ parts) =
     IsTrue (not (c == code "'" || c == code "\\" || c == code "/")) × (c ≡ code "\n" → parts ≡ []) × IsQuoteBody parts
 IsQuoteBody (EscapedPart c ∷ parts) = IsQuoteBody parts
 
-abbrev pub is_backslash : ℕ → Bool
-is_backslash c = c == code "\\"
+abbrev pub begins_escape : ℕ → Bool
+begins_escape c = c == code "\\"
 
 -- what begins a word, a number or an escape
 abbrev pub begins_word_or_escape : ℕ → Bool
-begins_word_or_escape c = is_backslash c || (is_ascii_digit c || is_start c)
+begins_word_or_escape c = begins_escape c || (is_ascii_digit c || is_start c)
 
 -- The quote is well made, and as long as what follows it allows. None begins with a backslash.
 abbrev pub IsBadQuote : BadQuote → List ℕ → Type 0
@@ -54,5 +54,5 @@ IsBadQuote (OtherQuote parts suffix) after =
     (first_passes begins_word_or_escape (body_text parts) ≡ false) × IsQuoteBody parts
     × IsLexedSuffix suffix after
 IsBadQuote (ByteQuote parts suffix) after =
-    (first_passes is_backslash (body_text parts) ≡ false) × IsQuoteBody parts
+    (first_passes begins_escape (body_text parts) ≡ false) × IsQuoteBody parts
     × IsLexedSuffix suffix after

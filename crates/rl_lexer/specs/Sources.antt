@@ -3,7 +3,7 @@
 -- before them.
 use Rattle.std.specs.Prelude.{◌≡◌, ◌⊎◌, ℕ, ◌+◌, Bool, false, not, ◌==◌, List, [], ◌∷◌, ◌++◌, length, map, IsTrue, IsFalse, codes, encode_utf8_all, Option, MatchOption, ⊤, if◌then◌else◌}
 use Prim.Native.Char.{code}
-use Rattle.std.specs.List.{AllByRecursion}
+use Rattle.std.specs.List.{AllByRecursion, list_all}
 use Rattle.std.specs.Str.{chars}
 use Rattle.rl_text.specs.Texts.{first_passes, begins, byte_len, IsTail, is_start, is_continue}
 use Rattle.rl_forms.specs.Trivia.{Inside, inside_text, IsInside, is_comment_line, is_comment_block}
@@ -237,6 +237,12 @@ pub record TakesLiteralAfter (old : CursorState) (l : SourceToken) (new : Cursor
   pub passes : PassesTo old between
   pub takes : TakesSource between l new
   pub is_literal : IsLiteralText (source_view l.form) (chars l.text.now)
+
+-- ---- lines
+
+-- The rest of a line and its LF stand in front of r: r is what stands after the text's first LF.
+abbrev pub IsAfterLine : List ℕ → List ℕ → Type 0
+IsAfterLine t r = (line : List ℕ) × IsTrue (list_all is_in_line line) × (t ≡ line ++ code "\n" ∷ r)
 
 -- ---- errors
 

@@ -4,11 +4,12 @@
 mod bad_quote;
 
 ghost use Rattle.std.specs.Prelude.{◌≡◌, ◌↔◌, ◌<◌, ◌≤◌, Bool, length, option_map, IfSome, IfNone, IsTrue};
+ghost use Rattle.std.specs.List.{list_all};
 ghost use Rattle.std.specs.Str.{chars};
 ghost use Rattle.rl_text.specs.Texts.{IsTail};
 ghost use Rattle.rl_text.specs.Texts.{is_continue};
 ghost use Rattle.rl_lexer.specs.Cursors.{form_view};
-ghost use Rattle.rl_lexer.specs.Sources.{is_in_line, PlainKind, IsLiteralText, source_view, SourceBefore, BeginsNoSource, IsWithoutLine, IsWithoutPreamble, without_mark};
+ghost use Rattle.rl_lexer.specs.Sources.{is_in_line, IsAfterLine, PlainKind, IsLiteralText, source_view, SourceBefore, BeginsNoSource, IsWithoutLine, IsWithoutPreamble, without_mark};
 ghost use Rattle.rl_text.specs.Classes.{after_run};
 ghost use Rattle.rl_forms.specs.Reading.{truth_text};
 ghost use Rattle.rl_lexer.specs.Mirrors.LiteralsAt.{HoldsNoLiteral, past_word};
@@ -21,7 +22,7 @@ use bad_quote::after_bad_quote;
 use rl_text::characters::is_start;
 use rl_text::classes::skip_word;
 use rl_text::lanes::{byte_before, is_word_byte, unlikely_len};
-use rl_text::scan::{Marks, split_before};
+use rl_text::scan::{Marks, next_mark, split_before};
 use rl_text::text::{begins_with, split_ascii, split_char, strip_byte, without_first};
 
 /// What a token of a source is: what [`Sources`](crate::Sources) cuts off.
@@ -213,6 +214,20 @@ fn line_end(text: &str) -> &str
 {
     let (_, rest) = split_before(Marks::two(b'\n', b'\n'), text);
     rest
+}
+
+/// What stands after the first LF of a text.
+#[tactic(auto, using(crate::proofs::SourceFronts::first_line, crate::proofs::SourceFronts::no_line))]
+pub(crate) fn after_first_line(text: &str) -> Option<&str>
+    ensures lines { IfSome result (λ lines. IsAfterLine (chars text.now) (chars lines.now)) }
+    ensures none { IfNone result (IsTrue (list_all is_in_line (chars text.now))) }
+    ensures following { IfSome result (λ lines. IsTail text.now lines.now) }
+    ensures shorter { IfSome result (λ lines. length lines.now < length text.now) }
+{
+    match next_mark(Marks::two(b'\n', b'\n'), text) {
+        Some((_, following)) => Some(following),
+        None => None,
+    }
 }
 
 /// What follows an identifier.
