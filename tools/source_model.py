@@ -53,6 +53,12 @@ OTHER = compiled(
     '(?P<raw_identifier>r#' + WORD + ')|(?P<word>' + WORD + ')'
     + "|(?P<lifetime>'(?:r#(?=" + START + '))?+' + WORD + "(?!'))"
     + '|(?P<doc>//[^\n]*+)')
+# A quote at which nothing else begins, and which ends all the same: a word in quotes; a digit and what goes on with it; or all up to
+# the next quote, where no slash and no end of the line comes before it.
+BAD_QUOTE = compiled(
+    "'(?:r#(?=" + START + '))?+' + WORD + "'"
+    + "|'[0-9]" + CONTINUE + "*+'?+"
+    + "|(?:b'|'(?![0-9]|" + START + r"))(?!\\)(?:[^'/\n\\]|\\.|\n(?='))*+'" + SUFFIX)
 MARKS = frozenset('~!@#$%^&*-=+|;:,<.>?/()[]{}')
 
 
@@ -135,7 +141,8 @@ def cut_one(text, at):
     if other:
         return other.lastgroup, other.end()
     if opener:
-        return 'unclosed quote', None
+        bad = BAD_QUOTE.match(text, at)
+        return ('literal', bad.end()) if bad else ('unclosed quote', None)
     if text.startswith('/*', at):
         end = block_end(text, at)
         return ('doc', end) if end else ('unclosed block comment', None)

@@ -23,7 +23,8 @@ pub struct Source<'t> {
 /// token that is a literal by its form and has no reading comes as [`Lit::Verbatim`], as `'\q'` does. Literals are read as `syn`
 /// does; [`Lit::check`] says whether Rust takes one too.
 ///
-/// A quote that can't be closed ends it, and so do `''` and `'ab'`, which rustc passes with an error.
+/// A quote that holds no or several characters is a literal of the source all the same, up to where it ends, as to rustc's lexer:
+/// `''`, `'ab'`, `b'hello'`, and `'1a`. It has no reading either. [`Source::following_lines`] says where to go on after an error.
 ///
 /// ```
 /// use navyspindle::{source, Lit};
@@ -41,6 +42,37 @@ pub fn source(text: &str) -> Source<'_> {
         text,
         tokens: Sources::new(text),
         is_done: false,
+    }
+}
+
+impl<'t> Source<'t> {
+    /// The lines after the one in which it stands: what stands after the first LF of what is left of the text. `None` where no LF
+    /// is left. So a source is taken up after an error: [`source`] cuts these lines anew.
+    ///
+    /// ```
+    /// use navyspindle::source;
+    ///
+    /// let text = "f(\"a);\nlet b = 'x';\ng('ab');\n";
+    /// let (mut shown, mut lines) = (Vec::new(), text);
+    /// loop {
+    ///     let front = text.len() - lines.len();
+    ///     let mut literals = source(lines);
+    ///     for item in &mut literals {
+    ///         shown.push(match item {
+    ///             Ok((range, literal)) => format!("{}: {}", front + range.start, literal.text()),
+    ///             Err(error) => format!("{}: {}", front + error.at(), error.kind()),
+    ///         });
+    ///     }
+    ///     match literals.following_lines() {
+    ///         Some(following) => lines = following,
+    ///         None => break,
+    ///     }
+    /// }
+    /// assert_eq!(shown, ["2: quoted literal isn't closed", "15: 'x'", "22: 'ab'"]);
+    /// ```
+    #[must_use]
+    pub fn following_lines(&self) -> Option<&'t str> {
+        self.tokens.following_lines()
     }
 }
 

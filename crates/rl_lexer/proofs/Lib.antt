@@ -13,6 +13,8 @@ pub mod NumberEnds
 pub mod LexemeAnswers
 pub mod CutLemmas
 pub mod CursorLemmas
+pub mod SourceNames
+pub mod BadQuotes
 pub mod SourceFronts
 pub mod SourceCuts
 pub mod SourceLaws

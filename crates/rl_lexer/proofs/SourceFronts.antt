@@ -2,26 +2,29 @@
 -- token, and each such token is what it takes off.
 use Rattle.rl_text.proofs.Common.{◌≡◌, ℕ, inl, inr, Bool, true, false, not, ◌||◌, ◌==◌, cond, List, [], ◌∷◌, ◌++◌, append-nil, Option, Some, None, drop, refl, sym, ◌∙◌, ap, subst, Bor, arith, or_parts, ltb-false, none-some, is_ascii, ⊤, codes, list_all, IfSome, IfNone, option_map, option_and_then, chars}
 use Rattle.rl_text.proofs.ScanLemmas.{not_false}
-use Rattle.rl_text.specs.Texts.{first_passes, begins, is_start, is_continue, starts_with}
+use Rattle.rl_text.specs.Texts.{first_passes, begins, starts_with}
 use Rattle.rl_forms.specs.Trivia.{Inside, inside_text, IsInside, is_comment_line, is_comment_block}
 use Rattle.rl_lexer.specs.Skipping.{Skipped}
-use Rattle.rl_text.specs.Scanning.{is_one_of, is_other}
-use Rattle.rl_lexer.specs.Lexemes.{lexeme_text, IsRow, LexemeBefore, LexemeForm, begins_raw_identifier}
+use Rattle.rl_text.specs.Scanning.{is_one_of, is_other, IsNextMark}
+use Rattle.rl_lexer.specs.Lexemes.{lexeme_text, IsRow, LexemeBefore, LexemeForm, LiteralForm, begins_raw_identifier}
+use Rattle.rl_lexer.specs.BadQuotes.{bad_quote_text}
 use Rattle.rl_lexer.specs.Mirrors.LexemeAt.{begins_quote, FormBefore}
 use Rattle.rl_text.specs.Classes.{after_run}
 use Rattle.rl_lexer.specs.Mirrors.SkippedAt.{after_block}
-use Rattle.rl_lexer.specs.Mirrors.SourceAt.{after_doc, after_name, after_marked, after_any_name, unless_quoted, after_lifetime, of_kind, other_at, opens, stray_at, or_stray, any_at}
-use Rattle.rl_lexer.specs.Sources.{is_in_line, is_apostrophe, SourceLexeme, PlainToken, RawIdentifierToken, LifetimeToken, RawLifetimeToken, DocLineToken, DocBlockToken, StrayToken, source_text, IsName, IsProper, BeginsProper, Opens, IsSource, SourceKind, PlainKind, RawIdentifierKind, LifetimeKind, DocCommentKind, StrayKind, source_kind, source_view, SourceBefore, BeginsNoSource, IsScriptLine}
+use Rattle.rl_lexer.specs.Mirrors.SourceAt.{after_doc, after_name, after_marked, after_any_name, unless_quoted, after_lifetime, of_kind, other_at, opens, after_bad_quote, stray_at, or_stray, any_at}
+use Rattle.rl_lexer.specs.Sources.{is_in_line, IsAfterLine, is_apostrophe, SourceLexeme, PlainToken, RawIdentifierToken, LifetimeToken, RawLifetimeToken, DocLineToken, DocBlockToken, BadQuoteToken, StrayToken, source_text, IsName, IsProper, BeginsProper, Opens, IsSource, SourceKind, PlainKind, RawIdentifierKind, LifetimeKind, DocCommentKind, StrayKind, source_kind, source_view, SourceBefore, BeginsNoSource, IsScriptLine}
 use Rattle.rl_text.specs.declared.scan.Marks.{Marks}
 use Rattle.rl_lexer.specs.declared.source.SourceForm.{SourceForm}
 use Rattle.rl_text.proofs.LowBytes.{not_equal}
 use Rattle.rl_lexer.proofs.Comments.{chosen, same_Some, Closes, after_block-sound, after_block-past, plain_line-same, plain_block-same}
 use Rattle.rl_lexer.proofs.CommentSteps.{one_line}
 use Rattle.rl_lexer.proofs.LexemeFound.{run_found}
-use Rattle.rl_lexer.proofs.LexemeOpeners.{raw_split, quote_begins, no_quote_begins}
+use Rattle.rl_lexer.proofs.LexemeOpeners.{quote_begins, no_quote_begins}
 use Rattle.rl_lexer.proofs.LexemeRows.{run_past}
 use Rattle.rl_lexer.proofs.LexemeSteps.{only}
 use Rattle.rl_lexer.proofs.Pieces.{is_equal, one_rest}
+use Rattle.rl_lexer.proofs.SourceNames.{name_past, NameBefore, name_found, raw_rest}
+use Rattle.rl_lexer.proofs.BadQuotes.{FoundQuote, bad_quote_found, bad_quote_opens, bad_quote_past}
 
 -- ---- lines
 
@@ -35,6 +38,19 @@ pub line_ends : (m : Marks) (t a r : List ℕ) → m ≡ record { first = 10; se
 line_ends m t a r is cut others stops =
     let row : IsRow is_in_line a r = record { each = one_line m a (ap (λ z. z.first) is) others; ends = line_stops m r is stops } in
     sym (ap (after_run is_in_line) cut ∙ run_past is_in_line a r row)
+
+pub first_line : (m : Marks) (s t : List ℕ) (k : ℕ) → m ≡ record { first = 10; second = 10; third = 10; fourth = 10 }
+    → IsNextMark m s k t → IsAfterLine s t
+first_line m s t k is next = (
+  next.front,
+  one_line m next.front (ap (λ z. z.first) is) next.others,
+  next.text_is
+      ∙ ap (λ c. next.front ++ c ∷ t) (only m 10 k is next.is_mark),
+)
+
+pub no_line : (m : Marks) (s : List ℕ) → m ≡ record { first = 10; second = 10; third = 10; fourth = 10 }
+    → list_all (is_other m) s ≡ true → list_all is_in_line s ≡ true
+no_line m s is others = one_line m s (ap (λ z. z.first) is) others
 
 -- what ends a line doesn't change whether it is plain
 line_plain : (body t : List ℕ) → first_passes is_in_line t ≡ false → is_comment_line (body ++ t) ≡ is_comment_line body
@@ -58,10 +74,6 @@ script_line t second following s r a b skipped other rest =
     }
 
 -- ---- each token is taken off
-
-name_past : (c : ℕ) (more t : List ℕ) → IsName c more t → after_name (c ∷ more ++ t) ≡ Some t
-name_past c more t (is, row) = ap (λ b. cond b (Some (after_run is_continue (more ++ t))) None) is
-    ∙ ap Some (run_past is_continue more t row)
 
 quoted_past : (t : List ℕ) → first_passes is_apostrophe t ≡ false → unless_quoted t ≡ Some t
 quoted_past t h = ap (λ b. cond b None (Some t)) h
@@ -96,6 +108,7 @@ doc_block_past i t is doc =
 -- a token that is no lexeme
 abbrev pub IsOther : SourceLexeme → Type 0
 IsOther (PlainToken l) = ⊥
+IsOther (BadQuoteToken q) = ⊥
 IsOther (StrayToken c) = ⊥
 IsOther _ = ⊤
 
@@ -109,30 +122,10 @@ other_at-past (RawLifetimeToken c more) t other (is, free) = ap (of_kind Lifetim
     (raw_lifetime_past c more t is free)
 other_at-past (DocLineToken body) t other (row, doc) = ap (of_kind DocCommentKind) (doc_line_past body t row doc)
 other_at-past (DocBlockToken i) t other (is, doc) = ap (of_kind DocCommentKind) (doc_block_past i t is doc)
+other_at-past (BadQuoteToken q) t other is = absurd other
 other_at-past (StrayToken c) t other is = absurd other
 
 -- ---- what is taken off is a token
-
-abbrev NameBefore : List ℕ → List ℕ → Type 0
-NameBefore t r = (c : ℕ) × (more : List ℕ) × IsName c more r × (t ≡ c ∷ more ++ r)
-
-name_found : (t r : List ℕ) → after_name t ≡ Some r → NameBefore t r
-name_found [] r h = absurd (none-some r h)
-name_found (c ∷ t) r h =
-    elim (chosen (is_start c) (Some (after_run is_continue t)) None (Some r) h) [
-      | inl (a, x) ↦ go a (same_Some (after_run is_continue t) r x)
-      | inr (a, x) ↦ absurd (none-some r x)
-    ]
-  where
-    go : is_start c ≡ true → after_run is_continue t ≡ r → NameBefore (c ∷ t) r
-    go a e =
-        let (row, is, same) = run_found is_continue t in (
-          c,
-          row,
-          (a, subst (λ (x : List ℕ). IsRow is_continue row x) e is),
-          ap (λ x. c ∷ x)
-              (same ∙ ap (λ x. row ++ x) e),
-        )
 
 marked_found : (t r : List ℕ) → after_marked t ≡ Some r → SourceBefore (114 ∷ t) RawIdentifierKind r
 marked_found [] r h = absurd (none-some r h)
@@ -144,9 +137,6 @@ marked_found (c ∷ t) r h =
   where
     go : (c == 35) ≡ true → NameBefore t r → SourceBefore (114 ∷ c ∷ t) RawIdentifierKind r
     go a (d, more, is, same) = record { token = RawIdentifierToken d more; is_source = is; text_is = ap (λ x. 114 ∷ x ∷ t) (is_equal c 35 a) ∙ ap (λ x. 114 ∷ 35 ∷ x) same; kind_is = refl }
-
-raw_rest : (t : List ℕ) → begins_raw_identifier t ≡ true → t ≡ 114 ∷ 35 ∷ drop 2 t
-raw_rest t h = let (d, u, same, is) = raw_split t h in same ∙ ap (λ x. 114 ∷ 35 ∷ drop 2 x) (sym same)
 
 any_name_found : (t r : List ℕ) → first_passes is_apostrophe r ≡ false → after_any_name t ≡ Some r
     → SourceBefore (39 ∷ t) LifetimeKind r
@@ -241,9 +231,9 @@ other_at-found (c ∷ t) p h =
           ]
     ]
 
--- ---- strays
+-- ---- bad quotes and strays
 
--- every proper token is a token, and no stray
+-- every proper token is a token, and neither a bad quote nor a stray
 pub proper_source : (w : SourceLexeme) (t : List ℕ) → IsProper w t → IsSource w t
 proper_source (PlainToken l) t is = is
 proper_source (RawIdentifierToken c more) t is = is
@@ -251,6 +241,7 @@ proper_source (LifetimeToken c more) t is = is
 proper_source (RawLifetimeToken c more) t is = is
 proper_source (DocLineToken body) t is = is
 proper_source (DocBlockToken i) t is = is
+proper_source (BadQuoteToken q) t is = absurd is
 proper_source (StrayToken c) t is = absurd is
 
 true_false : (b : Bool) → b ≡ true → b ≡ false → ⊥
@@ -307,18 +298,59 @@ no_proper t no_lexeme none (w, r, is, same) = go w is same
     go (RawLifetimeToken c more) is same = stuck (RawLifetimeToken c more) tt is same
     go (DocLineToken body) is same = stuck (DocLineToken body) tt is same
     go (DocBlockToken i) is same = stuck (DocBlockToken i) tt is same
+    go (BadQuoteToken q) is same = absurd is
     go (StrayToken c) is same = absurd is
 
 stray_found : (t : List ℕ) (p : SourceKind × List ℕ) → (BeginsProper t → ⊥) → stray_at t ≡ Some p → Found t p
 stray_found [] p none h = absurd (none-some p h)
 stray_found (c ∷ t) p none h =
-    elim (chosen (opens (c ∷ t)) None (Some (StrayKind, t)) (Some p) h) [
-      | inl (a, x) ↦ absurd (none-some p x)
+    elim (chosen (opens (c ∷ t)) (of_kind (PlainKind LiteralForm) (after_bad_quote (c ∷ t))) (Some (StrayKind, t))
+    (Some p) h) [
+      | inl (a, x) ↦ of_kind_found (PlainKind LiteralForm) (after_bad_quote (c ∷ t)) (c ∷ t) p x (λ r e. quote r
+          (bad_quote_found (c ∷ t) r e))
       | inr (a, x) ↦ subst (λ (z : SourceKind × List ℕ). Found (c ∷ t) z) (same_Some (StrayKind, t) p x) (here a)
     ]
   where
+    quote : (r : List ℕ) → FoundQuote (c ∷ t) r → SourceBefore (c ∷ t) (PlainKind LiteralForm) r
+    quote r (q, is, same) = record { token = BadQuoteToken q; is_source = (λ b. none (subst BeginsProper (sym same) b), is); text_is = same; kind_is = refl }
+
     here : opens (c ∷ t) ≡ false → Found (c ∷ t) (StrayKind, t)
     here a = record { token = StrayToken c; is_source = (none, closed_here (c ∷ t) a); text_is = refl; kind_is = refl }
+
+-- a token that begins where no other does
+abbrev pub IsLate : SourceLexeme → Type 0
+IsLate (BadQuoteToken q) = ⊤
+IsLate (StrayToken c) = ⊤
+IsLate _ = ⊥
+
+opened : (t : List ℕ) → opens t ≡ true → stray_at t ≡ of_kind (PlainKind LiteralForm) (after_bad_quote t)
+opened [] h = refl
+opened (c ∷ t) h = ap (λ b. cond b (of_kind (PlainKind LiteralForm) (after_bad_quote (c ∷ t))) (Some (StrayKind, t))) h
+
+pub stray_at-past : (w : SourceLexeme) (t : List ℕ) → IsLate w → IsSource w t → stray_at (source_text w ++ t)
+    ≡ Some (source_kind w, t)
+stray_at-past (PlainToken l) t late is = absurd late
+stray_at-past (RawIdentifierToken c more) t late is = absurd late
+stray_at-past (LifetimeToken c more) t late is = absurd late
+stray_at-past (RawLifetimeToken c more) t late is = absurd late
+stray_at-past (DocLineToken body) t late is = absurd late
+stray_at-past (DocBlockToken i) t late is = absurd late
+stray_at-past (BadQuoteToken q) t late (none, is) =
+    opened (bad_quote_text q ++ t) (bad_quote_opens q t)
+    ∙ ap (of_kind (PlainKind LiteralForm)) (bad_quote_past q t is)
+stray_at-past (StrayToken c) t late (none, shut) =
+    ap (λ b. cond b (of_kind (PlainKind LiteralForm) (after_bad_quote (c ∷ t))) (Some (StrayKind, t)))
+    (opens_here (c ∷ t) shut)
+
+pub late_first : (w : SourceLexeme) (t : List ℕ) → IsLate w → IsSource w t → BeginsProper (source_text w ++ t) → ⊥
+late_first (PlainToken l) t late is = absurd late
+late_first (RawIdentifierToken c more) t late is = absurd late
+late_first (LifetimeToken c more) t late is = absurd late
+late_first (RawLifetimeToken c more) t late is = absurd late
+late_first (DocLineToken body) t late is = absurd late
+late_first (DocBlockToken i) t late is = absurd late
+late_first (BadQuoteToken q) t late is = is.0
+late_first (StrayToken c) t late is = is.0
 
 pub any_found : (t : List ℕ) (p : SourceKind × List ℕ) → NoLexeme t → any_at t ≡ Some p → Found t p
 any_found t p no_lexeme h = go (other_at t) refl h
@@ -331,14 +363,6 @@ pub source_found : (t : List ℕ) (r : Answer) → NoLexeme t → option_map see
     → IfSome r (λ p. SourceBefore t (source_view p.0) (chars p.1.now))
 source_found t None no_lexeme h = tt
 source_found t (Some p) no_lexeme h = any_found t (seen p) no_lexeme (sym h)
-
--- nothing was found, so the text opens something, if it isn't empty
-stray_none : (c : ℕ) (t : List ℕ) → stray_at (c ∷ t) ≡ None → opens (c ∷ t) ≡ true
-stray_none c t h = go (opens (c ∷ t)) h
-  where
-    go : (b : Bool) → cond {A = Option (SourceKind × List ℕ)} b None (Some (StrayKind, t)) ≡ None → b ≡ true
-    go true h = refl
-    go false h = absurd (none-some (StrayKind, t) (sym h))
 
 any_none : (t : List ℕ) → any_at t ≡ None → (other_at t ≡ None) × (stray_at t ≡ None)
 any_none t h = go (other_at t) refl h
@@ -357,6 +381,10 @@ no_source t no_lexeme h kind r before = go before.token before.is_source before.
     proper : (w : SourceLexeme) → IsProper w r → t ≡ source_text w ++ r → ⊥
     proper w is same = no_proper t no_lexeme none.0 (w, r, is, same)
 
+    late : (w : SourceLexeme) → IsLate w → IsSource w r → t ≡ source_text w ++ r → ⊥
+    late w is_late is same = none-some (source_kind w, r) (sym none.1 ∙ ap stray_at same
+        ∙ stray_at-past w r is_late is)
+
     go : (w : SourceLexeme) → IsSource w r → t ≡ source_text w ++ r → ⊥
     go (PlainToken l) is same = proper (PlainToken l) is same
     go (RawIdentifierToken c more) is same = proper (RawIdentifierToken c more) is same
@@ -364,8 +392,8 @@ no_source t no_lexeme h kind r before = go before.token before.is_source before.
     go (RawLifetimeToken c more) is same = proper (RawLifetimeToken c more) is same
     go (DocLineToken body) is same = proper (DocLineToken body) is same
     go (DocBlockToken i) is same = proper (DocBlockToken i) is same
-    go (StrayToken c) (other, shut) same = true_false (opens (c ∷ r)) (stray_none c r (sym (ap stray_at same) ∙ none.1))
-        (opens_here (c ∷ r) shut)
+    go (BadQuoteToken q) is same = late (BadQuoteToken q) tt is same
+    go (StrayToken c) is same = late (StrayToken c) tt is same
 
 pub source_none : (t : List ℕ) (r : Answer) → NoLexeme t → option_map seen r ≡ any_at t → IfNone r (BeginsNoSource t)
 source_none t None no_lexeme h = no_source t no_lexeme (sym h)

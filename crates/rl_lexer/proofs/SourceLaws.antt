@@ -1,23 +1,21 @@
 -- A source is cut in one way, and what the lexer cuts of a text is cut of it as a source too.
-use Rattle.rl_text.proofs.Common.{◌≡◌, ℕ, inl, inr, true, false, not, ◌&&◌, ◌==◌, cond, List, [], ◌∷◌, ◌++◌, map, Option, Some, None, drop, refl, sym, ◌∙◌, ap, subst, arith, lit<, and_parts, append_cancel_right, none-some, list_all, option_map, is_xid_continue-ascii}
-use Rattle.rl_text.specs.Texts.{first_passes, is_white, byte_len, is_start, is_continue, starts_with}
+use Rattle.rl_text.proofs.Common.{◌≡◌, ℕ, inl, inr, true, false, ◌==◌, cond, List, [], ◌∷◌, ◌++◌, map, Option, Some, None, drop, refl, sym, ◌∙◌, ap, subst, arith, lit<, and_parts, append_cancel_right, none-some, list_all, option_map}
+use Rattle.rl_text.specs.Texts.{first_passes, byte_len, is_start, is_continue, starts_with}
 use Rattle.rl_forms.specs.Trivia.{inside_text}
 use Rattle.rl_lexer.specs.Lexemes.{Lexeme, lexeme_text, IsLexeme, IsRow, LexemeForm, form_of}
 use Rattle.rl_lexer.specs.Cuts.{LexedToken, end_of, LexesUpTo}
 use Rattle.rl_lexer.specs.Mirrors.LexemeAt.{after_apostrophe, after_suffix, after_single, literal_at, raw_at, word_at, LetterRHead, ApostropheHead, SlashHead, lexeme_at}
 use Rattle.rl_text.specs.Classes.{after_run, is_hash}
-use Rattle.rl_lexer.specs.Mirrors.SourceAt.{other_at}
-use Rattle.rl_lexer.specs.Sources.{is_in_line, is_apostrophe, SourceLexeme, PlainToken, RawIdentifierToken, LifetimeToken, RawLifetimeToken, DocLineToken, DocBlockToken, StrayToken, source_text, IsProper, IsSource, SourceKind, PlainKind, source_kind, BeginsNoSource, without_mark, IsScriptLine, IsWithoutLine, CutSource, source_end, SourcesUpTo, told, OneCutting, plain_cut, HoldsLexemes}
+use Rattle.rl_lexer.specs.Mirrors.SourceAt.{other_at, stray_at}
+use Rattle.rl_lexer.specs.Sources.{is_in_line, is_apostrophe, SourceLexeme, PlainToken, RawIdentifierToken, LifetimeToken, RawLifetimeToken, DocLineToken, DocBlockToken, BadQuoteToken, StrayToken, source_text, IsProper, IsSource, SourceKind, PlainKind, source_kind, BeginsNoSource, without_mark, IsScriptLine, IsWithoutLine, CutSource, source_end, SourcesUpTo, told, OneCutting, plain_cut, HoldsLexemes}
 use Rattle.rl_lexer.proofs.Comments.{same_Some}
 use Rattle.rl_lexer.proofs.LexemeFronts.{at_class, class39, class47, class114, lexeme_at-past, same_pair, start_ascii}
 use Rattle.rl_lexer.proofs.LexemeRows.{not_among, run_past}
 use Rattle.rl_lexer.proofs.Pieces.{one_rest}
-use Rattle.rl_lexer.proofs.SourceFronts.{IsOther, other_at-past}
+use Rattle.rl_lexer.proofs.BadQuotes.{continue_39}
+use Rattle.rl_lexer.proofs.SourceFronts.{IsLate, IsOther, late_first, other_at-past, stray_at-past}
 
 -- ---- no lexeme begins where another token does
-
-continue_39 : is_continue 39 ≡ false
-continue_39 = ap (λ b. b && not (is_white 39)) (is_xid_continue-ascii 39 (lit< tt))
 
 raw_no_lexeme : (c : ℕ) (u : List ℕ) → is_start c ≡ true → lexeme_at (114 ∷ 35 ∷ c ∷ u) ≡ None
 raw_no_lexeme c u is =
@@ -57,6 +55,7 @@ other_no_lexeme (LifetimeToken c more) t other (is, free, plain) = lifetime_no_l
 other_no_lexeme (RawLifetimeToken c more) t other is = at_class 39 (114 ∷ 35 ∷ c ∷ more ++ t) ApostropheHead class39
 other_no_lexeme (DocLineToken body) t other is = at_class 47 (47 ∷ body ++ t) SlashHead class47
 other_no_lexeme (DocBlockToken i) t other is = at_class 47 (42 ∷ inside_text i ++ t) SlashHead class47
+other_no_lexeme (BadQuoteToken q) t other is = absurd other
 other_no_lexeme (StrayToken c) t other is = absurd other
 
 -- ---- at most one token begins a text
@@ -65,11 +64,11 @@ record SameToken (v w : SourceLexeme) (x y : List ℕ) : Type 0 where
   pub kind : source_kind v ≡ source_kind w
   pub rest : x ≡ y
 
--- a lexeme, another token, a stray
+-- a lexeme, another token, a bad quote or a stray
 data Sort (w : SourceLexeme) : Type 0 where
   IsPlainSort : (l : Lexeme) (is : w ≡ PlainToken l) → Sort w
   IsOtherSort : (is : IsOther w) → Sort w
-  IsStraySort : (c : ℕ) (is : w ≡ StrayToken c) → Sort w
+  IsLateSort : (is : IsLate w) → Sort w
 
 sort_of : (w : SourceLexeme) → Sort w
 sort_of (PlainToken l) = IsPlainSort l refl
@@ -78,7 +77,8 @@ sort_of (LifetimeToken c more) = IsOtherSort tt
 sort_of (RawLifetimeToken c more) = IsOtherSort tt
 sort_of (DocLineToken body) = IsOtherSort tt
 sort_of (DocBlockToken i) = IsOtherSort tt
-sort_of (StrayToken c) = IsStraySort c refl
+sort_of (BadQuoteToken q) = IsLateSort tt
+sort_of (StrayToken c) = IsLateSort tt
 
 other_proper : (w : SourceLexeme) (t : List ℕ) → IsOther w → IsSource w t → IsProper w t
 other_proper (PlainToken l) t other is = absurd other
@@ -87,6 +87,7 @@ other_proper (LifetimeToken c more) t other is = is
 other_proper (RawLifetimeToken c more) t other is = is
 other_proper (DocLineToken body) t other is = is
 other_proper (DocBlockToken i) t other is = is
+other_proper (BadQuoteToken q) t other is = absurd other
 other_proper (StrayToken c) t other is = absurd other
 
 both_plain : (l m : Lexeme) (x y : List ℕ) → IsLexeme l x → IsLexeme m y → lexeme_text l ++ x ≡ lexeme_text m ++ y
@@ -110,12 +111,18 @@ not_mixed : (l : Lexeme) (w : SourceLexeme) (x y : List ℕ) → IsOther w → I
 not_mixed l w x y b is js e = none-some (form_of l, x) (sym (other_no_lexeme w y b js) ∙ ap lexeme_at (sym e)
     ∙ lexeme_at-past l x is)
 
-not_stray : (c : ℕ) (w : SourceLexeme) (x y : List ℕ) → IsProper w y → IsSource (StrayToken c) x → c ∷ x ≡ source_text w
-    ++ y → ⊥
-not_stray c w x y is stray e = stray.0 (w, y, is, e)
+not_late : (v w : SourceLexeme) (x y : List ℕ) → IsProper w y → IsLate v → IsSource v x → source_text v
+    ++ x ≡ source_text w ++ y → ⊥
+not_late v w x y is late js e = late_first v x late js (w, y, is, e)
 
-both_stray : (c d : ℕ) (x y : List ℕ) → c ∷ x ≡ d ∷ y → SameToken (StrayToken c) (StrayToken d) x y
-both_stray c d x y e = record { kind = refl; rest = ap (drop 1) e }
+both_late : (v w : SourceLexeme) (x y : List ℕ) → IsLate v → IsLate w → IsSource v x → IsSource w y → source_text v
+    ++ x ≡ source_text w ++ y → SameToken v w x y
+both_late v w x y a b is js e =
+    let p : ◌≡◌ {A = Option (SourceKind × List ℕ)} (Some (source_kind v, x)) (Some (source_kind w, y)) = sym
+    (stray_at-past v x a is) ∙ ap stray_at e ∙ stray_at-past w y b js in
+    let q : ◌≡◌ {A = SourceKind × List ℕ} (source_kind v, x) (source_kind w, y) = same_Some (source_kind v, x)
+    (source_kind w, y) p in
+    record { kind = ap (λ (z : SourceKind × List ℕ). z.0) q; rest = ap (λ (z : SourceKind × List ℕ). z.1) q }
 
 one_token : (v w : SourceLexeme) (x y : List ℕ) → IsSource v x → IsSource w y → source_text v ++ x ≡ source_text w ++ y
     → SameToken v w x y
@@ -123,9 +130,6 @@ one_token v w x y is js e = go (sort_of v) (sort_of w)
   where
     as_plain : (u : SourceLexeme) (z : List ℕ) (l : Lexeme) → u ≡ PlainToken l → IsSource u z → IsLexeme l z
     as_plain u z l same is = subst (λ (k : SourceLexeme). IsSource k z) same is
-
-    as_stray : (u : SourceLexeme) (z : List ℕ) (c : ℕ) → u ≡ StrayToken c → IsSource u z → IsSource (StrayToken c) z
-    as_stray u z c same is = subst (λ (k : SourceLexeme). IsSource k z) same is
 
     text : (u k : SourceLexeme) (z : List ℕ) → u ≡ k → source_text u ++ z ≡ source_text k ++ z
     text u k z same = ap (λ q. source_text q ++ z) same
@@ -140,19 +144,16 @@ one_token v w x y is js e = go (sort_of v) (sort_of w)
         (sym (text v (PlainToken l) x p) ∙ e ∙ text w (PlainToken m) y q))
     go (IsPlainSort l p) (IsOtherSort b) = absurd (not_mixed l w x y b (as_plain v x l p is) js
         (sym (text v (PlainToken l) x p) ∙ e))
-    go (IsPlainSort l p) (IsStraySort d q) = absurd (not_stray d (PlainToken l) y x (as_plain v x l p is)
-        (as_stray w y d q js) (sym (text w (StrayToken d) y q) ∙ sym e ∙ text v (PlainToken l) x p))
+    go (IsPlainSort l p) (IsLateSort b) = absurd (not_late w (PlainToken l) y x (as_plain v x l p is) b js
+        (sym e ∙ text v (PlainToken l) x p))
     go (IsOtherSort a) (IsPlainSort m q) = absurd (not_mixed m v y x a (as_plain w y m q js) is
         (sym (text w (PlainToken m) y q) ∙ sym e))
     go (IsOtherSort a) (IsOtherSort b) = both_other v w x y a b is js e
-    go (IsOtherSort a) (IsStraySort d q) = absurd (not_stray d v y x (other_proper v x a is) (as_stray w y d q js)
-        (sym (text w (StrayToken d) y q) ∙ sym e))
-    go (IsStraySort c p) (IsPlainSort m q) = absurd (not_stray c (PlainToken m) x y (as_plain w y m q js)
-        (as_stray v x c p is) (sym (text v (StrayToken c) x p) ∙ e ∙ text w (PlainToken m) y q))
-    go (IsStraySort c p) (IsOtherSort b) = absurd (not_stray c w x y (other_proper w y b js) (as_stray v x c p is)
-        (sym (text v (StrayToken c) x p) ∙ e))
-    go (IsStraySort c p) (IsStraySort d q) = moved (StrayToken c) (StrayToken d) p q
-        (both_stray c d x y (sym (text v (StrayToken c) x p) ∙ e ∙ text w (StrayToken d) y q))
+    go (IsOtherSort a) (IsLateSort b) = absurd (not_late w v y x (other_proper v x a is) b js (sym e))
+    go (IsLateSort a) (IsPlainSort m q) = absurd (not_late v (PlainToken m) x y (as_plain w y m q js) a is
+        (e ∙ text w (PlainToken m) y q))
+    go (IsLateSort a) (IsOtherSort b) = absurd (not_late v w x y (other_proper w y b js) a is e)
+    go (IsLateSort a) (IsLateSort b) = both_late v w x y a b is js e
 
 -- ---- cuts
 

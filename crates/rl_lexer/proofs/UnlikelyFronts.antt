@@ -4,12 +4,12 @@ use Rattle.rl_text.proofs.UnlikelyLanes.{with_before-length}
 use Rattle.rl_lexer.proofs.LexemeRows.{not_true}
 use Rattle.rl_text.specs.Texts.{is_among, is_white, is_continue}
 use Rattle.rl_lexer.specs.Skipping.{Skipped}
-use Rattle.rl_lexer.specs.Lexemes.{IdentifierForm, DelimiterForm, MarkForm, delimiters, marks}
+use Rattle.rl_lexer.specs.Lexemes.{IdentifierForm, LiteralForm, DelimiterForm, MarkForm, delimiters, marks}
 use Rattle.rl_forms.specs.Reading.{truth_text}
 use Rattle.rl_text.specs.Classes.{after_run}
 use Rattle.rl_lexer.specs.Sources.{PlainKind, StrayKind, SourceBefore, IsLiteralText, source_text}
 use Rattle.rl_lexer.specs.Mirrors.LexemeAt.{StrayHead, begins_word, is_prefix_letter, is_mark_alone, mark_form, head_class, lexeme_at, begins_raw_after}
-use Rattle.rl_lexer.specs.Mirrors.SourceAt.{any_at, opens, or_stray, other_at}
+use Rattle.rl_lexer.specs.Mirrors.SourceAt.{after_bad_quote, any_at, of_kind, opens, or_stray, other_at}
 use Rattle.rl_text.specs.Mirrors.RunsAt.{is_word_byte}
 use Rattle.rl_lexer.specs.Mirrors.LiteralsAt.{HoldsNoLiteral, past_word}
 use Rattle.rl_text.specs.Mirrors.UnlikelyAt.{is_likely_mark, is_likely_head, begins_none, with_before, unlikely_len, last_of, byte_before}
@@ -135,7 +135,7 @@ reach_stray c u r low here white more =
       no_raw u,
     ) refl in
     let any : any_at (c ∷ u) ≡ Some (StrayKind, u) = ap (λ o. or_stray o (c ∷ u)) other
-    ∙ ap (λ b. cond b None (Some (StrayKind, u))) shut in
+    ∙ ap (λ b. cond b (of_kind (PlainKind LiteralForm) (after_bad_quote (c ∷ u))) (Some (StrayKind, u))) shut in
     reach_token c u u r StrayKind (not_true (c == 47) a.0) white
     (any_found (c ∷ u) (StrayKind, u) (no_lexeme (c ∷ u) none) any) (λ is. is) more
 

@@ -3,6 +3,7 @@ pub mod LexErrors
 pub mod Cuts
 pub mod Cursors
 pub mod Skipping
+pub mod BadQuotes
 pub mod Sources
 pub mod Lines
 pub mod Mirrors

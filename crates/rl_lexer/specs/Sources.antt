@@ -1,14 +1,15 @@
 -- The tokens of a whole source, and how it is cut into them: the lexemes, and beside them raw
--- identifiers, lifetimes and doc comments. A byte order mark and an interpreter's line may stand
+-- identifiers, lifetimes, doc comments and bad quotes. A byte order mark and an interpreter's line may stand
 -- before them.
 use Rattle.std.specs.Prelude.{◌≡◌, ◌⊎◌, ℕ, ◌+◌, Bool, false, not, ◌==◌, List, [], ◌∷◌, ◌++◌, length, map, IsTrue, IsFalse, codes, encode_utf8_all, Option, MatchOption, ⊤, if◌then◌else◌}
 use Prim.Native.Char.{code}
-use Rattle.std.specs.List.{AllByRecursion}
+use Rattle.std.specs.List.{AllByRecursion, list_all}
 use Rattle.std.specs.Str.{chars}
 use Rattle.rl_text.specs.Texts.{first_passes, begins, byte_len, IsTail, is_start, is_continue}
 use Rattle.rl_forms.specs.Trivia.{Inside, inside_text, IsInside, is_comment_line, is_comment_block}
 use Rattle.rl_lexer.specs.Skipping.{Skipped}
 use Rattle.rl_lexer.specs.Lexemes.{Lexeme, lexeme_text, IsLexeme, IsRow, LexemeForm, LiteralForm, IdentifierForm, form_of, begins_raw_identifier}
+use Rattle.rl_lexer.specs.BadQuotes.{BadQuote, bad_quote_text, IsBadQuote}
 use Rattle.rl_lexer.specs.Cuts.{BeginsQuote, LexedToken, LexesUpTo}
 use Rattle.rl_lexer.specs.Cursors.{CursorState, form_view}
 use Rattle.rl_forms.specs.Reading.{truth_text}
@@ -35,6 +36,8 @@ pub data SourceLexeme : Type 0 where
   -- `//` and the line's rest without its LF; `/*` and what stands inside
   DocLineToken : (body : List ℕ) → SourceLexeme
   DocBlockToken : (inside : Inside) → SourceLexeme
+  -- a quote that begins nothing else, up to where it ends
+  BadQuoteToken : (q : BadQuote) → SourceLexeme
   -- a character at which nothing else begins
   StrayToken : (c : ℕ) → SourceLexeme
 
@@ -45,6 +48,7 @@ source_text (LifetimeToken c more) = code "'" ∷ c ∷ more
 source_text (RawLifetimeToken c more) = code "'" ∷ code "r" ∷ code "#" ∷ c ∷ more
 source_text (DocLineToken body) = code "/" ∷ code "/" ∷ body
 source_text (DocBlockToken inside) = code "/" ∷ code "*" ∷ inside_text inside
+source_text (BadQuoteToken q) = bad_quote_text q
 source_text (StrayToken c) = c ∷ []
 
 -- An identifier, as long as what follows allows.
@@ -52,7 +56,7 @@ abbrev pub IsName : ℕ → List ℕ → List ℕ → Type 0
 IsName c more after = IsTrue (is_start c) × IsRow is_continue more after
 
 -- The token is well made, and as long as the text after it allows. No apostrophe follows a
--- lifetime, and what begins `'r#` is none where an identifier follows. Strays aside.
+-- lifetime, and what begins `'r#` is none where an identifier follows. Bad quotes and strays aside.
 abbrev pub IsProper : SourceLexeme → List ℕ → Type 0
 IsProper (PlainToken l) after = IsLexeme l after
 IsProper (RawIdentifierToken c more) after = IsName c more after
@@ -64,9 +68,10 @@ IsProper (RawLifetimeToken c more) after =
 IsProper (DocLineToken body) after = IsRow is_in_line body after × IsFalse (is_comment_line body)
 IsProper (DocBlockToken inside) after =
     IsInside inside × IsFalse (is_comment_block (inside_text inside))
+IsProper (BadQuoteToken q) after = ⊥
 IsProper (StrayToken c) after = ⊥
 
--- A token begins the text, strays aside.
+-- A token begins the text, bad quotes and strays aside.
 abbrev pub BeginsProper : List ℕ → Type 0
 BeginsProper t =
     (w : SourceLexeme) × (after : List ℕ) × IsProper w after × (t ≡ source_text w ++ after)
@@ -76,9 +81,11 @@ abbrev pub Opens : List ℕ → Type 0
 Opens t =
     BeginsQuote t ⊎ (IsTrue (first_passes is_apostrophe t) ⊎ IsTrue (begins (codes "/*") t))
 
--- The same with strays: no other token begins there, and neither a quoted literal nor a comment
--- that isn't closed.
+-- The same with bad quotes and strays: no other token begins there. At a stray begins neither a
+-- quoted literal nor a comment that isn't closed.
 abbrev pub IsSource : SourceLexeme → List ℕ → Type 0
+IsSource (BadQuoteToken q) after =
+    (BeginsProper (bad_quote_text q ++ after) → ⊥) × IsBadQuote q after
 IsSource (StrayToken c) after = (BeginsProper (c ∷ after) → ⊥) × (Opens (c ∷ after) → ⊥)
 IsSource (PlainToken l) after = IsProper (PlainToken l) after
 IsSource (RawIdentifierToken c more) after = IsProper (RawIdentifierToken c more) after
@@ -102,6 +109,7 @@ source_kind (LifetimeToken c more) = LifetimeKind
 source_kind (RawLifetimeToken c more) = LifetimeKind
 source_kind (DocLineToken body) = DocCommentKind
 source_kind (DocBlockToken inside) = DocCommentKind
+source_kind (BadQuoteToken q) = PlainKind LiteralForm
 source_kind (StrayToken c) = StrayKind
 
 -- the form that the code tells
@@ -229,6 +237,12 @@ pub record TakesLiteralAfter (old : CursorState) (l : SourceToken) (new : Cursor
   pub passes : PassesTo old between
   pub takes : TakesSource between l new
   pub is_literal : IsLiteralText (source_view l.form) (chars l.text.now)
+
+-- ---- lines
+
+-- The rest of a line and its LF stand in front of r: r is what stands after the text's first LF.
+abbrev pub IsAfterLine : List ℕ → List ℕ → Type 0
+IsAfterLine t r = (line : List ℕ) × IsTrue (list_all is_in_line line) × (t ≡ line ++ code "\n" ∷ r)
 
 -- ---- errors
 

@@ -22,6 +22,7 @@ use rl_text::characters::is_start;
 use rl_text::classes::skip_word;
 use rl_text::lanes::has_bit;
 use rl_text::text::{begins_with, split_ascii, split_char, without_first};
+pub(crate) use suffix::after_suffix;
 
 /// What a token is to a parser: what [`Tokens`](crate::Tokens) cuts off, by its first
 /// characters. Whether a literal reads isn't judged.

@@ -1,12 +1,15 @@
 //! The token at the front of a source.
 #![tactic(auto, using(rl_text::proofs::TailLemmas::tail_step))]
 
+mod bad_quote;
+
 ghost use Rattle.std.specs.Prelude.{◌≡◌, ◌↔◌, ◌<◌, ◌≤◌, Bool, length, option_map, IfSome, IfNone, IsTrue};
+ghost use Rattle.std.specs.List.{list_all};
 ghost use Rattle.std.specs.Str.{chars};
 ghost use Rattle.rl_text.specs.Texts.{IsTail};
 ghost use Rattle.rl_text.specs.Texts.{is_continue};
 ghost use Rattle.rl_lexer.specs.Cursors.{form_view};
-ghost use Rattle.rl_lexer.specs.Sources.{is_in_line, PlainKind, IsLiteralText, source_view, SourceBefore, BeginsNoSource, IsWithoutLine, IsWithoutPreamble, without_mark};
+ghost use Rattle.rl_lexer.specs.Sources.{is_in_line, IsAfterLine, PlainKind, IsLiteralText, source_view, SourceBefore, BeginsNoSource, IsWithoutLine, IsWithoutPreamble, without_mark};
 ghost use Rattle.rl_text.specs.Classes.{after_run};
 ghost use Rattle.rl_forms.specs.Reading.{truth_text};
 ghost use Rattle.rl_lexer.specs.Mirrors.LiteralsAt.{HoldsNoLiteral, past_word};
@@ -15,16 +18,18 @@ ghost use Rattle.rl_lexer.specs.Mirrors.SourceAt.{after_doc, after_name, after_m
 use crate::lexeme::{Form, first_lexeme, word_or_mark};
 use crate::no_token::{begins_raw_identifier, opens};
 use crate::whitespace::{after_block, is_comment_block, is_comment_line, skip};
+use bad_quote::after_bad_quote;
 use rl_text::characters::is_start;
 use rl_text::classes::skip_word;
 use rl_text::lanes::{byte_before, is_word_byte, unlikely_len};
-use rl_text::scan::{Marks, split_before};
+use rl_text::scan::{Marks, next_mark, split_before};
 use rl_text::text::{begins_with, split_ascii, split_char, strip_byte, without_first};
 
 /// What a token of a source is: what [`Sources`](crate::Sources) cuts off.
 #[derive(Clone, Copy)]
 pub enum SourceForm {
-    /// What [`Tokens`](crate::Tokens) cuts off too.
+    /// What [`Tokens`](crate::Tokens) cuts off too. A quote that begins nothing else is a literal as well, up to where
+    /// it ends: `''`, `'ab'`, `b'hello'`, `'1a`. It doesn't read.
     Token(Form),
     /// `r#` and an identifier.
     RawIdentifier,
@@ -136,8 +141,8 @@ fn source_by_characters(text: &str) -> Option<(SourceForm, &str)>
     stray(text)
 }
 
-/// The stray character at the front of a text, and the rest after it. `None` where a comment or a quoted literal is opened
-/// there, and at the end.
+/// The stray character or the bad quote at the front of a text, and the rest after it. `None` where a comment or a quoted
+/// literal is opened that isn't closed, and at the end.
 fn stray(text: &str) -> Option<(SourceForm, &str)>
     ensures rest { option_map (λ p. (source_view p.0, chars p.1.now)) result
         ≡ stray_at (chars text.now) }
@@ -146,7 +151,7 @@ fn stray(text: &str) -> Option<(SourceForm, &str)>
 {
     let (_, following) = split_char(text)?;
     if opens(text) {
-        return None;
+        return ended(SourceForm::Token(Form::Literal), after_bad_quote(text));
     }
     Some((SourceForm::Stray, following))
 }
@@ -209,6 +214,20 @@ fn line_end(text: &str) -> &str
 {
     let (_, rest) = split_before(Marks::two(b'\n', b'\n'), text);
     rest
+}
+
+/// What stands after the first LF of a text.
+#[tactic(auto, using(crate::proofs::SourceFronts::first_line, crate::proofs::SourceFronts::no_line))]
+pub(crate) fn after_first_line(text: &str) -> Option<&str>
+    ensures lines { IfSome result (λ lines. IsAfterLine (chars text.now) (chars lines.now)) }
+    ensures none { IfNone result (IsTrue (list_all is_in_line (chars text.now))) }
+    ensures following { IfSome result (λ lines. IsTail text.now lines.now) }
+    ensures shorter { IfSome result (λ lines. length lines.now < length text.now) }
+{
+    match next_mark(Marks::two(b'\n', b'\n'), text) {
+        Some((_, following)) => Some(following),
+        None => None,
+    }
 }
 
 /// What follows an identifier.

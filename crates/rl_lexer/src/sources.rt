@@ -2,11 +2,14 @@
 
 ghost use Rattle.std.specs.Prelude.{◌≡◌, ◌↔◌, ◌<◌, ◌+◌, ◌⊎◌, ℕ, List, [], length, IfSome, IfNone, IsTrue};
 ghost use Rattle.std.specs.Str.{chars};
+ghost use Rattle.rl_text.specs.Texts.{IsTail};
 ghost use Rattle.rl_lexer.specs.Sources.{source_view, SourceKind, SourceBefore, BeginsNoSource, SourceErrorAt, IsLiteralText};
 
 use crate::lex_error::LexError;
 use crate::no_token::source_error_kind;
-use crate::source::{SourceForm, first_source, is_literal, skip_unlikely, without_preamble};
+use crate::source::{
+    SourceForm, after_first_line, first_source, is_literal, skip_unlikely, without_preamble,
+};
 use crate::whitespace::skip;
 use std::marker::Model;
 
@@ -77,7 +80,8 @@ impl<'t> Model for Sources<'t> {
 
 impl<'t> Sources<'t> {
     ghost use Rattle.rl_lexer.specs.Cursors.{IsCursorState};
-    ghost use Rattle.rl_lexer.specs.Sources.{IsCutUpTo, TakesSource, PassesTo, TakesLiteralAfter, IsFirstSourceError};
+    ghost use Rattle.std.specs.List.{list_all};
+    ghost use Rattle.rl_lexer.specs.Sources.{IsCutUpTo, TakesSource, PassesTo, TakesLiteralAfter, IsFirstSourceError, IsAfterLine, is_in_line};
 
     /// The tokens of a source, from its front. Only what may stand before the first is dropped.
     pub fn new(text: &'t str) -> Sources<'t>
@@ -168,6 +172,46 @@ impl<'t> Sources<'t> {
         ensures { result.now ≡ self.now.rest }
     {
         self.rest
+    }
+
+    /// The lines after the one in which the cursor stands: what stands after the first LF of [`rest`](Sources::rest). `None`
+    /// where no LF is left. So a source is taken up after an error: [`Sources::new`] cuts these lines anew, with places counted
+    /// from their front, which is as many bytes after the text's as they are shorter.
+    ///
+    /// # Example
+    ///
+    /// ```
+    /// use rl_tokens::Sources;
+    /// use std::alloc::Global;
+    ///
+    /// pub fn all_places(alloc: Global, source: &str) -> Option<Vec<usize>> {
+    ///     let mut places = Vec::new(alloc);
+    ///     let mut lines = source;
+    ///     loop {
+    ///         let front = source.len() - lines.len();
+    ///         let mut tokens = Sources::new(lines);
+    ///         while let Some(literal) = tokens.next_literal() {
+    ///             places.push(front + literal.lo).ok()?;
+    ///         }
+    ///         if let Some(error) = tokens.error() {
+    ///             places.push(front + error.at).ok()?;
+    ///         }
+    ///         match tokens.following_lines() {
+    ///             Some(following) => lines = following,
+    ///             None => return Some(places),
+    ///         }
+    ///     }
+    /// }
+    /// // all_places(alloc, "f(\"a);\nlet b = 'x';\ng('ab');") == Some([2, 15, 22])
+    /// ```
+    pub fn following_lines(&self) -> Option<&'t str>
+        ensures lines { IfSome result
+            (λ lines. IsAfterLine (chars self.now.rest) (chars lines.now)) }
+        ensures none { IfNone result (IsTrue (list_all is_in_line (chars self.now.rest))) }
+        ensures following { IfSome result (λ lines. IsTail self.now.rest lines.now) }
+        ensures shorter { IfSome result (λ lines. length lines.now < length self.now.rest) }
+    {
+        after_first_line(self.rest)
     }
 }
 

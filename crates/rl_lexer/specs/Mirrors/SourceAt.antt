@@ -1,6 +1,6 @@
 -- A mirror of the code, for proofs alone: what a source has beside lexemes at the front of a text,
 -- as the code finds it.
-use Rattle.std.specs.Prelude.{ℕ, Bool, ◌==◌, ◌||◌, List, [], ◌∷◌, drop, cond, codes, if◌then◌else◌}
+use Rattle.std.specs.Prelude.{ℕ, Bool, not, ◌==◌, ◌||◌, ◌&&◌, List, [], ◌∷◌, drop, cond, codes, if◌then◌else◌}
 use Rattle.std.proofs.Common.{Option, Some, None}
 use Rattle.std.specs.Option.{option_map, option_and_then}
 use Prim.Native.Char.{code}
@@ -9,10 +9,12 @@ use Rattle.rl_lexer.specs.declared.lex_error.LexKind.{LexKind}
 use Rattle.rl_lexer.specs.declared.lex_error.LexKind.TheVariants.{UnclosedComment, UnclosedQuote}
 use Rattle.rl_forms.specs.Trivia.{is_comment_line, is_comment_block}
 use Rattle.rl_lexer.specs.Lexemes.{begins_raw_identifier}
-use Rattle.rl_lexer.specs.Mirrors.LexemeAt.{begins_quote}
+use Rattle.std.specs.Char.{is_ascii_digit}
+use Rattle.rl_lexer.specs.Lexemes.{LiteralForm}
+use Rattle.rl_lexer.specs.Mirrors.LexemeAt.{begins_quote, after_suffix}
 use Rattle.rl_text.specs.Classes.{after_run}
 use Rattle.rl_lexer.specs.Mirrors.SkippedAt.{after_block}
-use Rattle.rl_lexer.specs.Sources.{is_in_line, is_apostrophe, SourceKind, RawIdentifierKind, LifetimeKind, DocCommentKind, StrayKind}
+use Rattle.rl_lexer.specs.Sources.{is_in_line, is_apostrophe, SourceKind, PlainKind, RawIdentifierKind, LifetimeKind, DocCommentKind, StrayKind}
 
 -- what follows a doc comment, by what stands after its first slash
 abbrev pub after_doc : List ℕ → Option (List ℕ)
@@ -59,10 +61,63 @@ source_error_kind r = if begins (codes "/*") r then UnclosedComment else Unclose
 abbrev pub opens : List ℕ → Bool
 opens r = begins (codes "/*") r || (begins_quote r || starts_with (code "'") r)
 
--- a stray character
+-- what ends a quote before it is closed: a slash, and an LF without the quote right after it
+abbrev pub stops_quote : ℕ → List ℕ → Bool
+stops_quote c t = c == code "/" || (c == code "\n" && not (starts_with (code "'") t))
+
+-- what follows any character
+abbrev pub after_any : List ℕ → Option (List ℕ)
+after_any [] = None
+after_any (c ∷ t) = Some t
+
+-- what follows the part of a quote that begins with this character
+abbrev pub after_part : ℕ → List ℕ → Option (List ℕ)
+after_part c t = cond (c == code "\\") (after_any t) (cond (stops_quote c t) None (Some t))
+
+-- what follows the next quote
+abbrev pub after_next_quote : List ℕ → Option (List ℕ)
+after_next_quote [] = None
+after_next_quote (c ∷ []) = cond (c == code "'") (Some []) None
+after_next_quote (c ∷ e ∷ t) =
+    cond (c == code "'") (Some (e ∷ t))
+    (cond (c == code "\\") (after_next_quote t)
+    (cond (stops_quote c (e ∷ t)) None (after_next_quote (e ∷ t))))
+
+-- what follows a quote up to the next and a suffix, by what stands after it
+abbrev pub after_other : List ℕ → Option (List ℕ)
+after_other t =
+    cond (starts_with (code "\\") t) None (option_map after_suffix (after_next_quote t))
+
+-- what follows the quote that has to stand there, and the one that may
+abbrev pub after_closing : List ℕ → Option (List ℕ)
+after_closing [] = None
+after_closing (c ∷ t) = cond (c == code "'") (Some t) None
+
+abbrev pub past_closing : List ℕ → List ℕ
+past_closing [] = []
+past_closing (c ∷ t) = cond (c == code "'") t (c ∷ t)
+
+-- what follows a bad quote without prefix, by what stands after its apostrophe
+abbrev pub after_bare : List ℕ → Option (List ℕ)
+after_bare [] = None
+after_bare (c ∷ t) =
+    cond (is_ascii_digit c) (Some (past_closing (after_run is_continue t)))
+    (cond (is_start c) (option_and_then after_closing (after_any_name (c ∷ t)))
+    (after_other (c ∷ t)))
+
+-- what follows a bad quote
+abbrev pub after_bad_quote : List ℕ → Option (List ℕ)
+after_bad_quote [] = None
+after_bad_quote (c ∷ t) =
+    cond (c == code "'") (after_bare t)
+    (cond (c == code "b" && starts_with (code "'") t) (after_other (drop 1 t)) None)
+
+-- a stray character, or a bad quote
 abbrev pub stray_at : List ℕ → Option (SourceKind × List ℕ)
 stray_at [] = None
-stray_at (c ∷ t) = cond (opens (c ∷ t)) None (Some (StrayKind, t))
+stray_at (c ∷ t) =
+    cond (opens (c ∷ t)) (of_kind (PlainKind LiteralForm) (after_bad_quote (c ∷ t)))
+    (Some (StrayKind, t))
 
 abbrev pub or_stray : Option (SourceKind × List ℕ) → List ℕ → Option (SourceKind × List ℕ)
 or_stray (Some p) t = Some p

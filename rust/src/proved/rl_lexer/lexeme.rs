@@ -12,6 +12,7 @@ use crate::rl_text::characters::is_start;
 use crate::rl_text::classes::skip_word;
 use crate::rl_text::lanes::has_bit;
 use crate::rl_text::text::{begins_with, split_ascii, split_char, without_first};
+pub(crate) use suffix::after_suffix;
 
 /// What a token is to a parser: what [`Tokens`](crate::rl_lexer::Tokens) cuts off, by its first
 /// characters. Whether a literal reads isn't judged.

@@ -1,19 +1,23 @@
 // Rendered from crates/rl_lexer/src/source.rt by tools/render, which erases contracts: change that file, and render anew.
 //! The token at the front of a source.
 
+mod bad_quote;
+
 use crate::rl_lexer::lexeme::{Form, first_lexeme, word_or_mark};
 use crate::rl_lexer::no_token::{begins_raw_identifier, opens};
 use crate::rl_lexer::whitespace::{after_block, is_comment_block, is_comment_line, skip};
+use bad_quote::after_bad_quote;
 use crate::rl_text::characters::is_start;
 use crate::rl_text::classes::skip_word;
 use crate::rl_text::lanes::{byte_before, is_word_byte, unlikely_len};
-use crate::rl_text::scan::{Marks, split_before};
+use crate::rl_text::scan::{Marks, next_mark, split_before};
 use crate::rl_text::text::{begins_with, split_ascii, split_char, strip_byte, without_first};
 
 /// What a token of a source is: what [`Sources`](crate::rl_lexer::Sources) cuts off.
 #[derive(Clone, Copy)]
 pub enum SourceForm {
-    /// What [`Tokens`](crate::rl_lexer::Tokens) cuts off too.
+    /// What [`Tokens`](crate::rl_lexer::Tokens) cuts off too. A quote that begins nothing else is a literal as well, up to where
+    /// it ends: `''`, `'ab'`, `b'hello'`, `'1a`. It doesn't read.
     Token(Form),
     /// `r#` and an identifier.
     RawIdentifier,
@@ -95,12 +99,12 @@ fn source_by_characters(text: &str) -> Option<(SourceForm, &str)> {
     stray(text)
 }
 
-/// The stray character at the front of a text, and the rest after it. `None` where a comment or a quoted literal is opened
-/// there, and at the end.
+/// The stray character or the bad quote at the front of a text, and the rest after it. `None` where a comment or a quoted
+/// literal is opened that isn't closed, and at the end.
 fn stray(text: &str) -> Option<(SourceForm, &str)> {
     let (_, following) = split_char(text)?;
     if opens(text) {
-        return None;
+        return ended(SourceForm::Token(Form::Literal), after_bad_quote(text));
     }
     Some((SourceForm::Stray, following))
 }
@@ -148,6 +152,14 @@ fn after_doc(text: &str) -> Option<&str> {
 fn line_end(text: &str) -> &str {
     let (_, rest) = split_before(Marks::two(b'\n', b'\n'), text);
     rest
+}
+
+/// What stands after the first LF of a text.
+pub(crate) fn after_first_line(text: &str) -> Option<&str> {
+    match next_mark(Marks::two(b'\n', b'\n'), text) {
+        Some((_, following)) => Some(following),
+        None => None,
+    }
 }
 
 /// What follows an identifier.
