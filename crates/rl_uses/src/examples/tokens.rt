@@ -32,6 +32,26 @@ pub fn first_docs(source: &str) -> Option<&str> {
     }
 }
 
+/// The places of the literals and the errors of a source, which is taken up in the line after each error.
+pub fn all_places(alloc: Global, source: &str) -> Option<Vec<usize>> {
+    let mut places = Vec::new(alloc);
+    let mut lines = source;
+    loop {
+        let front = source.len() - lines.len();
+        let mut tokens = Sources::new(lines);
+        while let Some(literal) = tokens.next_literal() {
+            places.push(front + literal.lo).ok()?;
+        }
+        if let Some(error) = tokens.error() {
+            places.push(front + error.at).ok()?;
+        }
+        match tokens.following_lines() {
+            Some(following) => lines = following,
+            None => return Some(places),
+        }
+    }
+}
+
 /// The text after the white space and the comments that it begins with.
 pub fn after_comments(text: &str) -> &str {
     whitespace::skip(text)
