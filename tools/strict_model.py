@@ -226,9 +226,10 @@ POWER = '[eE][-+]?_*[0-9][0-9_]*+'
 def code_after(front, c):
     """The number between braces where it is judged at the character: at the sixth digit, or at the brace after fewer."""
     digits = front[front.rindex('{') + 1:].replace('_', '') + c.rstrip('}')
-    return int(digits, 16) if c and (len(digits) == 6) == (c != '}') else -1
+    return int(digits, 16) if (len(digits) == 6) == (c != '}') else -1
 
 
+JUDGES = '[0-9A-Fa-f}]'
 BRACED = OPEN + r'(?P<p>\\u\{%s[0-9A-Fa-f_]*)' % H
 ROWS = [
     ('Empty', '', ''), ('Minus', '', '-'), ('NoLiteral', '', '[^-]'), ('NoLiteral', '(?P<p>b|c|true|false|tr?u?|fa?l?s?)', '.'),
@@ -240,9 +241,9 @@ ROWS = [
     ('NoHexDigit', OPEN + r'(?P<p>\\u\{)', '[^0-9A-Fa-f}]'), ('NoHexDigit', BRACED, '[^0-9A-Fa-f_}]'), ('NoBrace', OPEN + r'(?P<p>\\u)', r'[^{]'),
     ('EmptyBraces', OPEN + r'(?P<p>\\u\{)', r'\}'), ('TooManyDigits', OPEN + r'(?P<p>\\u\{(?:%s_*){6})' % H, H),
     ('PastAscii', '(?![bc])' + OPEN + r'(?P<p>\\x)', '[89A-Fa-f]'),
-    ('PastUnicode', BRACED, '.', lambda code: code > 0x10FFFF), ('Surrogate', BRACED, '.', lambda code: 0xD800 <= code <= 0xDFFF),
+    ('PastUnicode', BRACED, JUDGES, lambda code: code > 0x10FFFF), ('Surrogate', BRACED, JUDGES, lambda code: 0xD800 <= code <= 0xDFFF),
     ('Nul', '(?=c)' + OPEN, r'\0'), ('Nul', '(?=c)' + OPEN + r'(?P<p>\\)', '0'), ('Nul', '(?=c)' + OPEN + r'(?P<p>\\x0)', '0'),
-    ('Nul', '(?=c)' + BRACED, '.', lambda code: code == 0), ('Nul', '(?=c)' + RAW_INSIDE, r'\0'),
+    ('Nul', '(?=c)' + BRACED, JUDGES, lambda code: code == 0), ('Nul', '(?=c)' + RAW_INSIDE, r'\0'),
     ('NotAscii', '(?=b)(?:%s|%s)' % (OPEN, RAW_INSIDE), r'[^\0-\x7f]'),
     ('CarriageReturn', STRING + r'(?P<p>\\?)', r'\r'), ('CarriageReturn', RAW_INSIDE, r'\r'),
     ('MustEscape', LETTER, r'[\n\r\t]'), ('NoCharacter', LETTER, "'"), ('TwoCharacters', LETTER_UNIT, "[^']"),
