@@ -43,11 +43,11 @@ RUSTC = {
     'character constant must be escaped': ['MustEscape', 'NoCharacter'],
     'character literal may only contain one codepoint': ['TwoCharacters', 'MustEscape'],
     'empty character literal': ['NoCharacter'],
-    'empty unicode escape': ['EmptyBraces'],
+    'empty unicode escape': ['EmptyBraces', 'NoUnicode'],
     'expected at least one digit in exponent': ['NoExponentDigit', 'BasedFloat', 'DigitOfBase'],
     'found invalid character; only ': ['NoQuote', 'Unfinished', 'TooManyHashes'],
     'too many ': ['TooManyHashes'],
-    'incorrect unicode escape sequence': ['NoBrace'],
+    'incorrect unicode escape sequence': ['NoBrace', 'NoUnicode'],
     'invalid character in numeric character escape': ['NoHexDigit'],
     'invalid character in unicode escape': ['NoHexDigit'],
     'invalid digit for a base 2 literal': ['DigitOfBase'],
@@ -60,14 +60,14 @@ RUSTC = {
     'non-ASCII character in byte string literal': ['NotAscii'],
     'non-ASCII character in raw byte string literal': ['NotAscii'],
     'null characters in C string literals are not supported': ['Nul'],
-    'numeric character escape is too short': ['NoHexDigit'],
+    'numeric character escape is too short': ['NoHexDigit', 'PastAscii'],
     'out of range hex escape': ['PastAscii'],
     'overlong unicode escape': ['TooManyDigits', *EARLIER],
     'underscore literal suffix is not allowed': ['UnderscoreSuffix', 'BadSuffix', 'EarlyQuote'],
     'unicode escape in byte string': ['NoUnicode'],
     'unknown byte escape': ['UnknownEscape', 'CarriageReturn'],
     'unknown character escape': ['UnknownEscape', 'CarriageReturn'],
-    'unterminated unicode escape': ['NoHexDigit', 'PastUnicode', 'TooManyDigits'],
+    'unterminated unicode escape': ['NoHexDigit', *EARLIER],
 }
 # By what these begin with, rustc says that another token stands at the place.
 OTHER_TOKEN = re.compile('no rules expected|unknown start of token|prefix |unterminated |(unexpected|mismatched) closing delimiter|identifiers cannot contain emoji')
@@ -139,13 +139,17 @@ def rustc_reason(text, flaw, error):
         return 'says first that the literal is not closed'
     if kind in NO_LITERAL:
         return 'is of other tokens: no literal begins the text'
-    if LIFETIME.match(strict_model.sketch(text)) and kind in ('TwoCharacters', 'Unclosed') and (not error or begin >= flaw.low):
+    if LIFETIME.match(strict_model.sketch(text)) and kind in ('TwoCharacters', 'Unclosed') and (not error or begin >= flaw.low or head == 'prefix '):
         return 'is of other tokens: a lifetime begins the text'
     if error and kind in EARLIER and flaw.low < begin and RUSTC.get(head):
         return 'comes later: no ending saves what stands before it'
     after = goes_on(text, flaw)
-    if after is not None and (begin >= after if error else not lexing.after_gap(text.encode()[after:].decode())):
-        return 'comes later: one token is whole, and others follow' if error else 'none: white space and comments follow one token'
+    if after is not None and error and begin >= after:
+        return 'comes later: one token is whole, and others follow'
+    if after is not None and not error and not lexing.after_gap(text.encode()[after:].decode()):
+        return 'none: white space and comments follow one token'
+    if after is not None and not error and re.search(r'[(){}\[\]]', text):
+        return 'stands elsewhere: one token is whole, and a delimiter without another follows'
     if not error and lexing.strict_entry(text, '', ''):
         return 'none: a CR among the white space behind an escaped line end'
     return None
@@ -209,6 +213,8 @@ LITRS = {
     'UnterminatedEscape': ['NoHexDigit', 'PastAscii', 'Unclosed', 'UnknownEscape'], 'UnterminatedUnicodeEscape': ['NoHexDigit', 'PastUnicode', 'TooManyDigits', 'Unclosed'],
     'UnterminatedByteLiteral': ['Unclosed'], 'UnterminatedCharLiteral': ['Unclosed'], 'UnterminatedRawString': ['Unclosed'], 'UnterminatedString': ['Unclosed'],
 }
+# What it says where the last character isn't the quote that closes, or an escape takes it along.
+BY_LAST = [kind for kind in LITRS if kind.startswith('Unterminated')] + ['OverlongByteLiteral']
 # What litrs 0.2.3 takes, and the strict grammar doesn't.
 TAKEN = {'CarriageReturn': 'a CR', 'EmptyBraces': 'no digits between the braces', 'TooManyHashes': 'more than 255 hashes'}
 
@@ -229,14 +235,15 @@ def litrs_reason(text, flaw, line):
         return 'a token to both' if their == 'Ok' else 'has no such suffix, or none after quotes'
     if their == 'Ok':
         return 'takes ' + TAKEN[flaw.kind] if flaw.kind in TAKEN else None
-    low, high = map(int, place.split('..')) if place != '-' else (None, None)
-    if flaw.kind in LITRS[their]:
-        if low is None:
-            return 'says the same, without a place'
-        return 'says the same at our place' if low == flaw.low else 'says the same at our piece' if low == flaw.begin else 'says the same in the same piece' if (
-            flaw.begin <= low <= flaw.high) else None
-    if their in ('UnterminatedByteLiteral', 'UnterminatedCharLiteral', 'UnterminatedRawString', 'UnterminatedString'):
-        return 'says first that the text does not end with its quote'
+    low = int(place.split('..')[0]) if place != '-' else None
+    if flaw.kind in LITRS[their] and low is None:
+        return 'says the same, without a place'
+    if flaw.kind in LITRS[their] and flaw.begin <= low <= flaw.high:
+        return 'says the same at our ' + ('place' if low == flaw.low else 'piece' if low == flaw.begin else 'piece, inside')
+    if their in BY_LAST or their == 'OverlongCharLiteral' and flaw.kind in CUT:
+        return 'takes the last character for the quote that closes'
+    if flaw.kind == 'BadSuffix' and low is not None and low < flaw.low and their in ('InvalidDigit', 'UnexpectedChar'):
+        return 'has no such suffix, or none after quotes'
     if flaw.kind in EARLIER and low is not None and low > flaw.low:
         return 'comes later: no ending saves what stands before it'
     if flaw.kind in TAKEN and low is not None and low > flaw.low:
