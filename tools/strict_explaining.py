@@ -143,6 +143,8 @@ def rustc_reason(text, flaw, error):
         return 'is of other tokens: a lifetime begins the text'
     if error and kind in EARLIER and flaw.low < begin and RUSTC.get(head):
         return 'comes later: no ending saves what stands before it'
+    if head == 'underscore literal suffix is not allowed' and kind in CUT and begin < flaw.low:
+        return 'comes earlier: a suffix is `_` alone, and might have gone on'
     after = goes_on(text, flaw)
     if after is not None and error and begin >= after:
         return 'comes later: one token is whole, and others follow'
