@@ -72,6 +72,8 @@ RUSTC = {
 # By what these begin with, rustc says that another token stands at the place.
 OTHER_TOKEN = re.compile('no rules expected|unknown start of token|prefix |unterminated |(unexpected|mismatched) closing delimiter|identifiers cannot contain emoji')
 UNCLOSED = re.compile('unterminated (double quote|character literal|byte constant|raw string|C string)')
+# After these rustc says nothing of what follows.
+STOPS = re.compile('unterminated (?!unicode)|found invalid character|too many `#` symbols|.*delimiter|expected item')
 LIFETIME = re.compile("'(?:r#)?[A-Za-z_\u00e9]")
 # A token of rustc's lexer that leaves nothing open, in a sketch; what is a delimiter, and what opens a block comment, are none.
 TOKEN = re.compile(r"""//[^\n]*+|(?:[bc]?"(?:[^"\\]|\\.)*+"|(?:br|cr|r)(?P<h>\#{0,255})"(?:(?!"(?P=h)).)*+"(?P=h)|b'(?:[^\\]'|(?:[^'\\/\n]|\n(?=')|\\.)*+')
@@ -89,8 +91,8 @@ def leaves_nothing_open(text):
     return at == len(drawn)
 
 
-def rustc_errors(options, texts):
-    """rustc's errors in each text that has some, where each is to be one token: their bytes in it, and their messages."""
+def rustc_told(options, texts):
+    """Where each text begins in one source in which each is to be one token, and what rustc says of that."""
     source, begins = bytearray(b'macro_rules! one { ($t:tt) => {} }\n'), []
     for text in texts:
         source += b'one!{\n'
@@ -102,9 +104,19 @@ def rustc_errors(options, texts):
             file.write(source)
         command = [options.rustc, '--edition', '2021', '--crate-type', 'lib', '--emit', 'metadata', '--error-format', 'json', '-o', os.path.join(folder, 'out'), name]
         told = subprocess.run(command, stdout=subprocess.PIPE, stderr=subprocess.PIPE).stderr
+    return begins, [it for it in map(json.loads, told.splitlines()) if it['level'] == 'error']
+
+
+def rustc_errors(options, texts):
+    """rustc's errors in each text that has some: their bytes in it, and their messages. Where one ends it, halves are asked."""
+    begins, told = rustc_told(options, texts)
+    if len(texts) > 1 and any(STOPS.match(it['message']) for it in told):
+        half = len(texts) // 2
+        first, last = rustc_errors(options, texts[:half]), rustc_errors(options, texts[half:])
+        return first | {half + at: errors for at, errors in last.items()}
     errors = {}
-    for message in map(json.loads, told.splitlines()):
-        for span in message['spans'] if message['level'] == 'error' else []:
+    for message in told:
+        for span in message['spans']:
             at = bisect.bisect(begins, span['byte_start']) - 1
             begin, end = span['byte_start'] - begins[at], span['byte_end'] - begins[at]
             if span['is_primary'] and at >= 0 and begin <= len(texts[at].encode()):
@@ -152,8 +164,8 @@ def rustc_reason(text, flaw, error):
         return 'none: white space and comments follow one token'
     if after is not None and not error and re.search(r'[(){}\[\]]', text):
         return 'stands elsewhere: one token is whole, and a delimiter without another follows'
-    if not error and lexing.strict_entry(text, '', ''):
-        return 'none: a CR among the white space behind an escaped line end'
+    if kind == 'CarriageReturn' and lexing.strict_entry(text, '', '') and (not error or begin > flaw.low):
+        return 'takes a CR among the white space behind an escaped line end'
     return None
 
 
@@ -205,7 +217,7 @@ def compare_rustc(options, tally, answers):
 # By the kind that litrs names: the kinds that say the same.
 LITRS = {
     'Empty': ['Empty'], 'EmptyByteLiteral': ['NoCharacter'], 'EmptyCharLiteral': ['NoCharacter'], 'InvalidDigit': ['DigitOfBase', 'BasedFloat', 'NoDigits'],
-    'InvalidFloatTypeSuffix': ['BadSuffix'], 'InvalidIntegerTypeSuffix': ['BadSuffix', 'BasedFloat'], 'InvalidLiteral': [*NO_LITERAL],
+    'InvalidFloatTypeSuffix': ['BadSuffix'], 'InvalidIntegerTypeSuffix': ['BadSuffix', 'BasedFloat'], 'InvalidLiteral': [*NO_LITERAL, 'TooManyHashes'],
     'InvalidStartOfUnicodeEscape': ['NoHexDigit'], 'InvalidUnicodeEscapeChar': ['PastUnicode', 'Surrogate'], 'InvalidXEscape': ['NoHexDigit', 'PastAscii'],
     'IsolatedCr': ['CarriageReturn'], 'NoDigits': ['NoDigits'], 'NoExponentDigits': ['NoExponentDigit'], 'NonAsciiInByteLiteral': ['NotAscii'],
     'NonAsciiXEscape': ['PastAscii'], 'NonHexDigitInUnicodeEscape': ['NoHexDigit'], 'OverlongByteLiteral': ['TwoCharacters', *CUT],
@@ -242,6 +254,8 @@ def litrs_reason(text, flaw, line):
         return 'says the same, without a place'
     if flaw.kind in LITRS[their] and flaw.begin <= low <= flaw.high:
         return 'says the same at our ' + ('place' if low == flaw.low else 'piece' if low == flaw.begin else 'piece, inside')
+    if their == 'InvalidStartOfUnicodeEscape' and low == 4:
+        return 'counts the place from the escape, not from the text'
     if their in BY_LAST or their == 'OverlongCharLiteral' and flaw.kind in CUT:
         return 'takes the last character for the quote that closes'
     if flaw.kind == 'BadSuffix' and low is not None and low < flaw.low and their in ('InvalidDigit', 'UnexpectedChar'):
