@@ -27,6 +27,7 @@ SAME = [(re.compile(theirs), ours) for theirs, ours in (
     (r'non-ASCII character in byte|raw byte string must be ASCII', ['not an ASCII character']),
     (r'(character|byte) constant must be escaped', ['must be written as an escape', 'no character between the quotes']),
     (r'character literal may only contain one codepoint', ['more than one character between the quotes']),
+    (r'lifetimes cannot start with a number', ['missing closing quote', 'more than one character between the quotes']),
     (r'empty character literal', ['no character between the quotes']),
     (r'bare CR not allowed in (raw )?string', ['CR in a string']),
     (r'integer literal is too large', ['integer past 128 bits']),
