@@ -70,7 +70,8 @@ RUSTC = {
     'unterminated unicode escape': ['NoHexDigit', *EARLIER],
 }
 # By what these begin with, rustc says that another token stands at the place.
-OTHER_TOKEN = re.compile('no rules expected|unknown start of token|prefix |unterminated |(unexpected|mismatched) closing delimiter|identifiers cannot contain emoji')
+OTHER_TOKEN = re.compile('no rules expected|unknown start of token|prefix |unterminated |(unexpected|mismatched) closing delimiter')
+LITERAL = re.compile(r"""[bc]?"|(?:r|br|cr)#*"|b?'|[0-9]|(?:true|false)\Z""")
 UNCLOSED = re.compile('unterminated (double quote|character literal|byte constant|raw string|C string)')
 # After these rustc says nothing of what follows.
 STOPS = re.compile('unterminated (?!unicode)|found invalid character|too many `#` symbols|.*delimiter|expected item')
@@ -102,8 +103,8 @@ def rustc_told(options, texts):
         name = os.path.join(folder, 'texts.rs')
         with open(name, 'wb') as file:
             file.write(source)
-        command = [options.rustc, '--edition', '2021', '--crate-type', 'lib', '--emit', 'metadata', '--error-format', 'json', '-o', os.path.join(folder, 'out'), name]
-        told = subprocess.run(command, stdout=subprocess.PIPE, stderr=subprocess.PIPE).stderr
+        words = ['--edition', '2021', '--crate-type', 'lib', '--emit', 'metadata', '--error-format', 'json', '-o', os.path.join(folder, 'out')]
+        told = subprocess.run([options.rustc, *words, name], stdout=subprocess.PIPE, stderr=subprocess.PIPE).stderr
     return begins, [it for it in map(json.loads, told.splitlines()) if it['level'] == 'error']
 
 
@@ -128,11 +129,16 @@ def short(message):
     return re.split('[`:]', message)[0]
 
 
-def goes_on(text, flaw):
-    """Whether rustc takes what stands before the flaw for a token, and what follows for others: the place where these begin."""
+def cut_before(text, flaw):
+    """Where rustc's first token ends, where that is all that stands before the flaw, or all but its dot; else None."""
+    if flaw.kind not in CUT:
+        return None
     data = text.encode()
-    low = flaw.low - (flaw.kind == 'NoFractionDigit' and bool(lexing.after_gap(data[flaw.low:].decode()) == data[flaw.low:].decode()))
-    return low if flaw.kind in CUT and strict_model.line(data[:low].decode()) == b'None' else None
+    rest = data[flaw.low:].decode()
+    # Before white space `1.` is a token, before a word `1`.
+    is_dot_apart = flaw.kind == 'NoFractionDigit' and lexing.after_gap(rest) == rest
+    end = flaw.low - is_dot_apart
+    return end if strict_model.line(data[:end].decode()) == b'None' else None
 
 
 def rustc_reason(text, flaw, error):
@@ -149,7 +155,7 @@ def rustc_reason(text, flaw, error):
         return 'is the whole literal'
     if error and UNCLOSED.match(message) and begin in (0, opener) and kind not in CUT:
         return 'says first that the literal is not closed'
-    if kind in NO_LITERAL:
+    if kind in NO_LITERAL and not LITERAL.match(text):
         return 'is of other tokens: no literal begins the text'
     if LIFETIME.match(strict_model.sketch(text)) and kind in ('TwoCharacters', 'Unclosed') and (not error or begin >= flaw.low or head == 'prefix '):
         return 'is of other tokens: a lifetime begins the text'
@@ -157,12 +163,12 @@ def rustc_reason(text, flaw, error):
         return 'comes later: no ending saves what stands before it'
     if head == 'underscore literal suffix is not allowed' and kind in CUT and begin < flaw.low:
         return 'comes earlier: a suffix is `_` alone, and might have gone on'
-    after = goes_on(text, flaw)
-    if after is not None and error and begin >= after:
+    end_of_first = cut_before(text, flaw)
+    if end_of_first is not None and error and begin >= end_of_first:
         return 'comes later: one token is whole, and others follow'
-    if after is not None and not error and not lexing.after_gap(text.encode()[after:].decode()):
+    if end_of_first is not None and not error and not lexing.after_gap(text.encode()[end_of_first:].decode()):
         return 'none: white space and comments follow one token'
-    if after is not None and not error and re.search(r'[(){}\[\]]', text):
+    if end_of_first is not None and not error and re.search(r'[(){}\[\]]', text):
         return 'stands elsewhere: one token is whole, and a delimiter without another follows'
     if kind == 'CarriageReturn' and lexing.strict_entry(text, '', '') and (not error or begin > flaw.low):
         return 'takes a CR among the white space behind an escaped line end'
