@@ -3,46 +3,58 @@
 Under rustc's tests/ui stand sources, and beside each that is rejected what rustc prints of it, with lines and columns. A
 file that is rejected for no literal, and one without such a page, has none that is bad.
 """
+import bisect
 import collections
+import math
 import os
 import re
 import subprocess
 
 # What a message of rustc says in words of ours. What stands in no row is about something else than one literal's text.
 SAME = [(re.compile(theirs), ours) for theirs, ours in (
+    (r'unknown (character|byte) escape: `\\r`', ['CR in a string']),
     (r'unknown (character|byte) escape', ['unknown escape']),
-    (r'invalid character in numeric character escape', ['expected a hexadecimal digit']),
-    (r'numeric character escape is too short', ['expected a hexadecimal digit']),
-    (r'invalid (character in|start of) unicode escape', ['expected a hexadecimal digit']),
-    (r'unterminated unicode escape', ['expected a hexadecimal digit']),
+    (r'invalid character in numeric character escape', ['expected a hexadecimal digit', '`\\x` is past 7F']),
+    (r'numeric character escape is too short', ['expected a hexadecimal digit', '`\\x` is past 7F']),
+    (r'invalid (character in|start of) unicode escape', ['expected a hexadecimal digit', 'no `\\u` in bytes']),
+    (r'unterminated unicode escape', ['expected a hexadecimal digit', 'no `\\u` in bytes']),
     (r'incorrect unicode escape sequence', ['expected `{`', 'no `\\u` in bytes']),
-    (r'empty unicode escape', ['no digits between the braces']),
-    (r'overlong unicode escape', ['more than six digits between the braces', 'no character past 10FFFF']),
+    (r'empty unicode escape', ['no digits between the braces', 'no `\\u` in bytes']),
+    (r'overlong unicode escape', ['more than six digits between the braces', 'no character past 10FFFF', 'no `\\u` in bytes']),
     (r'invalid unicode character escape', ['no character past 10FFFF', 'surrogates are no characters']),
     (r'unicode escape in byte string', ['no `\\u` in bytes']),
     (r'out of range hex escape', ['`\\x` is past 7F']),
     (r'non-ASCII character in byte|raw byte string must be ASCII', ['not an ASCII character']),
     (r'(character|byte) constant must be escaped', ['must be written as an escape', 'no character between the quotes']),
     (r'character literal may only contain one codepoint', ['more than one character between the quotes']),
+    (r'lifetimes cannot start with a number', ['missing closing quote', 'more than one character between the quotes']),
     (r'empty character literal', ['no character between the quotes']),
-    (r'bare CR not allowed in (raw )?string', ['CR without LF']),
+    (r'bare CR not allowed in (raw )?string', ['CR in a string']),
     (r'integer literal is too large', ['integer past 128 bits']),
+    (r'invalid digit for a base', ['not a digit of the base']),
+    (r'no valid digits found for number', ['no digits after the base']),
+    (r'expected at least one digit in exponent', ['no digit in the exponent', 'floats have base ten alone', 'not a digit of the base']),
+    (r'(binary|octal|hexadecimal) float literal is not supported', ['floats have base ten alone']),
+    (r'underscore literal suffix is not allowed', ['`_` alone is no suffix']),
+    (r'too many `#` symbols', ['more than 255 hashes']),
 )]
 # Errors of rustc after which nothing is cut into tokens, where rl_scan ends with an error too.
 UNCLOSED = re.compile(r'unterminated (double quote( byte)?|character|byte|raw|block)')
-# What rustc rejects in a literal that has a reading here: the grammar of `syn` is wider, or the rule is one of types.
-WIDER = re.compile(r'invalid digit for a base|no valid digits found|expected at least one digit in exponent|float literal is not '
-                   r'supported|invalid (suffix|width|base prefix)|literal out of range|suffixes on|suffixed literals')
-# And of what a row above names: in characters and raw strings, and after a backslash, these stand as they are.
-ALLOWED = re.compile(r'character constant must be escaped|bare CR not allowed in raw string|unknown character escape: `\\r`')
+# What rustc rejects in a token of its grammar: which suffixes a type has, what fits it, and where one may stand; `0b1f64` too.
+TYPES = re.compile(r'invalid (suffix|width|base prefix)|literal out of range|suffixes on|suffixed literals')
+# What is cut into more tokens here: a number with a base and a dot, more hashes after a raw string, hashes without a quote.
+CUT = re.compile(r'(binary|octal|hexadecimal) float literal is not supported|too many `#` when terminating raw string|found invalid character; only')
 # A quote before no character or several is a lifetime or open here, and the quote after them is left open.
 LIFETIME = re.compile(r'(character literal may only contain one codepoint|empty character literal|lifetimes cannot start with a number)')
-HEAD = re.compile(r'error(?:\[E\d+\])?: (.*)')
+# Of a suffix that is `_` rustc 1.63 warns, and later ones reject it.
+HEAD = re.compile(r'(?:error(?:\[E\d+\])?|warning(?=: underscore literal suffix)): (.*)')
+TYPED_FLOAT = re.compile('0[xob][0-9A-Fa-f_]*f(?:32|64)')
 AT = re.compile(r' *--> \$DIR/(\S+?):(\d+):(\d+)')
 # What we say of a literal, before the piece.
 MESSAGES = sorted({it for _, ours in SAME for it in ours}, key=len, reverse=True)
-LITERAL = re.compile(r'(\d+):(\d+) Verbatim "(.*)" -')
+LITERAL = re.compile(r'(\d+):(\d+) [A-Z]\w+ .*')
 FLAW = re.compile(r'(\d+):(\d+) error: (.*)')
+LEFT_OPEN = re.compile("unclosed|.* isn't closed")
 
 Theirs = collections.namedtuple('Theirs', 'message line column end')
 Ours = collections.namedtuple('Ours', 'message begin end lo')
@@ -73,24 +85,21 @@ def errors_of(folder, name):
     return {it for page in pages for it in errors_in(text_of(f'{folder}/{page}'), name)}
 
 
-def after(begin, written):
-    """The place after a literal that begins there, by the string that shows its text."""
-    text = re.sub(r'\\(x..|.)', lambda it: {'n': '\n'}.get(it[1], '.'), written)
-    lines = text.split('\n')
-    return (begin[0] + len(lines) - 1, len(lines[-1]) + (begin[1] if len(lines) == 1 else 1))
-
-
 def scanned(options, path):
     """The bad literals that rl_scan reports in a file, and the place of the error of the source that it ends with, if it does."""
-    literals = [LITERAL.fullmatch(row).groups() for row in lines_of(options, path, '--only', 'Verbatim')]
-    flaws = [FLAW.fullmatch(row).groups() for row in lines_of(options, path, '--bad')]
-    found = []
-    for (line, column, written), (at_line, at_column, told) in zip(literals, flaws):
-        begin = int(line), int(column)
+    literals = [tuple(map(int, LITERAL.fullmatch(row).groups())) for row in lines_of(options, path)]
+    found, end = [], None
+    for row in lines_of(options, path, '--bad'):
+        line, column, told = FLAW.fullmatch(row).groups()
+        place = int(line), int(column)
+        if LEFT_OPEN.match(told):
+            end = place
+            continue
         message = next((it for it in MESSAGES if told == it or told.startswith(it + ': ')), told)
-        found.append(Ours(message, begin, after(begin, written), (int(at_line), int(at_column))))
-    end = flaws[len(literals):]
-    return found, (int(end[0][0]), int(end[0][1])) if end else None
+        # The literal that begins before the place; it ends before the next one begins.
+        at = bisect.bisect(literals, place) - 1
+        found.append(Ours(message, literals[at], (literals + [(math.inf, 0)])[at + 1], place))
+    return found, end
 
 
 def lines_of(options, path, *words):
@@ -121,19 +130,27 @@ def open_at(their):
     return (their.line, their.column - ('byte' in opens[0])) if opens else None
 
 
-def of_theirs(their, ours, end):
+def is_of_types(their, rows):
+    """Whether an error of rustc's is about a token that its grammar takes; the rows are those of the file."""
+    row = rows[their.line - 1] if their.line <= len(rows) else ''
+    return bool(TYPES.match(their.message) or CUT.match(their.message) and TYPED_FLOAT.match(row[their.column - 1:]))
+
+
+def of_theirs(their, ours, end, rows):
     """How an error of rustc is answered."""
     if any(agrees(their, our) for our in ours):
         return 'the same error'
     if end and end == open_at(their):
         return 'the same error'
+    if is_of_types(their, rows):
+        return 'a rule of types, not of tokens'
+    if CUT.match(their.message):
+        return 'what is more than one token here'
     if not words_of(their) and not UNCLOSED.match(their.message):
-        return 'what has a reading by the wider grammar' if WIDER.match(their.message) else 'nothing of ours'
+        return 'nothing of ours'
     if any(is_inside(their, our) and our.lo < (their.line, their.column) for our in ours):
         return 'a later error of the same literal'
-    if end and (their.line, their.column) >= end:
-        return 'after the place where rl_scan ends'
-    return 'what has a reading by the wider grammar' if ALLOWED.match(their.message) else None
+    return 'after the place where rl_scan ends' if end and (their.line, their.column) >= end else None
 
 
 def of_ours(our, theirs):
@@ -154,7 +171,8 @@ def of_end(end, theirs):
 def compare_file(options, tally, folder, name):
     path = f'{folder}/{name}'
     theirs, (ours, end) = errors_of(folder, name), scanned(options, path)
-    answers = [('rustc', it, of_theirs(it, ours, end)) for it in sorted(theirs)]
+    rows = text_of(path).split('\n')
+    answers = [('rustc', it, of_theirs(it, ours, end, rows)) for it in sorted(theirs)]
     answers += [('rl_scan', it, of_ours(it, theirs)) for it in ours]
     answers += [('the end of rl_scan', it, of_end(it, theirs)) for it in [end] if it]
     for whose, error, answer in answers:
