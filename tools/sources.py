@@ -232,9 +232,9 @@ def is_symbol_in_word(text):
 
 def cut_entry(data, edition, their, our):
     """The row of docs/DIFFERENCES.md by which a source that rustc takes is cut in another place, or None."""
-    ended = re.fullmatch(rb'error at (\d+)\.\..*: unclosed quote', our[-1]) if our else None
-    if ended and data.startswith(b"'r#", int(ended[1])) and their[:len(our) - 1] == our[:-1]:
-        return 'a raw lifetime right before a quote: unclosed here'
+    apart = next((PLACED.fullmatch(o) for t, o in zip(their + [b''], our) if t != o), None)
+    if apart and data.startswith(b"'r#", int(apart[1])):
+        return 'a raw lifetime right before a quote: a literal here'
     if edition == OLDER and re.search('c(?:"|r#*")', data.decode()):
         return 'edition %s, in which c"a" are two tokens' % edition
     if is_symbol_in_word(data.decode()):

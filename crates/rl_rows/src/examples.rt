@@ -16,7 +16,8 @@ use rl_uses::examples::quoted::{
 };
 use rl_uses::examples::strict::{is_value, rust_reason};
 use rl_uses::examples::tokens::{
-    after_comments, all_places, first_delimiter, first_docs, is_name, no_token, second_token, text_at,
+    after_comments, all_places, first_delimiter, first_docs, is_name, no_token, second_token,
+    text_at,
 };
 use std::alloc::Global;
 use std::fmt::Debug;
@@ -50,10 +51,7 @@ fn of_tokens(alloc: Global, out: &mut Page) {
     shown!(out, second_token("a /* b */ 1.5"));
     shown!(out, no_token("\"a"));
     shown!(out, first_docs("/// Docs."));
-    shown!(
-        out,
-        all_places(alloc, "f(\"a);\nlet b = 'x';\ng('ab');")
-    );
+    shown!(out, all_places(alloc, "f(\"a);\nlet b = 'x';\ng('ab');"));
     shown!(out, after_comments("/* one */ two"));
     shown!(out, is_name("port"));
     shown!(out, first_delimiter(alloc, "[1, 2]"));

@@ -3,7 +3,9 @@
 
 use crate::rl_lexer::lex_error::LexError;
 use crate::rl_lexer::no_token::source_error_kind;
-use crate::rl_lexer::source::{SourceForm, after_first_line, first_source, is_literal, skip_unlikely, without_preamble};
+use crate::rl_lexer::source::{
+    SourceForm, after_first_line, first_source, is_literal, skip_unlikely, without_preamble,
+};
 use crate::rl_lexer::whitespace::skip;
 
 /// A token of a source, borrowed from it: what it is, and where it stands.
