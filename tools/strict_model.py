@@ -181,14 +181,14 @@ class Machine:
         return len(drawn), self.end in states
 
 
-def kinds_machine():
+def plain_machine():
     """That of all tokens but raw strings."""
     forms = [row(word(COOKED[kind]), many(either(one(ALONE[kind]), escape(kind))), one('"'), SUFFIX) for kind in COOKED]
     forms += [row(word(SINGLE[kind]), either(one(ALONE[kind]), escape(kind)), one("'"), SUFFIX) for kind in SINGLE]
     return Machine(forms + numbers() + [word('true'), word('false')])
 
 
-PLAIN = kinds_machine()
+PLAIN = plain_machine()
 
 
 @functools.lru_cache(maxsize=None)
