@@ -6,8 +6,8 @@ ghost use Rattle.rl_forms.specs.Quoted.{holds_characters, unit_text};
 ghost use Rattle.rl_forms.specs.Written.{written_unit, IsWrittenForm};
 ghost use Rattle.rl_forms.specs.Agreeing.{AreBytesOf};
 
-use crate::written_unit::{closer, escape};
 use crate::kind::Kind;
+use crate::written_unit::{closer, escape};
 use rl_text::room::{put_char, put_text};
 use rl_text::text::split_char;
 
