@@ -1,8 +1,8 @@
 // Rendered from crates/rl_forms/src/written_into.rt by tools/render, which erases contracts: change that file, and render anew.
 //! How values are written as literals into a slice that the caller passes: the forms of `writer`, and no memory is taken.
 
-use crate::rl_forms::escapes::{closer, escape};
 use crate::rl_forms::kind::Kind;
+use crate::rl_forms::written_unit::{closer, escape};
 use crate::rl_text::room::{put_char, put_text};
 use crate::rl_text::text::split_char;
 

@@ -1,5 +1,5 @@
 // Rendered from crates/rl_reading/src/digit_rows.rt by tools/render, which erases contracts: change that file, and render anew.
-//! Rows of digits and underscores, what their digits spell, and what may stand before and after them.
+//! Rows of digits and underscores: what they spell within 128 bits, the minus before them and the suffix after them.
 
 use crate::rl_text::ident::xid_ok;
 use crate::rl_text::text::{split_ascii, split_char};

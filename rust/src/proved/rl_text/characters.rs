@@ -1,5 +1,5 @@
 // Rendered from crates/rl_text/src/characters.rt by tools/render, which erases contracts: change that file, and render anew.
-//! The classes of characters that tokens are cut by.
+//! Which characters begin and continue identifiers, and which are white space.
 
 /// Whether the character is white space between tokens: Unicode's, or one of the two direction
 /// marks.

@@ -18,7 +18,7 @@ pub fn split_ascii(text: &str) -> Option<(u8, &str)> {
     Some((bytes[0], &text[1..]))
 }
 
-/// Whether the text begins with a character, which isn't NUL.
+/// Whether the text begins with a character.
 pub fn begins_with(text: &str, c: char) -> bool {
     match split_char(text) {
         Some((first, _)) => first == c,

@@ -1,4 +1,4 @@
-// Rendered from crates/rl_forms/src/escapes.rt by tools/render, which erases contracts: change that file, and render anew.
+// Rendered from crates/rl_forms/src/written_unit.rt by tools/render, which erases contracts: change that file, and render anew.
 //! What characters and bytes are written as in literals.
 
 use crate::rl_forms::kind::Kind;
