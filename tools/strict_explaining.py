@@ -131,7 +131,7 @@ def short(message):
 
 def cut_before(text, flaw):
     """Where rustc's first token ends, where that is all that stands before the flaw, or all but its dot; else None."""
-    if flaw.kind not in CUT:
+    if flaw.kind not in (*CUT, 'BasedFloat'):
         return None
     data = text.encode()
     rest = data[flaw.low:].decode()
