@@ -161,16 +161,16 @@ impl<'t> Lit<'t> {
     ///
     /// assert_eq!(Lit::new("\"a\r\nb\"").check(), Ok(()));
     /// assert_eq!(Lit::new("0b12").check().unwrap_err().kind(), FlawKind::DigitOfBase);
+    /// assert_eq!(Lit::new("\"a\r\n\\q\"").check().unwrap_err().range(), 5..6);
     /// ```
     pub fn check(&self) -> Result<(), ParseError> {
         let text = self.text();
-        match Lit::parse(text) {
+        if !text.contains("\r\n") {
+            return Lit::parse(text).map(drop);
+        }
+        match Lit::parse(&text.replace("\r\n", "\n")) {
             Ok(_) => Ok(()),
-            Err(error) if !text.contains("\r\n") => Err(error),
-            Err(error) => match Lit::parse(&text.replace("\r\n", "\n")) {
-                Ok(_) => Ok(()),
-                Err(_) => Err(error),
-            },
+            Err(error) => Err(error.in_file(text)),
         }
     }
 

@@ -178,3 +178,28 @@ fn of_lists_and_sources() {
         expected
     );
 }
+
+/// In a file CR LF is an LF: what `check` says is the flaw that is left, at its place in the text as it is.
+#[test]
+fn a_cr_lf_is_no_flaw_of_a_file() {
+    const ROWS: &[Row] = &[
+        ("\"a\r\n\\q\"", FlawKind::UnknownEscape, 4, 5, 6),
+        ("\"\r\n\\x80\"", FlawKind::PastAscii, 3, 5, 6),
+        ("\"\\\r\n\\q\"", FlawKind::UnknownEscape, 4, 5, 6),
+        ("\"a\r\n\"_", FlawKind::UnderscoreSuffix, 5, 6, 6),
+        ("r\"\r\n\"b\"", FlawKind::EarlyQuote, 4, 6, 7),
+        ("\"\r\n\r\"", FlawKind::CarriageReturn, 3, 3, 4),
+        ("r\"\r\n\"\"", FlawKind::EarlyQuote, 4, 5, 6),
+        ("'\r\n'", FlawKind::MustEscape, 1, 1, 3),
+    ];
+    for &(text, kind, from, lo, hi) in ROWS {
+        let error = Lit::new(text).check().unwrap_err();
+        assert_eq!(error.kind(), kind, "{text:?}");
+        assert_eq!(
+            (error.piece(), error.range()),
+            (from..hi, lo..hi),
+            "{text:?}"
+        );
+    }
+    assert_eq!(Lit::new("\"a\r\nb\\\r\n c\"").check(), Ok(()));
+}

@@ -108,16 +108,7 @@ fn what_rust_takes_in_a_file() {
     for text in taken {
         assert_eq!(Lit::new(text).check(), Ok(()), "{text:?}");
     }
-    let rejected = [
-        "\'\'\'",
-        "0x",
-        "r\"a\rb\"",
-        "\"a\"1",
-        "r\"\r\n\"\"",
-        "\'\r\n\'",
-        "",
-        "\"\\q\"",
-    ];
+    let rejected = ["\'\'\'", "0x", "r\"a\rb\"", "\"a\"1", "", "\"\\q\""];
     for text in rejected {
         let error = Lit::new(text).check().unwrap_err();
         assert_eq!(error, Lit::parse(text).unwrap_err(), "{text:?}");
