@@ -83,7 +83,7 @@ def after(begin, written):
 def scanned(options, path):
     """The bad literals that rl_scan reports in a file, and the place of the error of the source that it ends with, if it does."""
     literals = [LITERAL.fullmatch(row).groups() for row in lines_of(options, path, '--only', 'Verbatim')]
-    flaws = [FLAW.fullmatch(row).groups() for row in lines_of(options, path, '--bad')]
+    flaws = [FLAW.fullmatch(row).groups() for row in lines_of(options, path, '--bad', '--lenient')]
     found = []
     for (line, column, written), (at_line, at_column, told) in zip(literals, flaws):
         begin = int(line), int(column)

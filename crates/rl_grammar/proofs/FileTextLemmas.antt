@@ -1,5 +1,5 @@
 -- Texts without each CR that an LF follows, and where their places stand in the file.
-use Rattle.rl_text.proofs.Common.{Bool, List, [], and_parts, ap, ap₂, append_assoc, arith, cond, drop, encode_utf8, encode_utf8_all, eqb-true, false, get_or, length, length-append, length-encode, list_all-append, not, refl, subst, sym, true, ℕ, ◌&&◌, ◌+◌, ◌++◌, ◌-◌, ◌==◌, ◌∙◌, ◌∷◌, ◌≡◌, ◌≤◌}
+use Rattle.rl_text.proofs.Common.{Bool, IfNone, IfSome, IsUtf8, List, None, Option, Some, [], and_parts, ap, ap₂, append-nil, append_assoc, arith, chars, chars_from_encodes, cond, drop, encode_utf8, encode_utf8_all, eqb-true, false, get_or, length, length-append, length-encode, list_all-append, not, refl, rules, subst, suc, sym, true, zero, ℕ, ◌&&◌, ◌+◌, ◌++◌, ◌-◌, ◌<◌, ◌==◌, ◌∙◌, ◌∷◌, ◌≡◌, ◌≤◌}
 use Rattle.std.proofs.Math.Bool.{and-false}
 use Rattle.std.proofs.lemmas.Bool.{false≢true}
 use Rattle.std.specs.Char.{len_utf8}
@@ -8,15 +8,15 @@ use Rattle.rl_lexer.proofs.CutLemmas.{byte_len-append}
 use Rattle.rl_reasons.specs.declared.flaws.Flaw.{Flaw}
 use Rattle.rl_reasons.specs.Flaws.{first_len}
 use Rattle.rl_reasons.specs.StrictFlaws.{ExplainsStrictly}
+use Rattle.rl_strict.specs.StrictShapes.{IsToken}
 use Rattle.rl_grammar.specs.FileTexts.{is_dropped, lf_text, lacks_cr, IsPlaceInFile, ExplainsInFile}
 use Rattle.rl_grammar.specs.Mirrors.FilePlaceAt.{file_place}
 
 -- ---- a text without a CR
 
-lone : {A : Type 0} (b x : Bool) (yes other : A) → not b ≡ true → cond (b && x) yes other ≡ other
-lone false x yes other h = refl
-lone true true yes other h = absurd (search rules)
-lone true false yes other h = refl
+lone : (b x : Bool) (gone kept : List ℕ) → not b ≡ true → cond (b && x) gone kept ≡ kept
+lone false x gone kept h = refl
+lone true x gone kept h = absurd (false≢true h)
 
 pub same_text : (cs : List ℕ) → lacks_cr cs ≡ true → lf_text cs ≡ cs
 same_text [] h = refl
@@ -102,60 +102,72 @@ head_is : (c d : ℕ) (cs ds : List ℕ) → c ∷ cs ≡ d ∷ ds → c ≡ d
 head_is c d cs ds e = ap (λ (z : List ℕ). get_or z 0 0) e
 
 -- what the code finds is the place in the file
-pub place_found : (text front rest : List ℕ) (read : ℕ) → lf_text text ≡ front ++ rest → read ≡ byte_len front
+abbrev pub FindsPlaces : List ℕ → Type 0
+FindsPlaces text =
+    (front rest : List ℕ) (read : ℕ) → lf_text text ≡ front ++ rest → read ≡ byte_len front
     → IsPlaceInFile text read (file_place text read)
-place_found [] [] rest read cut is = subst (λ (k : ℕ). IsPlaceInFile [] k 0) (sym is) (empty_place [])
-place_found [] (d ∷ front) rest read cut is = absurd (no_front cut)
-  where
-    no_front : [] ≡ d ∷ (front ++ rest) → ⊥
-    no_front ()
-place_found (c ∷ cs) front rest read cut is = begun (read == 0) refl
-  where
-    begun : (b : Bool) → (read == 0) ≡ b → IsPlaceInFile (c ∷ cs) read (file_place (c ∷ cs) read)
-    begun true none =
-        let read_is : read ≡ 0 = eqb-true read 0 none in
-        subst (λ (k : ℕ). IsPlaceInFile (c ∷ cs) k (file_place (c ∷ cs) k)) (sym read_is) (empty_place (c ∷ cs))
-    begun false some =
-        subst (λ b. IsPlaceInFile (c ∷ cs) read (cond b 0 (len_utf8 c + cond (is_dropped c cs) (file_place cs read)
-        (file_place cs (read - len_utf8 c))))) (sym some) (split (is_dropped c cs) refl some)
 
-    split : (b : Bool) → is_dropped c cs ≡ b → (read == 0) ≡ false → IsPlaceInFile (c ∷ cs) read (len_utf8 c
-        + cond (is_dropped c cs) (file_place cs read) (file_place cs (read - len_utf8 c)))
-    split true goes some =
-        let place = place_found cs front rest read (sym (when_dropped c cs goes) ∙ cut) is in
-        subst (λ b. IsPlaceInFile (c ∷ cs) read (len_utf8 c + cond b (file_place cs read)
-        (file_place cs (read - len_utf8 c)))) (sym goes) (drop_place c cs place.front place.rest read
-        (file_place cs read) goes some place.text_is place.whole place.read_is place.at_is)
-    split false stays some = subst (λ b. IsPlaceInFile (c ∷ cs) read (len_utf8 c + cond b (file_place cs read)
-        (file_place cs (read - len_utf8 c)))) (sym stays) (stands front (sym (when_kept c cs stays) ∙ cut) is)
-      where
-        stands : (f : List ℕ) → c ∷ lf_text cs ≡ f ++ rest → read ≡ byte_len f
-            → IsPlaceInFile (c ∷ cs) read (len_utf8 c + file_place cs (read - len_utf8 c))
-        stands [] e n = absurd (not_empty read some n)
-        stands (d ∷ f) e n =
-            let first : c ≡ d = head_is c d (lf_text cs) (f ++ rest) e in
-            let size : read ≡ len_utf8 c + byte_len f = n ∙ sym (longer d f (byte_len f) refl)
-            ∙ ap (λ k. len_utf8 k + byte_len f) (sym first) in
-            keep_place c cs read (read - len_utf8 c) (file_place cs (read - len_utf8 c)) stays (omega (arith, size))
-            (place_found cs f rest (read - len_utf8 c) (ap (drop 1) e) (omega (arith, size)))
+-- past a character, where it is the first of what is read
+past_kept : (c : ℕ) (cs front rest : List ℕ) (read : ℕ) → FindsPlaces cs → is_dropped c cs ≡ false
+    → (read == 0) ≡ false → c ∷ lf_text cs ≡ front ++ rest → read ≡ byte_len front
+    → IsPlaceInFile (c ∷ cs) read (len_utf8 c + file_place cs (read - len_utf8 c))
+past_kept c cs [] rest read finds stays some cut is = absurd (not_empty read some is)
+past_kept c cs (d ∷ front) rest read finds stays some cut is =
+    let first : c ≡ d = head_is c d (lf_text cs) (front ++ rest) cut in
+    let size : read ≡ len_utf8 c + byte_len front = is ∙ sym (longer d front (byte_len front) refl)
+    ∙ ap (λ k. len_utf8 k + byte_len front) (sym first) in
+    keep_place c cs read (read - len_utf8 c) (file_place cs (read - len_utf8 c)) stays (omega (arith, size))
+    (finds front rest (read - len_utf8 c) (ap (drop 1) cut) (omega (arith, size)))
+
+past_dropped : (c : ℕ) (cs front rest : List ℕ) (read : ℕ) → FindsPlaces cs → is_dropped c cs ≡ true
+    → (read == 0) ≡ false → lf_text (c ∷ cs) ≡ front ++ rest → read ≡ byte_len front
+    → IsPlaceInFile (c ∷ cs) read (len_utf8 c + file_place cs read)
+past_dropped c cs front rest read finds goes some cut is =
+    let place = finds front rest read (sym (when_dropped c cs goes) ∙ cut) is in
+    drop_place c cs place.front place.rest read (file_place cs read) goes some place.text_is place.whole place.read_is
+    place.at_is
+
+past_first : (c : ℕ) (cs front rest : List ℕ) (read : ℕ) → FindsPlaces cs → (read == 0) ≡ false
+    → lf_text (c ∷ cs) ≡ front ++ rest → read ≡ byte_len front → (b : Bool) → is_dropped c cs ≡ b
+    → IsPlaceInFile (c ∷ cs) read (len_utf8 c + cond b (file_place cs read) (file_place cs (read - len_utf8 c)))
+past_first c cs front rest read finds some cut is true goes = past_dropped c cs front rest read finds goes some cut is
+past_first c cs front rest read finds some cut is false stays = past_kept c cs front rest read finds stays some
+    (sym (when_kept c cs stays) ∙ cut) is
+
+place_at : (c : ℕ) (cs front rest : List ℕ) (read : ℕ) → FindsPlaces cs → lf_text (c ∷ cs) ≡ front ++ rest
+    → read ≡ byte_len front → (b : Bool) → (read == 0) ≡ b → IsPlaceInFile (c ∷ cs) read
+    (cond b 0 (len_utf8 c + cond (is_dropped c cs) (file_place cs read) (file_place cs (read - len_utf8 c))))
+place_at c cs front rest read finds cut is true none = subst (λ (k : ℕ). IsPlaceInFile (c ∷ cs) k 0)
+    (sym (eqb-true read 0 none)) (empty_place (c ∷ cs))
+place_at c cs front rest read finds cut is false some = past_first c cs front rest read finds some cut is
+    (is_dropped c cs) refl
+
+pub place_found : (text : List ℕ) → FindsPlaces text
+place_found [] [] rest read cut is = subst (λ (k : ℕ). IsPlaceInFile [] k 0) (sym is) (empty_place [])
+place_found [] (d ∷ front) rest read cut is = absurd (omega (arith, ap length cut))
+place_found (c ∷ cs) front rest read cut is = place_at c cs front rest read (place_found cs) cut is (read == 0) refl
 
 -- a later place stands later
-pub places_ordered : (text : List ℕ) (a b : ℕ) → a ≤ b → file_place text a ≤ file_place text b
-places_ordered [] a b le = omega arith
-places_ordered (c ∷ cs) a b le = begun (a == 0) refl (b == 0) refl (is_dropped c cs)
-  where
-    at : Bool → Bool → ℕ → ℕ
-    at first goes k = cond first 0 (len_utf8 c + cond goes (file_place cs k) (file_place cs (k - len_utf8 c)))
+abbrev pub OrdersPlaces : List ℕ → Type 0
+OrdersPlaces text = (a b : ℕ) → a ≤ b → file_place text a ≤ file_place text b
 
-    begun : (x : Bool) → (a == 0) ≡ x → (y : Bool) → (b == 0) ≡ y → (goes : Bool)
-        → at (a == 0) goes a ≤ at (b == 0) goes b
-    begun true ea y eb goes = subst (λ z. at z goes a ≤ at (b == 0) goes b) (sym ea) (omega arith)
-    begun false ea true eb goes = absurd (not_empty a ea (omega (arith, le, eqb-true b 0 eb)))
-    begun false ea false eb true = subst (λ z. at z true a ≤ at (b == 0) true b) (sym ea)
-        (subst (λ z. at false true a ≤ at z true b) (sym eb) (omega (arith, places_ordered cs a b le)))
-    begun false ea false eb false = subst (λ z. at z false a ≤ at (b == 0) false b) (sym ea)
-        (subst (λ z. at false false a ≤ at z false b) (sym eb)
-        (omega (arith, places_ordered cs (a - len_utf8 c) (b - len_utf8 c) (omega (arith, le)))))
+past_ordered : (cs : List ℕ) (a b size : ℕ) → OrdersPlaces cs → a ≤ b → (goes : Bool)
+    → size + cond goes (file_place cs a) (file_place cs (a - size))
+    ≤ size + cond goes (file_place cs b) (file_place cs (b - size))
+past_ordered cs a b size ordered le true = omega (arith, ordered a b le)
+past_ordered cs a b size ordered le false = omega (arith, ordered (a - size) (b - size) (omega (arith, le)))
+
+first_ordered : (first second : ℕ) (a b : ℕ) (x y : Bool) → (a == 0) ≡ x → (b == 0) ≡ y → a ≤ b → first ≤ second
+    → cond x 0 first ≤ cond y 0 second
+first_ordered first second a b true y ea eb le h = omega arith
+first_ordered first second a b false true ea eb le h =
+    absurd (not_empty a ea (omega (arith, le, eqb-true b 0 eb)))
+first_ordered first second a b false false ea eb le h = h
+
+pub places_ordered : (text : List ℕ) → OrdersPlaces text
+places_ordered [] a b le = omega arith
+places_ordered (c ∷ cs) a b le = first_ordered _ _ a b (a == 0) (b == 0) refl refl le
+    (past_ordered cs a b (len_utf8 c) (places_ordered cs) le (is_dropped c cs))
 
 -- ---- flaws
 
@@ -214,6 +226,16 @@ same_flaw text flaw none e =
       ordered = omega (arith, e.place.hi_is);
     }
 
+pub same_found : (text : List ℕ) (found : Option Flaw) → lacks_cr text ≡ true
+    → IfSome found (ExplainsStrictly text) → IfSome found (ExplainsInFile text)
+same_found text None none found = tt
+same_found text (Some flaw) none found = same_flaw text flaw none found
+
+pub same_token : (text : List ℕ) (found : Option Flaw) → lacks_cr text ≡ true → IfNone found (IsToken text)
+    → IfNone found (IsToken (lf_text text))
+same_token text None none token = subst IsToken (sym (same_text text none)) token
+same_token text (Some flaw) none token = tt
+
 -- of any text, with its places as the code finds them
 pub flaw_in_file : (text read_text : List ℕ) (read flaw : Flaw) → read_text ≡ lf_text text
     → ExplainsStrictly read_text read → flaw.kind ≡ read.kind → flaw.from ≡ file_place text read.from
@@ -252,3 +274,44 @@ pub read_past : (out rest following all : List ℕ) (c : ℕ) → is_dropped c f
     → out ++ encode_utf8_all (lf_text following) ≡ all
 read_past out rest following all c goes before is =
     ap (λ (z : List ℕ). out ++ encode_utf8_all z) (sym (ap lf_text is ∙ when_dropped c following goes)) ∙ before
+
+-- all was read
+pub read_all : (out rest text : List ℕ) → IsUtf8 out
+    → out ++ encode_utf8_all (lf_text rest) ≡ encode_utf8_all (lf_text text) → rest ≡ [] → chars out ≡ lf_text text
+read_all out rest text utf8 before none = sym (chars_from_encodes (lf_text text) out utf8 (sym before
+    ∙ ap (λ (z : List ℕ). out ++ encode_utf8_all (lf_text z)) none ∙ append-nil out))
+
+-- a character was passed
+passed : (total done : ℕ) (rest following rs fs : List ℕ) (c left next : ℕ)
+    → done + length rest ≡ total + file_place rs left → rs ≡ c ∷ fs → rest ≡ encode_utf8 c ++ following
+    → file_place (c ∷ fs) left ≡ len_utf8 c + file_place fs next → done + length following ≡ total + file_place fs next
+passed total done rest following rs fs c left next before is bytes step = omega (arith, before,
+    ap (λ (z : List ℕ). file_place z left) is, ap length bytes, length-append (encode_utf8 c) following,
+    length-encode c, step)
+
+pub passed_dropped : (total done : ℕ) (rest following rs fs : List ℕ) (c left : ℕ)
+    → done + length rest ≡ total + file_place rs left → rs ≡ c ∷ fs → rest ≡ encode_utf8 c ++ following
+    → (left == 0) ≡ false → is_dropped c fs ≡ true → done + length following ≡ total + file_place fs left
+passed_dropped total done rest following rs fs c left before is bytes some goes =
+    passed total done rest following rs fs c left left before is bytes
+    (ap (λ b. cond b 0 (len_utf8 c + cond (is_dropped c fs) (file_place fs left) (file_place fs (left - len_utf8 c)))) some
+    ∙ ap (λ b. len_utf8 c + cond b (file_place fs left) (file_place fs (left - len_utf8 c))) goes)
+
+pub passed_kept : (total done : ℕ) (rest following rs fs : List ℕ) (c left : ℕ)
+    → done + length rest ≡ total + file_place rs left → rs ≡ c ∷ fs → rest ≡ encode_utf8 c ++ following
+    → (left == 0) ≡ false → is_dropped c fs ≡ false
+    → done + length following ≡ total + file_place fs (left - len_utf8 c)
+passed_kept total done rest following rs fs c left before is bytes some stays =
+    passed total done rest following rs fs c left (left - len_utf8 c) before is bytes
+    (ap (λ b. cond b 0 (len_utf8 c + cond (is_dropped c fs) (file_place fs left) (file_place fs (left - len_utf8 c)))) some
+    ∙ ap (λ b. len_utf8 c + cond b (file_place fs left) (file_place fs (left - len_utf8 c))) stays)
+
+-- nothing is left to pass
+pub none_left : (cs : List ℕ) (left : ℕ) → left ≤ 0 → file_place cs left ≡ 0
+none_left [] left none = refl
+none_left (c ∷ cs) zero none = refl
+none_left (c ∷ cs) (suc n) none = absurd (omega (arith, none))
+
+pub some_left : (left : ℕ) → 0 < left → (left == 0) ≡ false
+some_left zero some = absurd (omega (arith, some))
+some_left (suc n) some = search rules

@@ -46,7 +46,7 @@ fn lf_text<A: Allocator>(alloc: A, text: &str) -> Result<String<A>, AllocError>
 
 /// The place in the text, in bytes, of a place of the text as rustc reads it.
 fn place_in_file(text: &str, read: usize) -> usize
-    ensures { result ≡ file_place (chars text.now) read.entry }
+    ensures { result ≡ file_place (chars text.now) read }
 {
     let mut left = read;
     let mut rest = text;

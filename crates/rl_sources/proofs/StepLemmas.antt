@@ -26,7 +26,7 @@ use Rattle.rl_sources.specs.declared.place.Place.{Place}
 use Rattle.rl_sources.specs.declared.place.Place.TheVariants.{Bytes, Line}
 use Rattle.rl_sources.specs.Options.{Picks}
 use Rattle.rl_sources.specs.Places.{line_front, place_text, IsPlaceIn}
-use Rattle.rl_sources.specs.Scans.{FindsFlaw, Passes, IsBad, IsPlacedLine, IsFlawLine, IsLineIn, IsShownLiteral}
+use Rattle.rl_sources.specs.Scans.{FindsFlaw, FindsNoFlaw, IsBad, IsPlacedLine, IsFlawLine, IsLineIn, IsShownLiteral}
 use Rattle.rl_sources.specs.Steps.{IsTextLine, LooksForFlaws}
 
 -- ---- places are ASCII
@@ -147,19 +147,19 @@ explained options whole text lo hi old new asked (shown, is, e) = (shown, inl (a
 
 -- a line that doesn't
 pub unexplained : (options : Options) (whole text : List ℕ) (lo hi : ℕ) (old new : List ℕ)
-    → (IsTrue options.explains → Passes options.judge text) → Appends (IsPlacedLine options whole text lo hi) old new
+    → (IsTrue options.explains → FindsNoFlaw options.judge text) → Appends (IsPlacedLine options whole text lo hi) old new
     → Appends (IsLineIn options whole text lo hi) old new
 unexplained options whole text lo hi old new passes (shown, is, e) = (shown, inr (passes, is), e)
 
 -- where lines tell flaws, a literal without one passes
 pub passes_unasked : (options : Options) (text : List ℕ) (flaw : Option Flaw)
-    → IfNone flaw (LooksForFlaws options → Passes options.judge text) → (IsTrue options.explains → flaw ≡ None)
-    → IsTrue options.explains → Passes options.judge text
+    → IfNone flaw (LooksForFlaws options → FindsNoFlaw options.judge text) → (IsTrue options.explains → flaw ≡ None)
+    → IsTrue options.explains → FindsNoFlaw options.judge text
 passes_unasked options text (Some f) none asked is = absurd (none-some f (sym (asked is)))
 passes_unasked options text None none asked is = none (inl is)
 
 -- what a judge passes isn't bad
-not_bad : (judge : Judge) (text : List ℕ) (flaw : Flaw) → Passes judge text → FindsFlaw judge text flaw → ⊥
+not_bad : (judge : Judge) (text : List ℕ) (flaw : Flaw) → FindsNoFlaw judge text → FindsFlaw judge text flaw → ⊥
 not_bad Rust text flaw (token, reads) (inl e) =
     e.explains.no_token token
 not_bad Rust text flaw (token, (kind, contents, suffix, reads)) (inr (same, e)) = e.unread kind contents suffix reads
@@ -168,12 +168,12 @@ not_bad Syn text flaw (kind, contents, suffix, reads) e = e.unread kind contents
 -- what was looked for says whether a literal is picked
 pub picks_bad : (options : Options) (text label : List ℕ) (flaw : Option Flaw) (r b : Bool) → r ≡ is_some flaw
     → IfSome flaw (FindsFlaw options.judge text)
-    → IfNone flaw (LooksForFlaws options → Passes options.judge text)
+    → IfNone flaw (LooksForFlaws options → FindsNoFlaw options.judge text)
     → IsTrue b ↔ Picks options.shown label (IsTrue r) → IsTrue b ↔ Picks options.shown label (IsBad options.judge text)
 picks_bad options text label flaw r b is found none picks = go options.shown refl picks
   where
     bad : (f : Option Flaw) → r ≡ is_some f → IfSome f (FindsFlaw options.judge text)
-        → IfNone f (LooksForFlaws options → Passes options.judge text) → LooksForFlaws options
+        → IfNone f (LooksForFlaws options → FindsNoFlaw options.judge text) → LooksForFlaws options
         → IsTrue r ↔ IsBad options.judge text
     bad (Some f) e finds nothing looks = (λ _. (f, finds), λ _. e)
     bad None e finds nothing looks = (

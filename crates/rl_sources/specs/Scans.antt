@@ -36,9 +36,9 @@ FindsFlaw Rust text flaw = ExplainsInFile text flaw ⊎ (IsToken (lf_text text) 
 FindsFlaw Syn text flaw = Explains text flaw
 
 -- the judge finds none
-abbrev pub Passes : Judge → List ℕ → Type 0
-Passes Rust text = IsToken (lf_text text) × HasReading text
-Passes Syn text = HasReading text
+abbrev pub FindsNoFlaw : Judge → List ℕ → Type 0
+FindsNoFlaw Rust text = IsToken (lf_text text) × HasReading text
+FindsNoFlaw Syn text = HasReading text
 
 -- it finds one
 abbrev pub IsBad : Judge → List ℕ → Type 0
@@ -80,7 +80,7 @@ IsFlawLine options whole text lo shown =
 abbrev pub IsLineIn : Options → List ℕ → List ℕ → ℕ → ℕ → List ℕ → Type 0
 IsLineIn options whole text lo hi shown =
     (IsTrue options.explains × IsFlawLine options whole text lo shown)
-    ⊎ ((IsTrue options.explains → Passes options.judge text) × IsPlacedLine options whole text lo hi shown)
+    ⊎ ((IsTrue options.explains → FindsNoFlaw options.judge text) × IsPlacedLine options whole text lo hi shown)
 
 -- what is shown of a literal: its line, where it is picked, else nothing
 abbrev pub IsShownLiteral : Options → List ℕ → List ℕ → ℕ → ℕ → List ℕ → Type 0

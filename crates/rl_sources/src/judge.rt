@@ -2,7 +2,7 @@
 
 ghost use Rattle.std.specs.Prelude.{◌≡◌, ◌↔◌, None, Some, IsTrue, IfOk, IfNone, IfSome};
 ghost use Rattle.std.specs.Str.{chars};
-ghost use Rattle.rl_sources.specs.Scans.{FindsFlaw, Passes};
+ghost use Rattle.rl_sources.specs.Scans.{FindsFlaw, FindsNoFlaw};
 ghost use Rattle.rl_sources.specs.Steps.{LooksForFlaws};
 
 use crate::options::{Judge, Options, Shown};
@@ -17,7 +17,7 @@ fn judged<A: Allocator>(
     text: &str,
 ) -> Result<Option<Flaw>, AllocError>
     ensures some { IfOk result (λ flaw. IfSome flaw (FindsFlaw judge.entry (chars text.now))) }
-    ensures none { IfOk result (λ flaw. IfNone flaw (Passes judge.entry (chars text.now))) }
+    ensures none { IfOk result (λ flaw. IfNone flaw (FindsNoFlaw judge.entry (chars text.now))) }
 {
     match judge {
         Judge::Syn => Ok(explain(text)),
@@ -43,7 +43,7 @@ pub(crate) fn flaw_of<A: Allocator>(
 ) -> Result<Option<Flaw>, AllocError>
     ensures some { IfOk result (λ flaw. IfSome flaw (FindsFlaw options.entry.judge (chars text.now))) }
     ensures none { IfOk result (λ flaw. IfNone flaw (LooksForFlaws options.entry
-        → Passes options.entry.judge (chars text.now))) }
+        → FindsNoFlaw options.entry.judge (chars text.now))) }
 {
     if !looks_for_flaws(options) {
         return Ok(None);
