@@ -1,10 +1,9 @@
 -- Texts without each CR that an LF follows, and where their places stand in the file.
-use Rattle.rl_text.proofs.Common.{Bool, IfNone, IfSome, IsUtf8, List, None, Option, Some, [], and_parts, ap, ap₂, append-nil, append_assoc, arith, chars, chars_from_encodes, cond, drop, encode_utf8, encode_utf8_all, eqb-true, false, get_or, length, length-append, length-encode, list_all-append, not, refl, rules, subst, suc, sym, true, zero, ℕ, ◌&&◌, ◌+◌, ◌++◌, ◌-◌, ◌<◌, ◌==◌, ◌∙◌, ◌∷◌, ◌≡◌, ◌≤◌}
+use Rattle.rl_text.proofs.Common.{Bool, IfNone, IfSome, IsUtf8, List, None, Option, Some, [], and_parts, ap, ap₂, append-nil, append_assoc, arith, chars, chars_from_encodes, cond, drop, encode_utf8, encode_utf8_all, encodes-append, eqb-true, false, get_or, length, length-append, length-encode, list_all-append, not, refl, rules, subst, suc, sym, true, zero, ℕ, ◌&&◌, ◌+◌, ◌++◌, ◌-◌, ◌<◌, ◌==◌, ◌∙◌, ◌∷◌, ◌≡◌, ◌≤◌}
 use Rattle.std.proofs.Math.Bool.{and-false}
 use Rattle.std.proofs.lemmas.Bool.{false≢true}
 use Rattle.std.specs.Char.{len_utf8}
 use Rattle.rl_text.specs.Texts.{byte_len, first_passes}
-use Rattle.rl_lexer.proofs.CutLemmas.{byte_len-append}
 use Rattle.rl_reasons.specs.declared.flaws.Flaw.{Flaw}
 use Rattle.rl_reasons.specs.Flaws.{first_len}
 use Rattle.rl_reasons.specs.StrictFlaws.{ExplainsStrictly}
@@ -178,20 +177,23 @@ pub record Cuts (text : List ℕ) (place : ℕ) : Type 0 where
   pub text_is : text ≡ front ++ rest
   pub place_is : place ≡ byte_len front
 
+both_long : (xs ys : List ℕ) → byte_len (xs ++ ys) ≡ byte_len xs + byte_len ys
+both_long xs ys = ap length (encodes-append xs ys) ∙ length-append (encode_utf8_all xs) (encode_utf8_all ys)
+
 -- the character there, and what stands before it
-past_first : (text front rest : List ℕ) (lo hi : ℕ) → text ≡ front ++ rest → lo ≡ byte_len front
+past_character : (text front rest : List ℕ) (lo hi : ℕ) → text ≡ front ++ rest → lo ≡ byte_len front
     → hi ≡ lo + first_len rest → Cuts text hi
-past_first text front [] lo hi cut lo_is hi_is = record {
+past_character text front [] lo hi cut lo_is hi_is = record {
   front = front;
   rest = [];
   text_is = cut;
   place_is = omega (arith, lo_is, hi_is);
 }
-past_first text front (c ∷ cs) lo hi cut lo_is hi_is = record {
+past_character text front (c ∷ cs) lo hi cut lo_is hi_is = record {
   front = front ++ (c ∷ []);
   rest = cs;
   text_is = cut ∙ sym (append_assoc front (c ∷ []) cs);
-  place_is = omega (arith, lo_is, hi_is, byte_len-append front (c ∷ []), longer c [] 0 refl, length-encode c);
+  place_is = omega (arith, lo_is, hi_is, both_long front (c ∷ []), longer c [] 0 refl, length-encode c);
 }
 
 from_cut : (text : List ℕ) (flaw : Flaw) → ExplainsStrictly text flaw → Cuts text flaw.from
@@ -206,7 +208,7 @@ lo_cut text flaw e = record {
 }
 
 hi_cut : (text : List ℕ) (flaw : Flaw) → ExplainsStrictly text flaw → Cuts text flaw.hi
-hi_cut text flaw e = past_first text e.place.stops.front e.place.rest flaw.lo flaw.hi e.place.stops.text_is
+hi_cut text flaw e = past_character text e.place.stops.front e.place.rest flaw.lo flaw.hi e.place.stops.text_is
     e.place.lo_is e.place.hi_is
 
 -- of a text without a CR
