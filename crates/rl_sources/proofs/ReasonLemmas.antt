@@ -69,8 +69,14 @@ explained_place text flaw e =
       text_is = stops.text_is;
       lo_is = e.place.lo_is;
       ordered = omega (arith, e.place.hi_is);
-      within = omega (arith, e.place.hi_is, e.place.lo_is, first_within e.place.rest, ap byte_len stops.text_is,
-          byte_len-append stops.front e.place.rest);
+      within = omega (
+        arith,
+        e.place.hi_is,
+        e.place.lo_is,
+        first_within e.place.rest,
+        ap byte_len stops.text_is,
+        byte_len-append stops.front e.place.rest,
+      );
     }
 
 place_in_file : (text : List ℕ) (flaw : Flaw) → ExplainsInFile text flaw → HasPlace text flaw

@@ -160,10 +160,10 @@ passes_unasked options text None none asked is = none (inl is)
 
 -- what a judge passes isn't bad
 not_bad : (judge : Judge) (text : List ℕ) (flaw : Flaw) → FindsNoFlaw judge text → FindsFlaw judge text flaw → ⊥
-not_bad Rust text flaw (token, reads) (inl e) =
-    e.explains.no_token token
-not_bad Rust text flaw (token, (kind, contents, suffix, reads)) (inr (same, e)) = e.unread kind contents suffix reads
-not_bad Syn text flaw (kind, contents, suffix, reads) e = e.unread kind contents suffix reads
+not_bad Rust text flaw (token, reads) (inl e) = e.explains.no_token token
+not_bad Rust text flaw (token, (kind, (contents, suffix, reads))) (inr (same, e)) =
+    e.unread kind contents suffix reads
+not_bad Syn text flaw (kind, (contents, suffix, reads)) e = e.unread kind contents suffix reads
 
 -- what was looked for says whether a literal is picked
 pub picks_bad : (options : Options) (text label : List ℕ) (flaw : Option Flaw) (r b : Bool) → r ≡ is_some flaw

@@ -11,13 +11,9 @@ use rl_grammar::{Flaw, explain};
 use std::alloc::{AllocError, Allocator};
 
 /// The flaw that the judge finds in the text of a literal.
-fn judged<A: Allocator>(
-    alloc: A,
-    judge: Judge,
-    text: &str,
-) -> Result<Option<Flaw>, AllocError>
-    ensures some { IfOk result (λ flaw. IfSome flaw (FindsFlaw judge.entry (chars text.now))) }
-    ensures none { IfOk result (λ flaw. IfNone flaw (FindsNoFlaw judge.entry (chars text.now))) }
+fn judged<A: Allocator>(alloc: A, judge: Judge, text: &str) -> Result<Option<Flaw>, AllocError>
+    ensures some { IfOk result (λ flaw. IfSome flaw (FindsFlaw judge (chars text.now))) }
+    ensures none { IfOk result (λ flaw. IfNone flaw (FindsNoFlaw judge (chars text.now))) }
 {
     match judge {
         Judge::Syn => Ok(explain(text)),
@@ -53,8 +49,8 @@ pub(crate) fn flaw_of<A: Allocator>(
 
 /// The flaw that the line of a literal tells, where lines do so.
 pub(crate) fn reason_of(explains: bool, flaw: Option<Flaw>) -> Option<Flaw>
-    ensures some { IfSome result (λ reason. IsTrue explains × (flaw.entry ≡ Some reason)) }
-    ensures none { IfNone result (IsTrue explains → flaw.entry ≡ None) }
+    ensures some { IfSome result (λ reason. IsTrue explains × (flaw ≡ Some reason)) }
+    ensures none { IfNone result (IsTrue explains → flaw ≡ None) }
 {
     if explains { flaw } else { None }
 }

@@ -1,5 +1,7 @@
-use Rattle.rl_text.proofs.Common.{chars, on_ok_weaker, refl, string_bytes}
+use Rattle.rl_text.proofs.Common.{IfSome, Option, chars, on_ok_weaker, refl, string_bytes, subst}
 use Rattle.std.proofs.lemmas.Bool.{false≢true}
+use Rattle.rl_reasons.specs.declared.flaws.Flaw.{Flaw}
+use Rattle.rl_sources.specs.Scans.{FindsFlaw}
 use Rattle.rl_sources.proofs.StepLemmas.{explained, found_label, not_picked, passes_unasked, picked_line, picks_bad, unexplained}
 use Rattle.rl_sources.proofs.step.push_literal_token.Goals as goal
 
@@ -12,6 +14,10 @@ returns-then-not-picks-clause-shown g c =
     c.in_ok-flaw_of-flaw.ensures.none c.if-not-picks.ensures in
     not_picked c.args.options (chars c.args.places.now) (chars text) _ c.args.token.lo c.args.token.hi
     (chars (string_bytes c.args.out.now)) is_label (λ p. false≢true (picks.1 p))
+
+pub push_flaw-requires-clause-flaw : goal.push_flaw-requires-clause-flaw
+push_flaw-requires-clause-flaw g c = subst (λ (f : Option Flaw). IfSome f (FindsFlaw c.args.options.judge
+    (chars c.args.token.text.now))) c.in-Some.ensures.some.1 c.in_ok-flaw_of-flaw.ensures.some
 
 pub returns-in-Some-clause-shown : goal.returns-in-Some-clause-shown
 returns-in-Some-clause-shown g c =
