@@ -287,9 +287,15 @@ read_all out rest text utf8 before none = sym (chars_from_encodes (lf_text text)
 passed : (total done : ℕ) (rest following rs fs : List ℕ) (c left next : ℕ)
     → done + length rest ≡ total + file_place rs left → rs ≡ c ∷ fs → rest ≡ encode_utf8 c ++ following
     → file_place (c ∷ fs) left ≡ len_utf8 c + file_place fs next → done + length following ≡ total + file_place fs next
-passed total done rest following rs fs c left next before is bytes step = omega (arith, before,
-    ap (λ (z : List ℕ). file_place z left) is, ap length bytes, length-append (encode_utf8 c) following,
-    length-encode c, step)
+passed total done rest following rs fs c left next before is bytes step = omega (
+  arith,
+  before,
+  ap (λ (z : List ℕ). file_place z left) is,
+  ap length bytes,
+  length-append (encode_utf8 c) following,
+  length-encode c,
+  step,
+)
 
 pub passed_dropped : (total done : ℕ) (rest following rs fs : List ℕ) (c left : ℕ)
     → done + length rest ≡ total + file_place rs left → rs ≡ c ∷ fs → rest ≡ encode_utf8 c ++ following

@@ -7,12 +7,11 @@ ghost use Rattle.rl_grammar.specs.Mirrors.FilePlaceAt.{file_place};
 ghost use Rattle.rl_strict.specs.StrictShapes.{IsToken};
 
 use rl_reasons::Flaw;
-use rl_text::text::split_char;
-use std::alloc::{AllocError, Allocator};
-
 pub use rl_reasons::signed_flaws::explain_signed;
 pub use rl_reasons::strict_flaws::explain;
 pub use rl_strict::is_token;
+use rl_text::text::split_char;
+use std::alloc::{AllocError, Allocator};
 
 /// Whether a character is a CR that an LF follows.
 fn is_dropped(c: char, following: &str) -> bool

@@ -31,8 +31,16 @@ pub returns : goal.returns
 returns c =
     let before = c.loop-left.invariant in
     elim c.loop-left-test.branch [
-      | else-loop-left-test w ↦ omega (arith, before.same, none_left (chars c.loop-left.rest.now)
-          c.loop-left.left (omega (arith, w.loop-left-test.false)))
-      | then-loop-left-test+in_default w ↦ omega (arith, before.same, ap (λ z. file_place z c.loop-left.left)
-          w.in_default.ensures.chars)
+      | else-loop-left-test w ↦ omega (
+        arith,
+        before.same,
+        none_left (chars c.loop-left.rest.now)
+            c.loop-left.left (omega (arith, w.loop-left-test.false)),
+      )
+      | then-loop-left-test+in_default w ↦ omega (
+        arith,
+        before.same,
+        ap (λ z. file_place z c.loop-left.left)
+            w.in_default.ensures.chars,
+      )
     ]

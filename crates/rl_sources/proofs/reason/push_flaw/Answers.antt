@@ -1,4 +1,4 @@
-use Rattle.rl_text.proofs.Common.{chars, on_ok_weaker, string_bytes}
+use Rattle.rl_text.proofs.Common.{chars, on_ok_weaker}
 use Rattle.rl_sources.proofs.ReasonLemmas.{flaw_shown, has_place}
 use Rattle.rl_sources.proofs.reason.push_flaw.Goals as goal
 

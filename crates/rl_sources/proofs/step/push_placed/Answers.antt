@@ -1,4 +1,4 @@
-use Rattle.rl_text.proofs.Common.{chars, on_ok_weaker, string_bytes}
+use Rattle.rl_text.proofs.Common.{chars, on_ok_weaker}
 use Rattle.rl_sources.proofs.StepLemmas.{placed}
 use Rattle.rl_sources.proofs.step.push_placed.Goals as goal
 
