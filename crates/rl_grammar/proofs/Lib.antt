@@ -1,2 +1,3 @@
+pub mod FileTextLemmas
 pub mod FrontLemmas
 pub mod NumberFoundLemmas

@@ -14,7 +14,7 @@ use rl_uses::examples::own::{mark_in_string, set_value};
 use rl_uses::examples::quoted::{
     brace_in_file, bytes_len, c_string_len, literal_in_file, string_of, string_value,
 };
-use rl_uses::examples::strict::{is_value, rust_reason};
+use rl_uses::examples::strict::{is_value, reason_in_file, rust_reason};
 use rl_uses::examples::tokens::{
     after_comments, all_places, first_delimiter, first_docs, is_name, no_token, second_token,
     text_at,
@@ -78,6 +78,8 @@ fn of_grammar(alloc: Global, out: &mut Page) {
     shown!(out, reason("\"a\\q\""));
     shown!(out, rust_reason("0b102"));
     shown!(out, rust_reason("0b101"));
+    shown!(out, reason_in_file(alloc, "\"a\rb\""));
+    shown!(out, reason_in_file(alloc, "\"a\r\nb\""));
     shown!(out, is_value("-1.5"));
     shown!(out, is_value("-\"a\""));
     shown!(out, is_plain_string("\"a\""));

@@ -12,6 +12,22 @@ use std::io::Write;
 #[derive(Clone, Copy)]
 struct Sample;
 
+/// Literals that Rust rejects, a line each, and some that it takes.
+const BAD: &str = "0x
+0b102
+0o9
+1e
+1.5e
+0b1e3
+'''
+'\t'
+b'\u{e9}'
+\"\\q\"
+340282366920938463463374607431768211456
+\"a\"_
+0x1F 'a' 1u9 1. r\"a\" \"a\"b true
+";
+
 /// What a file of the tree holds.
 fn bytes_at(path: &str) -> Result<&'static [u8], PathError> {
     match path {
@@ -23,6 +39,8 @@ fn bytes_at(path: &str) -> Result<&'static [u8], PathError> {
         "./t\n.rs" => Ok(b"3.5".as_slice()),
         "./none.rs" => Ok(b"fn f() {}".as_slice()),
         "alone" => Ok(b"b'\xc3\xa9' /*".as_slice()),
+        "bad.rs" => Ok(BAD.as_bytes()),
+        "crlf.rs" => Ok(b"\"a\r\nb\" \"a\r\n\\q\" \"c\r\nd\re\" \"\\\r\n x\"".as_slice()),
         "./.git/x.rs" => Ok(b"4".as_slice()),
         "./target/x.rs" => Ok(b"5".as_slice()),
         _ => Err(PathError::NotFound),

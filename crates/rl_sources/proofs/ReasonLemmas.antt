@@ -3,8 +3,7 @@ use Rattle.rl_reading.proofs.Names.{IsTail, byte_len}
 use Rattle.rl_text.proofs.Common.{IsAscii, IsCharBoundary, IsUtf8, List, [], and_parts, ap, append_assoc, arith, chars, chars-IsAscii, chars-nil, codes, drop, encode_utf8, encodes-append, encodes-chars, is_ascii, length, length-append, list_all, ltb-true, refl, subst, sym, suc, false, true, ℕ, ◌==◌, ◌++◌, ◌+◌, ◌∙◌, ◌∷◌, ◌≡◌, ◌≤◌, inl, inr, take, ◌-◌}
 use Rattle.std.specs.Prelude.{encode_utf8_all}
 use Rattle.std.proofs.Math.Seq.{drop-append_seam}
-use Rattle.std.proofs.lemmas.List.{append-nil}
-use Rattle.std.proofs.lemmas.Str.{IsUtf8-past_char, IsCharBoundary-from_drop, IsAscii-append}
+use Rattle.std.proofs.lemmas.Str.{IsCharBoundary-from_drop, IsAscii-append}
 use Rattle.std.proofs.lemmas.Str.Ascii.{IsAscii-nil, IsAscii-cons}
 use Rattle.rl_lexer.specs.Cursors.{CursorState, IsCursorState}
 use Rattle.rl_lexer.specs.declared.sources.SourceToken.{SourceToken}
@@ -23,11 +22,14 @@ use Rattle.std.proofs.lemmas.Bool.{false≢true}
 use Rattle.rl_files.specs.Visible.{visible}
 use Rattle.rl_lines.specs.Lines.{Appends}
 use Rattle.rl_lines.proofs.LineLemmas.{pushed}
+use Rattle.rl_grammar.specs.FileTexts.{ExplainsInFile}
+use Rattle.rl_sources.specs.declared.options.Judge.{Judge}
+use Rattle.rl_sources.specs.declared.options.Judge.TheVariants.{Rust, Syn}
 use Rattle.rl_sources.specs.declared.options.Options.{Options}
 use Rattle.rl_sources.specs.declared.place.Place.{Place}
 use Rattle.rl_sources.specs.Places.{line_front, HoldsPlaces, IsPlaceIn}
-use Rattle.rl_sources.specs.Scans.{IsFlawLine, IsFlawPiece, IsSlice, error_words}
-use Rattle.rl_sources.specs.Steps.{BeginsRest}
+use Rattle.rl_sources.specs.Scans.{FindsFlaw, IsFlawLine, IsFlawPiece, IsSlice, error_words}
+use Rattle.rl_sources.specs.Steps.{BeginsRest, HasPlace}
 use Rattle.rl_sources.proofs.StepLemmas.{back_utf8}
 
 -- a rest that isn't longer stands after another
@@ -56,6 +58,41 @@ first_within (c ∷ cs) =
     (encode_utf8_all cs) in
     omega (arith, whole)
 
+-- a flaw of either grammar has its place in the text
+explained_place : (text : List ℕ) (flaw : Flaw) → Explains text flaw → HasPlace text flaw
+explained_place text flaw e =
+    let stops = e.place.stops in
+    record {
+      front = stops.front;
+      rest = e.place.rest;
+      text_is = stops.text_is;
+      lo_is = e.place.lo_is;
+      ordered = omega (arith, e.place.hi_is);
+      within = omega (
+        arith,
+        e.place.hi_is,
+        e.place.lo_is,
+        first_within e.place.rest,
+        ap byte_len stops.text_is,
+        byte_len-append stops.front e.place.rest,
+      );
+    }
+
+place_in_file : (text : List ℕ) (flaw : Flaw) → ExplainsInFile text flaw → HasPlace text flaw
+place_in_file text flaw e = record {
+  front = e.lo.front;
+  rest = e.lo.rest;
+  text_is = e.lo.text_is;
+  lo_is = e.lo.at_is;
+  ordered = e.ordered;
+  within = omega (arith, e.hi.at_is, ap byte_len e.hi.text_is, byte_len-append e.hi.front e.hi.rest);
+}
+
+pub has_place : (judge : Judge) (text : List ℕ) (flaw : Flaw) → FindsFlaw judge text flaw → HasPlace text flaw
+has_place Rust text flaw (inl e) = place_in_file text flaw e
+has_place Rust text flaw (inr (token, e)) = explained_place text flaw e
+has_place Syn text flaw e = explained_place text flaw e
+
 -- The place of a flaw of the token's text is one of the rest.
 pub record StandsWithin (rest : List ℕ) (lo hi size : ℕ) : Type 0 where
   pub following : IsTail rest (drop lo rest)
@@ -65,10 +102,9 @@ pub record StandsWithin (rest : List ℕ) (lo hi size : ℕ) : Type 0 where
   pub within : hi ≤ size
 
 pub flaw_within : (token : SourceToken) (text rest : List ℕ) (flaw : Flaw) → BeginsRest token text rest
-    → Explains (chars token.text.now) flaw → StandsWithin rest flaw.lo flaw.hi (byte_len (chars token.text.now))
-flaw_within token text rest flaw begins explains =
-    let stops = explains.place.stops in
-    let inside = explains.place.rest in
+    → HasPlace (chars token.text.now) flaw → StandsWithin rest flaw.lo flaw.hi (byte_len (chars token.text.now))
+flaw_within token text rest flaw begins stops =
+    let inside = stops.rest in
     let back = inside ++ begins.after in
     let u : IsUtf8 rest = begins.cursor.following.is_text in
     let cut : chars rest ≡ stops.front ++ back = begins.begins ∙ ap (λ z. z ++ begins.after) stops.text_is
@@ -77,24 +113,22 @@ flaw_within token text rest flaw begins explains =
     ∙ ap encode_utf8_all cut ∙ encodes-append stops.front back in
     let is_text : IsUtf8 (encode_utf8_all back) = back_utf8 stops.front back
     (subst IsUtf8 (sym (encodes-chars rest u) ∙ ap encode_utf8_all cut) u) in
-    let dropped : drop flaw.lo rest ≡ encode_utf8_all back = ap (λ n. drop n rest) explains.place.lo_is
+    let dropped : drop flaw.lo rest ≡ encode_utf8_all back = ap (λ n. drop n rest) stops.lo_is
     ∙ ap (drop (byte_len stops.front)) bytes ∙ drop-append_seam (encode_utf8_all stops.front) (encode_utf8_all back)
     in
     let is_rest : IsUtf8 (drop flaw.lo rest) = subst IsUtf8 (sym dropped) is_text in
     let long : length rest ≡ byte_len stops.front + byte_len back = ap length bytes
     ∙ length-append (encode_utf8_all stops.front) (encode_utf8_all back) in
-    let whole : byte_len (chars token.text.now) ≡ byte_len stops.front + byte_len inside = ap byte_len stops.text_is
-    ∙ byte_len-append stops.front inside in
     record {
       following = record {
         front = encode_utf8_all stops.front;
         text_is = bytes ∙ ap (λ z. encode_utf8_all stops.front ++ z) (sym dropped);
         is_text = is_rest;
       };
-      boundary = IsCharBoundary-from_drop rest flaw.lo (omega (arith, explains.place.lo_is, long)) is_rest;
-      left = omega (arith, explains.place.lo_is, long, ap length dropped);
-      ordered = omega (arith, explains.place.hi_is);
-      within = omega (arith, explains.place.hi_is, explains.place.lo_is, first_within inside, whole);
+      boundary = IsCharBoundary-from_drop rest flaw.lo (omega (arith, stops.lo_is, long)) is_rest;
+      left = omega (arith, stops.lo_is, long, ap length dropped);
+      ordered = stops.ordered;
+      within = stops.within;
     }
 
 -- ---- the line
@@ -225,7 +259,7 @@ error_of_piece kind piece old a b new some utf8 u v begun shown ended = go (char
 
 -- what stands before the line, and what is wrong
 pub flaw_shown : (options : Options) (whole text : List ℕ) (lo : ℕ) (flaw : Flaw) (place : Place)
-    (piece old a new : List ℕ) → Explains text flaw
+    (piece old a new : List ℕ) → FindsFlaw options.judge text flaw
     → IsPlaceIn options.by_line whole (lo + flaw.lo) (lo + flaw.hi) place → IsFlawPiece text flaw piece
     → a ≡ old ++ line_front options.path place → new ≡ a ++ error_words (flaw_message flaw.kind) piece
     → Appends (IsFlawLine options whole text lo) old new
@@ -240,13 +274,13 @@ flaw_shown options whole text lo flaw place piece old a new explains is_place is
 -- ---- the steps
 
 pub flaw_fits : (token : SourceToken) (text rest : List ℕ) (flaw : Flaw) → BeginsRest token text rest
-    → Explains (chars token.text.now) flaw → (token.lo + flaw.lo ≤ token.hi) × (token.lo + flaw.hi ≤ token.hi)
+    → HasPlace (chars token.text.now) flaw → (token.lo + flaw.lo ≤ token.hi) × (token.lo + flaw.hi ≤ token.hi)
 flaw_fits token text rest flaw begins explains =
     let within = flaw_within token text rest flaw begins explains in
     (omega (arith, within.ordered, within.within, begins.hi_is), omega (arith, within.within, begins.hi_is))
 
 pub flaw_rest : (token : SourceToken) (text rest inside : List ℕ) (flaw : Flaw) → BeginsRest token text rest
-    → Explains (chars token.text.now) flaw → inside ≡ drop flaw.lo rest → IsCursorState text inside
+    → HasPlace (chars token.text.now) flaw → inside ≡ drop flaw.lo rest → IsCursorState text inside
 flaw_rest token text rest inside flaw begins explains is =
     let within = flaw_within token text rest flaw begins explains in
     subst (IsCursorState text) (sym is) (record {

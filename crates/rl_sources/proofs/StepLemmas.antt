@@ -5,9 +5,10 @@ use Rattle.std.specs.Fmt.{digits, decimal, digits_onto, digit_glyph}
 use Rattle.std.proofs.lemmas.List.{append-nil}
 use Rattle.std.proofs.lemmas.Str.{IsAscii-append, IsUtf8-past_char, IsCharBoundary-from_drop}
 use Rattle.std.proofs.lemmas.Str.Ascii.{IsAscii-nil, IsAscii-cons}
-use Rattle.std.specs.Prelude.{IfNone, IfSome, MatchOption, IsTrue, encode_utf8_all}
+use Rattle.std.specs.Prelude.{◌↔◌, IfNone, IfSome, MatchOption, IsTrue, is_some, encode_utf8_all}
+use Rattle.std.proofs.lemmas.Bool.{false≢true}
+use Rattle.std.proofs.lemmas.Option.{none-some}
 use Rattle.std.proofs.Math.Seq.{drop-append_seam}
-use Rattle.rl_forms.specs.Reading.{HasReading}
 use Rattle.rl_files.specs.Visible.{visible_lines}
 use Rattle.rl_lexer.specs.Sources.{SourceKind, SourceBefore, BeginsNoSource}
 use Rattle.rl_lexer.specs.Cursors.{CursorState}
@@ -15,13 +16,18 @@ use Rattle.rl_reading.specs.declared.found.Found.{Found}
 use Rattle.rl_reading.specs.Founds.{IsFound, suffix_in}
 use Rattle.rl_lines.specs.Lines.{label_of, IsLabelOf, IsLineOf, Appends}
 use Rattle.rl_lines.proofs.LineLemmas.{pushed}
+use Rattle.rl_reasons.specs.declared.flaws.Flaw.{Flaw}
+use Rattle.rl_sources.specs.declared.options.Judge.{Judge}
+use Rattle.rl_sources.specs.declared.options.Judge.TheVariants.{Rust, Syn}
 use Rattle.rl_sources.specs.declared.options.Options.{Options}
+use Rattle.rl_sources.specs.declared.options.Shown.{Shown}
+use Rattle.rl_sources.specs.declared.options.Shown.TheVariants.{All, Only, Bad}
 use Rattle.rl_sources.specs.declared.place.Place.{Place}
 use Rattle.rl_sources.specs.declared.place.Place.TheVariants.{Bytes, Line}
 use Rattle.rl_sources.specs.Options.{Picks}
 use Rattle.rl_sources.specs.Places.{line_front, place_text, IsPlaceIn}
-use Rattle.rl_sources.specs.Scans.{IsFlawLine, IsLineIn, IsShownLiteral}
-use Rattle.rl_sources.specs.Steps.{IsTextLine}
+use Rattle.rl_sources.specs.Scans.{FindsFlaw, FindsNoFlaw, IsBad, IsPlacedLine, IsFlawLine, IsLineIn, IsShownLiteral}
+use Rattle.rl_sources.specs.Steps.{IsTextLine, LooksForFlaws}
 
 -- ---- places are ASCII
 
@@ -126,12 +132,11 @@ line_printed text old now new u v (line, is_line, e) made =
 
 -- what stands before it, and the line
 pub placed : (options : Options) (whole text : List ℕ) (lo hi : ℕ) (place : Place) (old mid new : List ℕ)
-    → (IsTrue options.explains → HasReading text) → IsPlaceIn options.by_line whole lo hi place
-    → mid ≡ old ++ line_front options.path place → Appends (IsTextLine [] text) mid new
-    → Appends (IsLineIn options whole text lo hi) old new
-placed options whole text lo hi place old mid new reads is_place front (shown, (line, is_line, is), e) = (
+    → IsPlaceIn options.by_line whole lo hi place → mid ≡ old ++ line_front options.path place
+    → Appends (IsTextLine [] text) mid new → Appends (IsPlacedLine options whole text lo hi) old new
+placed options whole text lo hi place old mid new is_place front (shown, (line, is_line, is), e) = (
   line_front options.path place ++ shown,
-  inr (reads, (place, line, is_place, is_line, ap (λ z. line_front options.path place ++ z) is)),
+  (place, line, is_place, is_line, ap (λ z. line_front options.path place ++ z) is),
   e ∙ ap (λ z. z ++ shown) front ∙ append_assoc old (line_front options.path place) shown,
 )
 
@@ -139,6 +144,50 @@ placed options whole text lo hi place old mid new reads is_place front (shown, (
 pub explained : (options : Options) (whole text : List ℕ) (lo hi : ℕ) (old new : List ℕ) → IsTrue options.explains
     → Appends (IsFlawLine options whole text lo) old new → Appends (IsLineIn options whole text lo hi) old new
 explained options whole text lo hi old new asked (shown, is, e) = (shown, inl (asked, is), e)
+
+-- a line that doesn't
+pub unexplained : (options : Options) (whole text : List ℕ) (lo hi : ℕ) (old new : List ℕ)
+    → (IsTrue options.explains → FindsNoFlaw options.judge text) → Appends (IsPlacedLine options whole text lo hi) old new
+    → Appends (IsLineIn options whole text lo hi) old new
+unexplained options whole text lo hi old new passes (shown, is, e) = (shown, inr (passes, is), e)
+
+-- where lines tell flaws, a literal without one passes
+pub passes_unasked : (options : Options) (text : List ℕ) (flaw : Option Flaw)
+    → IfNone flaw (LooksForFlaws options → FindsNoFlaw options.judge text) → (IsTrue options.explains → flaw ≡ None)
+    → IsTrue options.explains → FindsNoFlaw options.judge text
+passes_unasked options text (Some f) none asked is = absurd (none-some f (sym (asked is)))
+passes_unasked options text None none asked is = none (inl is)
+
+-- what a judge passes isn't bad
+not_bad : (judge : Judge) (text : List ℕ) (flaw : Flaw) → FindsNoFlaw judge text → FindsFlaw judge text flaw → ⊥
+not_bad Rust text flaw (token, reads) (inl e) = e.explains.no_token token
+not_bad Rust text flaw (token, (kind, (contents, suffix, reads))) (inr (same, e)) =
+    e.unread kind contents suffix reads
+not_bad Syn text flaw (kind, (contents, suffix, reads)) e = e.unread kind contents suffix reads
+
+-- what was looked for says whether a literal is picked
+pub picks_bad : (options : Options) (text label : List ℕ) (flaw : Option Flaw) (r b : Bool) → r ≡ is_some flaw
+    → IfSome flaw (FindsFlaw options.judge text)
+    → IfNone flaw (LooksForFlaws options → FindsNoFlaw options.judge text)
+    → IsTrue b ↔ Picks options.shown label (IsTrue r) → IsTrue b ↔ Picks options.shown label (IsBad options.judge text)
+picks_bad options text label flaw r b is found none picks = go options.shown refl picks
+  where
+    bad : (f : Option Flaw) → r ≡ is_some f → IfSome f (FindsFlaw options.judge text)
+        → IfNone f (LooksForFlaws options → FindsNoFlaw options.judge text) → LooksForFlaws options
+        → IsTrue r ↔ IsBad options.judge text
+    bad (Some f) e finds nothing looks = (λ _. (f, finds), λ _. e)
+    bad None e finds nothing looks = (
+      λ t. absurd (false≢true (sym e ∙ t)),
+      λ (f, finds). absurd (not_bad options.judge text f (nothing looks) finds),
+    )
+
+    go : (shown : Shown) → options.shown ≡ shown → IsTrue b ↔ Picks shown label (IsTrue r)
+        → IsTrue b ↔ Picks shown label (IsBad options.judge text)
+    go All e p = p
+    go (Only list) e p = p
+    go Bad e p =
+        let both = bad flaw is found none (inr e) in
+        (λ t. both.0 (p.0 t), λ t. p.1 (both.1 t))
 
 -- the word of a text's line, by what was found
 pub found_label : (text label : List ℕ) (kind : Option Kind) (found : Option Found)
@@ -153,14 +202,16 @@ found_label text label kind None none is k e = (None, none, e ∙ ap label_of k)
 
 -- the line of a text that is picked
 pub picked_line : (options : Options) (whole text label : List ℕ) (lo hi : ℕ) (old new : List ℕ)
-    → IsLabelOf text label → Picks options.shown label → Appends (IsLineIn options whole text lo hi) old new
+    → IsLabelOf text label → Picks options.shown label (IsBad options.judge text)
+    → Appends (IsLineIn options whole text lo hi) old new
     → Appends (IsShownLiteral options whole text lo hi) old new
 picked_line options whole text label lo hi old new is_label picked (shown, is, e) =
     (shown, (label, is_label, inl (picked, is)), e)
 
 -- nothing of a text that isn't picked
 pub not_picked : (options : Options) (whole text label : List ℕ) (lo hi : ℕ) (old : List ℕ) → IsLabelOf text label
-    → (Picks options.shown label → ⊥) → Appends (IsShownLiteral options whole text lo hi) old old
+    → (Picks options.shown label (IsBad options.judge text) → ⊥)
+    → Appends (IsShownLiteral options whole text lo hi) old old
 not_picked options whole text label lo hi old is_label none =
     ([], (label, is_label, inr (none, refl)), sym (append-nil old))
 

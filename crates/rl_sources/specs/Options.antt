@@ -1,9 +1,8 @@
 -- Which literals are shown.
-use Rattle.std.specs.Prelude.{◌≡◌, ℕ, ◌==◌, List, map, ⊤, None}
+use Rattle.std.specs.Prelude.{◌≡◌, ℕ, ◌==◌, List, map, ⊤}
 use Prim.Native.Char.{code}
 use Rattle.std.specs.List.{slice_split, Any}
 use Rattle.std.specs.Char.{to_ascii_lowercase}
-use Rattle.rl_lines.specs.Lines.{label_of}
 use Rattle.rl_sources.specs.declared.options.Shown.{Shown}
 use Rattle.rl_sources.specs.declared.options.Shown.TheVariants.{All, Only, Bad}
 
@@ -19,8 +18,8 @@ words_of list = slice_split (λ b. b == code ",") list
 abbrev pub Names : List ℕ → List ℕ → Type 0
 Names list word = Any (λ w. IsSameWord w word) (words_of list)
 
--- a literal is shown whose line begins with this word
-abbrev pub Picks : Shown → List ℕ → Type 0
-Picks All label = ⊤
-Picks (Only list) label = Names list.now label
-Picks Bad label = label ≡ label_of None
+-- a literal is shown whose line begins with this word; of which it holds or not that it is bad
+abbrev pub Picks : Shown → List ℕ → Type 0 → Type 0
+Picks All label is_bad = ⊤
+Picks (Only list) label is_bad = Names list.now label
+Picks Bad label is_bad = is_bad

@@ -1,5 +1,5 @@
 -- What is shown of a source: a line for each of its literals, after its place, or where it is asked
--- for one that says why it has no reading. Texts and what is shown are lists of characters, what
+-- for one that says why it is bad. Texts and what is shown are lists of characters, what
 -- is written lists of bytes.
 use Rattle.std.specs.Prelude.{◌≡◌, ◌≢◌, ◌⊎◌, ◌↔◌, ℕ, ◌+◌, ◌-◌, ◌≤◌, Bool, List, [], ◌∷◌, ◌++◌, IsTrue, take, drop, codes, encode_utf8_all, Option}
 use Rattle.std.specs.List.{All}
@@ -14,16 +14,35 @@ use Rattle.rl_lexer.specs.declared.lex_error.LexKind.TheVariants.{StrayCharacter
 use Rattle.rl_reasons.specs.declared.flaws.Flaw.{Flaw}
 use Rattle.rl_reasons.specs.Flaws.{Explains}
 use Rattle.rl_reasons.specs.FlawWords.{flaw_message}
+use Rattle.rl_grammar.specs.StrictShapes.{IsToken}
+use Rattle.rl_grammar.specs.FileTexts.{lf_text, ExplainsInFile}
 use Rattle.rl_lines.specs.Lines.{IsLineOf, IsLabelOf, Joins}
 use Rattle.rl_files.specs.Visible.{visible, visible_lines}
 use Rattle.rl_program.specs.Streams.{AppendsBeginning}
 use Rattle.rl_program.specs.declared.fault.Fault.TheVariants.{Write, Memory}
+use Rattle.rl_sources.specs.declared.options.Judge.{Judge}
+use Rattle.rl_sources.specs.declared.options.Judge.TheVariants.{Rust, Syn}
 use Rattle.rl_sources.specs.declared.options.Options.{Options}
 use Rattle.rl_sources.specs.declared.place.Place.{Place}
 use Rattle.rl_sources.specs.declared.scan_error.ScanError.{ScanError}
 use Rattle.rl_sources.specs.declared.scan_error.ScanError.TheVariants.{Fault, Source}
 use Rattle.rl_sources.specs.Options.{Picks}
 use Rattle.rl_sources.specs.Places.{line_front, IsPlaceIn}
+
+-- the flaw that a judge finds in the text of a literal: Rust the one of the strict grammar, and of
+-- what that takes, an integer past 128 bits, the lenient one
+abbrev pub FindsFlaw : Judge → List ℕ → Flaw → Type 0
+FindsFlaw Rust text flaw = ExplainsInFile text flaw ⊎ (IsToken (lf_text text) × Explains text flaw)
+FindsFlaw Syn text flaw = Explains text flaw
+
+-- the judge finds none
+abbrev pub FindsNoFlaw : Judge → List ℕ → Type 0
+FindsNoFlaw Rust text = IsToken (lf_text text) × HasReading text
+FindsNoFlaw Syn text = HasReading text
+
+-- it finds one
+abbrev pub IsBad : Judge → List ℕ → Type 0
+IsBad judge text = (flaw : Flaw) × FindsFlaw judge text flaw
 
 -- the line of a text as a literal, after its place in the whole source
 abbrev pub IsPlacedLine : Options → List ℕ → List ℕ → ℕ → ℕ → List ℕ → Type 0
@@ -48,27 +67,27 @@ abbrev pub error_words : List ℕ → List ℕ → List ℕ
 error_words message [] = codes "error: " ++ (message ++ codes "\n")
 error_words message piece = codes "error: " ++ (message ++ (codes ": " ++ (visible piece ++ codes "\n")))
 
--- the line that says why a text, which begins at this byte of the whole source, is no literal: the
--- place of a flaw that explains it, what is wrong, and the piece that it spoils
+-- the line that says why a text, which begins at this byte of the whole source, is bad: the place
+-- of the flaw that the judge finds, what is wrong, and the piece that it spoils
 abbrev pub IsFlawLine : Options → List ℕ → List ℕ → ℕ → List ℕ → Type 0
 IsFlawLine options whole text lo shown =
-    (flaw : Flaw) × (place : Place) × (piece : List ℕ) × Explains text flaw
+    (flaw : Flaw) × (place : Place) × (piece : List ℕ) × FindsFlaw options.judge text flaw
     × IsPlaceIn options.by_line whole (lo + flaw.lo) (lo + flaw.hi) place × IsFlawPiece text flaw piece
     × (shown ≡ line_front options.path place ++ error_words (flaw_message flaw.kind) piece)
 
--- the line of a text: where it is asked for, and the text is no literal, the line that says why;
--- else its line as a literal
+-- the line of a text: where it is asked for, and the text is bad, the line that says why; else its
+-- line as a literal
 abbrev pub IsLineIn : Options → List ℕ → List ℕ → ℕ → ℕ → List ℕ → Type 0
 IsLineIn options whole text lo hi shown =
     (IsTrue options.explains × IsFlawLine options whole text lo shown)
-    ⊎ ((IsTrue options.explains → HasReading text) × IsPlacedLine options whole text lo hi shown)
+    ⊎ ((IsTrue options.explains → FindsNoFlaw options.judge text) × IsPlacedLine options whole text lo hi shown)
 
 -- what is shown of a literal: its line, where it is picked, else nothing
 abbrev pub IsShownLiteral : Options → List ℕ → List ℕ → ℕ → ℕ → List ℕ → Type 0
 IsShownLiteral options whole text lo hi shown =
     (label : List ℕ) × IsLabelOf text label
-    × ((Picks options.shown label × IsLineIn options whole text lo hi shown)
-    ⊎ ((Picks options.shown label → ⊥) × (shown ≡ [])))
+    × ((Picks options.shown label (IsBad options.judge text) × IsLineIn options whole text lo hi shown)
+    ⊎ ((Picks options.shown label (IsBad options.judge text) → ⊥) × (shown ≡ [])))
 
 -- what is shown of a token: of a literal, and of the words `true` and `false`, what is shown of
 -- that literal; of anything else nothing

@@ -11,20 +11,23 @@ use Rattle.rl_sources.specs.declared.command.PlaceForm.TheVariants as form
 use Rattle.rl_sources.specs.declared.command.Output.{Output}
 use Rattle.rl_sources.specs.declared.command.Output.TheVariants as output
 use Rattle.rl_sources.specs.declared.command.Command.{Command}
+use Rattle.rl_sources.specs.declared.options.Judge.{Judge}
+use Rattle.rl_sources.specs.declared.options.Judge.TheVariants as judge
 use Rattle.rl_sources.specs.declared.options.Shown.{Shown}
 use Rattle.rl_sources.specs.declared.options.Shown.TheVariants as shown
 use Rattle.rl_sources.specs.declared.words.Flag.{Flag}
-use Rattle.rl_sources.specs.declared.words.Flag.TheVariants.{Bad, Only, Bytes, Lines, NoStray, Count, Files, Quiet, Help, Version, Paths}
+use Rattle.rl_sources.specs.declared.words.Flag.TheVariants.{Bad, Lenient, Only, Bytes, Lines, NoStray, Count, Files, Quiet, Help, Version, Paths}
 use Rattle.rl_sources.specs.declared.words.Next.{Next}
 use Rattle.rl_sources.specs.declared.words.Next.TheVariants as next
 use Rattle.rl_sources.specs.declared.words.Asked.{Asked}
 use Rattle.rl_sources.specs.declared.words.WordError.{WordError}
-use Rattle.rl_sources.specs.declared.words.WordError.TheVariants.{Memory, UnknownOption, UnknownKind, NoKinds, TwoChoices}
+use Rattle.rl_sources.specs.declared.words.WordError.TheVariants.{Memory, UnknownOption, UnknownKind, NoKinds, TwoChoices, LenientAlone}
 use Rattle.rl_sources.specs.Options.{Names, words_of}
 
 -- the words of an option
 abbrev pub IsOptionWord : Flag → List ℕ → Type 0
 IsOptionWord Bad word = (word ≡ codes "-b") ⊎ (word ≡ codes "--bad")
+IsOptionWord Lenient word = word ≡ codes "--lenient"
 IsOptionWord Only word = (word ≡ codes "-k") ⊎ (word ≡ codes "--only")
 IsOptionWord Bytes word = (word ≡ codes "-o") ⊎ (word ≡ codes "--bytes")
 IsOptionWord Lines word = word ≡ codes "--lines"
@@ -52,7 +55,7 @@ AreKindWords list = All IsKindWord (words_of list)
 abbrev pub is_path_word : List ℕ → Bool
 is_path_word word = bytes_eq word (codes "-") || not (starts_with ◌==◌ word (codes "-"))
 
--- which literals are wanted: all, those of a list's kinds, those without a reading
+-- which literals are wanted: all, those of a list's kinds, those that are bad
 pub data Wanted : Type 0 where
   AllWanted : Wanted
   OnlyWanted : (list : List ℕ) → Wanted
@@ -70,6 +73,7 @@ pub record Wishes : Type 0 where
   pub places : PlaceForm
   pub output : Output
   pub rejects_strays : Bool
+  pub judge : Judge
   pub paths : List (List ℕ)
 
 -- what is asked for where nothing is said
@@ -80,6 +84,7 @@ first_wishes = record {
   places = form.Usual;
   output = output.Lines;
   rejects_strays = false;
+  judge = judge.Rust;
   paths = [];
 }
 
@@ -91,6 +96,7 @@ wishes_of command paths = record {
   places = command.places;
   output = command.output;
   rejects_strays = command.rejects_strays;
+  judge = command.judge;
   paths = paths;
 }
 
@@ -105,6 +111,7 @@ IsAllowed _ w = ⊤
 
 abbrev pub with_flag : Flag → Wishes → Wishes
 with_flag Bad w = record w { wanted = BadWanted }
+with_flag Lenient w = record w { judge = judge.Syn }
 with_flag Only w = w
 with_flag Bytes w = record w { places = form.Bytes }
 with_flag Lines w = record w { places = form.Lines }
@@ -142,10 +149,15 @@ AreSteps first old (word ∷ words) then new =
     (between : Next) × (middle : Wishes) × IsStep first old word between middle
     × AreSteps between middle words then new
 
+-- the lenient judge was asked for, and nothing of which it judges
+abbrev pub IsLenientAlone : Wishes → Type 0
+IsLenientAlone w = (w.judge ≡ judge.Syn) × (w.wanted ≢ BadWanted)
+
 -- all words ask for this
 abbrev pub Asks : List (List ℕ) → Wishes → Type 0
 Asks words wishes =
     (then : Next) × AreSteps next.Any first_wishes words then wishes × (then ≢ next.Kinds)
+    × (IsLenientAlone wishes → ⊥)
 
 -- what is wrong
 abbrev pub word_message : {A : Type 0} → WordError A → List ℕ
@@ -157,6 +169,7 @@ word_message (UnknownKind word) =
     ++ codes "': one of Str, ByteStr, CStr, Byte, Char, Int, Float, Bool, Verbatim")
 word_message NoKinds = codes "--only: which kinds? as in --only Str,ByteStr"
 word_message TwoChoices = codes "--bad and --only: one of them, once"
+word_message LenientAlone = codes "--lenient: only with --bad"
 
 -- why this word can't be asked for, where such a word may stand
 abbrev pub IsRejectedWord : {A : Type 0} → Next → Wishes → List ℕ → WordError A → Type 0
@@ -168,11 +181,15 @@ IsRejectedWord first old word (UnknownKind said) = (first ≡ next.Kinds) × (Ar
 IsRejectedWord first old word TwoChoices =
     (first ≡ next.Any) × ((flag : Flag) × IsOptionWord flag word × (IsAllowed flag old → ⊥))
 IsRejectedWord first old word NoKinds = ⊥
+IsRejectedWord first old word LenientAlone = ⊥
 
--- The words ask for something up to one that can't be asked for; or a list of kinds is missing at
--- their end.
+-- The words ask for something up to one that can't be asked for; or at their end a list of kinds is
+-- missing, or what the lenient judge is to judge.
 abbrev pub AreRejected : {A : Type 0} → List (List ℕ) → WordError A → Type 0
 AreRejected words NoKinds = (old : Wishes) × AreSteps next.Any first_wishes words next.Kinds old
+AreRejected words LenientAlone =
+    (then : Next) × (old : Wishes) × AreSteps next.Any first_wishes words then old × (then ≢ next.Kinds)
+    × IsLenientAlone old
 AreRejected words error =
     (before after : List (List ℕ)) × (word : List ℕ) × (first : Next) × (old : Wishes)
     × (words ≡ before ++ word ∷ after) × AreSteps next.Any first_wishes before first old

@@ -1,6 +1,6 @@
 //! What a call of the program asks for.
 
-use crate::options::Shown;
+use crate::options::{Judge, Shown};
 
 /// What a call asks for.
 #[derive(Clone, Copy)]
@@ -50,4 +50,6 @@ pub struct Command<'a> {
     pub output: Output,
     /// Whether a stray character is an error, as it is in Rust.
     pub rejects_strays: bool,
+    /// By which grammar a literal is bad.
+    pub judge: Judge,
 }

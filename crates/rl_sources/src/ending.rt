@@ -22,7 +22,8 @@ Prints the literals of Rust sources, or what is wrong with them.
   PATH   a file, or a directory: all *.rs below it, in the order of their names, without hidden directories and
          `target`; links aren't followed. `-` is standard input, and so is no PATH, unless input is a terminal (then `.`)
 What is printed (every literal, if nothing is said)
-  -b, --bad            what is no literal: literals without a reading, quotes and comments left open, and why
+  -b, --bad            what Rust rejects: bad literals, quotes and comments left open, and why
+      --lenient        with --bad: what `syn` rejects too
   -k, --only KIND,..   Str ByteStr CStr Byte Char Int Float Bool Verbatim, in any case
       --no-stray       a character that begins no token is an error
 How

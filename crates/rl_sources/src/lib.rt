@@ -4,6 +4,7 @@
 
 mod command;
 mod ending;
+mod judge;
 mod options;
 mod place;
 mod reason;
@@ -16,7 +17,7 @@ mod words;
 
 pub use crate::command::{Command, Output, PlaceForm, Wish};
 pub use crate::ending::{CallError, HELP, VERSION, call};
-pub use crate::options::{Options, Shown};
+pub use crate::options::{Judge, Options, Shown};
 pub use crate::place::Place;
 pub use crate::report::{Report, report_of};
 pub use crate::runs::{RunStop, Tally, run};

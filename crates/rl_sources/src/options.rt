@@ -3,6 +3,15 @@
 ghost use Rattle.std.specs.Prelude.{◌↔◌, IsTrue};
 ghost use Rattle.rl_sources.specs.Options.{Names, Picks};
 
+/// By which grammar a literal is bad.
+#[derive(Clone, Copy)]
+pub enum Judge {
+    /// Rust's: the strict grammar, of which an integer has 128 bits at most. A CR LF of a file is an LF there.
+    Rust,
+    /// That of `syn`: a literal is bad where it has no reading.
+    Syn,
+}
+
 /// Which literals are shown.
 #[derive(Clone, Copy)]
 pub enum Shown<'a> {
@@ -10,7 +19,7 @@ pub enum Shown<'a> {
     All,
     /// Those whose lines begin with one of these words, in any case of their letters; commas separate the words.
     Only(&'a str),
-    /// Those that have no reading.
+    /// Those that are bad.
     Bad,
 }
 
@@ -23,8 +32,10 @@ pub struct Options<'a> {
     pub by_line: bool,
     /// Whether a stray character is an error, as it is in Rust.
     pub rejects_strays: bool,
-    /// Whether the line of a literal without a reading says why it has none.
+    /// Whether the line of a bad literal says why it is bad.
     pub explains: bool,
+    /// By which grammar a literal is bad.
+    pub judge: Judge,
     /// What stands before each place: a file's path, as it is printed.
     pub path: Option<&'a str>,
 }
@@ -37,14 +48,14 @@ pub(crate) fn names(list: &str, label: &str) -> bool
 }
 
 impl Shown<'_> {
-    /// Whether a literal is shown whose line begins with this word.
-    pub fn picks(self, label: &str) -> bool
-        ensures { IsTrue result ↔ Picks self.entry label.now }
+    /// Whether a literal is shown whose line begins with this word, and which is bad or not.
+    pub fn picks(self, label: &str, is_bad: bool) -> bool
+        ensures { IsTrue result ↔ Picks self.entry label.now (IsTrue is_bad) }
     {
         match self {
             Shown::All => true,
             Shown::Only(list) => names(list, label),
-            Shown::Bad => label == "Verbatim",
+            Shown::Bad => is_bad,
         }
     }
 }

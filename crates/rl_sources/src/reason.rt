@@ -1,13 +1,12 @@
-//! Why a token of a source is no literal.
+//! Why a literal of a source is bad.
 
 ghost use Rattle.std.specs.Prelude.{◌≡◌, ◌+◌, ◌++◌, ◌↔◌, IsTrue, OnOk, string_bytes};
 ghost use Rattle.std.specs.Str.{chars};
 ghost use Rattle.rl_lines.specs.Lines.{Appends};
-ghost use Rattle.rl_reasons.specs.Flaws.{Explains};
 ghost use Rattle.rl_reasons.specs.FlawWords.{flaw_message};
 ghost use Rattle.rl_sources.specs.Places.{IsPlaceIn};
-ghost use Rattle.rl_sources.specs.Scans.{IsFlawLine, IsFlawPiece, IsSlice, error_words};
-ghost use Rattle.rl_sources.specs.Steps.{BeginsRest};
+ghost use Rattle.rl_sources.specs.Scans.{FindsFlaw, IsFlawLine, IsFlawPiece, IsSlice, error_words};
+ghost use Rattle.rl_sources.specs.Steps.{BeginsRest, HasPlace};
 
 use crate::options::Options;
 use crate::place::{Place, Places, place_of, push_front};
@@ -25,7 +24,7 @@ fn flaw_place<'t>(
     flaw: Flaw,
 ) -> Place
     requires rest { BeginsRest token places.old rest.now }
-    requires flaw { Explains (chars token.text.now) flaw }
+    requires flaw { HasPlace (chars token.text.now) flaw }
     ensures place { IsPlaceIn by_line (chars places.old)
         (token.entry.lo + flaw.lo) (token.entry.lo + flaw.hi) result }
     ensures same { places.new ≡ places.old }
@@ -71,7 +70,7 @@ fn push_error<A: Allocator>(
     Ok(())
 }
 
-/// Appends the line that says why a token's text is no literal, and where.
+/// Appends the line that says why a literal is bad, and where.
 pub(crate) fn push_flaw<'t, A: Allocator>(
     out: &mut String<A>,
     options: Options<'_>,
@@ -81,7 +80,7 @@ pub(crate) fn push_flaw<'t, A: Allocator>(
     flaw: Flaw,
 ) -> Result<(), AllocError>
     requires rest { BeginsRest token places.old rest.now }
-    requires flaw { Explains (chars token.text.now) flaw }
+    requires flaw { FindsFlaw options.judge (chars token.text.now) flaw }
     ensures shown { OnOk result (Appends
         (IsFlawLine options.entry (chars places.old) (chars token.entry.text.now) token.entry.lo)
         (chars (string_bytes out.old)) (chars (string_bytes out.new))) }

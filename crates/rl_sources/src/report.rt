@@ -92,6 +92,7 @@ fn options_for<'a>(command: Command<'a>, path: &str, shown: &'a str) -> Options<
         by_line: is_by_line(command.places, path),
         rejects_strays: command.rejects_strays,
         explains: is_bad(command.shown),
+        judge: command.judge,
         path: path_before(path, shown),
     }
 }

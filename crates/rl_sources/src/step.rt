@@ -1,21 +1,21 @@
 //! What is shown of the tokens of a source, one after another.
 
-ghost use Rattle.std.specs.Prelude.{◌≡◌, ◌+◌, ◌<◌, [], length, Some, None, IfSome, IfNone, IfOk, IfErr, OnOk, MatchOption, IsTrue, string_bytes};
+ghost use Rattle.std.specs.Prelude.{◌≡◌, ◌+◌, ◌<◌, [], length, Some, None, IfSome, IfNone, IfOk, IfErr, OnOk, MatchOption, string_bytes};
 ghost use Rattle.std.specs.Str.{chars};
-ghost use Rattle.rl_forms.specs.Reading.{HasNoReading, HasReading};
+ghost use Rattle.rl_forms.specs.Reading.{HasNoReading};
 ghost use Rattle.rl_lexer.specs.Cursors.{IsCursorState};
 ghost use Rattle.rl_lexer.specs.Sources.{TakesSource};
-ghost use Rattle.rl_reasons.specs.Flaws.{Explains};
 ghost use Rattle.rl_reading.specs.Founds.{IsFound};
 ghost use Rattle.rl_lines.specs.Lines.{Appends};
-ghost use Rattle.rl_sources.specs.Scans.{IsLineIn, IsShownLiteral, IsErrorAt};
+ghost use Rattle.rl_sources.specs.Scans.{IsPlacedLine, IsShownLiteral, IsErrorAt};
 ghost use Rattle.rl_sources.specs.Steps.{IsTextLine, IsAcceptedToken, BeginsRest, IsCursorOver, TakesShown, EndsUnshown, StopsUnshown, IsStepOf};
 
+use crate::judge::{flaw_of, reason_of};
 use crate::options::Options;
 use crate::place::{Place, Places, place_of, push_front};
 use crate::reason::push_flaw;
 use rl_files::make_visible;
-use rl_grammar::{Flaw, Found, Kind, explain, find};
+use rl_grammar::{Found, Kind, find};
 use rl_lines::{label_of, push_found};
 use rl_tokens::{LexError, LexKind, SourceForm, SourceToken, Sources};
 use std::alloc::{AllocError, Allocator};
@@ -50,19 +50,8 @@ fn push_text_line<A: Allocator + Copy>(
     make_visible(alloc, out, from)
 }
 
-/// Why a text is no literal, where it is asked for.
-fn flaw_of(explains: bool, text: &str) -> Option<Flaw>
-    ensures some { IfSome result (λ flaw. IsTrue explains × Explains (chars text.now) flaw) }
-    ensures none { IfNone result (IsTrue explains → HasReading (chars text.now)) }
-{
-    if !explains {
-        return None;
-    }
-    explain(text)
-}
-
-/// Appends the line of a literal: where it is asked for and it has no reading, the line that says why.
-fn push_line_in<'t, A: Allocator + Copy>(
+/// Appends the line of a literal, after its place.
+fn push_placed<'t, A: Allocator + Copy>(
     alloc: A,
     out: &mut String<A>,
     options: Options<'_>,
@@ -75,22 +64,18 @@ fn push_line_in<'t, A: Allocator + Copy>(
     requires none { IfNone found (HasNoReading (chars token.text.now)) }
     requires found { IfSome found (IsFound token.text.now) }
     ensures shown { OnOk result (Appends
-        (IsLineIn options.entry (chars places.old) (chars token.entry.text.now)
+        (IsPlacedLine options.entry (chars places.old) (chars token.entry.text.now)
         token.entry.lo token.entry.hi)
         (chars (string_bytes out.old)) (chars (string_bytes out.new))) }
     ensures same { places.new ≡ places.old }
 {
-    match flaw_of(options.explains, token.text) {
-        Some(flaw) => push_flaw(out, options, token, rest, places, flaw),
-        None => {
-            let place = place_of(options.by_line, places, rest, token.lo, token.hi);
-            push_front(out, options.path, place)?;
-            push_text_line(alloc, out, token.text, found)
-        }
-    }
+    let place = place_of(options.by_line, places, rest, token.lo, token.hi);
+    push_front(out, options.path, place)?;
+    push_text_line(alloc, out, token.text, found)
 }
 
-/// Appends what is shown of a literal: its line, where it is picked.
+/// Appends what is shown of a literal, where it is picked: its line, or where it is asked for and it is bad, the line that
+/// says why.
 #[inline(never)]
 fn push_literal_token<'t, A: Allocator + Copy>(
     alloc: A,
@@ -108,10 +93,17 @@ fn push_literal_token<'t, A: Allocator + Copy>(
     ensures same { places.new ≡ places.old }
 {
     let found = find(token.text);
-    if !options.shown.picks(label_of(kind_of(&found))) {
+    let flaw = flaw_of(alloc, options, token.text)?;
+    if !options
+        .shown
+        .picks(label_of(kind_of(&found)), flaw.is_some())
+    {
         return Ok(());
     }
-    push_line_in(alloc, out, options, token, found, rest, places)
+    match reason_of(options.explains, flaw) {
+        Some(flaw) => push_flaw(out, options, token, rest, places, flaw),
+        None => push_placed(alloc, out, options, token, found, rest, places),
+    }
 }
 
 /// Cuts off the next token: `None` at the end of the source.

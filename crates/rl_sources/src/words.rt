@@ -4,11 +4,11 @@ ghost use Rattle.std.specs.Prelude.{◌≡◌, ◌↔◌, ℕ, false, List, map,
 ghost use Rattle.rl_files.specs.Trees.{string_texts};
 ghost use Rattle.rl_sources.specs.declared.words.Flag.{Flag};
 ghost use Rattle.rl_sources.specs.declared.words.Next.TheVariants as next;
-ghost use Rattle.rl_sources.specs.Words.{IsOptionWord, IsKindWord, AreKindWords, is_path_word, wishes_of, wishes_in, IsAllowed, with_flag as flagged, next_after as follows, with_path, IsStep, Asks, IsRejectedWord, AreRejected};
+ghost use Rattle.rl_sources.specs.Words.{IsOptionWord, IsKindWord, AreKindWords, is_path_word, wishes_of, wishes_in, IsAllowed, IsLenientAlone, with_flag as flagged, next_after as follows, with_path, IsStep, Asks, IsRejectedWord, AreRejected};
 
 use crate::command::{Command, Output, PlaceForm, Wish};
-use crate::options::{Shown, names};
-use crate::report::visible_text;
+use crate::options::{Judge, Shown, names};
+use crate::report::{is_bad, visible_text};
 use std::alloc::{AllocError, Allocator, Global};
 use std::fmt;
 
@@ -16,6 +16,7 @@ use std::fmt;
 #[derive(Clone, Copy)]
 enum Flag {
     Bad,
+    Lenient,
     Only,
     Bytes,
     Lines,
@@ -41,6 +42,8 @@ pub enum WordError<A: Allocator = Global> {
     NoKinds,
     /// Two options say which literals are printed.
     TwoChoices,
+    /// `--lenient` stands without `--bad`.
+    LenientAlone,
 }
 
 impl<A: Allocator> From<AllocError> for WordError<A> {
@@ -72,6 +75,7 @@ impl<A: Allocator> fmt::Display for WordError<A> {
             ),
             WordError::NoKinds => write!(f, "--only: which kinds? as in --only Str,ByteStr"),
             WordError::TwoChoices => write!(f, "--bad and --only: one of them, once"),
+            WordError::LenientAlone => write!(f, "--lenient: only with --bad"),
         }
     }
 }
@@ -83,6 +87,7 @@ fn flag_of(word: &str) -> Option<Flag>
 {
     match word {
         "-b" | "--bad" => Some(Flag::Bad),
+        "--lenient" => Some(Flag::Lenient),
         "-k" | "--only" => Some(Flag::Only),
         "-o" | "--bytes" => Some(Flag::Bytes),
         "--lines" => Some(Flag::Lines),
@@ -160,6 +165,7 @@ fn with_flag(command: Command<'_>, flag: Flag) -> Option<Command<'_>>
         (Flag::Bad, Shown::All) => next.shown = Shown::Bad,
         (Flag::Only, Shown::All) => {}
         (Flag::Bad | Flag::Only, _) => return None,
+        (Flag::Lenient, _) => next.judge = Judge::Syn,
         (Flag::Bytes, _) => next.places = PlaceForm::Bytes,
         (Flag::Lines, _) => next.places = PlaceForm::Lines,
         (Flag::NoStray, _) => next.rejects_strays = true,
@@ -182,6 +188,13 @@ fn next_after(flag: Flag) -> Next
         Flag::Paths => Next::Path,
         _ => Next::Any,
     }
+}
+
+/// Whether the lenient judge was asked for, and nothing of which it judges.
+fn is_lenient_alone(command: Command<'_>) -> bool
+    ensures { (paths : List (List ℕ)) → IsTrue result ↔ IsLenientAlone (wishes_of command.entry paths) }
+{
+    matches!(command.judge, Judge::Syn) && !is_bad(command.shown)
 }
 
 /// Whether a word is a path, and no option.
@@ -251,7 +264,7 @@ impl<'a, A: Allocator + Copy> Asked<'a, A> {
 ///
 /// # Errors
 ///
-/// The first word that can't be asked for, or `NoKinds` at the end.
+/// The first word that can't be asked for, or `NoKinds` or `LenientAlone` at the end.
 pub(crate) fn asked_by<A: Allocator + Copy>(
     alloc: A,
     words: &[String<A>],
@@ -265,6 +278,7 @@ pub(crate) fn asked_by<A: Allocator + Copy>(
         places: PlaceForm::Usual,
         output: Output::Lines,
         rejects_strays: false,
+        judge: Judge::Rust,
     };
     let mut asked = Asked {
         command,
@@ -279,6 +293,9 @@ pub(crate) fn asked_by<A: Allocator + Copy>(
     }
     if wants_kinds(asked.next) {
         return Err(WordError::NoKinds);
+    }
+    if is_lenient_alone(asked.command) {
+        return Err(WordError::LenientAlone);
     }
     Ok(asked)
 }

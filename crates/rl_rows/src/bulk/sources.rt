@@ -1,6 +1,6 @@
 //! The literals of a whole source.
 
-use rl_sources::{Options, ScanError, Shown, scan};
+use rl_sources::{Judge, Options, ScanError, Shown, scan};
 use std::alloc::{AllocError, Global};
 use std::fmt::Write as _;
 
@@ -22,6 +22,7 @@ pub(crate) fn source_answer(alloc: Global, text: &str) -> Result<String, AllocEr
         by_line: false,
         rejects_strays: false,
         explains: false,
+        judge: Judge::Rust,
         path: None,
     };
     let mut lines = Vec::new(alloc);

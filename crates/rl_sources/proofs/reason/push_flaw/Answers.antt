@@ -1,6 +1,10 @@
-use Rattle.rl_text.proofs.Common.{chars, on_ok_weaker, string_bytes}
-use Rattle.rl_sources.proofs.ReasonLemmas.{flaw_shown}
+use Rattle.rl_text.proofs.Common.{chars, on_ok_weaker}
+use Rattle.rl_sources.proofs.ReasonLemmas.{flaw_shown, has_place}
 use Rattle.rl_sources.proofs.reason.push_flaw.Goals as goal
+
+pub flaw_place-place-requires-clause-flaw : goal.flaw_place-place-requires-clause-flaw
+flaw_place-place-requires-clause-flaw g c = has_place c.args.options.judge (chars c.args.token.text.now) c.args.flaw
+    c.requires.flaw
 
 pub returns-clause-shown : goal.returns-clause-shown
 returns-clause-shown g c = on_ok_weaker c.push_error.result (flaw_shown c.args.options (chars c.args.places.now)
