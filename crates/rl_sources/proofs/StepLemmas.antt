@@ -20,7 +20,8 @@ use Rattle.rl_sources.specs.declared.place.Place.{Place}
 use Rattle.rl_sources.specs.declared.place.Place.TheVariants.{Bytes, Line}
 use Rattle.rl_sources.specs.Options.{Picks}
 use Rattle.rl_sources.specs.Places.{line_front, place_text, IsPlaceIn}
-use Rattle.rl_sources.specs.Scans.{IsFlawLine, IsLineIn, IsShownLiteral}
+use Rattle.rl_sources.specs.Held.{Holds}
+use Rattle.rl_sources.specs.Scans.{IsFlawLine, IsHeldLine, IsLineIn, IsPickedLine, IsShownLiteral}
 use Rattle.rl_sources.specs.Steps.{IsTextLine}
 
 -- ---- places are ASCII
@@ -140,6 +141,11 @@ pub explained : (options : Options) (whole text : List ℕ) (lo hi : ℕ) (old n
     → Appends (IsFlawLine options whole text lo) old new → Appends (IsLineIn options whole text lo hi) old new
 explained options whole text lo hi old new asked (shown, is, e) = (shown, inl (asked, is), e)
 
+-- nothing of a literal whose contents don't hold what is looked for
+pub not_held : (sought : List ℕ) (options : Options) (whole text : List ℕ) (lo : ℕ) (old : List ℕ)
+    → (Holds sought text → ⊥) → Appends (IsHeldLine sought options whole text lo) old old
+not_held sought options whole text lo old none = ([], inr (none, refl), sym (append-nil old))
+
 -- the word of a text's line, by what was found
 pub found_label : (text label : List ℕ) (kind : Option Kind) (found : Option Found)
     → IfNone found (HasNoReading (chars text)) → IfSome found (IsFound text)
@@ -153,7 +159,8 @@ found_label text label kind None none is k e = (None, none, e ∙ ap label_of k)
 
 -- the line of a text that is picked
 pub picked_line : (options : Options) (whole text label : List ℕ) (lo hi : ℕ) (old new : List ℕ)
-    → IsLabelOf text label → Picks options.shown label → Appends (IsLineIn options whole text lo hi) old new
+    → IsLabelOf text label → Picks options.shown label
+    → Appends (IsPickedLine options.finds options whole text lo hi) old new
     → Appends (IsShownLiteral options whole text lo hi) old new
 picked_line options whole text label lo hi old new is_label picked (shown, is, e) =
     (shown, (label, is_label, inl (picked, is)), e)

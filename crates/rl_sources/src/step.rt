@@ -1,16 +1,20 @@
 //! What is shown of the tokens of a source, one after another.
 
-ghost use Rattle.std.specs.Prelude.{◌≡◌, ◌+◌, ◌<◌, [], length, Some, None, IfSome, IfNone, IfOk, IfErr, OnOk, MatchOption, IsTrue, string_bytes};
+ghost use Rattle.std.specs.Prelude.{◌≡◌, ◌+◌, ◌<◌, ◌≤◌, [], length, Some, None, IfSome, IfNone, IfOk, IfErr, OnOk, MatchOption, IsTrue, string_bytes};
 ghost use Rattle.std.specs.Str.{chars};
+ghost use Rattle.rl_text.specs.Texts.{byte_len};
 ghost use Rattle.rl_forms.specs.Reading.{HasNoReading, HasReading};
 ghost use Rattle.rl_lexer.specs.Cursors.{IsCursorState};
 ghost use Rattle.rl_lexer.specs.Sources.{TakesSource};
 ghost use Rattle.rl_reasons.specs.Flaws.{Explains};
 ghost use Rattle.rl_reading.specs.Founds.{IsFound};
 ghost use Rattle.rl_lines.specs.Lines.{Appends};
-ghost use Rattle.rl_sources.specs.Scans.{IsLineIn, IsShownLiteral, IsErrorAt};
+ghost use Rattle.rl_sources.specs.Held.{IsCutAt};
+ghost use Rattle.rl_sources.specs.Places.{IsPlaceIn};
+ghost use Rattle.rl_sources.specs.Scans.{IsHeldLine, IsLineIn, IsPickedLine, IsShownLiteral, IsErrorAt};
 ghost use Rattle.rl_sources.specs.Steps.{IsTextLine, IsAcceptedToken, BeginsRest, IsCursorOver, TakesShown, EndsUnshown, StopsUnshown, IsStepOf};
 
+use crate::held::held_at;
 use crate::options::Options;
 use crate::place::{Place, Places, place_of, push_front};
 use crate::reason::push_flaw;
@@ -90,7 +94,82 @@ fn push_line_in<'t, A: Allocator + Copy>(
     }
 }
 
-/// Appends what is shown of a literal: its line, where it is picked.
+/// The place in the source of bytes of the token's text, at whose first byte the rest begins.
+fn place_inside<'t>(
+    by_line: bool,
+    places: &mut Places<'t>,
+    token: SourceToken<'t>,
+    rest: &'t str,
+    first: usize,
+    last: usize,
+) -> Place
+    requires rest { BeginsRest token places.old rest.now }
+    requires cut { IsCutAt (chars token.text.now) first }
+    requires within { last ≤ byte_len (chars token.text.now) }
+    ensures place { IsPlaceIn by_line (chars places.old)
+        (token.entry.lo + first) (token.entry.lo + last) result }
+    ensures same { places.new ≡ places.old }
+{
+    let lo = token.lo + first;
+    let hi = token.lo + last;
+    let inside = &rest[first..];
+    place_of(by_line, places, inside, lo, hi)
+}
+
+/// Appends the line of a literal whose contents hold what is looked for, at the place of that.
+#[inline(never)]
+fn push_held_line<'t, A: Allocator + Copy>(
+    alloc: A,
+    out: &mut String<A>,
+    options: Options<'_>,
+    token: SourceToken<'t>,
+    found: Option<Found>,
+    rest: &'t str,
+    places: &mut Places<'t>,
+    sought: &str,
+) -> Result<(), AllocError>
+    requires rest { BeginsRest token places.old rest.now }
+    requires none { IfNone found (HasNoReading (chars token.text.now)) }
+    requires found { IfSome found (IsFound token.text.now) }
+    ensures shown { OnOk result (Appends
+        (IsHeldLine sought.now options.entry (chars places.old) (chars token.entry.text.now) token.entry.lo)
+        (chars (string_bytes out.old)) (chars (string_bytes out.new))) }
+    ensures same { places.new ≡ places.old }
+{
+    let Some((first, last)) = held_at(alloc, token.text, found, sought)? else {
+        return Ok(());
+    };
+    let place = place_inside(options.by_line, places, token, rest, first, last);
+    push_front(out, options.path, place)?;
+    push_text_line(alloc, out, token.text, found)
+}
+
+/// Appends what is shown of a literal that is picked: its line, where nothing is looked for, or its contents hold that.
+fn push_picked<'t, A: Allocator + Copy>(
+    alloc: A,
+    out: &mut String<A>,
+    options: Options<'_>,
+    token: SourceToken<'t>,
+    found: Option<Found>,
+    rest: &'t str,
+    places: &mut Places<'t>,
+) -> Result<(), AllocError>
+    requires rest { BeginsRest token places.old rest.now }
+    requires none { IfNone found (HasNoReading (chars token.text.now)) }
+    requires found { IfSome found (IsFound token.text.now) }
+    ensures shown { OnOk result (Appends
+        (IsPickedLine options.entry.finds options.entry (chars places.old) (chars token.entry.text.now)
+        token.entry.lo token.entry.hi)
+        (chars (string_bytes out.old)) (chars (string_bytes out.new))) }
+    ensures same { places.new ≡ places.old }
+{
+    match options.finds {
+        None => push_line_in(alloc, out, options, token, found, rest, places),
+        Some(sought) => push_held_line(alloc, out, options, token, found, rest, places, sought),
+    }
+}
+
+/// Appends what is shown of a literal, where it is picked.
 #[inline(never)]
 fn push_literal_token<'t, A: Allocator + Copy>(
     alloc: A,
@@ -111,7 +190,7 @@ fn push_literal_token<'t, A: Allocator + Copy>(
     if !options.shown.picks(label_of(kind_of(&found))) {
         return Ok(());
     }
-    push_line_in(alloc, out, options, token, found, rest, places)
+    push_picked(alloc, out, options, token, found, rest, places)
 }
 
 /// Cuts off the next token: `None` at the end of the source.

@@ -16,5 +16,5 @@ returns-clause-shown g c =
     let text = c.args.token.text.now in
     let is_label = found_label text c.label_of.result.now c.kind_of.result c.find-found.result c.find-found.ensures.none
     c.find-found.ensures.found c.kind_of.ensures c.label_of.ensures in
-    on_ok_weaker c.push_line_in.result (picked_line c.args.options (chars c.args.places.now) (chars text) _
-    c.args.token.lo c.args.token.hi _ _ is_label (c.if-not-picks.ensures.0 refl)) c.push_line_in.ensures.shown
+    on_ok_weaker c.push_picked.result (picked_line c.args.options (chars c.args.places.now) (chars text) _
+    c.args.token.lo c.args.token.hi _ _ is_label (c.if-not-picks.ensures.0 refl)) c.push_picked.ensures.shown
