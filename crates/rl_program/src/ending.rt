@@ -21,7 +21,7 @@ pub trait RunError: fmt::Display {
 pub enum Ending<E> {
     /// All lines were written.
     Done,
-    /// All lines were written, of literals without a reading, and there was one.
+    /// All lines were written, of literals without a reading, and there was one; or none was found of those looked for.
     FoundBad,
     /// All lines were written that could be, and each error was reported as it came.
     Reported,
@@ -35,7 +35,8 @@ pub enum Ending<E> {
 
 impl<E: RunError> Ending<E> {
     /// The status that the program ends with: 0 where all lines were written or nobody reads them, 1 where bad
-    /// literals were found, 2 where errors were reported or the arguments ask for nothing, else that of the error.
+    /// literals were found, or none of those looked for, 2 where errors were reported or the arguments ask for nothing,
+    /// else that of the error.
     pub fn status(&self) -> u8
         ensures { result ≡ status_of E.error_status self.now }
     {

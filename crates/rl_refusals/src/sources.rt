@@ -27,6 +27,7 @@ impl<A: Allocator> Tell for ScanError<A> {
 pub fn scanned<A: Scarce>(trial: &Trial<'_, A>, text: &str, page: &mut Page) {
     let options = Options {
         shown: Shown::All,
+        finds: None,
         by_line: false,
         rejects_strays: false,
         explains: false,

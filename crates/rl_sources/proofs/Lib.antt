@@ -1,6 +1,8 @@
 pub mod ScanLemmas
 pub mod OptionLemmas
 pub mod StepLemmas
+pub mod HeldLemmas
+pub mod HeldPlaces
 pub mod ReasonLemmas
 pub mod WriteLemmas
 pub mod ReportLemmas

@@ -27,6 +27,7 @@ use Rattle.rl_sources.specs.declared.options.Judge.{Judge}
 use Rattle.rl_sources.specs.declared.options.Judge.TheVariants.{Rust, Syn}
 use Rattle.rl_sources.specs.declared.options.Options.{Options}
 use Rattle.rl_sources.specs.declared.place.Place.{Place}
+use Rattle.rl_sources.specs.Held.{IsCutAt}
 use Rattle.rl_sources.specs.Places.{line_front, HoldsPlaces, IsPlaceIn}
 use Rattle.rl_sources.specs.Scans.{FindsFlaw, IsFlawLine, IsFlawPiece, IsSlice, error_words}
 use Rattle.rl_sources.specs.Steps.{BeginsRest, HasPlace}
@@ -93,43 +94,61 @@ has_place Rust text flaw (inl e) = place_in_file text flaw e
 has_place Rust text flaw (inr (token, e)) = explained_place text flaw e
 has_place Syn text flaw e = explained_place text flaw e
 
--- The place of a flaw of the token's text is one of the rest.
-pub record StandsWithin (rest : List ℕ) (lo hi size : ℕ) : Type 0 where
+-- Where the token's text is cut, the rest is.
+pub record IsCutWithin (rest : List ℕ) (lo size : ℕ) : Type 0 where
   pub following : IsTail rest (drop lo rest)
   pub boundary : IsCharBoundary rest lo
   pub left : lo + length (drop lo rest) ≡ length rest
-  pub ordered : lo ≤ hi
-  pub within : hi ≤ size
+  pub within : lo ≤ size
 
-pub flaw_within : (token : SourceToken) (text rest : List ℕ) (flaw : Flaw) → BeginsRest token text rest
-    → HasPlace (chars token.text.now) flaw → StandsWithin rest flaw.lo flaw.hi (byte_len (chars token.text.now))
-flaw_within token text rest flaw begins stops =
-    let inside = stops.rest in
+pub cut_within : (token : SourceToken) (text rest : List ℕ) (lo : ℕ) → BeginsRest token text rest
+    → IsCutAt (chars token.text.now) lo → IsCutWithin rest lo (byte_len (chars token.text.now))
+cut_within token text rest lo begins at =
+    let front = at.front in
+    let inside = at.back in
     let back = inside ++ begins.after in
     let u : IsUtf8 rest = begins.cursor.following.is_text in
-    let cut : chars rest ≡ stops.front ++ back = begins.begins ∙ ap (λ z. z ++ begins.after) stops.text_is
-    ∙ append_assoc stops.front inside begins.after in
-    let bytes : rest ≡ encode_utf8_all stops.front ++ encode_utf8_all back = sym (encodes-chars rest u)
-    ∙ ap encode_utf8_all cut ∙ encodes-append stops.front back in
-    let is_text : IsUtf8 (encode_utf8_all back) = back_utf8 stops.front back
+    let cut : chars rest ≡ front ++ back = begins.begins ∙ ap (λ z. z ++ begins.after) at.text_is
+    ∙ append_assoc front inside begins.after in
+    let bytes : rest ≡ encode_utf8_all front ++ encode_utf8_all back = sym (encodes-chars rest u)
+    ∙ ap encode_utf8_all cut ∙ encodes-append front back in
+    let is_text : IsUtf8 (encode_utf8_all back) = back_utf8 front back
     (subst IsUtf8 (sym (encodes-chars rest u) ∙ ap encode_utf8_all cut) u) in
-    let dropped : drop flaw.lo rest ≡ encode_utf8_all back = ap (λ n. drop n rest) stops.lo_is
-    ∙ ap (drop (byte_len stops.front)) bytes ∙ drop-append_seam (encode_utf8_all stops.front) (encode_utf8_all back)
+    let dropped : drop lo rest ≡ encode_utf8_all back = ap (λ n. drop n rest) at.at_is
+    ∙ ap (drop (byte_len front)) bytes ∙ drop-append_seam (encode_utf8_all front) (encode_utf8_all back)
     in
-    let is_rest : IsUtf8 (drop flaw.lo rest) = subst IsUtf8 (sym dropped) is_text in
-    let long : length rest ≡ byte_len stops.front + byte_len back = ap length bytes
-    ∙ length-append (encode_utf8_all stops.front) (encode_utf8_all back) in
+    let is_rest : IsUtf8 (drop lo rest) = subst IsUtf8 (sym dropped) is_text in
+    let long : length rest ≡ byte_len front + byte_len back = ap length bytes
+    ∙ length-append (encode_utf8_all front) (encode_utf8_all back) in
+    let whole : byte_len (chars token.text.now) ≡ byte_len front + byte_len inside = ap byte_len at.text_is
+    ∙ byte_len-append front inside in
     record {
       following = record {
-        front = encode_utf8_all stops.front;
-        text_is = bytes ∙ ap (λ z. encode_utf8_all stops.front ++ z) (sym dropped);
+        front = encode_utf8_all front;
+        text_is = bytes ∙ ap (λ z. encode_utf8_all front ++ z) (sym dropped);
         is_text = is_rest;
       };
-      boundary = IsCharBoundary-from_drop rest flaw.lo (omega (arith, stops.lo_is, long)) is_rest;
-      left = omega (arith, stops.lo_is, long, ap length dropped);
-      ordered = stops.ordered;
-      within = stops.within;
+      boundary = IsCharBoundary-from_drop rest lo (omega (arith, at.at_is, long)) is_rest;
+      left = omega (arith, at.at_is, long, ap length dropped);
+      within = omega (arith, at.at_is, whole);
     }
+
+pub cut_fits : (token : SourceToken) (text rest : List ℕ) (lo : ℕ) → BeginsRest token text rest
+    → IsCutAt (chars token.text.now) lo → token.lo + lo ≤ token.hi
+cut_fits token text rest lo begins at = omega (arith, (cut_within token text rest lo begins at).within, begins.hi_is)
+
+pub cut_rest : (token : SourceToken) (text rest inside : List ℕ) (lo : ℕ) → BeginsRest token text rest
+    → IsCutAt (chars token.text.now) lo → inside ≡ drop lo rest → IsCursorState text inside
+cut_rest token text rest inside lo begins at is =
+    subst (IsCursorState text) (sym is) (record {
+      is_text = begins.cursor.is_text;
+      following = tail_step text rest (drop lo rest) begins.cursor.following (cut_within token text rest lo begins
+          at).following;
+    })
+
+-- the text is cut where a flaw stands
+pub flaw_cut : (text : List ℕ) (flaw : Flaw) → HasPlace text flaw → IsCutAt text flaw.lo
+flaw_cut text flaw place = record { front = place.front; back = place.rest; text_is = place.text_is; at_is = place.lo_is }
 
 -- ---- the line
 
@@ -275,18 +294,10 @@ flaw_shown options whole text lo flaw place piece old a new explains is_place is
 
 pub flaw_fits : (token : SourceToken) (text rest : List ℕ) (flaw : Flaw) → BeginsRest token text rest
     → HasPlace (chars token.text.now) flaw → (token.lo + flaw.lo ≤ token.hi) × (token.lo + flaw.hi ≤ token.hi)
-flaw_fits token text rest flaw begins explains =
-    let within = flaw_within token text rest flaw begins explains in
-    (omega (arith, within.ordered, within.within, begins.hi_is), omega (arith, within.within, begins.hi_is))
-
-pub flaw_rest : (token : SourceToken) (text rest inside : List ℕ) (flaw : Flaw) → BeginsRest token text rest
-    → HasPlace (chars token.text.now) flaw → inside ≡ drop flaw.lo rest → IsCursorState text inside
-flaw_rest token text rest inside flaw begins explains is =
-    let within = flaw_within token text rest flaw begins explains in
-    subst (IsCursorState text) (sym is) (record {
-      is_text = begins.cursor.is_text;
-      following = tail_step text rest (drop flaw.lo rest) begins.cursor.following within.following;
-    })
+flaw_fits token text rest flaw begins place = (
+  cut_fits token text rest flaw.lo begins (flaw_cut (chars token.text.now) flaw place),
+  omega (arith, place.within, begins.hi_is),
+)
 
 -- ---- the piece
 

@@ -26,7 +26,8 @@ use Rattle.rl_sources.specs.declared.place.Place.{Place}
 use Rattle.rl_sources.specs.declared.place.Place.TheVariants.{Bytes, Line}
 use Rattle.rl_sources.specs.Options.{Picks}
 use Rattle.rl_sources.specs.Places.{line_front, place_text, IsPlaceIn}
-use Rattle.rl_sources.specs.Scans.{FindsFlaw, FindsNoFlaw, IsBad, IsPlacedLine, IsFlawLine, IsLineIn, IsShownLiteral}
+use Rattle.rl_sources.specs.Held.{Holds}
+use Rattle.rl_sources.specs.Scans.{FindsFlaw, FindsNoFlaw, IsBad, IsPlacedLine, IsFlawLine, IsHeldLine, IsLineIn, IsPickedLine, IsShownLiteral}
 use Rattle.rl_sources.specs.Steps.{IsTextLine, LooksForFlaws}
 
 -- ---- places are ASCII
@@ -189,6 +190,11 @@ picks_bad options text label flaw r b is found none picks = go options.shown ref
         let both = bad flaw is found none (inr e) in
         (λ t. both.0 (p.0 t), λ t. p.1 (both.1 t))
 
+-- nothing of a literal whose contents don't hold what is looked for
+pub not_held : (sought : List ℕ) (options : Options) (whole text : List ℕ) (lo : ℕ) (old : List ℕ)
+    → (Holds sought text → ⊥) → Appends (IsHeldLine sought options whole text lo) old old
+not_held sought options whole text lo old none = ([], inr (none, refl), sym (append-nil old))
+
 -- the word of a text's line, by what was found
 pub found_label : (text label : List ℕ) (kind : Option Kind) (found : Option Found)
     → IfNone found (HasNoReading (chars text)) → IfSome found (IsFound text)
@@ -203,7 +209,7 @@ found_label text label kind None none is k e = (None, none, e ∙ ap label_of k)
 -- the line of a text that is picked
 pub picked_line : (options : Options) (whole text label : List ℕ) (lo hi : ℕ) (old new : List ℕ)
     → IsLabelOf text label → Picks options.shown label (IsBad options.judge text)
-    → Appends (IsLineIn options whole text lo hi) old new
+    → Appends (IsPickedLine options.finds options whole text lo hi) old new
     → Appends (IsShownLiteral options whole text lo hi) old new
 picked_line options whole text label lo hi old new is_label picked (shown, is, e) =
     (shown, (label, is_label, inl (picked, is)), e)

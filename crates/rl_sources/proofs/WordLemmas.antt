@@ -4,7 +4,7 @@ use Rattle.std.specs.Prelude.{String}
 use Rattle.rl_sources.specs.declared.words.Next.{Next}
 use Rattle.rl_sources.specs.declared.words.Next.TheVariants as next
 use Rattle.rl_sources.specs.declared.words.WordError.{WordError}
-use Rattle.rl_sources.specs.declared.words.WordError.TheVariants.{Memory, UnknownOption, UnknownKind, NoKinds, TwoChoices, LenientAlone}
+use Rattle.rl_sources.specs.declared.words.WordError.TheVariants.{Memory, UnknownOption, UnknownKind, NoKinds, TwoChoices, LenientAlone, NoText, EmptyText, BadAndFind}
 use Rattle.rl_sources.specs.Endings.{AskForWishes, CannotAsk}
 use Rattle.rl_sources.specs.Words.{Wishes, first_wishes, IsStep, AreSteps, Asks, IsRejectedWord, AreRejected}
 
@@ -99,8 +99,31 @@ word_rejected bytes words i item word between middle TwoChoices within is word_i
   steps,
   rejected,
 )
+word_rejected bytes words i item word between middle EmptyText within is word_is steps rejected = (
+  map bytes (take i words),
+  map bytes (drop (i + 1) words),
+  word,
+  between,
+  middle,
+  around bytes words i item word
+      within is word_is,
+  steps,
+  rejected,
+)
+word_rejected bytes words i item word between middle BadAndFind within is word_is steps rejected = (
+  map bytes (take i words),
+  map bytes (drop (i + 1) words),
+  word,
+  between,
+  middle,
+  around bytes words i item word
+      within is word_is,
+  steps,
+  rejected,
+)
 word_rejected bytes words i item word between middle NoKinds within is word_is steps rejected = absurd rejected
 word_rejected bytes words i item word between middle LenientAlone within is word_is steps rejected = absurd rejected
+word_rejected bytes words i item word between middle NoText within is word_is steps rejected = absurd rejected
 
 -- all words were taken
 pub all_taken : {S : Type 0} (bytes : S → List ℕ) (words : List S) (i : ℕ) (then : Next) (new : Wishes)

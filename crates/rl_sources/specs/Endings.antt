@@ -13,7 +13,7 @@ use Rattle.rl_sources.specs.declared.runs.Tally.{Tally}
 use Rattle.rl_sources.specs.declared.words.WordError.{WordError}
 use Rattle.rl_sources.specs.declared.ending.CallError.{CallError}
 use Rattle.rl_sources.specs.declared.ending.CallError.TheVariants.{NoArguments, Word, Walk, Write}
-use Rattle.rl_sources.specs.Runs.{Streams, WritesWalk, WritesFront, run_status}
+use Rattle.rl_sources.specs.Runs.{Streams, WritesWalk, WritesFront, asked_status}
 use Rattle.rl_sources.specs.Words.{Wishes, wishes_of, Asks, AreRejected, word_message}
 
 -- the line of an error
@@ -46,7 +46,7 @@ WritesNothing streams = Keeps streams.out_old streams.out_new × Keeps streams.e
 abbrev pub RunsWith : Command → Option World → List Spot → Streams → ℕ → Type 0
 RunsWith command holds spots streams status =
     (tally : Tally) × IfSome holds (λ w. WritesWalk command w spots streams tally)
-    × (run_status command.shown tally ≡ status)
+    × (asked_status command.finds command.shown tally ≡ status)
 
 -- the call ends so where a write failed
 abbrev pub IsUnwritten : {B : Type 0} → Ending (CallError B) → Type 0

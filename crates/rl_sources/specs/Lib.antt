@@ -7,3 +7,4 @@ pub mod Reports
 pub mod Runs
 pub mod Words
 pub mod Endings
+pub mod Held

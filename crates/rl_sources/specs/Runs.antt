@@ -1,5 +1,6 @@
 -- What a run over a walk writes, and the status that it ends with.
-use Rattle.std.specs.Prelude.{◌≡◌, ◌⊎◌, ℕ, ◌==◌, Bool, true, false, cond, not, ◌&&◌, List, length, ◌++◌, Option}
+use Rattle.std.specs.Prelude.{◌≡◌, ◌⊎◌, ℕ, ◌==◌, Bool, true, false, cond, not, ◌&&◌, List, length, ◌++◌, Option, Some, None}
+use denote.Ref.{Bor}
 use Rattle.std.specs.Io.KnownBytes.{Appends, Keeps}
 use Rattle.rl_files.specs.Trees.{World}
 use Rattle.rl_files.specs.Walks.{Spot, Visited, Visits}
@@ -57,3 +58,13 @@ WritesFront command w spots streams =
 -- found; else 0.
 abbrev pub run_status : Shown → Tally → ℕ
 run_status shown tally = cond tally.failed 2 (cond (is_bad shown && tally.found) 1 0)
+
+-- The status of a run that looked for a text: 2 where an error was told; else 0 where the text was
+-- found, else 1.
+abbrev pub find_status : Tally → ℕ
+find_status tally = cond tally.failed 2 (cond tally.found 0 1)
+
+-- the status of a run, by whether a text was looked for, and what was wanted
+abbrev pub asked_status : Option (Bor (List ℕ)) → Shown → Tally → ℕ
+asked_status None shown tally = run_status shown tally
+asked_status (Some sought) shown tally = find_status tally

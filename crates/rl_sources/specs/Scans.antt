@@ -1,7 +1,8 @@
 -- What is shown of a source: a line for each of its literals, after its place, or where it is asked
 -- for one that says why it is bad. Texts and what is shown are lists of characters, what
 -- is written lists of bytes.
-use Rattle.std.specs.Prelude.{◌≡◌, ◌≢◌, ◌⊎◌, ◌↔◌, ℕ, ◌+◌, ◌-◌, ◌≤◌, Bool, List, [], ◌∷◌, ◌++◌, IsTrue, take, drop, codes, encode_utf8_all, Option}
+use Rattle.std.specs.Prelude.{◌≡◌, ◌≢◌, ◌⊎◌, ◌↔◌, ℕ, ◌+◌, ◌-◌, ◌≤◌, Bool, List, [], ◌∷◌, ◌++◌, IsTrue, take, drop, codes, encode_utf8_all, Option, Some, None}
+use denote.Ref.{Bor}
 use Rattle.std.specs.List.{All}
 use Rattle.std.specs.Str.{IsCharBoundary}
 use Rattle.std.specs.Io.KnownBytes.{Appends}
@@ -26,6 +27,7 @@ use Rattle.rl_sources.specs.declared.options.Options.{Options}
 use Rattle.rl_sources.specs.declared.place.Place.{Place}
 use Rattle.rl_sources.specs.declared.scan_error.ScanError.{ScanError}
 use Rattle.rl_sources.specs.declared.scan_error.ScanError.TheVariants.{Fault, Source}
+use Rattle.rl_sources.specs.Held.{Holds, IsHeldAt}
 use Rattle.rl_sources.specs.Options.{Picks}
 use Rattle.rl_sources.specs.Places.{line_front, IsPlaceIn}
 
@@ -82,11 +84,26 @@ IsLineIn options whole text lo hi shown =
     (IsTrue options.explains × IsFlawLine options whole text lo shown)
     ⊎ ((IsTrue options.explains → FindsNoFlaw options.judge text) × IsPlacedLine options whole text lo hi shown)
 
--- what is shown of a literal: its line, where it is picked, else nothing
+-- what is shown where this is looked for: where the contents of the literal hold it, the literal's
+-- line, at the place of what gives it where it stands first; else nothing
+abbrev pub IsHeldLine : List ℕ → Options → List ℕ → List ℕ → ℕ → List ℕ → Type 0
+IsHeldLine sought options whole text lo shown =
+    ((first : ℕ) × (last : ℕ) × IsHeldAt sought text first last
+    × IsPlacedLine options whole text (lo + first) (lo + last) shown)
+    ⊎ ((Holds sought text → ⊥) × (shown ≡ []))
+
+-- what is shown of a literal that is picked
+abbrev pub IsPickedLine : Option (Bor (List ℕ)) → Options → List ℕ → List ℕ → ℕ → ℕ → List ℕ → Type 0
+IsPickedLine None options whole text lo hi shown = IsLineIn options whole text lo hi shown
+IsPickedLine (Some sought) options whole text lo hi shown =
+    IsHeldLine sought.now options whole text lo shown
+
+-- what is shown of a literal: where it is picked, what is shown of it then, else nothing
 abbrev pub IsShownLiteral : Options → List ℕ → List ℕ → ℕ → ℕ → List ℕ → Type 0
 IsShownLiteral options whole text lo hi shown =
     (label : List ℕ) × IsLabelOf text label
-    × ((Picks options.shown label (IsBad options.judge text) × IsLineIn options whole text lo hi shown)
+    × ((Picks options.shown label (IsBad options.judge text)
+    × IsPickedLine options.finds options whole text lo hi shown)
     ⊎ ((Picks options.shown label (IsBad options.judge text) → ⊥) × (shown ≡ [])))
 
 -- what is shown of a token: of a literal, and of the words `true` and `false`, what is shown of

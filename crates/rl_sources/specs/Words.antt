@@ -1,5 +1,6 @@
 -- What the words of a command line ask for. Words are lists of bytes.
-use Rattle.std.specs.Prelude.{◌≡◌, ◌≢◌, ◌⊎◌, ℕ, ◌==◌, Bool, true, false, not, ◌||◌, List, [], ◌∷◌, ◌++◌, map, codes, string_bytes, ⊤}
+use Rattle.std.specs.Prelude.{◌≡◌, ◌≢◌, ◌⊎◌, ℕ, ◌==◌, Bool, true, false, not, ◌||◌, List, [], ◌∷◌, ◌++◌, map, codes, string_bytes, ⊤, Option, Some, None}
+use denote.Ref.{Bor}
 use Rattle.std.specs.List.{All, starts_with}
 use Rattle.std.specs.Str.{chars, bytes_eq}
 use Rattle.rl_files.specs.Trees.{string_texts}
@@ -16,12 +17,12 @@ use Rattle.rl_sources.specs.declared.options.Judge.TheVariants as judge
 use Rattle.rl_sources.specs.declared.options.Shown.{Shown}
 use Rattle.rl_sources.specs.declared.options.Shown.TheVariants as shown
 use Rattle.rl_sources.specs.declared.words.Flag.{Flag}
-use Rattle.rl_sources.specs.declared.words.Flag.TheVariants.{Bad, Lenient, Only, Bytes, Lines, NoStray, Count, Files, Quiet, Help, Version, Paths}
+use Rattle.rl_sources.specs.declared.words.Flag.TheVariants.{Bad, Lenient, Only, Find, Bytes, Lines, NoStray, Count, Files, Quiet, Help, Version, Paths}
 use Rattle.rl_sources.specs.declared.words.Next.{Next}
 use Rattle.rl_sources.specs.declared.words.Next.TheVariants as next
 use Rattle.rl_sources.specs.declared.words.Asked.{Asked}
 use Rattle.rl_sources.specs.declared.words.WordError.{WordError}
-use Rattle.rl_sources.specs.declared.words.WordError.TheVariants.{Memory, UnknownOption, UnknownKind, NoKinds, TwoChoices, LenientAlone}
+use Rattle.rl_sources.specs.declared.words.WordError.TheVariants.{Memory, UnknownOption, UnknownKind, NoKinds, TwoChoices, LenientAlone, NoText, EmptyText, BadAndFind}
 use Rattle.rl_sources.specs.Options.{Names, words_of}
 
 -- the words of an option
@@ -29,6 +30,7 @@ abbrev pub IsOptionWord : Flag → List ℕ → Type 0
 IsOptionWord Bad word = (word ≡ codes "-b") ⊎ (word ≡ codes "--bad")
 IsOptionWord Lenient word = word ≡ codes "--lenient"
 IsOptionWord Only word = (word ≡ codes "-k") ⊎ (word ≡ codes "--only")
+IsOptionWord Find word = (word ≡ codes "-f") ⊎ (word ≡ codes "--find")
 IsOptionWord Bytes word = (word ≡ codes "-o") ⊎ (word ≡ codes "--bytes")
 IsOptionWord Lines word = word ≡ codes "--lines"
 IsOptionWord NoStray word = word ≡ codes "--no-stray"
@@ -66,10 +68,16 @@ wanted_of shown.All = AllWanted
 wanted_of (shown.Only list) = OnlyWanted list.now
 wanted_of shown.Bad = BadWanted
 
+-- the text that is looked for, where there is one
+abbrev pub sought_of : Option (Bor (List ℕ)) → Option (List ℕ)
+sought_of None = None
+sought_of (Some text) = Some text.now
+
 -- what a command line asks for
 pub record Wishes : Type 0 where
   pub wish : Wish
   pub wanted : Wanted
+  pub finds : Option (List ℕ)
   pub places : PlaceForm
   pub output : Output
   pub rejects_strays : Bool
@@ -81,6 +89,7 @@ abbrev pub first_wishes : Wishes
 first_wishes = record {
   wish = wish.Scan;
   wanted = AllWanted;
+  finds = None;
   places = form.Usual;
   output = output.Lines;
   rejects_strays = false;
@@ -93,6 +102,7 @@ abbrev pub wishes_of : Command → List (List ℕ) → Wishes
 wishes_of command paths = record {
   wish = command.wish;
   wanted = wanted_of command.shown;
+  finds = sought_of command.finds;
   places = command.places;
   output = command.output;
   rejects_strays = command.rejects_strays;
@@ -109,10 +119,17 @@ IsAllowed Bad w = w.wanted ≡ AllWanted
 IsAllowed Only w = w.wanted ≡ AllWanted
 IsAllowed _ w = ⊤
 
+-- one text at most is looked for, and none where what is bad is wanted
+abbrev pub GoesWithFind : Flag → Wishes → Type 0
+GoesWithFind Bad w = w.finds ≡ None
+GoesWithFind Find w = (w.finds ≡ None) × (w.wanted ≢ BadWanted)
+GoesWithFind _ w = ⊤
+
 abbrev pub with_flag : Flag → Wishes → Wishes
 with_flag Bad w = record w { wanted = BadWanted }
 with_flag Lenient w = record w { judge = judge.Syn }
 with_flag Only w = w
+with_flag Find w = w
 with_flag Bytes w = record w { places = form.Bytes }
 with_flag Lines w = record w { places = form.Lines }
 with_flag NoStray w = record w { rejects_strays = true }
@@ -123,9 +140,10 @@ with_flag Help w = record w { wish = wish.Help }
 with_flag Version w = record w { wish = wish.Version }
 with_flag Paths w = w
 
--- after `--only` stands a list of kinds, after `--` stand paths
+-- after `--only` stands a list of kinds, after `--find` a text, after `--` stand paths
 abbrev pub next_after : Flag → Next
 next_after Only = next.Kinds
+next_after Find = next.Text
 next_after Paths = next.Path
 next_after _ = next.Any
 
@@ -137,11 +155,12 @@ with_path path w = record w { paths = w.paths ++ path ∷ [] }
 abbrev pub IsStep : Next → Wishes → List ℕ → Next → Wishes → Type 0
 IsStep next.Kinds old word then new =
     AreKindWords word × (then ≡ next.Any) × (new ≡ record old { wanted = OnlyWanted word })
+IsStep next.Text old word then new = (word ≢ []) × (then ≡ next.Any) × (new ≡ record old { finds = Some word })
 IsStep next.Path old word then new = (then ≡ next.Path) × (new ≡ with_path word old)
 IsStep next.Any old word then new =
     ((is_path_word word ≡ true) × (then ≡ next.Any) × (new ≡ with_path word old))
     ⊎ ((is_path_word word ≡ false) × ((flag : Flag) × IsOptionWord flag word × IsAllowed flag old
-    × (then ≡ next_after flag) × (new ≡ with_flag flag old)))
+    × GoesWithFind flag old × (then ≡ next_after flag) × (new ≡ with_flag flag old)))
 
 abbrev pub AreSteps : Next → Wishes → List (List ℕ) → Next → Wishes → Type 0
 AreSteps first old [] then new = (then ≡ first) × (new ≡ old)
@@ -157,7 +176,7 @@ IsLenientAlone w = (w.judge ≡ judge.Syn) × (w.wanted ≢ BadWanted)
 abbrev pub Asks : List (List ℕ) → Wishes → Type 0
 Asks words wishes =
     (then : Next) × AreSteps next.Any first_wishes words then wishes × (then ≢ next.Kinds)
-    × (IsLenientAlone wishes → ⊥)
+    × (then ≢ next.Text) × (IsLenientAlone wishes → ⊥)
 
 -- what is wrong
 abbrev pub word_message : {A : Type 0} → WordError A → List ℕ
@@ -170,6 +189,9 @@ word_message (UnknownKind word) =
 word_message NoKinds = codes "--only: which kinds? as in --only Str,ByteStr"
 word_message TwoChoices = codes "--bad and --only: one of them, once"
 word_message LenientAlone = codes "--lenient: only with --bad"
+word_message NoText = codes "--find: which text? as in --find TODO"
+word_message EmptyText = codes "--find: an empty text stands everywhere"
+word_message BadAndFind = codes "--bad and --find: one of them, once"
 
 -- why this word can't be asked for, where such a word may stand
 abbrev pub IsRejectedWord : {A : Type 0} → Next → Wishes → List ℕ → WordError A → Type 0
@@ -180,16 +202,21 @@ IsRejectedWord first old word (UnknownOption said) =
 IsRejectedWord first old word (UnknownKind said) = (first ≡ next.Kinds) × (AreKindWords word → ⊥)
 IsRejectedWord first old word TwoChoices =
     (first ≡ next.Any) × ((flag : Flag) × IsOptionWord flag word × (IsAllowed flag old → ⊥))
+IsRejectedWord first old word EmptyText = (first ≡ next.Text) × (word ≡ [])
+IsRejectedWord first old word BadAndFind =
+    (first ≡ next.Any) × ((flag : Flag) × IsOptionWord flag word × (GoesWithFind flag old → ⊥))
 IsRejectedWord first old word NoKinds = ⊥
+IsRejectedWord first old word NoText = ⊥
 IsRejectedWord first old word LenientAlone = ⊥
 
--- The words ask for something up to one that can't be asked for; or at their end a list of kinds is
--- missing, or what the lenient judge is to judge.
+-- The words ask for something up to one that can't be asked for; or at their end a list of kinds or a
+-- text is missing, or what the lenient judge is to judge.
 abbrev pub AreRejected : {A : Type 0} → List (List ℕ) → WordError A → Type 0
 AreRejected words NoKinds = (old : Wishes) × AreSteps next.Any first_wishes words next.Kinds old
+AreRejected words NoText = (old : Wishes) × AreSteps next.Any first_wishes words next.Text old
 AreRejected words LenientAlone =
     (then : Next) × (old : Wishes) × AreSteps next.Any first_wishes words then old × (then ≢ next.Kinds)
-    × IsLenientAlone old
+    × (then ≢ next.Text) × IsLenientAlone old
 AreRejected words error =
     (before after : List (List ℕ)) × (word : List ℕ) × (first : Next) × (old : Wishes)
     × (words ≡ before ++ word ∷ after) × AreSteps next.Any first_wishes before first old

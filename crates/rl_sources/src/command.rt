@@ -44,6 +44,8 @@ pub struct Command<'a> {
     pub wish: Wish,
     /// Which literals are shown.
     pub shown: Shown<'a>,
+    /// The text that their contents have to hold, where one is looked for.
+    pub finds: Option<&'a str>,
     /// How their places are printed.
     pub places: PlaceForm,
     /// What is printed of their lines.

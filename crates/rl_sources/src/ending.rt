@@ -4,10 +4,11 @@ ghost use Rattle.std.specs.Prelude.{◌≡◌, List, ℕ, IfOk, IfSome, string_b
 ghost use Rattle.rl_files.specs.Trees.{string_texts};
 ghost use Rattle.rl_files.specs.Walks.{Spot, given_spots};
 ghost use Rattle.rl_sources.specs.Endings.{paths_read, EndsAsScan, EndsAsked, EndsRun, EndsText, IsUnwritten};
+ghost use Rattle.rl_sources.specs.Runs.{asked_status};
 ghost use Rattle.rl_sources.specs.Words.{wishes_in};
 
 use crate::command::{Command, Wish};
-use crate::runs::{RunStop, run};
+use crate::runs::{RunStop, Tally, run};
 use crate::words::{Asked, WordError, asked_by};
 use rl_files::{Tree, Walk, WalkError};
 use rl_program::{Ending, RunError, WriteError, write_bytes};
@@ -25,6 +26,7 @@ What is printed (every literal, if nothing is said)
   -b, --bad            what Rust rejects: bad literals, quotes and comments left open, and why
       --lenient        with --bad: what `syn` rejects too
   -k, --only KIND,..   Str ByteStr CStr Byte Char Int Float Bool Verbatim, in any case
+  -f, --find TEXT      what holds TEXT in its contents, however it is written, at the place where TEXT begins
       --no-stray       a character that begins no token is an error
 How
                        PATH:LINE:COLUMN: KIND VALUE SUFFIX      PATH:LINE:COLUMN: error: REASON: PIECE
@@ -34,7 +36,7 @@ How
   -c, --count          how many lines a file has      -l, --files   its path      -q, --quiet   nothing
       --               what follows is a PATH
   -h, --help           -V, --version
-Status: 0 all was read; 1 --bad found something; 2 wrong arguments, or a file that can't be read to its end: each has
+Status: 0 all was read; 1 --bad found something, or --find nothing; 2 wrong arguments, or a file that can't be read to its end: each has
 a line on standard error, and the others are still read
 ";
 
@@ -115,6 +117,16 @@ fn walk_of<A: Allocator + Copy>(
     Walk::of_paths(alloc, paths)
 }
 
+/// The status that a run ends with which found this.
+fn status_of(command: Command<'_>, tally: Tally) -> u8
+    ensures { result ≡ asked_status command.entry.finds command.entry.shown tally }
+{
+    match command.finds {
+        None => tally.status(command.shown),
+        Some(_) => tally.find_status(),
+    }
+}
+
 /// Scans the files of a walk.
 fn scan_walk<A: Allocator + Copy, T: Tree, W: Write, E: Write>(
     alloc: A,
@@ -132,7 +144,7 @@ fn scan_walk<A: Allocator + Copy, T: Tree, W: Write, E: Write>(
     }) result }
 {
     match run(alloc, command, tree, walk, out, err) {
-        Ok(tally) => match tally.status(command.shown) {
+        Ok(tally) => match status_of(command, tally) {
             0 => Ending::Done,
             1 => Ending::FoundBad,
             _ => Ending::Reported,

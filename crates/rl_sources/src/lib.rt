@@ -4,6 +4,7 @@
 
 mod command;
 mod ending;
+mod held;
 mod judge;
 mod options;
 mod place;

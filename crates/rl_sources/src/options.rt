@@ -28,6 +28,8 @@ pub enum Shown<'a> {
 pub struct Options<'a> {
     /// Which literals are shown.
     pub shown: Shown<'a>,
+    /// A text that is looked for: only literals are shown whose contents hold it, at the place where it begins there.
+    pub finds: Option<&'a str>,
     /// Whether places are printed as lines and columns, and not as bytes.
     pub by_line: bool,
     /// Whether a stray character is an error, as it is in Rust.

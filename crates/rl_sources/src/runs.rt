@@ -2,7 +2,7 @@
 
 ghost use Rattle.std.specs.Prelude.{◌≡◌, ◌||◌, IfOk, OnErr, IfSome};
 ghost use Rattle.rl_files.specs.Walks.{visited};
-ghost use Rattle.rl_sources.specs.Runs.{WritesReport, WritesSome, WritesWalk, WritesFront, run_status};
+ghost use Rattle.rl_sources.specs.Runs.{WritesReport, WritesSome, WritesWalk, WritesFront, find_status, run_status};
 
 use crate::command::Command;
 use crate::options::Shown;
@@ -54,6 +54,18 @@ impl Tally {
             return 1;
         }
         0
+    }
+
+    /// The status that a run ends with which looked for a text and found this: 2 where an error was reported; else 0 where
+    /// the text was found, else 1.
+    pub fn find_status(self) -> u8
+        ensures { result ≡ find_status self }
+    {
+        match (self.failed, self.found) {
+            (true, _) => 2,
+            (false, true) => 0,
+            (false, false) => 1,
+        }
     }
 }
 

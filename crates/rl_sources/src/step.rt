@@ -1,21 +1,25 @@
 //! What is shown of the tokens of a source, one after another.
 
-ghost use Rattle.std.specs.Prelude.{◌≡◌, ◌+◌, ◌<◌, [], length, Some, None, IfSome, IfNone, IfOk, IfErr, OnOk, MatchOption, string_bytes};
+ghost use Rattle.std.specs.Prelude.{◌≡◌, ◌+◌, ◌<◌, ◌≤◌, [], length, Some, None, IfSome, IfNone, IfOk, IfErr, OnOk, MatchOption, string_bytes};
 ghost use Rattle.std.specs.Str.{chars};
+ghost use Rattle.rl_text.specs.Texts.{byte_len};
 ghost use Rattle.rl_forms.specs.Reading.{HasNoReading};
 ghost use Rattle.rl_lexer.specs.Cursors.{IsCursorState};
 ghost use Rattle.rl_lexer.specs.Sources.{TakesSource};
 ghost use Rattle.rl_reading.specs.Founds.{IsFound};
 ghost use Rattle.rl_lines.specs.Lines.{Appends};
-ghost use Rattle.rl_sources.specs.Scans.{IsPlacedLine, IsShownLiteral, IsErrorAt};
-ghost use Rattle.rl_sources.specs.Steps.{IsTextLine, IsAcceptedToken, BeginsRest, IsCursorOver, TakesShown, EndsUnshown, StopsUnshown, IsStepOf};
+ghost use Rattle.rl_sources.specs.Held.{IsCutAt};
+ghost use Rattle.rl_sources.specs.Places.{IsPlaceIn};
+ghost use Rattle.rl_sources.specs.Scans.{FindsFlaw, FindsNoFlaw, IsHeldLine, IsLineIn, IsPickedLine, IsPlacedLine, IsShownLiteral, IsErrorAt};
+ghost use Rattle.rl_sources.specs.Steps.{IsTextLine, IsAcceptedToken, BeginsRest, IsCursorOver, LooksForFlaws, TakesShown, EndsUnshown, StopsUnshown, IsStepOf};
 
+use crate::held::held_at;
 use crate::judge::{flaw_of, reason_of};
 use crate::options::Options;
 use crate::place::{Place, Places, place_of, push_front};
 use crate::reason::push_flaw;
 use rl_files::make_visible;
-use rl_grammar::{Found, Kind, find};
+use rl_grammar::{Flaw, Found, Kind, find};
 use rl_lines::{label_of, push_found};
 use rl_tokens::{LexError, LexKind, SourceForm, SourceToken, Sources};
 use std::alloc::{AllocError, Allocator};
@@ -74,8 +78,113 @@ fn push_placed<'t, A: Allocator + Copy>(
     push_text_line(alloc, out, token.text, found)
 }
 
-/// Appends what is shown of a literal, where it is picked: its line, or where it is asked for and it is bad, the line that
-/// says why.
+/// Appends the line of a literal: its own, or where lines tell flaws and it has one, the line that says why it is bad.
+fn push_line_in<'t, A: Allocator + Copy>(
+    alloc: A,
+    out: &mut String<A>,
+    options: Options<'_>,
+    token: SourceToken<'t>,
+    found: Option<Found>,
+    flaw: Option<Flaw>,
+    rest: &'t str,
+    places: &mut Places<'t>,
+) -> Result<(), AllocError>
+    requires rest { BeginsRest token places.old rest.now }
+    requires none { IfNone found (HasNoReading (chars token.text.now)) }
+    requires found { IfSome found (IsFound token.text.now) }
+    requires flaw { IfSome flaw (FindsFlaw options.judge (chars token.text.now)) }
+    requires no_flaw { IfNone flaw (LooksForFlaws options → FindsNoFlaw options.judge (chars token.text.now)) }
+    ensures shown { OnOk result (Appends
+        (IsLineIn options.entry (chars places.old) (chars token.entry.text.now)
+        token.entry.lo token.entry.hi)
+        (chars (string_bytes out.old)) (chars (string_bytes out.new))) }
+    ensures same { places.new ≡ places.old }
+{
+    match reason_of(options.explains, flaw) {
+        Some(flaw) => push_flaw(out, options, token, rest, places, flaw),
+        None => push_placed(alloc, out, options, token, found, rest, places),
+    }
+}
+
+/// The place in the source of bytes of the token's text, at whose first byte the rest begins.
+fn place_inside<'t>(
+    by_line: bool,
+    places: &mut Places<'t>,
+    token: SourceToken<'t>,
+    rest: &'t str,
+    first: usize,
+    last: usize,
+) -> Place
+    requires rest { BeginsRest token places.old rest.now }
+    requires cut { IsCutAt (chars token.text.now) first }
+    requires within { last ≤ byte_len (chars token.text.now) }
+    ensures place { IsPlaceIn by_line (chars places.old)
+        (token.entry.lo + first) (token.entry.lo + last) result }
+    ensures same { places.new ≡ places.old }
+{
+    let lo = token.lo + first;
+    let hi = token.lo + last;
+    let inside = &rest[first..];
+    place_of(by_line, places, inside, lo, hi)
+}
+
+/// Appends the line of a literal whose contents hold what is looked for, at the place of that.
+#[inline(never)]
+fn push_held_line<'t, A: Allocator + Copy>(
+    alloc: A,
+    out: &mut String<A>,
+    options: Options<'_>,
+    token: SourceToken<'t>,
+    found: Option<Found>,
+    rest: &'t str,
+    places: &mut Places<'t>,
+    sought: &str,
+) -> Result<(), AllocError>
+    requires rest { BeginsRest token places.old rest.now }
+    requires none { IfNone found (HasNoReading (chars token.text.now)) }
+    requires found { IfSome found (IsFound token.text.now) }
+    ensures shown { OnOk result (Appends
+        (IsHeldLine sought.now options.entry (chars places.old) (chars token.entry.text.now) token.entry.lo)
+        (chars (string_bytes out.old)) (chars (string_bytes out.new))) }
+    ensures same { places.new ≡ places.old }
+{
+    let Some((first, last)) = held_at(alloc, token.text, found, sought)? else {
+        return Ok(());
+    };
+    let place = place_inside(options.by_line, places, token, rest, first, last);
+    push_front(out, options.path, place)?;
+    push_text_line(alloc, out, token.text, found)
+}
+
+/// Appends what is shown of a literal that is picked: its line, where nothing is looked for, or its contents hold that.
+fn push_picked<'t, A: Allocator + Copy>(
+    alloc: A,
+    out: &mut String<A>,
+    options: Options<'_>,
+    token: SourceToken<'t>,
+    found: Option<Found>,
+    flaw: Option<Flaw>,
+    rest: &'t str,
+    places: &mut Places<'t>,
+) -> Result<(), AllocError>
+    requires rest { BeginsRest token places.old rest.now }
+    requires none { IfNone found (HasNoReading (chars token.text.now)) }
+    requires found { IfSome found (IsFound token.text.now) }
+    requires flaw { IfSome flaw (FindsFlaw options.judge (chars token.text.now)) }
+    requires no_flaw { IfNone flaw (LooksForFlaws options → FindsNoFlaw options.judge (chars token.text.now)) }
+    ensures shown { OnOk result (Appends
+        (IsPickedLine options.entry.finds options.entry (chars places.old) (chars token.entry.text.now)
+        token.entry.lo token.entry.hi)
+        (chars (string_bytes out.old)) (chars (string_bytes out.new))) }
+    ensures same { places.new ≡ places.old }
+{
+    match options.finds {
+        None => push_line_in(alloc, out, options, token, found, flaw, rest, places),
+        Some(sought) => push_held_line(alloc, out, options, token, found, rest, places, sought),
+    }
+}
+
+/// Appends what is shown of a literal, where it is picked.
 #[inline(never)]
 fn push_literal_token<'t, A: Allocator + Copy>(
     alloc: A,
@@ -100,10 +209,7 @@ fn push_literal_token<'t, A: Allocator + Copy>(
     {
         return Ok(());
     }
-    match reason_of(options.explains, flaw) {
-        Some(flaw) => push_flaw(out, options, token, rest, places, flaw),
-        None => push_placed(alloc, out, options, token, found, rest, places),
-    }
+    push_picked(alloc, out, options, token, found, flaw, rest, places)
 }
 
 /// Cuts off the next token: `None` at the end of the source.

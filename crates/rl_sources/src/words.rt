@@ -1,10 +1,10 @@
 //! The words of the command line.
 
-ghost use Rattle.std.specs.Prelude.{◌≡◌, ◌↔◌, ℕ, false, List, map, string_bytes, IsTrue, IfOk, IfErr, IfSome, IfNone, OnOk};
+ghost use Rattle.std.specs.Prelude.{◌≡◌, ◌↔◌, ℕ, false, List, map, string_bytes, IsTrue, IfOk, IfErr, IfSome, IfNone, MatchBool, OnOk};
 ghost use Rattle.rl_files.specs.Trees.{string_texts};
 ghost use Rattle.rl_sources.specs.declared.words.Flag.{Flag};
 ghost use Rattle.rl_sources.specs.declared.words.Next.TheVariants as next;
-ghost use Rattle.rl_sources.specs.Words.{IsOptionWord, IsKindWord, AreKindWords, is_path_word, wishes_of, wishes_in, IsAllowed, IsLenientAlone, with_flag as flagged, next_after as follows, with_path, IsStep, Asks, IsRejectedWord, AreRejected};
+ghost use Rattle.rl_sources.specs.Words.{IsOptionWord, IsKindWord, AreKindWords, is_path_word, wishes_of, wishes_in, IsAllowed, GoesWithFind, IsLenientAlone, with_flag as flagged, next_after as follows, with_path, IsStep, Asks, IsRejectedWord, AreRejected};
 
 use crate::command::{Command, Output, PlaceForm, Wish};
 use crate::options::{Judge, Shown, names};
@@ -18,6 +18,7 @@ enum Flag {
     Bad,
     Lenient,
     Only,
+    Find,
     Bytes,
     Lines,
     NoStray,
@@ -44,6 +45,12 @@ pub enum WordError<A: Allocator = Global> {
     TwoChoices,
     /// `--lenient` stands without `--bad`.
     LenientAlone,
+    /// After `--find` stands no text.
+    NoText,
+    /// After `--find` stands an empty text.
+    EmptyText,
+    /// A text is looked for twice, or in what is bad.
+    BadAndFind,
 }
 
 impl<A: Allocator> From<AllocError> for WordError<A> {
@@ -76,6 +83,9 @@ impl<A: Allocator> fmt::Display for WordError<A> {
             WordError::NoKinds => write!(f, "--only: which kinds? as in --only Str,ByteStr"),
             WordError::TwoChoices => write!(f, "--bad and --only: one of them, once"),
             WordError::LenientAlone => write!(f, "--lenient: only with --bad"),
+            WordError::NoText => write!(f, "--find: which text? as in --find TODO"),
+            WordError::EmptyText => write!(f, "--find: an empty text stands everywhere"),
+            WordError::BadAndFind => write!(f, "--bad and --find: one of them, once"),
         }
     }
 }
@@ -89,6 +99,7 @@ fn flag_of(word: &str) -> Option<Flag>
         "-b" | "--bad" => Some(Flag::Bad),
         "--lenient" => Some(Flag::Lenient),
         "-k" | "--only" => Some(Flag::Only),
+        "-f" | "--find" => Some(Flag::Find),
         "-o" | "--bytes" => Some(Flag::Bytes),
         "--lines" => Some(Flag::Lines),
         "--no-stray" => Some(Flag::NoStray),
@@ -133,6 +144,8 @@ enum Next {
     Any,
     /// A list of kinds.
     Kinds,
+    /// A text that is looked for.
+    Text,
     /// A path.
     Path,
 }
@@ -142,6 +155,13 @@ fn wants_kinds(wanted: Next) -> bool
     ensures { IsTrue result ↔ (wanted ≡ next.Kinds) }
 {
     matches!(wanted, Next::Kinds)
+}
+
+/// Whether a text has to follow.
+fn wants_text(wanted: Next) -> bool
+    ensures { IsTrue result ↔ (wanted ≡ next.Text) }
+{
+    matches!(wanted, Next::Text)
 }
 
 /// What the words so far ask for.
@@ -166,6 +186,7 @@ fn with_flag(command: Command<'_>, flag: Flag) -> Option<Command<'_>>
         (Flag::Only, Shown::All) => {}
         (Flag::Bad | Flag::Only, _) => return None,
         (Flag::Lenient, _) => next.judge = Judge::Syn,
+        (Flag::Find, _) => {}
         (Flag::Bytes, _) => next.places = PlaceForm::Bytes,
         (Flag::Lines, _) => next.places = PlaceForm::Lines,
         (Flag::NoStray, _) => next.rejects_strays = true,
@@ -179,12 +200,26 @@ fn with_flag(command: Command<'_>, flag: Flag) -> Option<Command<'_>>
     Some(next)
 }
 
+/// Whether an option goes with what is looked for: there is one text at most, and none where what is bad is wanted.
+fn goes_with_find(command: Command<'_>, flag: Flag) -> bool
+    ensures { MatchBool result
+        ((paths : List (List ℕ)) → GoesWithFind flag (wishes_of command.entry paths))
+        ((paths : List (List ℕ)) → GoesWithFind flag (wishes_of command.entry paths) → ⊥) }
+{
+    match (flag, command.finds, command.shown) {
+        (Flag::Bad | Flag::Find, Some(_), _) => false,
+        (Flag::Find, None, Shown::Bad) => false,
+        _ => true,
+    }
+}
+
 /// What a word after an option may be.
 fn next_after(flag: Flag) -> Next
     ensures { result ≡ follows flag }
 {
     match flag {
         Flag::Only => Next::Kinds,
+        Flag::Find => Next::Text,
         Flag::Paths => Next::Path,
         _ => Next::Any,
     }
@@ -228,6 +263,19 @@ impl<'a, A: Allocator + Copy> Asked<'a, A> {
         Ok(())
     }
 
+    /// Takes a text that is looked for.
+    fn take_text(&mut self, text: &'a str) -> Result<(), WordError<A>>
+        ensures step { OnOk result (IsStep next.Text (wishes_in self.old) text.now self.new.next (wishes_in self.new)) }
+        ensures rejected { IfErr result (IsRejectedWord next.Text (wishes_in self.old) text.now) }
+    {
+        if text.is_empty() {
+            return Err(WordError::EmptyText);
+        }
+        self.command.finds = Some(text);
+        self.next = Next::Any;
+        Ok(())
+    }
+
     /// Takes an option.
     fn take_option(&mut self, alloc: A, word: &str) -> Result<(), WordError<A>>
         requires { is_path_word word.now ≡ false }
@@ -240,6 +288,9 @@ impl<'a, A: Allocator + Copy> Asked<'a, A> {
         let Some(command) = with_flag(self.command, flag) else {
             return Err(WordError::TwoChoices);
         };
+        if !goes_with_find(self.command, flag) {
+            return Err(WordError::BadAndFind);
+        }
         self.command = command;
         self.next = next_after(flag);
         Ok(())
@@ -253,6 +304,7 @@ impl<'a, A: Allocator + Copy> Asked<'a, A> {
     {
         match self.next {
             Next::Kinds => self.take_kinds(alloc, word),
+            Next::Text => self.take_text(word),
             Next::Path => Ok(self.take_path(alloc, word)?),
             Next::Any if is_path(word) => Ok(self.take_path(alloc, word)?),
             Next::Any => self.take_option(alloc, word),
@@ -264,7 +316,7 @@ impl<'a, A: Allocator + Copy> Asked<'a, A> {
 ///
 /// # Errors
 ///
-/// The first word that can't be asked for, or `NoKinds` or `LenientAlone` at the end.
+/// The first word that can't be asked for, or `NoKinds`, `NoText` or `LenientAlone` at the end.
 pub(crate) fn asked_by<A: Allocator + Copy>(
     alloc: A,
     words: &[String<A>],
@@ -275,6 +327,7 @@ pub(crate) fn asked_by<A: Allocator + Copy>(
     let command = Command {
         wish: Wish::Scan,
         shown: Shown::All,
+        finds: None,
         places: PlaceForm::Usual,
         output: Output::Lines,
         rejects_strays: false,
@@ -293,6 +346,9 @@ pub(crate) fn asked_by<A: Allocator + Copy>(
     }
     if wants_kinds(asked.next) {
         return Err(WordError::NoKinds);
+    }
+    if wants_text(asked.next) {
+        return Err(WordError::NoText);
     }
     if is_lenient_alone(asked.command) {
         return Err(WordError::LenientAlone);

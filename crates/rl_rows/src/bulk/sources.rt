@@ -19,6 +19,7 @@ fn last_lines(alloc: Global, answer: Result<bool, ScanError>) -> Result<String, 
 pub(crate) fn source_answer(alloc: Global, text: &str) -> Result<String, AllocError> {
     let options = Options {
         shown: Shown::All,
+        finds: None,
         by_line: false,
         rejects_strays: false,
         explains: false,

@@ -22,6 +22,7 @@ returns-then-is_lenient_alone-clause-rejected g c = (
   all_taken string_bytes c.args.words.now c.loop-word.word-index c.loop-word.asked.next (wishes_in c.loop-word.asked)
       (omega (arith, c.loop-word-test.false)) c.loop-word.invariant,
   λ e. false≢true (c.if-wants_kinds.ensures.1 e),
+  λ e. false≢true (c.if-wants_text.ensures.1 e),
   (c.if-is_lenient_alone.ensures (string_texts c.loop-word.asked.paths.items)).0 refl,
 )
 
@@ -31,5 +32,6 @@ returns-clause-asked g c = (
   all_taken string_bytes c.args.words.now c.loop-word.word-index c.loop-word.asked.next (wishes_in c.loop-word.asked)
       (omega (arith, c.loop-word-test.false)) c.loop-word.invariant,
   λ e. false≢true (c.if-wants_kinds.ensures.1 e),
+  λ e. false≢true (c.if-wants_text.ensures.1 e),
   λ alone. false≢true ((c.if-is_lenient_alone.ensures (string_texts c.loop-word.asked.paths.items)).1 alone),
 )

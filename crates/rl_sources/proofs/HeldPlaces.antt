@@ -1,0 +1,243 @@
+-- What is looked for begins with a character, and stands where one begins in the literal's text.
+use Rattle.rl_text.proofs.Common.{◌≡◌, ◌⊎◌, inl, inr, ℕ, zero, suc, ◌+◌, ◌-◌, ◌<◌, ◌≤◌, ◌/◌, ◌%◌, ◌==◌, Bool, true, false, cond, ltb, List, and_parts, eqb-true, [], ◌∷◌, ◌++◌, length, drop, get_or, refl, replicate, sym, ap, subst, ◌∙◌, arith, append-nil, append_assoc, chars, encode_utf8, encode_utf8_all, encodes-append, encodes-chars, length-append, length-encode, map, IsCharBoundary, IsUtf8, IsCharBoundary-start, ⊤}
+use Rattle.std.proofs.lemmas.Bool.{false≢true}
+use Rattle.std.proofs.lemmas.List.{get_or_append_left}
+use Rattle.std.proofs.lemmas.Str.{inside_one, len_utf8_ascii}
+use Rattle.std.specs.List.{starts_with}
+use Rattle.rl_lexer.proofs.CutLemmas.{byte_len-append}
+use Rattle.rl_text.specs.Texts.{byte_len}
+use Rattle.rl_reading.proofs.Names.{BoolKind, Byte, ByteStr, CStr, Char, Continuation, CrLf, Float, Hex, Int, Kind, Named, Plain, QuotedUnit, Str, Unicode, opener, raw_opener, texts, unit_text, unit_value, values, Cooked, Raw, Single, HasContents, ReadsQuoted, quoted_contents}
+use Rattle.rl_reading.proofs.ContentLemmas.{held_in_bytes, in_bytes_append, nothing_in_bytes}
+use Rattle.rl_reading.proofs.FrontLenLemmas.{byte_len_ascii, hashes_long}
+use Rattle.rl_reading.proofs.SegmentLemmas.{run_bytes, run_texts, tested}
+use Rattle.rl_reading.proofs.SegmentStarts.{quoted_kind, quoted_reads_as}
+use Rattle.rl_reading.specs.Decoded.{in_bytes}
+use Rattle.rl_reading.specs.Segments.{AreUnitsOf, IsBytePlace, begins_in, is_itself, unit_bytes, unit_place, units_bytes}
+use Rattle.rl_sources.specs.Held.{AreContentsOf, IsCutAt, StandsFirst, StandsFrom}
+use Rattle.rl_sources.proofs.HeldLemmas.{same_contents}
+
+-- ---- the bytes of a character
+
+-- such a byte isn't one after a character's first
+abbrev pub IsLead : ℕ → Type 0
+IsLead b = 128 ≤ b → 192 ≤ b
+
+abbrev AreNext : List ℕ → Type 0
+AreNext [] = ⊤
+AreNext (b ∷ bs) = (b < 192) × AreNext bs
+
+chosen : (b : Bool) (xs ys : List ℕ) → AreNext (drop 1 xs) → AreNext (drop 1 ys) → AreNext (drop 1 (cond b xs ys))
+chosen true xs ys f g = f
+chosen false xs ys f g = g
+
+after_first : (c : ℕ) → AreNext (drop 1 (encode_utf8 c))
+unfolding lib.Utf8.encode
+after_first c = chosen (ltb c 128) _ _ tt (chosen (ltb c 2048) _ _ (omega arith, tt) (chosen (ltb c 65536) _ _
+    (omega arith, (omega arith, tt)) (omega arith, (omega arith, (omega arith, tt)))))
+
+next_below : (bs : List ℕ) (i : ℕ) → AreNext bs → i < length bs → get_or bs i 0 < 192
+next_below [] i is l = absurd (omega (arith, l))
+next_below (b ∷ bs) zero is l = is.0
+next_below (b ∷ bs) (suc i) is l = next_below bs i is.1 (omega (arith, l))
+
+later_below : (bs : List ℕ) (i : ℕ) → AreNext (drop 1 bs) → suc i < length bs → get_or bs (suc i) 0 < 192
+later_below [] i is l = absurd (omega (arith, l))
+later_below (b ∷ bs) i is l = next_below bs i is (omega (arith, l))
+
+at_least : (b : ℕ) → (b < 128 → ⊥) → 128 ≤ b
+at_least b h = search arith
+
+-- only the first can begin one
+only_first : (c i : ℕ) → i < length (encode_utf8 c) → IsLead (get_or (encode_utf8 c) i 0) → i ≡ 0
+only_first c zero l lead = refl
+only_first c (suc i) l lead =
+    let small = later_below (encode_utf8 c) i (after_first c) l in
+    let b : ℕ = get_or (encode_utf8 c) (suc i) 0 in
+    let high : 128 ≤ b = at_least b
+    (λ low. let e : c ≡ b = inside_one c [] (encode_utf8 c) (suc i) (sym (append-nil (encode_utf8 c))) l low in absurd
+    (omega (arith, e, low, l, length-encode c, len_utf8_ascii c (omega (arith, e, low))))) in
+    absurd (omega (arith, small, lead high))
+
+-- ---- places in units
+
+cut_later : (before text : List ℕ) (at : ℕ) → IsCutAt text at → IsCutAt (before ++ text) (byte_len before + at)
+cut_later before text at cut = record {
+  front = before ++ cut.front;
+  back = cut.back;
+  text_is = ap (λ z. before ++ z) cut.text_is ∙ sym (append_assoc before cut.front cut.back);
+  at_is = omega (arith, cut.at_is, byte_len-append before cut.front);
+}
+
+cut_longer : (text after : List ℕ) (at : ℕ) → IsCutAt text at → IsCutAt (text ++ after) at
+cut_longer text after at cut = record {
+  front = cut.front;
+  back = cut.back ++ after;
+  text_is = ap (λ z. z ++ after) cut.text_is ∙ append_assoc cut.front cut.back after;
+  at_is = cut.at_is;
+}
+
+cut_first : (text : List ℕ) → IsCutAt text 0
+cut_first text = record { front = []; back = text; text_is = refl; at_is = refl }
+
+-- the first byte, or one that can begin a character
+abbrev Begins : List ℕ → ℕ → Type 0
+Begins bytes at = (at ≡ 0) ⊎ IsLead (get_or bytes at 0)
+
+lead_within : (xs ys : List ℕ) (at : ℕ) → at < length xs → IsLead (get_or (xs ++ ys) at 0) → IsLead (get_or xs at 0)
+lead_within xs ys at l lead = subst IsLead (get_or_append_left xs ys 0 at l) lead
+
+lead_past : (xs ys : List ℕ) (at : ℕ) → length xs ≤ at → Begins (xs ++ ys) at → Begins ys (at - length xs)
+lead_past [] ys at l b =
+    let e : at ≡ at - 0 = omega arith in
+    subst (Begins ys) e b
+lead_past (x ∷ xs) ys zero l b = absurd (omega (arith, l))
+lead_past (x ∷ xs) ys (suc at) l (inl e) = absurd (omega (arith, e))
+lead_past (x ∷ xs) ys (suc at) l (inr lead) =
+    let e : at - length xs ≡ suc at - length (x ∷ xs) = omega arith in
+    subst (Begins ys) e (lead_past xs ys at (omega (arith, l)) (inr lead))
+
+in_unit : (kind : Kind) (u : QuotedUnit) (after : List ℕ) (at : ℕ) → at < length (unit_bytes kind u)
+    → Begins (unit_bytes kind u ++ after) at → begins_in u at ≡ 0
+in_unit kind u after at l (inl e) = go (is_itself u)
+  where
+    go : (b : Bool) → cond b at 0 ≡ 0
+    go true = e
+    go false = refl
+in_unit kind (Plain c) after at l (inr lead) =
+    let bytes : unit_bytes kind (Plain c) ≡ encode_utf8 c = held_in_bytes kind (c ∷ []) ∙ append-nil (encode_utf8 c) in
+    only_first c at (omega (arith, l, ap length bytes)) (subst (λ z. IsLead (get_or z at 0)) bytes
+    (lead_within (unit_bytes kind (Plain c)) after at l lead))
+in_unit kind CrLf after at l (inr lead) = refl
+in_unit kind (Named letter) after at l (inr lead) = refl
+in_unit kind (Hex high low) after at l (inr lead) = refl
+in_unit kind (Unicode first more) after at l (inr lead) = refl
+in_unit kind (Continuation c run) after at l (inr lead) = refl
+
+in_units : (kind : Kind) (us : List QuotedUnit) (at : ℕ) → Begins (units_bytes kind us) at
+    → IsCutAt (texts us) (unit_place begins_in kind us at)
+in_units kind [] at b = cut_first []
+in_units kind (u ∷ us) at b =
+    let n = length (unit_bytes kind u) in
+    tested (IsCutAt (texts (u ∷ us))) at n _ _
+    (λ small. subst (IsCutAt (texts (u ∷ us))) (sym (in_unit kind u (units_bytes kind us) at small b))
+    (cut_first (texts (u ∷ us))))
+    (λ large. cut_later (unit_text u) (texts us) (unit_place begins_in kind us (at - n))
+    (in_units kind us (at - n) (lead_past (unit_bytes kind u) (units_bytes kind us) at large b)))
+
+-- ---- places in the whole literal
+
+opener_long : (kind : Kind) → byte_len (opener kind) ≡ length (opener kind)
+unfolding lib.Utf8.encode
+opener_long Str = refl
+opener_long ByteStr = refl
+opener_long CStr = refl
+opener_long Byte = refl
+opener_long Char = refl
+opener_long Int = refl
+opener_long Float = refl
+opener_long BoolKind = refl
+
+raw_opener_long : (kind : Kind) → byte_len (raw_opener kind) ≡ length (raw_opener kind)
+unfolding lib.Utf8.encode
+raw_opener_long Str = refl
+raw_opener_long ByteStr = refl
+raw_opener_long CStr = refl
+raw_opener_long Byte = refl
+raw_opener_long Char = refl
+raw_opener_long Int = refl
+raw_opener_long Float = refl
+raw_opener_long BoolKind = refl
+
+whole_cut : (kind : Kind) (text : List ℕ) (units : List QuotedUnit) (lo at : ℕ) → AreUnitsOf kind text units lo
+    → IsCutAt (texts units) at → IsCutAt text (lo + at)
+whole_cut kind text units lo at (inl (v, x, c, are, from)) cut =
+    let inside : IsCutAt (texts c.units) at = subst (λ (us : List QuotedUnit). IsCutAt (texts us) at) are cut in
+    let whole = cut_later (opener kind) (texts c.units ++ (34 ∷ x)) at (cut_longer (texts c.units) (34 ∷ x) at inside) in
+    subst (IsCutAt text) (omega (arith, from, opener_long kind)) (subst
+    (λ (t : List ℕ). IsCutAt t (byte_len (opener kind) + at)) (sym c.text_is) whole)
+whole_cut kind text units lo at (inr (inl (v, x, r, are, from))) cut =
+    let hashes = replicate r.hashes 35 in
+    let closed = 34 ∷ (hashes ++ x) in
+    let inside : IsCutAt r.inside at = subst (λ (t : List ℕ). IsCutAt t at) (run_texts r.inside) (subst
+    (λ (us : List QuotedUnit). IsCutAt (texts us) at) are cut) in
+    let quoted = cut_later (34 ∷ []) (r.inside ++ closed) at (cut_longer r.inside closed at inside) in
+    let hashed = cut_later hashes (34 ∷ (r.inside ++ closed)) (byte_len (34 ∷ []) + at) quoted in
+    let whole = cut_later (raw_opener kind) (hashes ++ (34 ∷ (r.inside ++ closed)))
+    (byte_len hashes + (byte_len (34 ∷ []) + at)) hashed in
+    subst (IsCutAt text)
+    (omega (arith, from, raw_opener_long kind, hashes_long r.hashes, byte_len_ascii 34 [] (omega arith))) (subst
+    (λ (t : List ℕ). IsCutAt t (byte_len (raw_opener kind) + (byte_len hashes + (byte_len (34 ∷ []) + at))))
+    (sym r.text_is) whole)
+whole_cut kind text units lo at (inr (inr (v, x, s, are, from))) cut =
+    let inside : IsCutAt (unit_text s.unit) at = subst (λ (t : List ℕ). IsCutAt t at) (append-nil (unit_text s.unit)) (subst
+    (λ (us : List QuotedUnit). IsCutAt (texts us) at) are cut) in
+    let whole = cut_later (opener kind) (unit_text s.unit ++ (39 ∷ x)) at (cut_longer (unit_text s.unit) (39 ∷ x) at
+    inside) in
+    subst (IsCutAt text) (omega (arith, from, opener_long kind)) (subst
+    (λ (t : List ℕ). IsCutAt t (byte_len (opener kind) + at)) (sym s.text_is) whole)
+
+-- ---- the contents of units
+
+values_bytes : (kind : Kind) (us : List QuotedUnit) → in_bytes kind (values kind us) ≡ units_bytes kind us
+values_bytes kind [] = nothing_in_bytes kind
+values_bytes kind (u ∷ us) = in_bytes_append kind (unit_value kind u) (values kind us)
+    ∙ ap (λ z. unit_bytes kind u ++ z) (values_bytes kind us)
+
+reads : (kind : Kind) (text value suffix : List ℕ) → Cooked kind text value suffix ⊎ Raw kind text value suffix
+    ⊎ Single kind text value suffix → HasContents kind text (quoted_contents kind value)
+reads kind text value suffix form =
+    let r : ReadsQuoted text kind (quoted_contents kind value) suffix = record
+    { value = value; form = form; contents_is = refl } in (
+      suffix,
+      quoted_reads_as kind text (quoted_contents kind value) suffix r
+          (quoted_kind kind text (quoted_contents kind value) suffix r),
+    )
+
+units_contents : (kind : Kind) (text : List ℕ) (units : List QuotedUnit) (lo : ℕ) → AreUnitsOf kind text units lo
+    → AreContentsOf text kind (units_bytes kind units)
+units_contents kind text units lo (inl (v, x, c, are, at)) = record {
+  value = v;
+  contents = reads kind text v x (inl c);
+  bytes_are = ap (units_bytes kind) are ∙ sym (values_bytes kind c.units) ∙ ap (in_bytes kind) (sym c.value_is);
+}
+units_contents kind text units lo (inr (inl (v, x, r, are, at))) = record {
+  value = v;
+  contents = reads kind text v x (inr (inl r));
+  bytes_are = ap (units_bytes kind) are ∙ run_bytes kind r.inside ∙ sym (held_in_bytes kind r.inside)
+      ∙ ap (in_bytes kind) (sym r.value_is);
+}
+units_contents kind text units lo (inr (inr (v, x, s, are, at))) = record {
+  value = v;
+  contents = reads kind text v x (inr (inr s));
+  bytes_are = ap (units_bytes kind) are ∙ append-nil (unit_bytes kind s.unit) ∙ ap (in_bytes kind) (sym s.value_is);
+}
+
+-- ---- what is looked for
+
+-- the first byte of what stands there
+first_is : (bytes : List ℕ) (at b : ℕ) (bs : List ℕ) → starts_with ◌==◌ (drop at bytes) (b ∷ bs) ≡ true
+    → get_or bytes at 0 ≡ b
+first_is [] at b bs h = absurd (false≢true (nothing at ∙ h))
+  where
+    nothing : (n : ℕ) → false ≡ starts_with ◌==◌ (drop n []) (b ∷ bs)
+    nothing zero = refl
+    nothing (suc n) = refl
+first_is (c ∷ cs) zero b bs h = sym (eqb-true b c (and_parts (b == c) _ h).0)
+first_is (c ∷ cs) (suc at) b bs h = first_is cs at b bs h
+
+begins_first : (sought bytes : List ℕ) (at : ℕ) → IsUtf8 sought → StandsFirst sought bytes at → Begins bytes at
+begins_first [] bytes zero utf8 first = inl refl
+begins_first [] bytes (suc at) utf8 first = absurd (first.1 0 (omega arith) (omega arith, refl))
+begins_first (b ∷ bs) bytes at utf8 first =
+    inr (subst IsLead (sym (first_is bytes at b bs first.0.1)) ((IsCharBoundary-start (b ∷ bs) utf8).1 (omega arith)))
+
+-- the literal's text is cut where what gives it begins
+pub held_cut : (sought text : List ℕ) (kind : Kind) (bytes : List ℕ) (at place : ℕ) → IsUtf8 sought
+    → AreContentsOf text kind bytes → StandsFirst sought bytes at → IsBytePlace kind text at place → IsCutAt text place
+held_cut sought text kind bytes at place utf8 contents first p =
+    let same : bytes ≡ units_bytes kind p.units = same_contents text kind kind bytes (units_bytes kind p.units) contents
+    (units_contents kind text p.units p.lo p.units_are) in
+    let begins : Begins (units_bytes kind p.units) at = subst (λ (z : List ℕ). Begins z at) same
+    (begins_first sought bytes at utf8 first) in
+    subst (IsCutAt text) (sym p.place_is) (whole_cut kind text p.units p.lo (unit_place begins_in kind p.units at)
+    p.units_are (in_units kind p.units at begins))

@@ -1,0 +1,146 @@
+//! Where a text stands in what a literal stands for.
+
+ghost use Rattle.std.specs.Prelude.{◌≡◌, ◌⊎◌, ◌+◌, ◌-◌, ◌≤◌, ℕ, length, IfNone, IfOk, IfSome, IsFalse, IsTrue, MatchOption, string_bytes};
+ghost use Rattle.std.specs.Str.{chars, IsCharBoundary};
+ghost use Rattle.rl_text.specs.Texts.{byte_len};
+ghost use Rattle.rl_forms.specs.Quoted.{is_string, is_single};
+ghost use Rattle.rl_forms.specs.declared.kind.Kind.TheVariants.{Str, ByteStr, CStr, Byte, Char};
+ghost use Rattle.rl_forms.specs.Reading.{HasNoReading};
+ghost use Rattle.rl_reading.specs.Founds.{IsFound, is_quoted};
+ghost use Rattle.rl_reading.specs.Segments.{IsBytePlace, IsByteEnd};
+ghost use Rattle.rl_sources.specs.Held.{AreContentsOf, Holds, IsCutAt, IsHeldAt, StandsFirst, StandsFrom};
+
+use rl_grammar::{Found, Kind, bytes_of_body, str_of_body};
+use std::alloc::{AllocError, Allocator};
+
+/// Where bytes that are looked for stand first among others.
+fn first_in(bytes: &[u8], sought: &[u8]) -> Option<usize>
+    ensures some { IfSome result (StandsFirst sought.now bytes.now) }
+    ensures none { IfNone result ((at : ℕ) → StandsFrom sought.now bytes.now at → ⊥) }
+{
+    for at in 0..=bytes.len() {
+        if bytes[at..].starts_with(sought) {
+            return Some(at);
+        }
+    }
+    None
+}
+
+/// The contents of the string that was found in the text.
+fn str_contents<A: Allocator>(alloc: A, text: &str, found: &Found) -> Result<Vec<u8, A>, AllocError>
+    requires found { IsFound text.now found.now }
+    requires kind { found.now.kind ≡ Str }
+    ensures { IfOk result (λ bytes. AreContentsOf (chars text.now) Str bytes.items) }
+{
+    match str_of_body(alloc, found.body_in(text), found.body.plain) {
+        Ok(value) => Ok(value.into_bytes()),
+        Err(_) => Err(AllocError),
+    }
+}
+
+/// The contents of the byte string or the C string that was found in the text.
+fn bytes_contents<A: Allocator>(
+    alloc: A,
+    text: &str,
+    found: &Found,
+) -> Result<Vec<u8, A>, AllocError>
+    requires found { IsFound text.now found.now }
+    requires kind { (found.now.kind ≡ ByteStr) ⊎ (found.now.kind ≡ CStr) }
+    ensures { IfOk result (λ bytes. AreContentsOf (chars text.now) found.now.kind bytes.items) }
+{
+    match bytes_of_body(alloc, found.kind, found.body_in(text), found.body.plain) {
+        Ok(bytes) => Ok(bytes),
+        Err(_) => Err(AllocError),
+    }
+}
+
+/// The contents of the byte that was found in the text.
+fn byte_contents<A: Allocator>(
+    alloc: A,
+    text: &str,
+    found: &Found,
+) -> Result<Vec<u8, A>, AllocError>
+    requires found { IsFound text.now found.now }
+    requires kind { found.now.kind ≡ Byte }
+    ensures { IfOk result (λ bytes. AreContentsOf (chars text.now) Byte bytes.items) }
+{
+    let mut bytes = Vec::new(alloc);
+    bytes.push(found.unit as u8)?;
+    Ok(bytes)
+}
+
+/// The contents of the character that was found in the text.
+fn char_contents<A: Allocator>(
+    alloc: A,
+    text: &str,
+    found: &Found,
+) -> Result<Vec<u8, A>, AllocError>
+    requires found { IsFound text.now found.now }
+    requires kind { found.now.kind ≡ Char }
+    ensures { IfOk result (λ bytes. AreContentsOf (chars text.now) Char bytes.items) }
+{
+    let mut value = String::new(alloc);
+    value.push(char::from_u32(found.unit).unwrap())?;
+    Ok(value.into_bytes())
+}
+
+/// The contents, in bytes, of what was found in the text: `None` where it has no quotes.
+fn contents_of<A: Allocator>(
+    alloc: A,
+    text: &str,
+    found: &Found,
+) -> Result<Option<Vec<u8, A>>, AllocError>
+    requires { IsFound text.now found.now }
+    ensures { IfOk result (λ contents. MatchOption contents (IsFalse (is_quoted found.now.kind))
+        (λ bytes. AreContentsOf (chars text.now) found.now.kind bytes.items × IsTrue (is_quoted found.now.kind))) }
+{
+    match found.kind {
+        Kind::Str => Ok(Some(str_contents(alloc, text, found)?)),
+        Kind::ByteStr | Kind::CStr => Ok(Some(bytes_contents(alloc, text, found)?)),
+        Kind::Byte => Ok(Some(byte_contents(alloc, text, found)?)),
+        Kind::Char => Ok(Some(char_contents(alloc, text, found)?)),
+        Kind::Int | Kind::Float | Kind::Bool => Ok(None),
+    }
+}
+
+/// Which bytes of the text of a quoted literal that was found in it give its contents from one byte to another, that one
+/// included.
+fn range_of(text: &str, found: &Found, first: usize, last: usize) -> (usize, usize)
+    requires found { IsFound text.now found.now }
+    requires quoted { IsTrue (is_quoted found.now.kind) }
+    ensures begins { IsBytePlace found.now.kind (chars text.now) first result.0 }
+    ensures ends { IsByteEnd found.now.kind (chars text.now) last result.1 }
+{
+    let lo = found.body.segments_in(found.kind, text).place_of(first);
+    let hi = found.body.segments_in(found.kind, text).end_of(last);
+    (lo, hi)
+}
+
+/// Which bytes of a text, in which this was found, give the text that is looked for, where the contents hold that first:
+/// `None` where they don't hold it.
+pub(crate) fn held_at<A: Allocator>(
+    alloc: A,
+    text: &str,
+    found: Option<Found>,
+    sought: &str,
+) -> Result<Option<(usize, usize)>, AllocError>
+    requires none { IfNone found (HasNoReading (chars text.now)) }
+    requires found { IfSome found (IsFound text.now) }
+    ensures some { IfOk result (λ held. IfSome held
+        (λ range. IsHeldAt sought.now (chars text.now) range.0 range.1)) }
+    ensures cut { IfOk result (λ held. IfSome held (λ range. IsCutAt (chars text.now) range.0)) }
+    ensures within { IfOk result (λ held. IfSome held (λ range. range.1 ≤ byte_len (chars text.now))) }
+    ensures none { IfOk result (λ held. IfNone held (Holds sought.now (chars text.now) → ⊥)) }
+{
+    let Some(found) = found else {
+        return Ok(None);
+    };
+    let Some(contents) = contents_of(alloc, text, &found)? else {
+        return Ok(None);
+    };
+    let Some(at) = first_in(contents.as_slice(), sought.as_bytes()) else {
+        return Ok(None);
+    };
+    let last = at + sought.len().saturating_sub(1);
+    Ok(Some(range_of(text, &found, at, last)))
+}
