@@ -1,5 +1,5 @@
 -- What a literal stands for, in bytes, and what is looked for in it.
-use Rattle.rl_text.proofs.Common.{◌≡◌, ◌⊎◌, ℕ, Bool, false, true, IsUtf8, List, [], ◌∷◌, ap, append-nil, both_ways, chars, encode_utf8, encodes-chars, inl, inr, refl, subst, sym, ◌∙◌}
+use Rattle.rl_text.proofs.Common.{◌≡◌, ◌⊎◌, ℕ, false, true, IsUtf8, List, [], ◌∷◌, ap, append-nil, both_ways, chars, encode_utf8, encodes-chars, inl, inr, refl, subst, sym, ◌∙◌}
 use Rattle.rl_reading.proofs.Names.{BoolKind, Byte, ByteStr, Bytes, CStr, Char, Characters, Float, HasContents, Int, Kind, Reads, Str, is_string, quoted_contents}
 use Rattle.rl_forms.proofs.OneReading.{one_reading}
 use Rattle.rl_reading.proofs.FoundContents.{found_kind, unit_of}

@@ -1,5 +1,5 @@
 -- What is looked for begins with a character, and stands where one begins in the literal's text.
-use Rattle.rl_text.proofs.Common.{◌≡◌, ◌⊎◌, inl, inr, ℕ, zero, suc, ◌+◌, ◌-◌, ◌<◌, ◌≤◌, ◌/◌, ◌%◌, ◌==◌, Bool, true, false, cond, ltb, List, and_parts, eqb-true, [], ◌∷◌, ◌++◌, length, drop, get_or, refl, replicate, sym, ap, subst, ◌∙◌, arith, append-nil, append_assoc, chars, encode_utf8, encode_utf8_all, encodes-append, encodes-chars, length-append, length-encode, map, IsCharBoundary, IsUtf8, IsCharBoundary-start, ⊤}
+use Rattle.rl_text.proofs.Common.{◌≡◌, ◌⊎◌, inl, inr, ℕ, zero, suc, ◌+◌, ◌-◌, ◌<◌, ◌≤◌, ◌==◌, Bool, true, false, cond, ltb, List, and_parts, eqb-true, [], ◌∷◌, ◌++◌, length, drop, get_or, refl, replicate, sym, ap, subst, ◌∙◌, arith, append-nil, append_assoc, encode_utf8, length-encode, IsUtf8, IsCharBoundary-start, ⊤}
 use Rattle.std.proofs.lemmas.Bool.{false≢true}
 use Rattle.std.proofs.lemmas.List.{get_or_append_left}
 use Rattle.std.proofs.lemmas.Str.{inside_one, len_utf8_ascii}
@@ -13,7 +13,7 @@ use Rattle.rl_reading.proofs.SegmentLemmas.{run_bytes, run_texts, tested}
 use Rattle.rl_reading.proofs.SegmentStarts.{quoted_kind, quoted_reads_as}
 use Rattle.rl_reading.specs.Decoded.{in_bytes}
 use Rattle.rl_reading.specs.Segments.{AreUnitsOf, IsBytePlace, begins_in, is_itself, unit_bytes, unit_place, units_bytes}
-use Rattle.rl_sources.specs.Held.{AreContentsOf, IsCutAt, StandsFirst, StandsFrom}
+use Rattle.rl_sources.specs.Held.{AreContentsOf, IsCutAt, StandsFirst}
 use Rattle.rl_sources.proofs.HeldLemmas.{same_contents}
 
 -- ---- the bytes of a character
