@@ -41,7 +41,9 @@ fn bytes_at(path: &str) -> Result<&'static [u8], PathError> {
         "alone" => Ok(b"b'\xc3\xa9' /*".as_slice()),
         "bad.rs" => Ok(BAD.as_bytes()),
         "crlf.rs" => Ok(b"\"a\r\nb\" \"a\r\n\\q\" \"c\r\nd\re\" \"\\\r\n x\"".as_slice()),
-        "held" => Ok(b"\"\\u{61}b\" b\"ab\" c\"\\x61b\" 'a' b'a'\n\"x\\\n   ab\" r#\"ab\"# \"\xc3\xa4ab\" \"\\\\u{61}\" // \"ab\"\n\"ba\" 'b'".as_slice()),
+        "held" => Ok(
+            b"\"\\u{61}b\" b\"ab\" c\"\\x61b\" 'a' b'a'\n\"x\\\n   ab\" r#\"ab\"# \"\xc3\xa4ab\" \"\\\\u{61}\" // \"ab\"\n\"ba\" 'b'".as_slice(),
+        ),
         "./.git/x.rs" => Ok(b"4".as_slice()),
         "./target/x.rs" => Ok(b"5".as_slice()),
         _ => Err(PathError::NotFound),

@@ -201,10 +201,10 @@ decimal_gap d more f e x after gap is (id, not_based, row, fraction, exponent, s
 
 -- Identifiers.
 hash_none : (k : ℕ) (x gap : List ℕ) → list_all is_continue x ≡ true → BeginsGap gap → Solid (λ c. c == k)
-    → is_continue k ≡ false → (0 == k) ≡ false → (starts_with k (x ++ gap)) ≡ false
-hash_none k [] [] row is solid no_cont z = z
-hash_none k [] (c ∷ t) row is solid no_cont z = solid c is
-hash_none k (c ∷ x) gap row is solid no_cont z = not_among c k is_continue
+    → is_continue k ≡ false → starts_with k (x ++ gap) ≡ false
+hash_none k [] [] row is solid no_cont = refl
+hash_none k [] (c ∷ t) row is solid no_cont = solid c is
+hash_none k (c ∷ x) gap row is solid no_cont = not_among c k is_continue
     (and_parts (is_continue c) (list_all is_continue x) row).0 no_cont
 
 raw_none : (x gap : List ℕ) → list_all is_continue x ≡ true → BeginsGap gap → begins_hashed_quote (x ++ gap) ≡ false
@@ -251,12 +251,12 @@ otherwise_gap c more gap row is =
     none_of (c == 98) (c == 99) (c == 114) (starts_with 34 u) (starts_with 39 u)
     (starts_with 114 u && begins_hashed_quote (drop 1 u)) (begins_hashed_quote u)
     (starts_with 35 u && first_passes is_start (drop 1 u))
-    (hash_none 34 more gap row is (code_solid 34 refl refl) (continue_ascii 34 (lit< tt)) refl)
-    (hash_none 39 more gap row is (code_solid 39 refl refl) (continue_ascii 39 (lit< tt)) refl)
+    (hash_none 34 more gap row is (code_solid 34 refl refl) (continue_ascii 34 (lit< tt)))
+    (hash_none 39 more gap row is (code_solid 39 refl refl) (continue_ascii 39 (lit< tt)))
     (second_raw more gap row is)
     (raw_none more gap row is)
     (ap (λ b. b && first_passes is_start (drop 1 u)) (hash_none 35 more gap row is (code_solid 35 refl refl)
-    (continue_ascii 35 (lit< tt)) refl))
+    (continue_ascii 35 (lit< tt))))
 
 run_end : (row after gap : List ℕ) → BeginsGap gap → IsRow is_continue row after → IsRow is_continue row gap
 run_end row after gap is r = row_gap is_continue row [] after gap continue_solid is r
