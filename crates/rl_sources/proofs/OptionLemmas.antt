@@ -1,5 +1,5 @@
 -- Words of a list, and words of the command line.
-use Rattle.rl_text.proofs.Common.{Bool, IsTrue, List, [], ap, arith, common_steps, drop, false, get_or, length, map, refl, string_bytes, subst, sym, take, take_all, true, zero, suc, ℕ, ◌+◌, ◌-◌, ◌<◌, ◌∙◌, ◌∷◌, ◌≡◌, ◌≢◌}
+use Rattle.rl_text.proofs.Common.{Bool, IsTrue, List, [], arith, false, get_or, length, refl, subst, sym, true, zero, suc, ℕ, ◌<◌, ◌∷◌, ◌≡◌}
 use Rattle.std.proofs.Common.{MatchBool}
 use Rattle.std.specs.Prelude.{◌↔◌}
 use Rattle.std.specs.List.{All, AllWithin, HoldsAt, Any}

@@ -68,7 +68,6 @@ explained_place text flaw e =
       rest = e.place.rest;
       text_is = stops.text_is;
       lo_is = e.place.lo_is;
-      ordered = omega (arith, e.place.hi_is);
       within = omega (
         arith,
         e.place.hi_is,
@@ -85,7 +84,6 @@ place_in_file text flaw e = record {
   rest = e.lo.rest;
   text_is = e.lo.text_is;
   lo_is = e.lo.at_is;
-  ordered = e.ordered;
   within = omega (arith, e.hi.at_is, ap byte_len e.hi.text_is, byte_len-append e.hi.front e.hi.rest);
 }
 
@@ -276,6 +274,15 @@ error_of_piece kind piece old a b new some utf8 u v begun shown ended = go (char
         tail (c ∷ cs) (e ∙ ap (λ z. chars a ++ visible z) is)
         ∙ ap (λ z. chars old ++ error_words message z) (sym is)
 
+-- a text as it is written, and the line's end
+pub source_shown : (text old b new : List ℕ) → IsUtf8 b → chars b ≡ chars old ++ visible text → new ≡ b ++ codes "\n"
+    → chars new ≡ chars old ++ (visible text ++ codes "\n")
+source_shown text old b new u shown ended =
+    pushed b new (codes "\n") u ended
+    ∙ ap (λ z. chars b ++ z) (chars-IsAscii (codes "\n") (low_text (codes "\n") refl))
+    ∙ ap (λ z. z ++ codes "\n") shown
+    ∙ append_assoc (chars old) (visible text) (codes "\n")
+
 -- what stands before the line, and what is wrong
 pub flaw_shown : (options : Options) (whole text : List ℕ) (lo : ℕ) (flaw : Flaw) (place : Place)
     (piece old a new : List ℕ) → FindsFlaw options.judge text flaw
@@ -289,15 +296,6 @@ flaw_shown options whole text lo flaw place piece old a new explains is_place is
       words ∙ ap (λ z. z ++ error_words (flaw_message flaw.kind) piece) front
           ∙ append_assoc old (line_front options.path place) (error_words (flaw_message flaw.kind) piece),
     )
-
--- ---- the steps
-
-pub flaw_fits : (token : SourceToken) (text rest : List ℕ) (flaw : Flaw) → BeginsRest token text rest
-    → HasPlace (chars token.text.now) flaw → (token.lo + flaw.lo ≤ token.hi) × (token.lo + flaw.hi ≤ token.hi)
-flaw_fits token text rest flaw begins place = (
-  cut_fits token text rest flaw.lo begins (flaw_cut (chars token.text.now) flaw place),
-  omega (arith, place.within, begins.hi_is),
-)
 
 -- ---- the piece
 

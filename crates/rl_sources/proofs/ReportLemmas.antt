@@ -1,5 +1,5 @@
 -- What is reported of a file.
-use Rattle.rl_text.proofs.Common.{IsAscii, IsUtf8, List, None, Option, Some, [], ap, append_assoc, chars, chars-IsAscii, chars-nil, codes, encodes-chars, inl, inr, refl, string_bytes, subst, sym, ℕ, ◌++◌, ◌∙◌, ◌∷◌, ◌≡◌, ◌⊎◌}
+use Rattle.rl_text.proofs.Common.{IsAscii, IsUtf8, List, None, Option, Some, [], ap, append_assoc, chars, chars-IsAscii, chars-nil, codes, encodes-chars, inl, inr, refl, sym, ℕ, ◌++◌, ◌∙◌, ◌≡◌, ◌⊎◌}
 use Rattle.std.specs.Prelude.{encode_utf8_all, IfSome, IfOk, Ok, Err}
 use Rattle.std.specs.declared.result.Result.{Result}
 use Rattle.std.proofs.lemmas.Str.{IsAscii-append}
@@ -11,7 +11,7 @@ use Rattle.rl_files.specs.declared.tree.PathError.TheVariants.{NotFound, Permiss
 use Rattle.rl_lines.proofs.LineLemmas.{pushed}
 use Rattle.rl_sources.specs.declared.command.Command.{Command}
 use Rattle.rl_sources.specs.declared.report.Report.{Report}
-use Rattle.rl_sources.specs.Reports.{Findings, in_report, IsTextReport, IsErrorReport, IsNotUtf8, IsReport}
+use Rattle.rl_sources.specs.Reports.{in_report, IsTextReport, IsErrorReport, IsNotUtf8, IsReport}
 use Rattle.rl_sources.proofs.StepLemmas.{decimal_ascii}
 use Rattle.rl_sources.proofs.ReasonLemmas.{low_text}
 

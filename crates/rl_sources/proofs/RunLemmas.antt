@@ -1,5 +1,5 @@
 -- Steps of a run.
-use Rattle.rl_text.proofs.Common.{Bool, List, None, Option, Some, [], ap, append-nil, append_assoc, arith, false, inl, inr, length, not, refl, subst, suc, sym, take, take-append_seam, take_all, true, ℕ, ◌++◌, ◌==◌, ◌||◌, ◌∙◌, ◌∷◌, ◌≡◌, ◌≤◌, ◌⊎◌, ◌+◌}
+use Rattle.rl_text.proofs.Common.{Bool, List, None, Option, Some, [], ap, append-nil, append_assoc, arith, false, inl, inr, length, not, refl, subst, suc, sym, take, take_all, true, ℕ, ◌++◌, ◌==◌, ◌||◌, ◌∙◌, ◌∷◌, ◌≡◌, ◌+◌}
 use Rattle.std.proofs.Common.{rules}
 use Rattle.std.proofs.Math.Seq.{take-append-add}
 use Rattle.std.specs.Prelude.{IfSome}
@@ -12,7 +12,7 @@ use Rattle.rl_files.proofs.WalkLemmas.{some_visits}
 use Rattle.rl_sources.specs.declared.command.Command.{Command}
 use Rattle.rl_sources.specs.declared.runs.Tally.{Tally}
 use Rattle.rl_sources.specs.Reports.{Findings, IsReport, AreReports, nothing, both_of}
-use Rattle.rl_sources.specs.Runs.{Streams, IsWritten, WritesReport, WritesSome, WritesWalk, WritesFront, WritesBeginning}
+use Rattle.rl_sources.specs.Runs.{Streams, IsWritten, WritesReport, WritesSome, WritesWalk, WritesFront}
 
 -- what was written so far, of what was visited so far, and what is visited from the new places on comes
 -- after it

@@ -20,6 +20,7 @@ use Rattle.rl_reasons.specs.declared.flaws.Flaw.{Flaw}
 use Rattle.rl_sources.specs.declared.options.Judge.{Judge}
 use Rattle.rl_sources.specs.declared.options.Judge.TheVariants.{Rust, Syn}
 use Rattle.rl_sources.specs.declared.options.Options.{Options}
+use Rattle.rl_sources.specs.declared.options.Spelling.TheVariants.{Value}
 use Rattle.rl_sources.specs.declared.options.Shown.{Shown}
 use Rattle.rl_sources.specs.declared.options.Shown.TheVariants.{All, Only, Bad}
 use Rattle.rl_sources.specs.declared.place.Place.{Place}
@@ -27,8 +28,8 @@ use Rattle.rl_sources.specs.declared.place.Place.TheVariants.{Bytes, Line}
 use Rattle.rl_sources.specs.Options.{Picks}
 use Rattle.rl_sources.specs.Places.{line_front, place_text, IsPlaceIn}
 use Rattle.rl_sources.specs.Held.{Holds}
-use Rattle.rl_sources.specs.Scans.{FindsFlaw, FindsNoFlaw, IsBad, IsPlacedLine, IsFlawLine, IsHeldLine, IsLineIn, IsPickedLine, IsShownLiteral}
-use Rattle.rl_sources.specs.Steps.{IsTextLine, LooksForFlaws}
+use Rattle.rl_sources.specs.Scans.{FindsFlaw, FindsNoFlaw, IsBad, IsPlacedLine, IsFlawLine, IsHeldLine, IsLineIn, IsPickedLine, IsPrintedAs, IsShownLiteral}
+use Rattle.rl_sources.specs.Steps.{LooksForFlaws}
 
 -- ---- places are ASCII
 
@@ -121,7 +122,7 @@ ends_in_line old now line u v e =
 pub line_printed : (text old now new : List ℕ) → IsUtf8 old → IsUtf8 now
     → Appends (IsLineOf text) (chars old) (chars now)
     → chars new ≡ chars (take (length old) now) ++ visible_lines (chars (drop (length old) now))
-    → Appends (IsTextLine [] text) (chars old) (chars new)
+    → Appends (IsPrintedAs Value text) (chars old) (chars new)
 line_printed text old now new u v (line, is_line, e) made =
     let ends = ends_in_line old now line u v e in (
       visible_lines line,
@@ -134,10 +135,10 @@ line_printed text old now new u v (line, is_line, e) made =
 -- what stands before it, and the line
 pub placed : (options : Options) (whole text : List ℕ) (lo hi : ℕ) (place : Place) (old mid new : List ℕ)
     → IsPlaceIn options.by_line whole lo hi place → mid ≡ old ++ line_front options.path place
-    → Appends (IsTextLine [] text) mid new → Appends (IsPlacedLine options whole text lo hi) old new
-placed options whole text lo hi place old mid new is_place front (shown, (line, is_line, is), e) = (
+    → Appends (IsPrintedAs options.spelling text) mid new → Appends (IsPlacedLine options whole text lo hi) old new
+placed options whole text lo hi place old mid new is_place front (shown, is, e) = (
   line_front options.path place ++ shown,
-  (place, line, is_place, is_line, ap (λ z. line_front options.path place ++ z) is),
+  (place, shown, is_place, is, refl),
   e ∙ ap (λ z. z ++ shown) front ∙ append_assoc old (line_front options.path place) shown,
 )
 

@@ -1,5 +1,5 @@
 -- How a call of the program ends.
-use Rattle.std.specs.Prelude.{◌≡◌, ℕ, Bool, true, false, cond, List, [], ◌∷◌, ◌++◌, codes, String, Option, IfSome, ⊤}
+use Rattle.std.specs.Prelude.{◌≡◌, ℕ, Bool, cond, List, [], ◌∷◌, ◌++◌, codes, String, Option, IfSome, ⊤}
 use Rattle.std.specs.Io.KnownBytes.{Appends, Keeps}
 use Rattle.rl_files.specs.Trees.{World, string_texts}
 use Rattle.rl_files.specs.Walks.{Spot, given_spots, walk_error_message}
@@ -7,7 +7,7 @@ use Rattle.rl_program.specs.Streams.{AppendsBeginning}
 use Rattle.rl_program.specs.declared.ending.Ending.{Ending}
 use Rattle.rl_program.specs.declared.ending.Ending.TheVariants.{Done, FoundBad, Reported, Closed, Usage, Failed}
 use Rattle.rl_sources.specs.declared.command.Wish.{Wish}
-use Rattle.rl_sources.specs.declared.command.Wish.TheVariants.{Scan, Help, Version}
+use Rattle.rl_sources.specs.declared.command.Wish.TheVariants.{Scan}
 use Rattle.rl_sources.specs.declared.command.Command.{Command}
 use Rattle.rl_sources.specs.declared.runs.Tally.{Tally}
 use Rattle.rl_sources.specs.declared.words.WordError.{WordError}

@@ -51,6 +51,7 @@ IsShownPath path (Some shown) = (is_input path ≡ false) × (chars shown.now �
 pub record IsOptionsFor (command : Command) (path : List ℕ) (options : Options) : Type 0 where
   pub shown : options.shown ≡ command.shown
   pub finds : options.finds ≡ command.finds
+  pub spelling : options.spelling ≡ command.spelling
   pub by_line : options.by_line ≡ is_by_line command.places path
   pub rejects_strays : options.rejects_strays ≡ command.rejects_strays
   pub explains : options.explains ≡ is_bad command.shown

@@ -1,7 +1,7 @@
 -- What is shown of a source: a line for each of its literals, after its place, or where it is asked
 -- for one that says why it is bad. Texts and what is shown are lists of characters, what
 -- is written lists of bytes.
-use Rattle.std.specs.Prelude.{◌≡◌, ◌≢◌, ◌⊎◌, ◌↔◌, ℕ, ◌+◌, ◌-◌, ◌≤◌, Bool, List, [], ◌∷◌, ◌++◌, IsTrue, take, drop, codes, encode_utf8_all, Option, Some, None}
+use Rattle.std.specs.Prelude.{◌≡◌, ◌≢◌, ◌⊎◌, ◌↔◌, ℕ, ◌+◌, ◌-◌, ◌≤◌, Bool, List, [], ◌++◌, IsTrue, take, drop, codes, encode_utf8_all, Option, Some, None}
 use denote.Ref.{Bor}
 use Rattle.std.specs.List.{All}
 use Rattle.std.specs.Str.{IsCharBoundary}
@@ -22,6 +22,8 @@ use Rattle.rl_files.specs.Visible.{visible, visible_lines}
 use Rattle.rl_program.specs.Streams.{AppendsBeginning}
 use Rattle.rl_program.specs.declared.fault.Fault.TheVariants.{Write, Memory}
 use Rattle.rl_sources.specs.declared.options.Judge.{Judge}
+use Rattle.rl_sources.specs.declared.options.Spelling.{Spelling}
+use Rattle.rl_sources.specs.declared.options.Spelling.TheVariants.{Value, Source}
 use Rattle.rl_sources.specs.declared.options.Judge.TheVariants.{Rust, Syn}
 use Rattle.rl_sources.specs.declared.options.Options.{Options}
 use Rattle.rl_sources.specs.declared.place.Place.{Place}
@@ -46,11 +48,16 @@ FindsNoFlaw Syn text = HasReading text
 abbrev pub IsBad : Judge → List ℕ → Type 0
 IsBad judge text = (flaw : Flaw) × FindsFlaw judge text flaw
 
--- the line of a text as a literal, after its place in the whole source
+-- what is printed of a literal: the line of its text as a literal, or the text as it is written
+abbrev pub IsPrintedAs : Spelling → List ℕ → List ℕ → Type 0
+IsPrintedAs Value text shown = (line : List ℕ) × IsLineOf text line × (shown ≡ visible_lines line)
+IsPrintedAs Source text shown = shown ≡ visible text ++ codes "\n"
+
+-- the line of a literal, after its place in the whole source
 abbrev pub IsPlacedLine : Options → List ℕ → List ℕ → ℕ → ℕ → List ℕ → Type 0
 IsPlacedLine options whole text lo hi shown =
-    (place : Place) × (line : List ℕ) × IsPlaceIn options.by_line whole lo hi place × IsLineOf text line
-    × (shown ≡ line_front options.path place ++ visible_lines line)
+    (place : Place) × (words : List ℕ) × IsPlaceIn options.by_line whole lo hi place
+    × IsPrintedAs options.spelling text words × (shown ≡ line_front options.path place ++ words)
 
 -- the bytes from `lo` to `hi` are a text
 abbrev pub IsSlice : List ℕ → ℕ → ℕ → Type 0

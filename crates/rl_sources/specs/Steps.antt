@@ -1,26 +1,18 @@
 -- Steps of a scan.
-use Rattle.std.specs.Prelude.{◌≡◌, ◌≢◌, ◌⊎◌, ℕ, ◌+◌, ◌<◌, ◌≤◌, Bool, List, [], ◌∷◌, ◌++◌, length, IsTrue, Option, IfSome}
+use Rattle.std.specs.Prelude.{◌≡◌, ◌≢◌, ◌⊎◌, ℕ, ◌+◌, ◌<◌, ◌≤◌, Bool, List, [], ◌++◌, length, IsTrue, Option, IfSome}
 use Rattle.std.specs.Str.{chars}
 use Rattle.rl_text.specs.Texts.{byte_len, IsTail}
 use Rattle.rl_lexer.specs.Cursors.{CursorState, IsCursorState}
 use Rattle.rl_lexer.specs.Sources.{CutSource, StrayKind, source_view, TakesSource, IsLiteralText}
 use Rattle.rl_lexer.specs.declared.lex_error.LexError.{LexError}
 use Rattle.rl_lexer.specs.declared.sources.SourceToken.{SourceToken}
-use Rattle.rl_lines.specs.Lines.{IsLineOf}
-use Rattle.rl_files.specs.Visible.{visible_lines}
 use Rattle.rl_reasons.specs.declared.flaws.Flaw.{Flaw}
 use Rattle.rl_sources.specs.declared.options.Options.{Options}
 use Rattle.rl_sources.specs.declared.options.Shown.TheVariants.{Bad}
-use Rattle.rl_sources.specs.declared.place.Place.{Place}
 use Rattle.rl_sources.specs.declared.step.Step.{Step}
 use Rattle.rl_sources.specs.declared.step.Step.TheVariants.{More, End, Error}
 use Rattle.rl_sources.specs.Places.{IsPlaceIn}
 use Rattle.rl_sources.specs.Scans.{ShowsUpTo, IsErrorAt}
-
--- the line of a text, after what stands before it
-abbrev pub IsTextLine : List ℕ → List ℕ → List ℕ → Type 0
-IsTextLine front text shown =
-    (line : List ℕ) × IsLineOf text line × (shown ≡ front ++ visible_lines line)
 
 -- flaws are looked for: the line of a bad literal says why it is bad, or bad ones are shown
 abbrev pub LooksForFlaws : Options → Type 0
@@ -32,7 +24,6 @@ pub record HasPlace (text : List ℕ) (flaw : Flaw) : Type 0 where
   pub rest : List ℕ
   pub text_is : text ≡ front ++ rest
   pub lo_is : flaw.lo ≡ byte_len front
-  pub ordered : flaw.lo ≤ flaw.hi
   pub within : flaw.hi ≤ byte_len text
 
 -- where strays are rejected, no token is one

@@ -1,5 +1,5 @@
 -- What the words of a command line ask for. Words are lists of bytes.
-use Rattle.std.specs.Prelude.{◌≡◌, ◌≢◌, ◌⊎◌, ℕ, ◌==◌, Bool, true, false, not, ◌||◌, List, [], ◌∷◌, ◌++◌, map, codes, string_bytes, ⊤, Option, Some, None}
+use Rattle.std.specs.Prelude.{◌≡◌, ◌≢◌, ◌⊎◌, ℕ, ◌==◌, Bool, true, false, not, ◌||◌, List, [], ◌∷◌, ◌++◌, codes, string_bytes, ⊤, Option, Some, None}
 use denote.Ref.{Bor}
 use Rattle.std.specs.List.{All, starts_with}
 use Rattle.std.specs.Str.{chars, bytes_eq}
@@ -15,9 +15,11 @@ use Rattle.rl_sources.specs.declared.command.Command.{Command}
 use Rattle.rl_sources.specs.declared.options.Judge.{Judge}
 use Rattle.rl_sources.specs.declared.options.Judge.TheVariants as judge
 use Rattle.rl_sources.specs.declared.options.Shown.{Shown}
+use Rattle.rl_sources.specs.declared.options.Spelling.{Spelling}
+use Rattle.rl_sources.specs.declared.options.Spelling.TheVariants.{Value, Source}
 use Rattle.rl_sources.specs.declared.options.Shown.TheVariants as shown
 use Rattle.rl_sources.specs.declared.words.Flag.{Flag}
-use Rattle.rl_sources.specs.declared.words.Flag.TheVariants.{Bad, Lenient, Only, Find, Bytes, Lines, NoStray, Count, Files, Quiet, Help, Version, Paths}
+use Rattle.rl_sources.specs.declared.words.Flag.TheVariants.{Bad, Lenient, Only, Find, Text, Bytes, Lines, NoStray, Count, Files, Quiet, Help, Version, Paths}
 use Rattle.rl_sources.specs.declared.words.Next.{Next}
 use Rattle.rl_sources.specs.declared.words.Next.TheVariants as next
 use Rattle.rl_sources.specs.declared.words.Asked.{Asked}
@@ -31,6 +33,7 @@ IsOptionWord Bad word = (word ≡ codes "-b") ⊎ (word ≡ codes "--bad")
 IsOptionWord Lenient word = word ≡ codes "--lenient"
 IsOptionWord Only word = (word ≡ codes "-k") ⊎ (word ≡ codes "--only")
 IsOptionWord Find word = (word ≡ codes "-f") ⊎ (word ≡ codes "--find")
+IsOptionWord Text word = word ≡ codes "--text"
 IsOptionWord Bytes word = (word ≡ codes "-o") ⊎ (word ≡ codes "--bytes")
 IsOptionWord Lines word = word ≡ codes "--lines"
 IsOptionWord NoStray word = word ≡ codes "--no-stray"
@@ -82,6 +85,7 @@ pub record Wishes : Type 0 where
   pub output : Output
   pub rejects_strays : Bool
   pub judge : Judge
+  pub spelling : Spelling
   pub paths : List (List ℕ)
 
 -- what is asked for where nothing is said
@@ -94,6 +98,7 @@ first_wishes = record {
   output = output.Lines;
   rejects_strays = false;
   judge = judge.Rust;
+  spelling = Value;
   paths = [];
 }
 
@@ -107,6 +112,7 @@ wishes_of command paths = record {
   output = command.output;
   rejects_strays = command.rejects_strays;
   judge = command.judge;
+  spelling = command.spelling;
   paths = paths;
 }
 
@@ -130,6 +136,7 @@ with_flag Bad w = record w { wanted = BadWanted }
 with_flag Lenient w = record w { judge = judge.Syn }
 with_flag Only w = w
 with_flag Find w = w
+with_flag Text w = record w { spelling = Source }
 with_flag Bytes w = record w { places = form.Bytes }
 with_flag Lines w = record w { places = form.Lines }
 with_flag NoStray w = record w { rejects_strays = true }

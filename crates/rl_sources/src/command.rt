@@ -1,6 +1,6 @@
 //! What a call of the program asks for.
 
-use crate::options::{Judge, Shown};
+use crate::options::{Judge, Shown, Spelling};
 
 /// What a call asks for.
 #[derive(Clone, Copy)]
@@ -46,6 +46,8 @@ pub struct Command<'a> {
     pub shown: Shown<'a>,
     /// The text that their contents have to hold, where one is looked for.
     pub finds: Option<&'a str>,
+    /// How they are printed.
+    pub spelling: Spelling,
     /// How their places are printed.
     pub places: PlaceForm,
     /// What is printed of their lines.

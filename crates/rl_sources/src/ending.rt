@@ -33,11 +33,12 @@ How
                        LO..HI KIND VALUE SUFFIX                 of standard input
   -o, --bytes          LO..HI in place of LINE:COLUMN
       --lines          LINE:COLUMN in place of LO..HI
+      --text           the literal as it is written, in place of KIND VALUE SUFFIX
   -c, --count          how many lines a file has      -l, --files   its path      -q, --quiet   nothing
       --               what follows is a PATH
   -h, --help           -V, --version
-Status: 0 all was read; 1 --bad found something, or --find nothing; 2 wrong arguments, or a file that can't be read to its end: each has
-a line on standard error, and the others are still read
+Status: 0 all was read; 1 --bad found something, or --find nothing; 2 wrong arguments, or a file that can't be read to
+its end: each has a line on standard error, and the others are still read
 ";
 
 /// Which version it is.

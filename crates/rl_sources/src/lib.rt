@@ -18,7 +18,7 @@ mod words;
 
 pub use crate::command::{Command, Output, PlaceForm, Wish};
 pub use crate::ending::{CallError, HELP, VERSION, call};
-pub use crate::options::{Judge, Options, Shown};
+pub use crate::options::{Judge, Options, Shown, Spelling};
 pub use crate::place::Place;
 pub use crate::report::{Report, report_of};
 pub use crate::runs::{RunStop, Tally, run};

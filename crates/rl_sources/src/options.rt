@@ -12,6 +12,15 @@ pub enum Judge {
     Syn,
 }
 
+/// How a literal is printed.
+#[derive(Clone, Copy)]
+pub enum Spelling {
+    /// Its kind, its value and its suffix.
+    Value,
+    /// As it is written in the source.
+    Source,
+}
+
 /// Which literals are shown.
 #[derive(Clone, Copy)]
 pub enum Shown<'a> {
@@ -30,6 +39,8 @@ pub struct Options<'a> {
     pub shown: Shown<'a>,
     /// A text that is looked for: only literals are shown whose contents hold it, at the place where it begins there.
     pub finds: Option<&'a str>,
+    /// How they are printed.
+    pub spelling: Spelling,
     /// Whether places are printed as lines and columns, and not as bytes.
     pub by_line: bool,
     /// Whether a stray character is an error, as it is in Rust.

@@ -1,12 +1,15 @@
 //! Places of a source, as they are printed.
 
-ghost use Rattle.std.specs.Prelude.{◌≡◌, ◌+◌, ◌++◌, drop, length, Some, codes, OnOk, string_bytes};
+ghost use Rattle.std.specs.Prelude.{◌≡◌, ◌+◌, ◌≤◌, ◌++◌, drop, length, Some, codes, OnOk, string_bytes};
 ghost use Rattle.std.specs.Str.{chars, IsCharBoundary};
+ghost use Rattle.rl_text.specs.Texts.{byte_len};
 ghost use Rattle.rl_lexer.specs.Cursors.{IsCursorState};
 ghost use Rattle.rl_lexer.specs.Lines.{BeginsAt};
+ghost use Rattle.rl_sources.specs.Held.{IsCutAt};
 ghost use Rattle.rl_sources.specs.Places.{line_front, place_text, IsPlaceIn};
+ghost use Rattle.rl_sources.specs.Steps.{BeginsRest};
 
-use rl_tokens::{LineColumn, Lines};
+use rl_tokens::{LineColumn, Lines, SourceToken};
 use std::alloc::{AllocError, Allocator};
 use std::fmt;
 use std::marker::Model;
@@ -138,4 +141,26 @@ pub(crate) fn place_of<'t>(
         return Place::Line(places.at(rest));
     }
     Place::Bytes(lo, hi)
+}
+
+/// The place in the source of bytes of the token's text, at whose first byte the rest begins.
+pub(crate) fn place_inside<'t>(
+    by_line: bool,
+    places: &mut Places<'t>,
+    token: SourceToken<'t>,
+    rest: &'t str,
+    first: usize,
+    last: usize,
+) -> Place
+    requires rest { BeginsRest token places.old rest.now }
+    requires cut { IsCutAt (chars token.text.now) first }
+    requires within { last ≤ byte_len (chars token.text.now) }
+    ensures place { IsPlaceIn by_line (chars places.old)
+        (token.entry.lo + first) (token.entry.lo + last) result }
+    ensures same { places.new ≡ places.old }
+{
+    let lo = token.lo + first;
+    let hi = token.lo + last;
+    let inside = &rest[first..];
+    place_of(by_line, places, inside, lo, hi)
 }

@@ -1,39 +1,18 @@
 //! Why a literal of a source is bad.
 
-ghost use Rattle.std.specs.Prelude.{◌≡◌, ◌+◌, ◌++◌, ◌↔◌, IsTrue, OnOk, string_bytes};
+ghost use Rattle.std.specs.Prelude.{◌≡◌, ◌++◌, ◌↔◌, IsTrue, OnOk, string_bytes};
 ghost use Rattle.std.specs.Str.{chars};
 ghost use Rattle.rl_lines.specs.Lines.{Appends};
 ghost use Rattle.rl_reasons.specs.FlawWords.{flaw_message};
-ghost use Rattle.rl_sources.specs.Places.{IsPlaceIn};
 ghost use Rattle.rl_sources.specs.Scans.{FindsFlaw, IsFlawLine, IsFlawPiece, IsSlice, error_words};
-ghost use Rattle.rl_sources.specs.Steps.{BeginsRest, HasPlace};
+ghost use Rattle.rl_sources.specs.Steps.{BeginsRest};
 
 use crate::options::Options;
-use crate::place::{Place, Places, place_of, push_front};
+use crate::place::{Places, place_inside, push_front};
 use rl_files::push_visible;
 use rl_grammar::{Flaw, FlawKind};
 use rl_tokens::SourceToken;
 use std::alloc::{AllocError, Allocator};
-
-/// The place in the source of a flaw of the token's text, at whose first byte the rest begins.
-fn flaw_place<'t>(
-    by_line: bool,
-    places: &mut Places<'t>,
-    token: SourceToken<'t>,
-    rest: &'t str,
-    flaw: Flaw,
-) -> Place
-    requires rest { BeginsRest token places.old rest.now }
-    requires flaw { HasPlace (chars token.text.now) flaw }
-    ensures place { IsPlaceIn by_line (chars places.old)
-        (token.entry.lo + flaw.lo) (token.entry.lo + flaw.hi) result }
-    ensures same { places.new ≡ places.old }
-{
-    let lo = token.lo + flaw.lo;
-    let hi = token.lo + flaw.hi;
-    let inside = &rest[flaw.lo..];
-    place_of(by_line, places, inside, lo, hi)
-}
 
 /// Whether the bytes from `lo` to `hi` are a text.
 fn is_slice(text: &str, lo: usize, hi: usize) -> bool
@@ -86,7 +65,7 @@ pub(crate) fn push_flaw<'t, A: Allocator>(
         (chars (string_bytes out.old)) (chars (string_bytes out.new))) }
     ensures same { places.new ≡ places.old }
 {
-    let place = flaw_place(options.by_line, places, token, rest, flaw);
+    let place = place_inside(options.by_line, places, token, rest, flaw.lo, flaw.hi);
     push_front(out, options.path, place)?;
     push_error(out, flaw.kind, piece_of(token.text, flaw))
 }

@@ -1,24 +1,23 @@
 //! What is shown of the tokens of a source, one after another.
 
-ghost use Rattle.std.specs.Prelude.{◌≡◌, ◌+◌, ◌<◌, ◌≤◌, [], length, Some, None, IfSome, IfNone, IfOk, IfErr, OnOk, MatchOption, string_bytes};
+ghost use Rattle.std.specs.Prelude.{◌≡◌, ◌+◌, ◌<◌, ◌++◌, [], length, codes, Some, None, IfSome, IfNone, IfOk, IfErr, OnOk, MatchOption, string_bytes};
 ghost use Rattle.std.specs.Str.{chars};
-ghost use Rattle.rl_text.specs.Texts.{byte_len};
 ghost use Rattle.rl_forms.specs.Reading.{HasNoReading};
 ghost use Rattle.rl_lexer.specs.Cursors.{IsCursorState};
 ghost use Rattle.rl_lexer.specs.Sources.{TakesSource};
 ghost use Rattle.rl_reading.specs.Founds.{IsFound};
+ghost use Rattle.rl_files.specs.Visible.{visible};
 ghost use Rattle.rl_lines.specs.Lines.{Appends};
-ghost use Rattle.rl_sources.specs.Held.{IsCutAt};
-ghost use Rattle.rl_sources.specs.Places.{IsPlaceIn};
-ghost use Rattle.rl_sources.specs.Scans.{FindsFlaw, FindsNoFlaw, IsHeldLine, IsLineIn, IsPickedLine, IsPlacedLine, IsShownLiteral, IsErrorAt};
-ghost use Rattle.rl_sources.specs.Steps.{IsTextLine, IsAcceptedToken, BeginsRest, IsCursorOver, LooksForFlaws, TakesShown, EndsUnshown, StopsUnshown, IsStepOf};
+ghost use Rattle.rl_sources.specs.Scans.{FindsFlaw, FindsNoFlaw, IsHeldLine, IsLineIn, IsPickedLine, IsPlacedLine, IsPrintedAs, IsShownLiteral, IsErrorAt};
+ghost use Rattle.rl_sources.specs.declared.options.Spelling.TheVariants.{Value};
+ghost use Rattle.rl_sources.specs.Steps.{IsAcceptedToken, BeginsRest, IsCursorOver, LooksForFlaws, TakesShown, EndsUnshown, StopsUnshown, IsStepOf};
 
 use crate::held::held_at;
 use crate::judge::{flaw_of, reason_of};
-use crate::options::Options;
-use crate::place::{Place, Places, place_of, push_front};
+use crate::options::{Options, Spelling};
+use crate::place::{Place, Places, place_inside, place_of, push_front};
 use crate::reason::push_flaw;
-use rl_files::make_visible;
+use rl_files::{make_visible, push_visible};
 use rl_grammar::{Flaw, Found, Kind, find};
 use rl_lines::{label_of, push_found};
 use rl_tokens::{LexError, LexKind, SourceForm, SourceToken, Sources};
@@ -46,12 +45,41 @@ fn push_text_line<A: Allocator + Copy>(
 ) -> Result<(), AllocError>
     requires none { IfNone found (HasNoReading (chars text.now)) }
     requires found { IfSome found (IsFound text.now) }
-    ensures { OnOk result (Appends (IsTextLine [] (chars text.now))
+    ensures { OnOk result (Appends (IsPrintedAs Value (chars text.now))
         (chars (string_bytes out.old)) (chars (string_bytes out.new))) }
 {
     let from = out.as_str().len();
     push_found(alloc, out, text, found)?;
     make_visible(alloc, out, from)
+}
+
+/// Appends a literal as it is written.
+fn push_source<A: Allocator>(out: &mut String<A>, text: &str) -> Result<(), AllocError>
+    ensures { OnOk result (chars (string_bytes out.new)
+        ≡ chars (string_bytes out.old) ++ (visible (chars text.now) ++ codes "\n")) }
+{
+    push_visible(out, text)?;
+    out.push_str("\n")?;
+    Ok(())
+}
+
+/// Appends what is printed of a literal, of what reading it found.
+fn push_printed<A: Allocator + Copy>(
+    alloc: A,
+    out: &mut String<A>,
+    spelling: Spelling,
+    text: &str,
+    found: Option<Found>,
+) -> Result<(), AllocError>
+    requires none { IfNone found (HasNoReading (chars text.now)) }
+    requires found { IfSome found (IsFound text.now) }
+    ensures { OnOk result (Appends (IsPrintedAs spelling (chars text.now))
+        (chars (string_bytes out.old)) (chars (string_bytes out.new))) }
+{
+    match spelling {
+        Spelling::Value => push_text_line(alloc, out, text, found),
+        Spelling::Source => push_source(out, text),
+    }
 }
 
 /// Appends the line of a literal, after its place.
@@ -75,7 +103,7 @@ fn push_placed<'t, A: Allocator + Copy>(
 {
     let place = place_of(options.by_line, places, rest, token.lo, token.hi);
     push_front(out, options.path, place)?;
-    push_text_line(alloc, out, token.text, found)
+    push_printed(alloc, out, options.spelling, token.text, found)
 }
 
 /// Appends the line of a literal: its own, or where lines tell flaws and it has one, the line that says why it is bad.
@@ -106,28 +134,6 @@ fn push_line_in<'t, A: Allocator + Copy>(
     }
 }
 
-/// The place in the source of bytes of the token's text, at whose first byte the rest begins.
-fn place_inside<'t>(
-    by_line: bool,
-    places: &mut Places<'t>,
-    token: SourceToken<'t>,
-    rest: &'t str,
-    first: usize,
-    last: usize,
-) -> Place
-    requires rest { BeginsRest token places.old rest.now }
-    requires cut { IsCutAt (chars token.text.now) first }
-    requires within { last ≤ byte_len (chars token.text.now) }
-    ensures place { IsPlaceIn by_line (chars places.old)
-        (token.entry.lo + first) (token.entry.lo + last) result }
-    ensures same { places.new ≡ places.old }
-{
-    let lo = token.lo + first;
-    let hi = token.lo + last;
-    let inside = &rest[first..];
-    place_of(by_line, places, inside, lo, hi)
-}
-
 /// Appends the line of a literal whose contents hold what is looked for, at the place of that.
 #[inline(never)]
 fn push_held_line<'t, A: Allocator + Copy>(
@@ -153,7 +159,7 @@ fn push_held_line<'t, A: Allocator + Copy>(
     };
     let place = place_inside(options.by_line, places, token, rest, first, last);
     push_front(out, options.path, place)?;
-    push_text_line(alloc, out, token.text, found)
+    push_printed(alloc, out, options.spelling, token.text, found)
 }
 
 /// Appends what is shown of a literal that is picked: its line, where nothing is looked for, or its contents hold that.

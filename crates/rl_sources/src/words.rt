@@ -7,7 +7,7 @@ ghost use Rattle.rl_sources.specs.declared.words.Next.TheVariants as next;
 ghost use Rattle.rl_sources.specs.Words.{IsOptionWord, IsKindWord, AreKindWords, is_path_word, wishes_of, wishes_in, IsAllowed, GoesWithFind, IsLenientAlone, with_flag as flagged, next_after as follows, with_path, IsStep, Asks, IsRejectedWord, AreRejected};
 
 use crate::command::{Command, Output, PlaceForm, Wish};
-use crate::options::{Judge, Shown, names};
+use crate::options::{Judge, Shown, Spelling, names};
 use crate::report::{is_bad, visible_text};
 use std::alloc::{AllocError, Allocator, Global};
 use std::fmt;
@@ -19,6 +19,7 @@ enum Flag {
     Lenient,
     Only,
     Find,
+    Text,
     Bytes,
     Lines,
     NoStray,
@@ -100,6 +101,7 @@ fn flag_of(word: &str) -> Option<Flag>
         "--lenient" => Some(Flag::Lenient),
         "-k" | "--only" => Some(Flag::Only),
         "-f" | "--find" => Some(Flag::Find),
+        "--text" => Some(Flag::Text),
         "-o" | "--bytes" => Some(Flag::Bytes),
         "--lines" => Some(Flag::Lines),
         "--no-stray" => Some(Flag::NoStray),
@@ -187,6 +189,7 @@ fn with_flag(command: Command<'_>, flag: Flag) -> Option<Command<'_>>
         (Flag::Bad | Flag::Only, _) => return None,
         (Flag::Lenient, _) => next.judge = Judge::Syn,
         (Flag::Find, _) => {}
+        (Flag::Text, _) => next.spelling = Spelling::Source,
         (Flag::Bytes, _) => next.places = PlaceForm::Bytes,
         (Flag::Lines, _) => next.places = PlaceForm::Lines,
         (Flag::NoStray, _) => next.rejects_strays = true,
@@ -332,6 +335,7 @@ pub(crate) fn asked_by<A: Allocator + Copy>(
         output: Output::Lines,
         rejects_strays: false,
         judge: Judge::Rust,
+        spelling: Spelling::Value,
     };
     let mut asked = Asked {
         command,

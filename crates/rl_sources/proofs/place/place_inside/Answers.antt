@@ -1,6 +1,6 @@
 use Rattle.std.proofs.Common.{arith}
 use Rattle.rl_sources.proofs.ReasonLemmas.{cut_fits, cut_rest, cut_within}
-use Rattle.rl_sources.proofs.step.place_inside.Goals as goal
+use Rattle.rl_sources.proofs.place.place_inside.Goals as goal
 
 pub overflow_add-lo : goal.overflow_add-lo
 overflow_add-lo c = omega (
