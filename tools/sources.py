@@ -218,7 +218,9 @@ def entries(data, their, our):
         told, ours = PLACED.fullmatch(t), PLACED.fullmatch(o)
         if not told or not ours or told.groups()[:2] != ours.groups()[:2]:
             return None
-        known = readings.entry('text', data[int(told[1]):int(told[2])], told[3], ours[3])
+        text = data[int(told[1]):int(told[2])]
+        plain = ('Verbatim %s -' % readings.written(text.decode())).encode()
+        known = readings.entry('text', text, told[3], plain if ours[3] == visible(plain) else ours[3])
         if not known:
             return None
         found[known] = found.get(known, 0) + 1
