@@ -15,6 +15,7 @@ Rate = collections.namedtuple('Rate', 'bytes seconds')
 # what each does with the text; all but ripgrep test too that it is UTF-8
 WORKS = {
     'source': 'the cursor `Sources`: cuts off every token',
+    'next_literal': 'the cursor `Sources::next_literal`: cuts off each literal',
     'package': 'the package, `source`: cuts off each literal and reads it',
     'rl_scan': 'the program: reads each literal and prints its line',
     "rustc's lexer": 'cuts off every token, white space and comments too (of `rust-src`)',

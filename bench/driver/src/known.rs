@@ -67,7 +67,9 @@ fn check_characters() -> Result<(), String> {
 #[cfg(feature = "archives")]
 fn check_sources() -> Result<(), String> {
     // a lifetime, a raw identifier, a doc comment and a stray character; `#![e]`; a string
-    wanted("source", ours::source(&sources()), 10)
+    wanted("source", ours::source(&sources()), 10)?;
+    // the string
+    wanted("next_literal", ours::next_literal(&sources()), 1)
 }
 
 /// The sum of texts some of which are attributes.

@@ -19,6 +19,8 @@ extern "C" {
     fn rl_bench_lent(b: *const u8, n: usize, e: *const usize, m: usize, sum: &mut u64) -> bool;
     fn rl_bench_tokens(bytes: *const u8, len: usize, ends: *const usize, count: usize) -> u64;
     fn rl_bench_source(bytes: *const u8, len: usize, ends: *const usize, count: usize) -> u64;
+    fn rl_bench_next_literal(bytes: *const u8, len: usize, ends: *const usize, count: usize)
+        -> u64;
     fn rl_bench_lex(b: *const u8, n: usize, e: *const usize, m: usize, sum: &mut u64) -> bool;
     fn rl_bench_read(b: *const u8, n: usize, e: *const usize, m: usize, sum: &mut u64) -> bool;
     fn rl_bench_attr(b: *const u8, n: usize, e: *const usize, m: usize, sum: &mut u64) -> bool;
@@ -80,6 +82,10 @@ pub fn source(corpus: &Corpus) -> u64 {
     call_certain(rl_bench_source, corpus)
 }
 
+pub fn next_literal(corpus: &Corpus) -> u64 {
+    call_certain(rl_bench_next_literal, corpus)
+}
+
 pub fn lex(corpus: &Corpus) -> u64 {
     call(rl_bench_lex, corpus)
 }
@@ -113,7 +119,10 @@ const OF_ATTRIBUTES: &[Work] = &[
     ours("attr", Sum::Attributes, attr),
 ];
 
-const OF_SOURCES: &[Work] = &[ours("source", Sum::Cuts, source)];
+const OF_SOURCES: &[Work] = &[
+    ours("source", Sum::Cuts, source),
+    ours("next_literal", Sum::SourceLiterals, next_literal),
+];
 
 const OF_HOSTILE: &[Work] = &[
     ours("shape", Sum::Shapes, shape),

@@ -20,7 +20,7 @@ use crate::lent::ByLent;
 use crate::lists::{ByAttributes, ByList, ByTrees};
 use crate::literals::ByLiteral;
 use crate::segments::BySegments;
-use crate::sources::BySources;
+use crate::sources::{BySourceLiterals, BySources};
 use crate::sums::sum;
 use crate::tokens::ByTokens;
 use crate::value_refs::ByValueRef;
@@ -104,6 +104,13 @@ pub extern "C" fn rl_bench_tokens(alloc: Global, corpus: &[u8], ends: &[usize]) 
 #[unsafe(no_mangle)]
 pub extern "C" fn rl_bench_source(alloc: Global, corpus: &[u8], ends: &[usize]) -> u64 {
     certain(sum::<BySources>(alloc, corpus, ends))
+}
+
+/// How many literals stand in the texts as whole sources, each up to where no token begins what is left.
+/// It takes no memory.
+#[unsafe(no_mangle)]
+pub extern "C" fn rl_bench_next_literal(alloc: Global, corpus: &[u8], ends: &[usize]) -> u64 {
+    certain(sum::<BySourceLiterals>(alloc, corpus, ends))
 }
 
 /// Puts into `total` how many trees the texts are cut into, a group counted as one; a text that has
