@@ -64,7 +64,6 @@ fn push_source<A: Allocator>(out: &mut String<A>, text: &str) -> Result<(), Allo
 }
 
 /// Appends what is printed of a literal, of what reading it found.
-#[inline(always)]
 fn push_printed<A: Allocator + Copy>(
     alloc: A,
     out: &mut String<A>,
@@ -84,7 +83,6 @@ fn push_printed<A: Allocator + Copy>(
 }
 
 /// Appends the line of a literal, after its place.
-#[inline(always)]
 fn push_placed<'t, A: Allocator + Copy>(
     alloc: A,
     out: &mut String<A>,
@@ -109,7 +107,6 @@ fn push_placed<'t, A: Allocator + Copy>(
 }
 
 /// Appends the line of a literal: its own, or where lines tell flaws and it has one, the line that says why it is bad.
-#[inline(always)]
 fn push_line_in<'t, A: Allocator + Copy>(
     alloc: A,
     out: &mut String<A>,
@@ -166,7 +163,6 @@ fn push_held_line<'t, A: Allocator + Copy>(
 }
 
 /// Appends what is shown of a literal that is picked: its line, where nothing is looked for, or its contents hold that.
-#[inline(always)]
 fn push_picked<'t, A: Allocator + Copy>(
     alloc: A,
     out: &mut String<A>,
