@@ -11,6 +11,9 @@ LIMIT = 2**128 - 1
 BYTE_KINDS = 'byte kinds past ASCII, or with a lone quote, TAB, LF or CR'
 # The commands whose answer is lines up to a point.
 POINTED = ('read', 'spans', 'attr', 'source')
+# What rl_scan prints as escapes.
+HIDING = re.compile('[\0-\x1f\x7f-\x9f\xad\u034f\u061c\u115f\u1160\u17b4\u17b5\u180b-\u180f\u200b-\u200f\u2028-\u202e\u2060-\u206f\u3164'
+                    '\ufeff\uffa0\ufff0-\ufffb\U0001d173-\U0001d17a\U000e0000-\U000e0fff]')
 
 
 def lines_of(command, data):
@@ -181,6 +184,17 @@ def read_entry(text, their, our):
     if '\r' in text or '\\\n' in text:
         return 'what stands in a token is left to the reading: line ends'
     return None
+
+
+def visible(line):
+    """The line as rl_scan prints it."""
+    return HIDING.sub(lambda it: '\\u{%x}' % ord(it[0]), line.decode()).encode()
+
+
+def is_long_past(text):
+    """Whether the text is so long an integer past 128 bits that the other program would take too long."""
+    digits = re.fullmatch('(?:0x[0-9a-fA-F_]*|0o[0-7_]*|0b[01_]*|[0-9_]*)', text) if len(text) > 10_000 else None
+    return bool(digits) and len(re.sub('^0[xob]|_', '', text).lstrip('0')) > 128
 
 
 def entry(command, data, their, our):

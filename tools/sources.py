@@ -17,8 +17,6 @@ import source_texts
 NOT_TEXT = b'error: input is not UTF-8'
 # What rl_scan prints as an escape: control characters, separators, and what Unicode lists as ignorable by default or formats
 # without a width, but for the variation selectors from FE00 on.
-HIDING = re.compile('[\0-\x1f\x7f-\x9f\xad\u034f\u061c\u115f\u1160\u17b4\u17b5\u180b-\u180f\u200b-\u200f\u2028-\u202e\u2060-\u206f\u3164'
-                    '\ufeff\uffa0\ufff0-\ufffb\U0001d173-\U0001d17a\U000e0000-\U000e0fff]')
 # How many bytes of sources are asked about at once.
 AT_ONCE = 4_000_000
 PLACED = re.compile(rb'(\d+)\.\.(\d+) (.*)', re.S)
@@ -66,17 +64,6 @@ def text_of(data):
         return None
 
 
-def visible(line):
-    """The line as rl_scan prints it."""
-    return HIDING.sub(lambda it: '\\u{%x}' % ord(it[0]), line.decode()).encode()
-
-
-def is_long_past(text):
-    """Whether the text is so long an integer past 128 bits that the other program would take too long."""
-    digits = re.fullmatch('(?:0x[0-9a-fA-F_]*|0o[0-7_]*|0b[01_]*|[0-9_]*)', text) if len(text) > 10_000 else None
-    return bool(digits) and len(re.sub('^0[xob]|_', '', text).lstrip('0')) > 128
-
-
 class Model:
     """The answers that the grammar asks for: tokens by the model, and of each literal's text the line that the program over
     `syn`'s reading code prints."""
@@ -94,7 +81,7 @@ class Model:
         if len(self.known) > 2_000_000:
             self.known = {}
         new = list({token.text: None for cut in cuts if cut for token in cut.literals() if token.text not in self.known})
-        self.known.update({text: ('Verbatim %s -' % readings.written(text)).encode() for text in new if is_long_past(text)})
+        self.known.update({text: ('Verbatim %s -' % readings.written(text)).encode() for text in new if readings.is_long_past(text)})
         asked = [text for text in new if text not in self.known]
         datas = [text.encode() for text in asked]
         self.known.update(zip(asked, readings.theirs(self.options, 'text', datas) if datas else []))
@@ -102,7 +89,7 @@ class Model:
     def lines(self, cut):
         if cut is None:
             return [NOT_TEXT]
-        out = [b'%d..%d %s' % (token.lo, token.hi, visible(self.known[token.text])) for token in cut.literals()]
+        out = [b'%d..%d %s' % (token.lo, token.hi, readings.visible(self.known[token.text])) for token in cut.literals()]
         if cut.fault:
             out.append(b'error at %d..%d: %s' % (cut.fault.at, cut.fault.at, cut.fault.kind.encode()))
         return out
@@ -146,7 +133,7 @@ def front_of(data):
 def moved(lines, by):
     """The lines, with their places that many bytes further on."""
     found = [PLACED.fullmatch(line) for line in lines.split(b'\n')] if lines else []
-    return [b'%d..%d %s' % (int(placed[1]) + by, int(placed[2]) + by, visible(placed[3])) for placed in found]
+    return [b'%d..%d %s' % (int(placed[1]) + by, int(placed[2]) + by, readings.visible(placed[3])) for placed in found]
 
 
 def scanned(program, words, data):
@@ -220,7 +207,7 @@ def entries(data, their, our):
             return None
         text = data[int(told[1]):int(told[2])]
         plain = ('Verbatim %s -' % readings.written(text.decode())).encode()
-        known = readings.entry('text', text, told[3], plain if ours[3] == visible(plain) else ours[3])
+        known = readings.entry('text', text, told[3], plain if ours[3] == readings.visible(plain) else ours[3])
         if not known:
             return None
         found[known] = found.get(known, 0) + 1
