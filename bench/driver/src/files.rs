@@ -2,7 +2,7 @@
 
 use proc_macro2::{TokenStream, TokenTree};
 use std::path::{Path, PathBuf};
-use std::{env, fs};
+use std::{env, fs, io};
 
 /// Whether there is such a folder.
 pub fn are_there() -> bool {
@@ -71,4 +71,35 @@ pub fn literals(size: usize) -> Vec<String> {
     let mut found = Vec::new();
     add_literals(text(size).parse().expect("trees"), &mut found);
     found
+}
+
+/// Adds the paths that rl_scan reads in the folder: all `*.rs`, without hidden folders, `target` and links.
+fn add_tree(folder: &Path, paths: &mut Vec<PathBuf>) -> io::Result<()> {
+    for entry in fs::read_dir(folder)? {
+        let entry = entry?;
+        let (kind, path, name) = (entry.file_type()?, entry.path(), entry.file_name());
+        if kind.is_dir() && !name.as_encoded_bytes().starts_with(b".") && name != "target" {
+            add_tree(&path, paths)?;
+        } else if kind.is_file() && path.extension().is_some_and(|ending| ending == "rs") {
+            paths.push(path);
+        }
+    }
+    Ok(())
+}
+
+/// Does something with each text of the folders' files, one read after another; returns how many files are none.
+pub fn each_in(folders: &[&str], mut work: impl FnMut(String)) -> io::Result<usize> {
+    let mut paths = Vec::new();
+    for folder in folders {
+        add_tree(Path::new(folder), &mut paths)?;
+    }
+    paths.sort();
+    let mut none = 0;
+    for path in paths {
+        match String::from_utf8(fs::read(path)?) {
+            Ok(text) => work(text),
+            Err(_) => none += 1,
+        }
+    }
+    Ok(none)
 }

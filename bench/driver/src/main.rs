@@ -5,7 +5,8 @@
 //! `driver once CORPUS WORK BYTES` runs one work once, in the function `measured`, and prints the
 //! corpus's bytes and texts and the sum; `driver none CORPUS WORK BYTES` does all but run it;
 //! `driver taken CORPUS WORK BYTES` prints, with bytes and sum, the microseconds of processor time,
-//! the page faults and the bytes of memory that it took. Each first tries the works on texts whose
+//! the page faults and the bytes of memory that it took; `driver tree WORK FOLDER..` runs a work of
+//! sources on each file of folders, and prints the bytes and the sum. Each first tries the works on texts whose
 //! sums are known.
 
 mod corpus;
@@ -114,7 +115,27 @@ fn run_taken(work: &Work, corpus: &Corpus) -> Result<(), String> {
     Ok(())
 }
 
-const USAGE: &str = "names | check BYTES | text CORPUS BYTES | once|none|taken CORPUS WORK BYTES";
+/// Runs a work of sources on each file of the folders, and prints their bytes and the sum.
+fn run_tree(name: &str, folders: &[&str]) -> Result<(), String> {
+    let works = works::of(Form::Source);
+    let work = works.iter().find(|work| work.name == name);
+    let work = work.ok_or_else(|| format!("no work {name} on sources"))?;
+    let (mut bytes, mut sum) = (0, 0_u64);
+    let read = files::each_in(folders, |text| {
+        let corpus = Corpus {
+            name: "a file",
+            ends: vec![text.len()],
+            bytes: text.into_bytes(),
+        };
+        bytes += corpus.bytes.len();
+        sum = sum.wrapping_add(measured(work, &corpus));
+    });
+    read.map_err(|error| error.to_string())?;
+    println!("{bytes} {sum}");
+    Ok(())
+}
+
+const USAGE: &str = "names | check BYTES | text CORPUS BYTES | once|none|taken CORPUS WORK BYTES | tree WORK FOLDER..";
 
 fn number(word: &str) -> Result<usize, String> {
     word.parse().map_err(|fault| format!("{word}: {fault}"))
@@ -128,6 +149,7 @@ fn run() -> Result<(), String> {
         ["names"] => print_names(),
         ["check", size] => check_all(number(size)?)?,
         ["text", corpus, size] => print_text(corpus, number(size)?)?,
+        ["tree", work, folders @ ..] => run_tree(work, folders)?,
         [verb @ ("once" | "none" | "taken"), corpus, work, size] => {
             let (work, corpus) = found(corpus, work, number(size)?)?;
             match *verb {
