@@ -85,7 +85,7 @@ RUSTC_TEXTS = 400
 
 
 def leaves_nothing_open(text):
-    """Whether rustc's lexer goes on behind the text, so that others may stand in one source with it."""
+    """Whether rustc's lexer goes on after the text, so that others may stand in one source with it."""
     drawn, at = strict_model.sketch(text), 0
     while at < len(drawn) and (token := TOKEN.match(drawn, at)):
         at = token.end()
@@ -171,7 +171,7 @@ def rustc_reason(text, flaw, error):
     if end_of_first is not None and not error and re.search(r'[(){}\[\]]', text):
         return 'stands elsewhere: one token is whole, and a delimiter without another follows'
     if kind == 'CarriageReturn' and lexing.strict_entry(text, '', '') and (not error or begin > flaw.low):
-        return 'takes a CR among the white space behind an escaped line end'
+        return 'takes a CR among the white space after an escaped line end'
     return None
 
 

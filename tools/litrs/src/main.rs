@@ -1,4 +1,4 @@
-//! litrs-kinds: texts on standard input, each behind its length (four bytes, the low one first). Of each it prints what
+//! litrs-kinds: texts on standard input, each after its length (four bytes, the low one first). Of each it prints what
 //! litrs makes of it: `Ok`, or the kind of its error and the bytes that it names, `KIND LO..HI` or `KIND -`; or `panic`.
 
 use litrs::Literal;
@@ -7,8 +7,8 @@ use std::panic;
 
 /// The kind of an error, which only its debugging form tells.
 fn kind_of(form: &str) -> &str {
-    let (_, behind) = form.rsplit_once("kind: ").expect("a kind");
-    behind.trim_end_matches([' ', '}'])
+    let (_, following) = form.rsplit_once("kind: ").expect("a kind");
+    following.trim_end_matches([' ', '}'])
 }
 
 /// The line of a text.
@@ -22,7 +22,7 @@ fn line(text: &str) -> String {
     }
 }
 
-/// The first text and what stands behind it.
+/// The first text and what follows it.
 fn split_text(data: &[u8]) -> Option<(&[u8], &[u8])> {
     let (len, rest) = data.split_first_chunk()?;
     rest.split_at_checked(u32::from_le_bytes(*len) as usize)
@@ -34,11 +34,11 @@ fn main() -> io::Result<()> {
     io::stdin().read_to_end(&mut data)?;
     let mut out = BufWriter::new(io::stdout().lock());
     let mut rest = &data[..];
-    while let Some((bytes, behind)) = split_text(rest) {
+    while let Some((bytes, following)) = split_text(rest) {
         let text = std::str::from_utf8(bytes).expect("UTF-8");
         let answer = panic::catch_unwind(|| line(text)).unwrap_or("panic".to_string());
         writeln!(out, "{answer}")?;
-        rest = behind;
+        rest = following;
     }
     out.flush()
 }
