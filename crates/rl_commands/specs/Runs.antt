@@ -15,7 +15,7 @@ use Rattle.rl_program.specs.declared.fault.Fault.TheVariants.{Read, Write, NotTe
 use Rattle.rl_lines.specs.Lines.{IsLineOf, AreLinesOfText}
 use Rattle.rl_program.specs.Streams.{AppendsBeginning}
 use Rattle.rl_attributes.specs.Attributes.{Attribute, AreAttributesOf, RejectsAttributeText}
-use Rattle.rl_lines.specs.EntryLines.{ShowsAttributes}
+use Rattle.rl_commands.specs.EntryLines.{ShowsAttributes}
 
 -- what a command prints of a text
 abbrev pub Shows : Command → List ℕ → List ℕ → Type 0

@@ -1,14 +1,48 @@
-//! The lines of a text's attributes.
+//! The lines of attributes.
 
-ghost use Rattle.std.specs.Prelude.{IfOk, IfErr, string_bytes};
+ghost use Rattle.std.specs.Prelude.{IfOk, IfErr, OnOk, string_bytes};
 ghost use Rattle.std.specs.Str.{chars};
+ghost use Rattle.rl_lines.specs.Lines.{Appends};
 ghost use Rattle.rl_commands.specs.declared.command.Command.TheVariants.{Attr};
+ghost use Rattle.rl_commands.specs.EntryLines.{IsLineOfEntry, AreLinesOfEntries};
 ghost use Rattle.rl_commands.specs.Runs.{Shows, IsRejectionOf};
 
-use crate::attr::read;
-use rl_lines::entry_lines;
+use crate::attr::{Entry, read};
+use rl_lines::push_literal;
 use rl_program::Fault;
-use std::alloc::Allocator;
+use std::alloc::{AllocError, Allocator};
+
+/// Writes an attribute's line at the end: its name, a space, and its literal's line.
+fn push_entry<A: Allocator + Copy>(
+    alloc: A,
+    out: &mut String<A>,
+    entry: &Entry<A>,
+) -> Result<(), AllocError>
+    ensures { OnOk result (Appends (IsLineOfEntry entry.now)
+        (chars (string_bytes out.old)) (chars (string_bytes out.new))) }
+{
+    out.push_str(entry.name.as_str())?;
+    out.push_str(" ")?;
+    push_literal(alloc, out, &entry.value)
+}
+
+/// The lines of attributes, one after another: of each its name, a space, and its literal's line.
+///
+/// # Errors
+///
+/// An allocation failure.
+pub fn entry_lines<A: Allocator + Copy>(
+    alloc: A,
+    entries: &[Entry<A>],
+) -> Result<String<A>, AllocError>
+    ensures { IfOk result (λ lines. AreLinesOfEntries entries.now (chars (string_bytes lines))) }
+{
+    let mut lines = String::new(alloc);
+    for entry in entries {
+        push_entry(alloc, &mut lines, entry)?;
+    }
+    Ok(lines)
+}
 
 /// The lines of the text's attributes.
 pub fn attribute_lines<A: Allocator + Copy>(alloc: A, text: &str) -> Result<String<A>, Fault<A>>

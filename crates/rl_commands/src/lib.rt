@@ -9,6 +9,7 @@ mod ending;
 mod list;
 pub mod run;
 
+pub use crate::attribute_lines::entry_lines;
 pub use crate::command::Command;
 pub use crate::ending::call;
 pub use rl_program::{Ending, Fault};

@@ -4,6 +4,5 @@ pub mod JoinLemmas
 pub mod PrintLemmas
 pub mod TextLemmas
 pub mod ListLemmas
-pub mod EntryLineLemmas
 pub mod FoundLineLemmas
 pub mod BareLemmas

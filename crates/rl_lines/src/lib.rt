@@ -1,17 +1,13 @@
-//! What the programs print: literals as lines (kind, contents as they are written, and suffix), attributes as lines, and errors; and what
-//! those for development read, bytes as hexadecimal digits.
+//! What the programs print: literals as lines (kind, contents as they are written, and suffix); and what those for development
+//! read, bytes as hexadecimal digits.
 #![tactic(auto)]
 
-mod attributes;
 mod digits;
 mod found_line;
 mod line;
 mod print;
-mod rejection;
 
-pub use crate::attributes::entry_lines;
 pub use crate::digits::decoded;
 pub use crate::found_line::push_found;
 pub use crate::line::label_of;
 pub use crate::print::{line_of, lines_of, push_literal, push_literals};
-pub use crate::rejection::Refusal;

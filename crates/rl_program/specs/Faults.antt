@@ -1,6 +1,6 @@
 -- How the program tells why it failed.
 use Rattle.std.specs.Prelude.{ℕ, List, codes}
-use Rattle.rl_lines.specs.Refusals.{rejection_line}
+use Rattle.rl_program.specs.Refusals.{rejection_line}
 use Rattle.rl_program.specs.declared.fault.Fault.{Fault}
 use Rattle.rl_program.specs.declared.fault.Fault.TheVariants.{Read, Write, NotText, Memory, Literal}
 

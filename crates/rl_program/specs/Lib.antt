@@ -1,3 +1,4 @@
 pub mod Streams
+pub mod Refusals
 pub mod Faults
 pub mod Endings

@@ -4,7 +4,7 @@ ghost use Rattle.std.specs.Prelude.{Some};
 ghost use Rattle.rl_program.specs.Faults.{error_line};
 
 use crate::ending::RunError;
-use rl_lines::Refusal;
+use crate::rejection::Refusal;
 use rl_tokens::Error;
 use std::alloc::{AllocError, Allocator, Global};
 use std::fmt;

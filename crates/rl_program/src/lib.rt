@@ -4,8 +4,10 @@
 
 mod ending;
 mod fault;
+mod rejection;
 mod streams;
 
 pub use crate::ending::{Ending, RunError, arguments, finish};
 pub use crate::fault::Fault;
+pub use crate::rejection::Refusal;
 pub use crate::streams::{WriteError, read_whole, text_of, write_bytes, write_whole};

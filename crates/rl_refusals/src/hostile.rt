@@ -4,7 +4,8 @@
 use crate::tell::{Tell, tell_places};
 use rl_attributes::Attrs;
 use rl_grammar::strict;
-use rl_lines::{Refusal, line_of};
+use rl_lines::line_of;
+use rl_program::Refusal;
 use rl_refusing::Page;
 use rl_tokens::{Error, Kept, Literal, Span, lex, whitespace};
 use rust_literals::{Lit, read_all};

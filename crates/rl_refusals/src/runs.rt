@@ -5,7 +5,7 @@ use crate::held::NO_CALL;
 use rl_attributes::Attrs;
 use rl_commands::Command;
 use rl_commands::run::run;
-use rl_lines::Refusal;
+use rl_program::Refusal;
 use rl_refusing::{Failing, Page};
 use rl_tokens::{Error, Parse, ParseBuffer, Span, lex};
 use std::alloc::Global;

@@ -2,7 +2,7 @@
 
 use crate::tell::{HERE, ToRow, place, put, tell, tell_error, tell_line};
 use rl_attributes::{Attrs, Setting, SettingError, read};
-use rl_lines::Refusal;
+use rl_program::Refusal;
 use rl_refusing::Page;
 use rl_tokens::Error;
 use rust_literals::LitStr;

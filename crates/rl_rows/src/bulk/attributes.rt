@@ -2,7 +2,7 @@
 
 use super::ending::{ended, rejected};
 use rl_attributes::read;
-use rl_lines::entry_lines;
+use rl_commands::entry_lines;
 use std::alloc::{AllocError, Global};
 
 /// The lines of the text's attributes, or of its error, and one with a point.

@@ -1,6 +1,6 @@
 //! Answers of several lines: they end in a line with a point.
 
-use rl_lines::Refusal;
+use rl_program::Refusal;
 use rl_tokens::Error;
 use std::alloc::{AllocError, Global};
 

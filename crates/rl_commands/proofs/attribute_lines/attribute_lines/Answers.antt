@@ -1,5 +1,5 @@
 use Rattle.rl_text.proofs.Common.{chars, string_bytes}
-use Rattle.rl_lines.proofs.EntryLineLemmas.{shows_attributes}
+use Rattle.rl_commands.proofs.EntryLineLemmas.{shows_attributes}
 use Rattle.rl_commands.proofs.attribute_lines.attribute_lines.Goals as goal
 
 pub returns-clause-lines : goal.returns-clause-lines

@@ -4,13 +4,13 @@ use rl_tokens::Error;
 use std::alloc::{Allocator, Global};
 use std::fmt;
 
-/// A borrowed error, to be displayed as the programs tell it: its place in bytes, and its message.
+/// A borrowed error, displayed as the programs report it: its place in bytes, and its message.
 #[derive(Drop)]
 pub struct Refusal<'a, A: Allocator = Global>(pub &'a Error<A>);
 
 impl<A: Allocator> fmt::Display for Refusal<'_, A> {
     ghost use Rattle.std.specs.Prelude.{Some};
-    ghost use Rattle.rl_lines.specs.Refusals.{rejection_line};
+    ghost use Rattle.rl_program.specs.Refusals.{rejection_line};
 
     ghost output = { λ rejection. Some (rejection_line rejection.0.now) };
 

@@ -9,7 +9,7 @@ use Rattle.rl_lines.proofs.TextLemmas.{line_of_text}
 use Rattle.rl_attributes.specs.declared.attributes.Entry.{Entry}
 use Rattle.rl_attributes.specs.Attributes.{AreAttributesOf}
 use Rattle.rl_attributes.specs.Entries.{attributes_of, IsReadEntry}
-use Rattle.rl_lines.specs.EntryLines.{AreAttributeLines, ShowsAttributes, IsLineOfEntry, AreLinesOfEntries}
+use Rattle.rl_commands.specs.EntryLines.{AreAttributeLines, ShowsAttributes, IsLineOfEntry, AreLinesOfEntries}
 
 -- a name, a space and a line at the end
 pub entry_pushed : {A : Type 0} (entry : Entry A) (name a b c d : List ℕ) → name ≡ string_bytes entry.name → b ≡ a
