@@ -130,14 +130,18 @@ IsHiddenLine options whole text lo shown =
     × IsPlacedLine options whole text (lo + first) (lo + last) shown)
     ⊎ ((HoldsHidden text → ⊥) × (shown ≡ []))
 
--- what is shown of a literal that is picked, by what is looked for and what is asked for
-abbrev pub IsPickedLine : Option (Bor (List ℕ)) → Shown → Options → List ℕ → List ℕ → ℕ → ℕ → List ℕ → Type 0
-IsPickedLine (Some sought) wanted options whole text lo hi shown =
+-- what is shown where no text is looked for, by what is asked for
+abbrev pub IsAskedLine : Shown → Options → List ℕ → List ℕ → ℕ → ℕ → List ℕ → Type 0
+IsAskedLine All options whole text lo hi shown = IsLineIn options whole text lo hi shown
+IsAskedLine (Only list) options whole text lo hi shown = IsLineIn options whole text lo hi shown
+IsAskedLine Bad options whole text lo hi shown = IsLineIn options whole text lo hi shown
+IsAskedLine Hidden options whole text lo hi shown = IsHiddenLine options whole text lo shown
+
+-- what is shown of a literal that is picked
+abbrev pub IsPickedLine : Option (Bor (List ℕ)) → Options → List ℕ → List ℕ → ℕ → ℕ → List ℕ → Type 0
+IsPickedLine None options whole text lo hi shown = IsAskedLine options.shown options whole text lo hi shown
+IsPickedLine (Some sought) options whole text lo hi shown =
     IsHeldLine sought.now options whole text lo shown
-IsPickedLine None Hidden options whole text lo hi shown = IsHiddenLine options whole text lo shown
-IsPickedLine None All options whole text lo hi shown = IsLineIn options whole text lo hi shown
-IsPickedLine None (Only list) options whole text lo hi shown = IsLineIn options whole text lo hi shown
-IsPickedLine None Bad options whole text lo hi shown = IsLineIn options whole text lo hi shown
 
 -- the literal is picked, whose line begins with this word
 abbrev pub IsPicked : Options → List ℕ → List ℕ → Type 0
@@ -148,7 +152,7 @@ abbrev pub IsShownLiteral : Options → List ℕ → List ℕ → ℕ → ℕ �
 IsShownLiteral options whole text lo hi shown =
     (label : List ℕ) × IsLabelOf text label
     × ((IsPicked options text label
-    × IsPickedLine options.finds options.shown options whole text lo hi shown)
+    × IsPickedLine options.finds options whole text lo hi shown)
     ⊎ ((IsPicked options text label → ⊥) × (shown ≡ [])))
 
 -- what is shown of a token: of a literal, and of the words `true` and `false`, what is shown of

@@ -8,7 +8,7 @@ ghost use Rattle.rl_lexer.specs.Sources.{TakesSource};
 ghost use Rattle.rl_files.specs.Visible.{visible};
 ghost use Rattle.rl_lines.specs.Lines.{Appends};
 ghost use Rattle.rl_sources.specs.Held.{IsCutAt};
-ghost use Rattle.rl_sources.specs.Scans.{IsErrorAt, IsHeldLine, IsHiddenLine, IsLineAt, IsLineIn, IsPickedLine, IsPlacedLine, IsPrintedAs, IsShownLiteral};
+ghost use Rattle.rl_sources.specs.Scans.{IsAskedLine, IsErrorAt, IsHeldLine, IsHiddenLine, IsLineAt, IsLineIn, IsPickedLine, IsPlacedLine, IsPrintedAs, IsShownLiteral};
 ghost use Rattle.rl_sources.specs.declared.options.Spelling.TheVariants.{Value};
 ghost use Rattle.rl_sources.specs.Steps.{BeginsRest, EndsUnshown, IsAcceptedToken, IsCursorOver, IsLiteralOf, IsReadAs, IsStepOf, StopsUnshown, TakesShown};
 
@@ -193,8 +193,29 @@ fn push_hidden_line<'t, A: Allocator + Copy>(
     push_inside(alloc, out, options, literal, places, range)
 }
 
-/// Appends what is shown of a literal that is picked: where a text is looked for, its line where its contents hold that;
-/// where characters are asked for that turn or hide text, its line at the first; else its line.
+/// Appends what is shown of a literal where no text is looked for: its line, which stands at the first character that
+/// turns or hides text where these are asked for.
+fn push_asked<'t, A: Allocator + Copy>(
+    alloc: A,
+    out: &mut String<A>,
+    options: Options<'_>,
+    literal: &Literal<'t>,
+    places: &mut Places<'t>,
+) -> Result<(), AllocError>
+    requires { IsLiteralOf options places.old literal.now }
+    ensures shown { OnOk result (Appends
+        (IsAskedLine options.entry.shown options.entry (chars places.old)
+        (chars literal.now.token.text.now) literal.now.token.lo literal.now.token.hi)
+        (chars (string_bytes out.old)) (chars (string_bytes out.new))) }
+    ensures same { places.new ≡ places.old }
+{
+    match options.shown {
+        Shown::Hidden => push_hidden_line(alloc, out, options, literal, places),
+        _ => push_line_in(alloc, out, options, literal, places),
+    }
+}
+
+/// Appends what is shown of a literal that is picked: where a text is looked for, its line where its contents hold that.
 fn push_picked<'t, A: Allocator + Copy>(
     alloc: A,
     out: &mut String<A>,
@@ -204,15 +225,14 @@ fn push_picked<'t, A: Allocator + Copy>(
 ) -> Result<(), AllocError>
     requires { IsLiteralOf options places.old literal.now }
     ensures shown { OnOk result (Appends
-        (IsPickedLine options.entry.finds options.entry.shown options.entry (chars places.old)
+        (IsPickedLine options.entry.finds options.entry (chars places.old)
         (chars literal.now.token.text.now) literal.now.token.lo literal.now.token.hi)
         (chars (string_bytes out.old)) (chars (string_bytes out.new))) }
     ensures same { places.new ≡ places.old }
 {
-    match (options.finds, options.shown) {
-        (Some(sought), _) => push_held_line(alloc, out, options, literal, places, sought),
-        (None, Shown::Hidden) => push_hidden_line(alloc, out, options, literal, places),
-        (None, _) => push_line_in(alloc, out, options, literal, places),
+    match options.finds {
+        None => push_asked(alloc, out, options, literal, places),
+        Some(sought) => push_held_line(alloc, out, options, literal, places, sought),
     }
 }
 
