@@ -23,13 +23,14 @@ ascii_none bs h holds =
     false≢true (sym (ap (λ (z : List ℕ). list_any is_hiding z) (chars-IsAscii bs h) ∙ low_none bs h) ∙ holds)
 
 -- one more that hides nothing
+or_with : (t a b : Bool) → (a ≡ true → b ≡ true) → (t || a) ≡ true → (t || b) ≡ true
+or_with true a b goes h = refl
+or_with false a b goes h = goes h
+
 any_push : (xs : List ℕ) (c : ℕ) → is_hiding c ≡ false → HoldsHidden (xs ++ c ∷ []) → HoldsHidden xs
-any_push [] c no h = absurd (false≢true (sym (ap (λ (t : Bool). t || false) no) ∙ h))
-any_push (x ∷ xs) c no h = go (is_hiding x) h
-  where
-    go : (t : Bool) → (t || list_any is_hiding (xs ++ c ∷ [])) ≡ true → (t || list_any is_hiding xs) ≡ true
-    go true k = refl
-    go false k = any_push xs c no k
+any_push [] c plain h = absurd (false≢true (sym (ap (λ (t : Bool). t || false) plain) ∙ h))
+any_push (x ∷ xs) c plain h = or_with (is_hiding x) (list_any is_hiding (xs ++ c ∷ [])) (list_any is_hiding xs)
+    (any_push xs c plain) h
 
 -- one that does
 or_true : (b : Bool) → (b || true) ≡ true
@@ -52,10 +53,10 @@ passed_none text utf8 = record { front = []; text_is = refl; none = λ e. false�
 
 pub passed_more : (text rest after : List ℕ) (c : ℕ) → Passed text rest → chars rest ≡ c ∷ chars after
     → is_hiding c ≡ false → IsUtf8 after → Passed text after
-passed_more text rest after c p split no utf8 = record {
+passed_more text rest after c p split plain utf8 = record {
   front = p.front ++ c ∷ [];
   text_is = p.text_is ∙ ap (λ (z : List ℕ). p.front ++ z) split ∙ sym (append_assoc p.front (c ∷ []) (chars after));
-  none = λ h. p.none (any_push p.front c no h);
+  none = λ h. p.none (any_push p.front c plain h);
   is_text = utf8;
 }
 

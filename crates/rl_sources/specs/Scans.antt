@@ -29,7 +29,7 @@ use Rattle.rl_sources.specs.declared.options.Spelling.TheVariants.{Value, Source
 use Rattle.rl_sources.specs.declared.options.Judge.TheVariants.{Rust, Syn}
 use Rattle.rl_sources.specs.declared.options.Options.{Options}
 use Rattle.rl_sources.specs.declared.options.Shown.{Shown}
-use Rattle.rl_sources.specs.declared.options.Shown.TheVariants.{All, Only, Bad, Hidden}
+use Rattle.rl_sources.specs.declared.options.Shown.TheVariants as asked
 use Rattle.rl_sources.specs.declared.place.Place.{Place}
 use Rattle.rl_sources.specs.declared.scan_error.ScanError.{ScanError}
 use Rattle.rl_sources.specs.declared.scan_error.ScanError.TheVariants.{Fault, Source}
@@ -132,10 +132,10 @@ IsHiddenLine options whole text lo shown =
 
 -- what is shown where no text is looked for, by what is asked for
 abbrev pub IsAskedLine : Shown → Options → List ℕ → List ℕ → ℕ → ℕ → List ℕ → Type 0
-IsAskedLine All options whole text lo hi shown = IsLineIn options whole text lo hi shown
-IsAskedLine (Only list) options whole text lo hi shown = IsLineIn options whole text lo hi shown
-IsAskedLine Bad options whole text lo hi shown = IsLineIn options whole text lo hi shown
-IsAskedLine Hidden options whole text lo hi shown = IsHiddenLine options whole text lo shown
+IsAskedLine asked.All options whole text lo hi shown = IsLineIn options whole text lo hi shown
+IsAskedLine (asked.Only list) options whole text lo hi shown = IsLineIn options whole text lo hi shown
+IsAskedLine asked.Bad options whole text lo hi shown = IsLineIn options whole text lo hi shown
+IsAskedLine asked.Hidden options whole text lo hi shown = IsHiddenLine options whole text lo shown
 
 -- what is shown of a literal that is picked
 abbrev pub IsPickedLine : Option (Bor (List ℕ)) → Options → List ℕ → List ℕ → ℕ → ℕ → List ℕ → Type 0
