@@ -1,5 +1,5 @@
 -- What is painted.
-use Rattle.rl_text.proofs.Common.{Bool, Bor, IsAscii, IsUtf8, List, None, Option, Some, ap, append_assoc, chars, chars-IsAscii, chars-append, codes, cond, false, refl, sym, true, ℕ, ◌++◌, ◌∙◌, ◌∷◌, ◌≡◌}
+use Rattle.rl_text.proofs.Common.{Bool, Bor, IsAscii, IsUtf8, List, None, Option, Some, ap, append_assoc, chars, chars-IsAscii, chars-append, codes, cond, false, refl, sym, true, ℕ, ◌++◌, ◌∙◌, ◌≡◌}
 use Rattle.std.proofs.lemmas.Bool.{false≢true}
 use Rattle.std.proofs.lemmas.Str.{IsAscii-append, IsUtf8-from_ascii}
 use Rattle.rl_lines.proofs.LineLemmas.{pushed}

@@ -40,6 +40,23 @@ fn push_in_file<A: Allocator>(
     Ok(())
 }
 
+/// Appends what stands before a line in a file, in colours.
+fn push_colored_in_file<A: Allocator>(
+    out: &mut String<A>,
+    path: &str,
+    place: Place,
+) -> Result<(), AllocError>
+    ensures { OnOk result (chars (string_bytes out.new)
+        ≡ chars (string_bytes out.old) ++ line_front Colored (Some path.entry) place) }
+{
+    let of_path = start_of(Paint::Path);
+    let of_place = start_of(Paint::Place);
+    write!(
+        out,
+        "{of_path}{path}{PAINT_END}:{of_place}{place}{PAINT_END}: "
+    )
+}
+
 /// Appends what stands before a line, in colours.
 #[inline(never)]
 fn push_colored_front<A: Allocator>(
@@ -50,14 +67,9 @@ fn push_colored_front<A: Allocator>(
     ensures { OnOk result (chars (string_bytes out.new)
         ≡ chars (string_bytes out.old) ++ line_front Colored path.entry place) }
 {
-    let of_place = start_of(Paint::Place);
     match path {
-        Some(path) => write!(
-            out,
-            "{}{path}{PAINT_END}:{of_place}{place}{PAINT_END}: ",
-            start_of(Paint::Path)
-        ),
-        None => write!(out, "{of_place}{place}{PAINT_END} "),
+        Some(path) => push_colored_in_file(out, path, place),
+        None => write!(out, "{}{place}{PAINT_END} ", start_of(Paint::Place)),
     }
 }
 

@@ -1,4 +1,4 @@
-use Rattle.rl_text.proofs.Common.{arith, chars, sym, ◌∙◌}
+use Rattle.rl_text.proofs.Common.{arith, sym, ◌∙◌}
 use Rattle.rl_sources.proofs.HiddenLemmas.{ascii_none, hidden_next, passed_all, passed_more, passed_none, passed_shorter}
 use Rattle.rl_sources.proofs.hidden.hidden_at.Goals as goal
 
@@ -10,12 +10,19 @@ pub loop-c-init : goal.loop-c-init
 loop-c-init c = record { utf8 = c.utf8.text; passed = passed_none c.args.text.now c.utf8.text }
 
 pub overflow_sub-result : goal.overflow_sub-result
-overflow_sub-result c = omega (arith, passed_shorter c.args.text.now c.loop-c.rest.now c.utf8.text
-    c.loop-c.invariant.passed)
+overflow_sub-result c = omega (
+  arith,
+  passed_shorter c.args.text.now c.loop-c.rest.now c.utf8.text
+      c.loop-c.invariant.passed,
+)
 
 pub overflow_sub-result-then-is_hiding : goal.overflow_sub-result-then-is_hiding
-overflow_sub-result-then-is_hiding c = omega (arith, passed_shorter c.args.text.now c.loop-c.rest.now c.utf8.text
-    c.loop-c.invariant.passed, c.in-Some.ensures.shorter)
+overflow_sub-result-then-is_hiding c = omega (
+  arith,
+  passed_shorter c.args.text.now c.loop-c.rest.now c.utf8.text
+      c.loop-c.invariant.passed,
+  c.in-Some.ensures.shorter,
+)
 
 pub returns-then-is_hiding-clause-some : goal.returns-then-is_hiding-clause-some
 returns-then-is_hiding-clause-some c = hidden_next c.args.text.now c.loop-c.rest.now c.in-Some.after.now c.in-Some.c
