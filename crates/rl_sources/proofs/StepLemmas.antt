@@ -22,7 +22,7 @@ use Rattle.rl_sources.specs.declared.options.Judge.TheVariants.{Rust, Syn}
 use Rattle.rl_sources.specs.declared.options.Options.{Options}
 use Rattle.rl_sources.specs.declared.options.Spelling.TheVariants.{Value}
 use Rattle.rl_sources.specs.declared.options.Shown.{Shown}
-use Rattle.rl_sources.specs.declared.options.Shown.TheVariants.{All, Only, Bad}
+use Rattle.rl_sources.specs.declared.options.Shown.TheVariants.{All, Only, Bad, Hidden}
 use Rattle.rl_sources.specs.declared.place.Place.{Place}
 use Rattle.rl_sources.specs.declared.place.Place.TheVariants.{Bytes, Line}
 use Rattle.rl_sources.specs.Options.{Picks}
@@ -187,6 +187,7 @@ picks_bad options text label flaw r b is found none picks = go options.shown ref
         → IsTrue b ↔ Picks shown label (IsBad options.judge text)
     go All e p = p
     go (Only list) e p = p
+    go Hidden e p = p
     go Bad e p =
         let both = bad flaw is found none (inr e) in
         (λ t. both.0 (p.0 t), λ t. p.1 (both.1 t))

@@ -4,7 +4,7 @@ use Prim.Native.Char.{code}
 use Rattle.std.specs.List.{slice_split, Any}
 use Rattle.std.specs.Char.{to_ascii_lowercase}
 use Rattle.rl_sources.specs.declared.options.Shown.{Shown}
-use Rattle.rl_sources.specs.declared.options.Shown.TheVariants.{All, Only, Bad}
+use Rattle.rl_sources.specs.declared.options.Shown.TheVariants.{All, Only, Bad, Hidden}
 
 -- the same word, but for the case of its letters
 abbrev pub IsSameWord : List ℕ → List ℕ → Type 0
@@ -23,3 +23,4 @@ abbrev pub Picks : Shown → List ℕ → Type 0 → Type 0
 Picks All label is_bad = ⊤
 Picks (Only list) label is_bad = Names list.now label
 Picks Bad label is_bad = is_bad
+Picks Hidden label is_bad = ⊤

@@ -20,7 +20,7 @@ use Rattle.rl_sources.specs.declared.command.Output.{Output}
 use Rattle.rl_sources.specs.declared.command.Output.TheVariants as output
 use Rattle.rl_sources.specs.declared.options.Options.{Options}
 use Rattle.rl_sources.specs.declared.options.Shown.{Shown}
-use Rattle.rl_sources.specs.declared.options.Shown.TheVariants.{All, Only, Bad}
+use Rattle.rl_sources.specs.declared.options.Shown.TheVariants.{All, Only, Bad, Hidden}
 use Rattle.rl_sources.specs.declared.place.Place.{Place}
 use Rattle.rl_sources.specs.declared.report.Report.{Report}
 use Rattle.rl_sources.specs.Places.{line_front}
@@ -41,6 +41,7 @@ abbrev pub is_bad : Shown → Bool
 is_bad All = false
 is_bad (Only list) = false
 is_bad Bad = true
+is_bad Hidden = false
 
 -- a path as it stands before each place: what is printed of it; that of standard input doesn't
 abbrev pub IsShownPath : List ℕ → Option (Bor (List ℕ)) → Type 0
@@ -52,6 +53,7 @@ pub record IsOptionsFor (command : Command) (path : List ℕ) (options : Options
   pub shown : options.shown ≡ command.shown
   pub finds : options.finds ≡ command.finds
   pub spelling : options.spelling ≡ command.spelling
+  pub form : options.form ≡ command.form
   pub by_line : options.by_line ≡ is_by_line command.places path
   pub rejects_strays : options.rejects_strays ≡ command.rejects_strays
   pub explains : options.explains ≡ is_bad command.shown

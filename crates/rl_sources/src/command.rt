@@ -1,6 +1,6 @@
 //! What a call of the program asks for.
 
-use crate::options::{Judge, Shown, Spelling};
+use crate::options::{Form, Judge, Shown, Spelling};
 
 /// What a call asks for.
 #[derive(Clone, Copy)]
@@ -48,6 +48,8 @@ pub struct Command<'a> {
     pub finds: Option<&'a str>,
     /// How they are printed.
     pub spelling: Spelling,
+    /// How each line is written.
+    pub form: Form,
     /// How their places are printed.
     pub places: PlaceForm,
     /// What is printed of their lines.
@@ -56,4 +58,13 @@ pub struct Command<'a> {
     pub rejects_strays: bool,
     /// By which grammar a literal is bad.
     pub judge: Judge,
+}
+
+/// What a call is told of where it runs.
+#[derive(Clone, Copy)]
+pub struct Console {
+    /// Whether input is a terminal: where no path is named, `.` is read then.
+    pub input_is_terminal: bool,
+    /// Whether output takes colours: where nothing is said of them, lines have them then.
+    pub has_colors: bool,
 }

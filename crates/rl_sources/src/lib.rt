@@ -4,6 +4,7 @@
 
 mod command;
 mod ending;
+mod flags;
 mod held;
 mod judge;
 mod options;
@@ -16,9 +17,9 @@ mod scanner;
 mod step;
 mod words;
 
-pub use crate::command::{Command, Output, PlaceForm, Wish};
+pub use crate::command::{Command, Console, Output, PlaceForm, Wish};
 pub use crate::ending::{CallError, HELP, VERSION, call};
-pub use crate::options::{Judge, Options, Shown, Spelling};
+pub use crate::options::{Form, Judge, Options, Shown, Spelling};
 pub use crate::place::Place;
 pub use crate::report::{Report, report_of};
 pub use crate::runs::{RunStop, Tally, run};

@@ -21,6 +21,17 @@ pub enum Spelling {
     Source,
 }
 
+/// How a line is written.
+#[derive(Clone, Copy)]
+pub enum Form {
+    /// As words after its place.
+    Plain,
+    /// As these, with colours for a terminal.
+    Colored,
+    /// As an object of JSON.
+    Json,
+}
+
 /// Which literals are shown.
 #[derive(Clone, Copy)]
 pub enum Shown<'a> {
@@ -30,6 +41,8 @@ pub enum Shown<'a> {
     Only(&'a str),
     /// Those that are bad.
     Bad,
+    /// Those that hold characters which turn or hide text, as they are written.
+    Hidden,
 }
 
 /// How a source is scanned.
@@ -41,6 +54,8 @@ pub struct Options<'a> {
     pub finds: Option<&'a str>,
     /// How they are printed.
     pub spelling: Spelling,
+    /// How each line is written.
+    pub form: Form,
     /// Whether places are printed as lines and columns, and not as bytes.
     pub by_line: bool,
     /// Whether a stray character is an error, as it is in Rust.
@@ -69,6 +84,7 @@ impl Shown<'_> {
             Shown::All => true,
             Shown::Only(list) => names(list, label),
             Shown::Bad => is_bad,
+            Shown::Hidden => true,
         }
     }
 }

@@ -91,6 +91,7 @@ fn options_for<'a>(command: Command<'a>, path: &str, shown: &'a str) -> Options<
         shown: command.shown,
         finds: command.finds,
         spelling: command.spelling,
+        form: command.form,
         by_line: is_by_line(command.places, path),
         rejects_strays: command.rejects_strays,
         explains: is_bad(command.shown),
