@@ -95,6 +95,12 @@ IsKindWord word = Names kind_list word
 abbrev pub AreKindWords : List ℕ → Type 0
 AreKindWords list = All IsKindWord (words_of list)
 
+-- the first word of a list that is none of them
+abbrev pub IsUnknownKind : List ℕ → List ℕ → Type 0
+IsUnknownKind list word =
+    (before after : List (List ℕ)) × (words_of list ≡ before ++ word ∷ after) × All IsKindWord before
+    × (IsKindWord word → ⊥)
+
 -- `-`, and what doesn't begin with a dash
 abbrev pub is_path_word : List ℕ → Bool
 is_path_word word = bytes_eq word (codes "-") || not (starts_with ◌==◌ word (codes "-"))
@@ -290,7 +296,9 @@ IsRejectedFlag flag old _ = ⊥
 -- why this isn't what an option takes
 abbrev pub IsRejectedText : {A : Type 0} → Operand → List ℕ → WordError A → Type 0
 IsRejectedText operand text Memory = ⊤
-IsRejectedText operand text (UnknownKind said) = (operand ≡ takes.Kinds) × (AreKindWords text → ⊥)
+IsRejectedText operand text (UnknownKind said) =
+    (operand ≡ takes.Kinds)
+    × ((word : List ℕ) × IsUnknownKind text word × (chars (string_bytes said) ≡ visible (chars word)))
 IsRejectedText operand text EmptyText = (operand ≡ takes.Text) × (text ≡ [])
 IsRejectedText operand text (UnknownColor said) =
     (operand ≡ takes.Color) × ((when : When) → text ≢ color_word when)

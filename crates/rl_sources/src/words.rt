@@ -5,7 +5,7 @@ ghost use Rattle.rl_files.specs.Trees.{string_texts};
 ghost use Rattle.rl_sources.specs.declared.flags.Next.TheVariants as next;
 ghost use Rattle.rl_sources.specs.declared.flags.Operand.{Operand};
 ghost use Rattle.rl_sources.specs.declared.flags.Operand.TheVariants as takes;
-ghost use Rattle.rl_sources.specs.Words.{IsKindWord, AreKindWords, is_path_word, taken_by as flag_before, first_wishes, wishes_of, wishes_in, MayStand, IsLenientAlone, with_kinds, with_path, with_text, IsAdded, IsTaken, IsStep, Asks, IsRejectedFlag, IsRejectedText, IsRejectedJoined, IsRejectedWord, IsMissing, AreRejected};
+ghost use Rattle.rl_sources.specs.Words.{IsKindWord, AreKindWords, IsUnknownKind, is_path_word, taken_by as flag_before, first_wishes, wishes_of, wishes_in, MayStand, IsLenientAlone, with_kinds, with_path, with_text, IsAdded, IsTaken, IsStep, Asks, IsRejectedFlag, IsRejectedText, IsRejectedJoined, IsRejectedWord, IsMissing, AreRejected};
 
 use crate::command::{Command, Output, PlaceForm, Wish};
 use crate::flags::{Flag, Next, Operand, When, add_flag, flag_of, form_when, joined_of, next_after, recolored, taken_by, when_of};
@@ -96,18 +96,12 @@ fn is_kind_word(word: &str) -> bool
     names(KINDS, word)
 }
 
-/// Whether each word of a list is one; commas separate the words.
-fn are_kind_words(list: &str) -> bool
-    ensures { IsTrue result ↔ AreKindWords list.now }
+/// The first word of a list that is no kind of literal; commas separate the words.
+fn unknown_kind(list: &str) -> Option<&str>
+    ensures some { IfSome result (λ word. IsUnknownKind list.now word.now) }
+    ensures none { IfNone result (AreKindWords list.now) }
 {
-    list.split(',').all(|word| is_kind_word(word))
-}
-
-/// The first word of a list that is no kind of literal; the list, where there is none.
-fn unknown_kind(list: &str) -> &str {
-    list.split(',')
-        .find(|word| !is_kind_word(word))
-        .unwrap_or(list)
+    list.split(',').find(|word| !is_kind_word(word))
 }
 
 /// What the words so far ask for.
@@ -171,8 +165,7 @@ impl<'a, A: Allocator + Copy> Asked<'a, A> {
         ensures next { OnOk result (self.new.next ≡ self.old.next) }
         ensures rejected { IfErr result (IsRejectedText takes.Kinds list.now) }
     {
-        if !are_kind_words(list) {
-            let word = unknown_kind(list);
+        if let Some(word) = unknown_kind(list) {
             return Err(WordError::UnknownKind(visible_text(alloc, word)?));
         }
         self.command.shown = Shown::Only(list);
