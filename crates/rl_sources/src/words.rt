@@ -1,6 +1,6 @@
 //! The words of the command line.
 
-ghost use Rattle.std.specs.Prelude.{◌≡◌, ◌≢◌, ◌↔◌, ℕ, false, List, [], map, string_bytes, IsTrue, IfOk, IfErr, IfSome, IfNone, OnOk};
+ghost use Rattle.std.specs.Prelude.{◌≡◌, ◌≢◌, ◌↔◌, ℕ, false, List, [], map, string_bytes, IsTrue, IfOk, IfErr, IfSome, IfNone, MatchBool, MatchOption, OnOk};
 ghost use Rattle.rl_files.specs.Trees.{string_texts};
 ghost use Rattle.rl_sources.specs.declared.flags.Next.TheVariants as next;
 ghost use Rattle.rl_sources.specs.declared.flags.Operand.{Operand};
@@ -89,19 +89,18 @@ impl<A: Allocator> fmt::Display for WordError<A> {
 /// The kinds of literals, and `Verbatim` for those without a reading.
 const KINDS: &str = "Str,ByteStr,CStr,Byte,Char,Int,Float,Bool,Verbatim";
 
-/// Whether this is the word of a kind of literal, in any case of its letters.
-fn is_kind_word(word: &str) -> bool
-    ensures { IsTrue result ↔ IsKindWord word.now }
+/// Whether this is the word of no kind of literal, in any case of its letters.
+fn is_no_kind(word: &str) -> bool
+    ensures { MatchBool result (IsKindWord word.now → ⊥) (IsKindWord word.now) }
 {
-    names(KINDS, word)
+    !names(KINDS, word)
 }
 
 /// The first word of a list that is no kind of literal; commas separate the words.
 fn unknown_kind(list: &str) -> Option<&str>
-    ensures some { IfSome result (λ word. IsUnknownKind list.now word.now) }
-    ensures none { IfNone result (AreKindWords list.now) }
+    ensures { MatchOption result (AreKindWords list.now) (λ word. IsUnknownKind list.now word.now) }
 {
-    list.split(',').find(|word| !is_kind_word(word))
+    list.split(',').find(|word| is_no_kind(word))
 }
 
 /// What the words so far ask for.
