@@ -193,6 +193,7 @@ picks_found options text label flaw r h b is found none hides picks = go options
         → IsTrue b ↔ Picks shown label (IsBad options.judge text) (HoldsHidden text)
     go All e p = p
     go (Only list) e p = p
+    go Hidden e p = p
     go Bad e p =
         let both = bad flaw is found none (inr e) in
         (λ t. both.0 (p.0 t), λ t. p.1 (both.1 t))
