@@ -44,6 +44,7 @@ fn bytes_at(path: &str) -> Result<&'static [u8], PathError> {
         "held" => Ok(
             b"\"\\u{61}b\" b\"ab\" c\"\\x61b\" 'a' b'a'\n\"x\\\n   ab\" r#\"ab\"# \"\xc3\xa4ab\" \"\\\\u{61}\" // \"ab\"\n\"ba\" 'b'".as_slice(),
         ),
+        "long.rs" => Err(PathError::TooLong),
         "./.git/x.rs" => Ok(b"4".as_slice()),
         "./target/x.rs" => Ok(b"5".as_slice()),
         _ => Err(PathError::NotFound),
