@@ -1,2 +1,3 @@
+pub mod HostLemmas
 pub mod WalkLemmas
 pub mod VisibleLemmas

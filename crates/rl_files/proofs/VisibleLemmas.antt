@@ -1,5 +1,5 @@
 -- Characters that are appended as they are printed.
-use Rattle.std.proofs.Common.{◌≡◌, ℕ, List, [], ◌∷◌, ◌++◌, ap, ◌∙◌, sym, append_assoc, append-nil, encode_utf8_all, Bool, true, false, ◌&&◌, ◌||◌, ◌<◌, arith, cond, nat_le, nat_lt, ◌==◌, refl, subst, take, drop, take-append-drop}
+use Rattle.std.proofs.Common.{◌≡◌, ℕ, List, [], ◌∷◌, ◌++◌, ap, ◌∙◌, sym, append_assoc, append-nil, encode_utf8_all, Bool, true, false, ◌&&◌, ◌||◌, ◌<◌, arith, cond, nat_le, nat_lt, ◌==◌, refl, take, drop, take-append-drop}
 use Rattle.std.specs.Str.{chars, IsUtf8, IsAscii}
 use Rattle.std.specs.List.{flat_map, list_all}
 use Rattle.std.proofs.lemmas.Bool.Decides.{nat_tests}

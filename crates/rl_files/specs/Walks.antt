@@ -7,7 +7,7 @@ use Rattle.std.specs.Cmp.Lexicographic.{slice_cmp}
 use Rattle.std.specs.Ordering.{nat_cmp}
 use Rattle.std.specs.declared.result.Result.TheVariants.{Ok, Err}
 use Rattle.rl_files.specs.declared.tree.PathError.{PathError}
-use Rattle.rl_files.specs.declared.tree.PathError.TheVariants.{NotFound, PermissionDenied, IsADirectory, NotADirectory, PathTooLong, NameNotUtf8, NotUtf8, OutOfMemory, ReadFailed}
+use Rattle.rl_files.specs.declared.tree.PathError.TheVariants.{NotFound, PermissionDenied, IsADirectory, NotADirectory, PathTooLong, NameNotUtf8, NotUtf8, TooLong, OutOfMemory, ReadFailed}
 use Rattle.rl_files.specs.declared.walk.WalkError.{WalkError}
 use Rattle.rl_files.specs.declared.walk.WalkError.TheVariants as walk
 use Rattle.rl_files.specs.declared.walk.Pending.{Pending}
@@ -25,6 +25,7 @@ path_error_message NotADirectory = codes "not a directory"
 path_error_message PathTooLong = codes "path too long"
 path_error_message NameNotUtf8 = codes "holds a name that is not UTF-8"
 path_error_message (NotUtf8 at) = codes "not UTF-8 at byte " ++ decimal at
+path_error_message TooLong = codes "longer than 1 GiB"
 path_error_message OutOfMemory = codes "out of memory"
 path_error_message ReadFailed = codes "read failed"
 

@@ -1,11 +1,16 @@
 //! The files of the system.
 
+ghost use Rattle.std.specs.Prelude.{◌≡◌, ◌≢◌, ◌<◌, ◌≤◌, length, IfOk, IfErr, IfSome};
+
 use crate::tree::{PathError, Tree};
 use std::alloc::Allocator;
 use std::fs::{DirEntry, File};
 use std::io::{ErrorKind, Read};
 use std::rt::Files;
 use std::{fs, io};
+
+/// The most bytes that a file or standard input may hold: 1 GiB.
+pub const LONGEST: u64 = 1 << 30;
 
 /// The files of the system, and at `-` standard input. Of what it holds nothing is known.
 #[derive(Clone, Copy)]
@@ -15,7 +20,9 @@ pub struct Host<'r, R> {
 }
 
 /// Why a call of the system failed.
-fn error_of(kind: ErrorKind) -> PathError {
+fn error_of(kind: ErrorKind) -> PathError
+    ensures { result ≢ PathError.TooLong }
+{
     match kind {
         ErrorKind::NotFound => PathError::NotFound,
         ErrorKind::PermissionDenied => PathError::PermissionDenied,
@@ -64,19 +71,20 @@ fn name_of<A: Allocator, R: Files + Drop, B: Allocator>(
     }
 }
 
-/// The bytes of a file.
-fn read_file<A: Allocator, R: Files>(rt: &R, alloc: A, path: &str) -> io::Result<Vec<u8, A>> {
+/// All bytes of a reader, where there are at most `LONGEST`. Of a longer one, one byte more is read.
+fn read_all<A: Allocator, R: Read + Drop>(alloc: A, reader: R) -> Result<Vec<u8, A>, PathError>
+    ensures bytes { IfOk result (λ bytes. IfSome (R.remaining reader) (λ all. bytes.items ≡ all)) }
+    ensures limit { IfOk result (λ bytes. length bytes.items ≤ LONGEST) }
+    ensures too_long { IfErr result (λ error. error ≡ PathError.TooLong
+        → IfSome (R.remaining reader) (λ all. LONGEST < length all)) }
+{
     let mut bytes = Vec::new(alloc);
-    let mut file = File::open(rt, path)?;
-    file.read_to_end(&mut bytes)?;
-    Ok(bytes)
-}
-
-/// The bytes of standard input.
-fn read_input<A: Allocator, R: Input>(rt: &R, alloc: A) -> io::Result<Vec<u8, A>> {
-    let mut bytes = Vec::new(alloc);
-    rt.reader().read_to_end(&mut bytes)?;
-    Ok(bytes)
+    let mut front = reader.take(LONGEST + 1);
+    match front.read_to_end(&mut bytes) {
+        Ok(count) if count as u64 > LONGEST => Err(PathError::TooLong),
+        Ok(_) => Ok(bytes),
+        Err(e) => Err(error_of(e.kind())),
+    }
 }
 
 /// The names in a directory.
@@ -106,13 +114,11 @@ where
     ghost holds = { λ _. None };
 
     fn bytes<A: Allocator>(&self, alloc: A, path: &str) -> Result<Vec<u8, A>, PathError> {
-        let found = if path == "-" {
-            read_input(self.rt, alloc)
-        } else {
-            read_file(self.rt, alloc, path)
-        };
-        match found {
-            Ok(bytes) => Ok(bytes),
+        if path == "-" {
+            return read_all(alloc, self.rt.reader());
+        }
+        match File::open(self.rt, path) {
+            Ok(file) => read_all(alloc, file),
             Err(e) => Err(error_of(e.kind())),
         }
     }

@@ -7,7 +7,7 @@ mod tree;
 mod visible;
 mod walk;
 
-pub use crate::host::Host;
+pub use crate::host::{Host, LONGEST};
 pub use crate::memory::{MemoryDirectory, MemoryFile, MemoryTree};
 pub use crate::tree::{PathError, Tree};
 pub use crate::visible::{is_hiding, make_visible, push_visible};

@@ -20,6 +20,8 @@ pub enum PathError {
     NameNotUtf8,
     /// What it holds isn't UTF-8, from this byte on.
     NotUtf8(usize),
+    /// It holds more than `LONGEST` bytes.
+    TooLong,
     /// An allocation failed.
     OutOfMemory,
     /// Another failure of the system.
@@ -41,6 +43,7 @@ impl fmt::Display for PathError {
             PathError::PathTooLong => write!(f, "path too long"),
             PathError::NameNotUtf8 => write!(f, "holds a name that is not UTF-8"),
             PathError::NotUtf8(at) => write!(f, "not UTF-8 at byte {at}"),
+            PathError::TooLong => write!(f, "longer than 1 GiB"),
             PathError::OutOfMemory => write!(f, "out of memory"),
             PathError::ReadFailed => write!(f, "read failed"),
         }

@@ -9,7 +9,7 @@ use Rattle.std.specs.List.{list_all, list_any, flat_map}
 use Prim.Native.Char.{code}
 use Rattle.rl_forms.specs.declared.kind.Kind.{Kind}
 use Rattle.rl_forms.specs.declared.kind.Kind.TheVariants.{Str, ByteStr, CStr, Byte, Char, Int, Float, Bool as BoolKind}
-use Rattle.rl_text.specs.Texts.{IsWord, first_passes, begins}
+use Rattle.rl_text.specs.Texts.{IsWord, first_passes, begins_char, begins}
 use Rattle.rl_forms.specs.Reading.{Contents, Characters, Bytes, Digits, Truth}
 
 -- section Suffixes
@@ -216,7 +216,7 @@ abbrev pub IsDecimalText : List ℕ → Type 0
 IsDecimalText t = IsFalse (begins (codes "0b") t || begins (codes "0o") t || begins (codes "0x") t)
 
 abbrev pub IsNumberSuffix : List ℕ → Type 0
-IsNumberSuffix x = IsStrictSuffix x × IsFalse (first_passes (λ c. c == code "_") x)
+IsNumberSuffix x = IsStrictSuffix x × IsFalse (begins_char (code "_") x)
 
 -- the digits of the bases with a prefix
 abbrev pub BasedPrefix : List ℕ → ℕ → Type 0

@@ -4,7 +4,7 @@
 use Rattle.std.specs.Prelude.{◌≡◌, ℕ, Bool, not, ◌&&◌, ◌||◌, ◌==◌, List, [], ◌∷◌, ◌++◌, IsTrue, ⊤, drop}
 use Rattle.std.specs.List.{AllByRecursion, list_all}
 use Prim.Native.Char.{code}
-use Rattle.rl_text.specs.Texts.{is_white, starts_with}
+use Rattle.rl_text.specs.Texts.{is_white, begins_char}
 
 -- What stands after the `/*` of a block comment, its `*/` with it. Each block inside it is one in
 -- turn.
@@ -32,16 +32,16 @@ IsInside (Nested inner rest) = IsInside inner × IsInside rest
 -- By what follows its `//`, a line comment is plain: not `///`, unless it is `////`, and not `//!`.
 abbrev pub is_comment_line : List ℕ → Bool
 is_comment_line body =
-    not (starts_with (code "!") body
-    || (starts_with (code "/") body && not (starts_with (code "/") (drop 1 body))))
+    not (begins_char (code "!") body
+    || (begins_char (code "/") body && not (begins_char (code "/") (drop 1 body))))
 
 -- By what follows its `/*`, a block is plain: `/**/`, or not `/**`, unless it is `/***`, and not
 -- `/*!`.
 abbrev pub is_comment_block : List ℕ → Bool
 is_comment_block inside =
-    not (starts_with (code "!") inside
-    || (starts_with (code "*") inside
-    && not (starts_with (code "/") (drop 1 inside) || starts_with (code "*") (drop 1 inside))))
+    not (begins_char (code "!") inside
+    || (begins_char (code "*") inside
+    && not (begins_char (code "/") (drop 1 inside) || begins_char (code "*") (drop 1 inside))))
 
 -- A white character, a plain line comment with its LF, or a plain block.
 pub data TriviaPiece : Type 0 where

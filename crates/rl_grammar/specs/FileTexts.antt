@@ -2,13 +2,13 @@
 use Rattle.std.specs.Prelude.{◌≡◌, ℕ, ◌≤◌, ◌==◌, ◌&&◌, Bool, not, cond, List, [], ◌∷◌, ◌++◌}
 use Rattle.std.specs.List.{list_all}
 use Prim.Native.Char.{code}
-use Rattle.rl_text.specs.Texts.{byte_len, first_passes}
+use Rattle.rl_text.specs.Texts.{byte_len, begins_char}
 use Rattle.rl_reasons.specs.declared.flaws.Flaw.{Flaw}
 use Rattle.rl_reasons.specs.StrictFlaws.{ExplainsStrictly}
 
 -- a CR that an LF follows
 abbrev pub is_dropped : ℕ → List ℕ → Bool
-is_dropped c following = c == code "\r" && first_passes (λ d. d == code "\n") following
+is_dropped c following = c == code "\r" && begins_char (code "\n") following
 
 -- the text as rustc reads it: without each CR that an LF follows
 abbrev pub lf_text : List ℕ → List ℕ

@@ -68,7 +68,7 @@ fn place_in_file(text: &str, read: usize) -> usize
 ///
 /// # Errors
 ///
-/// An allocation failure, of a text with a CR alone: any other takes no memory.
+/// An allocation failure, which only a text that holds a CR can have: any other takes no memory.
 ///
 /// # Example
 ///

@@ -1,7 +1,7 @@
 -- Bad quotes: what `after_bad_quote` takes off is one, and each is what it takes off.
 use Rattle.rl_text.proofs.Common.{◌≡◌, ◌≢◌, ℕ, inl, inr, lit<, Bool, true, false, not, ◌&&◌, ◌||◌, ◌==◌, cond, List, [], ◌∷◌, ◌++◌, append_assoc, Option, Some, None, drop, refl, sym, ◌∙◌, ap, subst, and_parts, or_parts, ne_eqb, none-some, list_all, is_ascii_digit, option_map, option_and_then, is_xid_continue-ascii}
 use Rattle.rl_text.proofs.Basics.{false_unless}
-use Rattle.rl_text.specs.Texts.{first_passes, is_white, is_start, is_continue, starts_with}
+use Rattle.rl_text.specs.Texts.{first_passes, is_white, is_start, is_continue, begins_char}
 use Rattle.rl_text.specs.Classes.{after_run}
 use Rattle.rl_lexer.specs.Lexemes.{BodyPart, PlainPart, EscapedPart, body_text, IsRow, IsLexedSuffix, begins_raw_identifier}
 use Rattle.rl_lexer.specs.Mirrors.LexemeAt.{after_suffix, begins_quote}
@@ -92,10 +92,10 @@ next_passes s t u c e other part = sym (next_part s t c e other ∙ ap (option_a
 -- ---- the next quote, past what stands before it
 
 ends_line : (c : ℕ) (parts : List BodyPart) (t : List ℕ) → (c ≡ 10 → parts ≡ [])
-    → (c == 10 && not (starts_with 39 (body_text parts ++ 39 ∷ t))) ≡ false
+    → (c == 10 && not (begins_char 39 (body_text parts ++ 39 ∷ t))) ≡ false
 ends_line c [] t last = and_false (c == 10)
 ends_line c (p ∷ parts) t last =
-    ap (λ b. b && not (starts_with 39 (body_text (p ∷ parts) ++ 39 ∷ t)))
+    ap (λ b. b && not (begins_char 39 (body_text (p ∷ parts) ++ 39 ∷ t)))
     (false_unless (c == 10) (λ h. let q : p ∷ parts ≡ [] = last (is_equal c 10 h) in absurd (cc)))
 
 body_past : (parts : List BodyPart) (t : List ℕ) → IsQuoteBody parts → after_next_quote (body_text parts ++ 39 ∷ t)
@@ -105,7 +105,7 @@ body_past (PlainPart c ∷ parts) t (plain, last, is) =
     let rest = body_text parts ++ 39 ∷ t in
     let k = three_false (c == 39) (c == 92) (c == 47) plain in
     let goes_on : stops_quote c rest ≡ false =
-    ap (λ b. b || (c == 10 && not (starts_with 39 rest))) k.2 ∙ ends_line c parts t last in
+    ap (λ b. b || (c == 10 && not (begins_char 39 rest))) k.2 ∙ ends_line c parts t last in
     let part : after_part c rest ≡ Some rest =
     ap (λ b. cond b (after_any rest) (cond (stops_quote c rest) None (Some rest))) k.1
     ∙ ap (λ b. cond b None (Some rest)) goes_on in
@@ -114,7 +114,7 @@ body_past (PlainPart c ∷ parts) t (plain, last, is) =
     sym (next_passes (c ∷ rest) rest rest c refl other part) ∙ body_past parts t is
 body_past (EscapedPart c ∷ parts) t is = body_past parts t is
 
-backslash_here : (t : List ℕ) → (starts_with 92 t) ≡ first_passes begins_escape t
+backslash_here : (t : List ℕ) → (begins_char 92 t) ≡ first_passes begins_escape t
 backslash_here [] = refl
 backslash_here (c ∷ t) = refl
 
@@ -197,12 +197,12 @@ record OtherFound (t r : List ℕ) : Type 0 where
 
 other_found : (t r : List ℕ) → after_other t ≡ Some r → OtherFound t r
 other_found t r h =
-    elim (chosen (starts_with 92 t) None (option_map after_suffix (after_next_quote t)) (Some r) h) [
+    elim (chosen (begins_char 92 t) None (option_map after_suffix (after_next_quote t)) (Some r) h) [
       | inl (a, x) ↦ absurd (none-some r x)
       | inr (a, x) ↦ go a (after_next_quote t) refl x
     ]
   where
-    go : (starts_with 92 t) ≡ false → (o : Option (List ℕ)) → after_next_quote t ≡ o
+    go : (begins_char 92 t) ≡ false → (o : Option (List ℕ)) → after_next_quote t ≡ o
         → option_map after_suffix o ≡ Some r → OtherFound t r
     go a None e x = absurd (none-some r x)
     go a (Some m) e x =
@@ -311,16 +311,16 @@ bare_found (c ∷ t) r h =
 pub bad_quote_found : (t r : List ℕ) → after_bad_quote t ≡ Some r → FoundQuote t r
 bad_quote_found [] r h = absurd (none-some r h)
 bad_quote_found (c ∷ t) r h =
-    elim (chosen (c == 39) (after_bare t) (cond (c == 98 && starts_with 39 t) (after_other (drop 1 t)) None)
+    elim (chosen (c == 39) (after_bare t) (cond (c == 98 && begins_char 39 t) (after_other (drop 1 t)) None)
     (Some r) h) [
       | inl (a, x) ↦ subst (λ (d : ℕ). FoundQuote (d ∷ t) r) (sym (is_equal c 39 a)) (bare_found t r x)
-      | inr (a, x) ↦ elim (chosen (c == 98 && starts_with 39 t) (after_other (drop 1 t)) None (Some r) x) [
-        | inl (b, y) ↦ byte t (and_parts (c == 98) (starts_with 39 t) b) (other_found (drop 1 t) r y)
+      | inr (a, x) ↦ elim (chosen (c == 98 && begins_char 39 t) (after_other (drop 1 t)) None (Some r) x) [
+        | inl (b, y) ↦ byte t (and_parts (c == 98) (begins_char 39 t) b) (other_found (drop 1 t) r y)
         | inr (b, y) ↦ absurd (none-some r y)
       ]
     ]
   where
-    byte : (t : List ℕ) → ((c == 98) ≡ true) × ((starts_with 39 t) ≡ true) → OtherFound (drop 1 t) r
+    byte : (t : List ℕ) → ((c == 98) ≡ true) × ((begins_char 39 t) ≡ true) → OtherFound (drop 1 t) r
         → FoundQuote (c ∷ t) r
     byte [] (letter, quote) found = absurd (cc)
     byte (d ∷ t) (letter, quote) found =

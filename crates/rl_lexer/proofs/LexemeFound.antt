@@ -1,6 +1,6 @@
 -- What `lexeme_at` takes off is a lexeme.
 use Rattle.rl_text.proofs.Common.{◌≡◌, ℕ, suc, zero, ◌<◌, inl, inr, Bool, true, false, not, ◌&&◌, ◌||◌, ◌==◌, cond, List, [], ◌∷◌, ◌++◌, Option, Some, None, drop, replicate, refl, sym, ◌∙◌, ap, subst, arith, append_assoc, and_parts, or_from, list_all, if◌then◌else◌, option_map, is_ascii_digit, none-some}
-use Rattle.rl_text.specs.Texts.{is_underscore, is_among, first_passes, is_row_part, is_start, is_continue, starts_with}
+use Rattle.rl_text.specs.Texts.{is_underscore, is_among, first_passes, is_row_part, is_start, is_continue, begins_char}
 use Rattle.rl_lexer.specs.Lexemes.{is_base_letter, delimiters, marks, begins_hashes, begins_dot, BodyPart, PlainPart, EscapedPart, body_text, IsBody, CharacterBody, OneCharacter, EscapedCharacter, character_body_text, IsCharacterBody, LexedFraction, NoLexedFraction, LexedDot, lexed_fraction_text, lexed_sign_text, LexedExponent, NoLexedExponent, LexedPower, lexed_exponent_text, IsRow, IsLexedSuffix, IsRawBody, IsLexedFraction, IsLexedExponent, LiteralPrefix, NoPrefix, BytePrefix, CPrefix, prefix_text, Lexeme, QuotedLexeme, RawLexeme, CharacterLexeme, BasedLexeme, DecimalLexeme, IdentifierLexeme, DelimiterLexeme, MarkLexeme, lexeme_text, IsLexeme, LexemeForm, LiteralForm, IdentifierForm, DelimiterForm, MarkForm, form_of, is_punct}
 use Rattle.rl_lexer.proofs.Comments.{chosen, chosen3, same_Some}
 use Rattle.rl_lexer.proofs.Pieces.{is_equal}
@@ -380,16 +380,16 @@ none3 : (p q r : Bool) → p ≡ false → q ≡ false → r ≡ false → (p ||
 none3 p q r a b d = ap (λ x. x || (q || r)) a ∙ ap (λ x. x || r) b ∙ d
 
 -- a literal whose prefix is one character, after which the text goes on with k
-after_prefix : (c k : ℕ) (t : List ℕ) (p : LexemeForm × List ℕ) → starts_with k t ≡ true
+after_prefix : (c k : ℕ) (t : List ℕ) (p : LexemeForm × List ℕ) → begins_char k t ≡ true
     → Found (c ∷ k ∷ drop 1 t) p → Found (c ∷ t) p
 after_prefix c k t p e found = subst (λ (s : List ℕ). Found (c ∷ s) p) (sym (prefixed k t e)) found
 
 raw_tail : (c : ℕ) (prefix : LiteralPrefix) (t : List ℕ) (p : LexemeForm × List ℕ) → prefix_text prefix ≡ c ∷ []
-    → (starts_with 114 t && begins_hashed_quote (drop 1 t)) ≡ true → literal_at (raw_at (drop 1 t)) ≡ Some p
+    → (begins_char 114 t && begins_hashed_quote (drop 1 t)) ≡ true → literal_at (raw_at (drop 1 t)) ≡ Some p
     → Found (c ∷ t) p
 raw_tail c prefix t p e h x =
-    let k : ((starts_with 114 t) ≡ true) × (begins_hashed_quote (drop 1 t) ≡ true) = and_parts
-    (starts_with 114 t) (begins_hashed_quote (drop 1 t)) h in
+    let k : ((begins_char 114 t) ≡ true) × (begins_hashed_quote (drop 1 t) ≡ true) = and_parts
+    (begins_char 114 t) (begins_hashed_quote (drop 1 t)) h in
     after_prefix c 114 t p k.0
     (subst (λ (s : List ℕ). Found (s ++ 114 ∷ drop 1 t) p) e
     (literal_from (prefix_text prefix ++ 114 ∷ drop 1 t) (raw_at (drop 1 t)) p x
@@ -398,57 +398,57 @@ raw_tail c prefix t p e h x =
 from_b : (t : List ℕ) (p : LexemeForm × List ℕ) → is_start 98 ≡ true → by_class LetterBHead 98 t ≡ Some p
     → Found (98 ∷ t) p
 from_b t p is h =
-    elim (chosen3 (starts_with 34 t) (starts_with 39 t) (literal_at (quoted_at (drop 1 t)))
-    (literal_at (single_at (drop 1 t))) (cond (starts_with 114 t && begins_hashed_quote (drop 1 t))
+    elim (chosen3 (begins_char 34 t) (begins_char 39 t) (literal_at (quoted_at (drop 1 t)))
+    (literal_at (single_at (drop 1 t))) (cond (begins_char 114 t && begins_hashed_quote (drop 1 t))
     (literal_at (raw_at (drop 1 t))) (word_at t)) (Some p) h) [
       | inl (a, x) ↦ after_prefix 98 34 t p a
           (literal_from (98 ∷ 34 ∷ drop 1 t) (quoted_at (drop 1 t)) p x (λ r y. quoted_found BytePrefix (drop 1 t) r y))
       | inr (inl (_, a, x)) ↦ after_prefix 98 39 t p a
           (literal_from (98 ∷ 39 ∷ drop 1 t) (single_at (drop 1 t)) p x (λ r y. character_found true (drop 1 t) r y))
-      | inr (inr (a, b, x)) ↦ elim (chosen (starts_with 114 t && begins_hashed_quote (drop 1 t))
+      | inr (inr (a, b, x)) ↦ elim (chosen (begins_char 114 t && begins_hashed_quote (drop 1 t))
           (literal_at (raw_at (drop 1 t))) (word_at t) (Some p) x) [
             | inl (d, y) ↦ raw_tail 98 BytePrefix t p refl d y
-            | inr (d, y) ↦ word_found 98 t p is (or_from (starts_with 34 t
-                || (starts_with 39 t || (starts_with 114 t && begins_hashed_quote (drop 1 t)))) false
-                (none3 (starts_with 34 t) (starts_with 39 t)
-                (starts_with 114 t && begins_hashed_quote (drop 1 t)) a b d) refl) y
+            | inr (d, y) ↦ word_found 98 t p is (or_from (begins_char 34 t
+                || (begins_char 39 t || (begins_char 114 t && begins_hashed_quote (drop 1 t)))) false
+                (none3 (begins_char 34 t) (begins_char 39 t)
+                (begins_char 114 t && begins_hashed_quote (drop 1 t)) a b d) refl) y
           ]
     ]
 
 from_c : (t : List ℕ) (p : LexemeForm × List ℕ) → is_start 99 ≡ true → by_class LetterCHead 99 t ≡ Some p
     → Found (99 ∷ t) p
 from_c t p is h =
-    elim (chosen3 (starts_with 34 t) (starts_with 114 t && begins_hashed_quote (drop 1 t))
+    elim (chosen3 (begins_char 34 t) (begins_char 114 t && begins_hashed_quote (drop 1 t))
     (literal_at (quoted_at (drop 1 t))) (literal_at (raw_at (drop 1 t))) (word_at t) (Some p) h) [
       | inl (a, x) ↦ after_prefix 99 34 t p a
           (literal_from (99 ∷ 34 ∷ drop 1 t) (quoted_at (drop 1 t)) p x (λ r y. quoted_found CPrefix (drop 1 t) r y))
       | inr (inl (_, d, y)) ↦ raw_tail 99 CPrefix t p refl d y
-      | inr (inr (a, d, y)) ↦ word_found 99 t p is (or_from (starts_with 34 t
-          || (starts_with 114 t && begins_hashed_quote (drop 1 t))) false
-          (or_from (starts_with 34 t) (starts_with 114 t && begins_hashed_quote (drop 1 t)) a d) refl) y
+      | inr (inr (a, d, y)) ↦ word_found 99 t p is (or_from (begins_char 34 t
+          || (begins_char 114 t && begins_hashed_quote (drop 1 t))) false
+          (or_from (begins_char 34 t) (begins_char 114 t && begins_hashed_quote (drop 1 t)) a d) refl) y
     ]
 
 from_r : (t : List ℕ) (p : LexemeForm × List ℕ) → is_start 114 ≡ true → by_class LetterRHead 114 t ≡ Some p
     → Found (114 ∷ t) p
 from_r t p is h =
-    elim (chosen3 (begins_hashed_quote t) (starts_with 35 t && first_passes is_start (drop 1 t))
+    elim (chosen3 (begins_hashed_quote t) (begins_char 35 t && first_passes is_start (drop 1 t))
     (literal_at (raw_at t)) None (word_at t) (Some p) h) [
       | inl (a, x) ↦ literal_from (114 ∷ t) (raw_at t) p x (λ r y. raw_all NoPrefix t r a y)
       | inr (inl (_, d, y)) ↦ absurd (none-some p y)
       | inr (inr (a, d, y)) ↦ word_found 114 t p is (or_from (begins_hashed_quote t)
-          (starts_with 35 t && first_passes is_start (drop 1 t)) a d) y
+          (begins_char 35 t && first_passes is_start (drop 1 t)) a d) y
     ]
 
 letter_otherwise : (c : ℕ) (t : List ℕ) → (c == 98) ≡ false → (c == 99) ≡ false → (c == 114) ≡ false
     → begins_otherwise (c ∷ t) ≡ false
-letter_otherwise c t p q r = none3 (c == 98 && (starts_with 34 t
-    || (starts_with 39 t || (starts_with 114 t && begins_hashed_quote (drop 1 t)))))
-    (c == 99 && (starts_with 34 t || (starts_with 114 t && begins_hashed_quote (drop 1 t))))
-    (c == 114 && (begins_hashed_quote t || (starts_with 35 t && first_passes is_start (drop 1 t))))
-    (ap (λ b. b && (starts_with 34 t || (starts_with 39 t
-    || (starts_with 114 t && begins_hashed_quote (drop 1 t))))) p)
-    (ap (λ b. b && (starts_with 34 t || (starts_with 114 t && begins_hashed_quote (drop 1 t)))) q)
-    (ap (λ b. b && (begins_hashed_quote t || (starts_with 35 t && first_passes is_start (drop 1 t)))) r)
+letter_otherwise c t p q r = none3 (c == 98 && (begins_char 34 t
+    || (begins_char 39 t || (begins_char 114 t && begins_hashed_quote (drop 1 t)))))
+    (c == 99 && (begins_char 34 t || (begins_char 114 t && begins_hashed_quote (drop 1 t))))
+    (c == 114 && (begins_hashed_quote t || (begins_char 35 t && first_passes is_start (drop 1 t))))
+    (ap (λ b. b && (begins_char 34 t || (begins_char 39 t
+    || (begins_char 114 t && begins_hashed_quote (drop 1 t))))) p)
+    (ap (λ b. b && (begins_char 34 t || (begins_char 114 t && begins_hashed_quote (drop 1 t)))) q)
+    (ap (λ b. b && (begins_hashed_quote t || (begins_char 35 t && first_passes is_start (drop 1 t)))) r)
 
 digit_found : (c : ℕ) (t : List ℕ) (b : Bool) → is_ascii_digit c ≡ true → (c == 48 && first_passes is_base_letter t) ≡ b
     → FoundLiteral (c ∷ t) (cond b (after_run is_continue (drop 1 t)) (after_decimal t))

@@ -1,6 +1,6 @@
 -- A lexeme is what `lexeme_at` takes off, so at most one front of a text is a lexeme with the rest.
 use Rattle.rl_text.proofs.Common.{◌≡◌, ℕ, ◌<◌, inl, inr, Bool, true, false, not, ◌&&◌, ◌||◌, ◌==◌, cond, List, [], ◌∷◌, ◌++◌, Option, Some, None, drop, replicate, refl, sym, ◌∙◌, ap, subst, arith, append_assoc, lit<, and_parts, or_parts, nat_tests, list_all, IsTrue, nat_lt, is_ascii_alphabetic, is_ascii_digit, option_map, is_xid_start-ascii, append_cancel_right}
-use Rattle.rl_text.specs.Texts.{is_white, is_among, first_passes, is_row_part, is_start, is_continue, starts_with}
+use Rattle.rl_text.specs.Texts.{is_white, is_among, first_passes, is_row_part, is_start, is_continue, begins_char}
 use Rattle.rl_lexer.specs.Lexemes.{BeginsOtherwise, is_base_letter, delimiters, marks, BodyPart, body_text, IsBody, CharacterBody, character_body_text, IsCharacterBody, LexedFraction, lexed_fraction_text, LexedExponent, lexed_exponent_text, IsRow, IsLexedSuffix, IsRawBody, LiteralPrefix, NoPrefix, BytePrefix, CPrefix, Lexeme, QuotedLexeme, RawLexeme, CharacterLexeme, BasedLexeme, DecimalLexeme, IdentifierLexeme, DelimiterLexeme, MarkLexeme, lexeme_text, IsLexeme, LexemeForm, LiteralForm, IdentifierForm, DelimiterForm, MarkForm, form_of, is_punct}
 use Rattle.rl_lexer.proofs.Gaps.{OneLexeme}
 use Rattle.rl_text.proofs.Basics.{false_unless}
@@ -169,7 +169,7 @@ front_raw : (p : LiteralPrefix) (n : ℕ) (body x t : List ℕ) → IsRawBody n 
 front_raw NoPrefix n body x t is suffix =
     let u = replicate n 35 ++ 34 ∷ (body ++ 34 ∷ (replicate n 35 ++ (x ++ t))) in
     ap (λ s. lexeme_at (114 ∷ s)) (raw_text n body x t) ∙ at_class 114 u LetterRHead class114
-    ∙ raw_chosen u (cond (starts_with 35 u && first_passes is_start (drop 1 u)) None (word_at u)) t
+    ∙ raw_chosen u (cond (begins_char 35 u && first_passes is_start (drop 1 u)) None (word_at u)) t
     (raw_opens_here n (body ++ 34 ∷ (replicate n 35 ++ (x ++ t)))) (raw_front n body x t is suffix)
 front_raw BytePrefix n body x t is suffix =
     let u = replicate n 35 ++ 34 ∷ (body ++ 34 ∷ (replicate n 35 ++ (x ++ t))) in
@@ -252,17 +252,17 @@ none_of2 false false x y w h = refl
 word_class : (c : ℕ) (u : List ℕ) → begins_otherwise (c ∷ u) ≡ false → by_class (start_class c) c u ≡ word_at u
 word_class c u h = go (c == 98) (c == 99) (c == 114) h
   where
-    go : (a b r : Bool) → ((a && (starts_with 34 u || (starts_with 39 u
-        || (starts_with 114 u && begins_hashed_quote (drop 1 u)))))
-        || ((b && (starts_with 34 u || (starts_with 114 u && begins_hashed_quote (drop 1 u))))
-        || (r && (begins_hashed_quote u || (starts_with 35 u && first_passes is_start (drop 1 u)))))) ≡ false
+    go : (a b r : Bool) → ((a && (begins_char 34 u || (begins_char 39 u
+        || (begins_char 114 u && begins_hashed_quote (drop 1 u)))))
+        || ((b && (begins_char 34 u || (begins_char 114 u && begins_hashed_quote (drop 1 u))))
+        || (r && (begins_hashed_quote u || (begins_char 35 u && first_passes is_start (drop 1 u)))))) ≡ false
         → by_class (cond a LetterBHead (cond b LetterCHead (cond r LetterRHead OtherLetterHead))) c u ≡ word_at u
-    go true b r h = none_of3 (starts_with 34 u) (starts_with 39 u)
-        (starts_with 114 u && begins_hashed_quote (drop 1 u)) (literal_at (quoted_at (drop 1 u)))
+    go true b r h = none_of3 (begins_char 34 u) (begins_char 39 u)
+        (begins_char 114 u && begins_hashed_quote (drop 1 u)) (literal_at (quoted_at (drop 1 u)))
         (literal_at (single_at (drop 1 u))) (literal_at (raw_at (drop 1 u))) (word_at u) (or_parts _ _ h).0
-    go false true r h = none_of2 (starts_with 34 u) (starts_with 114 u && begins_hashed_quote (drop 1 u))
+    go false true r h = none_of2 (begins_char 34 u) (begins_char 114 u && begins_hashed_quote (drop 1 u))
         (literal_at (quoted_at (drop 1 u))) (literal_at (raw_at (drop 1 u))) (word_at u) (or_parts _ _ h).0
-    go false false true h = none_of2 (begins_hashed_quote u) (starts_with 35 u && first_passes is_start (drop 1 u))
+    go false false true h = none_of2 (begins_hashed_quote u) (begins_char 35 u && first_passes is_start (drop 1 u))
         (literal_at (raw_at u)) None (word_at u) h
     go false false false h = refl
 

@@ -1,6 +1,6 @@
 -- What the tests say of how a text begins, in the words of the lexemes.
 use Rattle.rl_text.proofs.Common.{◌≡◌, ℕ, suc, zero, ◌<◌, ◌⊎◌, inl, inr, Bool, true, false, not, ◌&&◌, ◌||◌, ◌==◌, cond, List, [], ◌∷◌, ◌++◌, drop, replicate, refl, sym, ◌∙◌, ap, arith, and_parts, codes, is_ascii_digit, and_from, or_left, or_right}
-use Rattle.rl_text.specs.Texts.{is_underscore, first_passes, begins, is_row_part, is_start, starts_with}
+use Rattle.rl_text.specs.Texts.{is_underscore, first_passes, begins, is_row_part, is_start, begins_char}
 use Rattle.rl_lexer.specs.Lexemes.{BeginsHashedQuote, LiteralPrefix, NoPrefix, BytePrefix, CPrefix, prefix_text, BeginsRaw, begins_prefixed_quote, begins_raw_identifier, BeginsOtherwise, LexedSign, NoLexedSign, LexedPlus, LexedMinus, lexed_sign_text, LexedExponent, NoLexedExponent, LexedPower, lexed_exponent_text, IsLexedExponent, BeginsLexedExponent}
 use Rattle.rl_lexer.specs.Cuts.{begins_lifetime, BeginsQuote}
 use Rattle.rl_lexer.specs.Mirrors.LexemeAt.{hashes, begins_hashed_quote, begins_raw_after, begins_raw, begins_quote, begins_otherwise, after_sign, begins_exponent, after_lexed_exponent}
@@ -15,7 +15,7 @@ or_cases true b h = inl refl
 or_cases false b h = inr h
 
 -- a text that goes on with this character
-pub prefixed : (k : ℕ) (t : List ℕ) → starts_with k t ≡ true → t ≡ k ∷ drop 1 t
+pub prefixed : (k : ℕ) (t : List ℕ) → begins_char k t ≡ true → t ≡ k ∷ drop 1 t
 prefixed k [] h = absurd (cc)
 prefixed k (c ∷ t) h = ap (λ x. x ∷ t) (is_equal c k h)
 
@@ -30,13 +30,13 @@ two k l (c ∷ d ∷ u) h =
 
 -- ---- hashes and a quote
 
-pub opens_found : (t : List ℕ) → (starts_with 34 (after_run is_hash t)) ≡ true → t ≡ replicate (hashes t) 35
+pub opens_found : (t : List ℕ) → (begins_char 34 (after_run is_hash t)) ≡ true → t ≡ replicate (hashes t) 35
     ++ 34 ∷ drop 1 (after_run is_hash t)
 opens_found t h = hashes_first t ∙ ap (λ s. replicate (hashes t) 35 ++ s)
     (prefixed 34 (after_run is_hash t) h)
 
 pub raw_opens_here : (n : ℕ) (u : List ℕ) → begins_hashed_quote (replicate n 35 ++ 34 ∷ u) ≡ true
-raw_opens_here n u = ap (λ s. starts_with 34 s) (hashes_past n u)
+raw_opens_here n u = ap (λ s. begins_char 34 s) (hashes_past n u)
 
 hashed_here : (t : List ℕ) → BeginsHashedQuote t → begins_hashed_quote t ≡ true
 hashed_here t b = ap begins_hashed_quote b.text_is ∙ raw_opens_here b.hashes b.rest
@@ -211,46 +211,46 @@ otherwise_here t (inr (inr h)) = let (d, u, same, is) = raw_split t h in ap begi
 
 -- what stands after each prefix
 abbrev tail_b : List ℕ → Bool
-tail_b t = starts_with 34 t || (starts_with 39 t ||
-    (starts_with 114 t && begins_hashed_quote (drop 1 t)))
+tail_b t = begins_char 34 t || (begins_char 39 t ||
+    (begins_char 114 t && begins_hashed_quote (drop 1 t)))
 
 abbrev tail_c : List ℕ → Bool
-tail_c t = starts_with 34 t || (starts_with 114 t && begins_hashed_quote (drop 1 t))
+tail_c t = begins_char 34 t || (begins_char 114 t && begins_hashed_quote (drop 1 t))
 
 abbrev tail_r : List ℕ → Bool
-tail_r t = begins_hashed_quote t || (starts_with 35 t && first_passes is_start (drop 1 t))
+tail_r t = begins_hashed_quote t || (begins_char 35 t && first_passes is_start (drop 1 t))
 
-then_is : (c k l : ℕ) (t : List ℕ) → (c == k) ≡ true → starts_with l t ≡ true → c ∷ t ≡ k ∷ l ∷ drop 1 t
+then_is : (c k l : ℕ) (t : List ℕ) → (c == k) ≡ true → begins_char l t ≡ true → c ∷ t ≡ k ∷ l ∷ drop 1 t
 then_is c k l t a b = ap (λ x. x ∷ t) (is_equal c k a) ∙ ap (λ x. k ∷ x) (prefixed l t b)
 
 otherwise_b : (c : ℕ) (t : List ℕ) → (c == 98) ≡ true → tail_b t ≡ true → BeginsOtherwise (c ∷ t)
 otherwise_b c t c_is h =
-    elim (or_cases (starts_with 34 t) (starts_with 39 t
-    || (starts_with 114 t && begins_hashed_quote (drop 1 t))) h) [
+    elim (or_cases (begins_char 34 t) (begins_char 39 t
+    || (begins_char 114 t && begins_hashed_quote (drop 1 t))) h) [
       | inl a ↦ inl (ap begins_prefixed_quote (then_is c 98 34 t c_is a))
-      | inr a ↦ elim (or_cases (starts_with 39 t) (starts_with 114 t && begins_hashed_quote (drop 1 t)) a) [
+      | inr a ↦ elim (or_cases (begins_char 39 t) (begins_char 114 t && begins_hashed_quote (drop 1 t)) a) [
         | inl b ↦ inl (ap begins_prefixed_quote (then_is c 98 39 t c_is b))
         | inr b ↦
-            let k = and_parts (starts_with 114 t) (begins_hashed_quote (drop 1 t)) b in
+            let k = and_parts (begins_char 114 t) (begins_hashed_quote (drop 1 t)) b in
             inr (inl (raw_by BytePrefix (c ∷ t) (drop 1 t) (then_is c 98 114 t c_is k.0) k.1))
       ]
     ]
 
 otherwise_c : (c : ℕ) (t : List ℕ) → (c == 99) ≡ true → tail_c t ≡ true → BeginsOtherwise (c ∷ t)
 otherwise_c c t c_is h =
-    elim (or_cases (starts_with 34 t) (starts_with 114 t && begins_hashed_quote (drop 1 t)) h) [
+    elim (or_cases (begins_char 34 t) (begins_char 114 t && begins_hashed_quote (drop 1 t)) h) [
       | inl a ↦ inl (ap begins_prefixed_quote (then_is c 99 34 t c_is a))
       | inr b ↦
-          let k = and_parts (starts_with 114 t) (begins_hashed_quote (drop 1 t)) b in
+          let k = and_parts (begins_char 114 t) (begins_hashed_quote (drop 1 t)) b in
           inr (inl (raw_by CPrefix (c ∷ t) (drop 1 t) (then_is c 99 114 t c_is k.0) k.1))
     ]
 
 otherwise_r : (c : ℕ) (t : List ℕ) → (c == 114) ≡ true → tail_r t ≡ true → BeginsOtherwise (c ∷ t)
 otherwise_r c t c_is h =
-    elim (or_cases (begins_hashed_quote t) (starts_with 35 t && first_passes is_start (drop 1 t)) h) [
+    elim (or_cases (begins_hashed_quote t) (begins_char 35 t && first_passes is_start (drop 1 t)) h) [
       | inl a ↦ inr (inl (raw_by NoPrefix (c ∷ t) t (ap (λ x. x ∷ t) (is_equal c 114 c_is)) a))
       | inr b ↦
-          let k = and_parts (starts_with 35 t) (first_passes is_start (drop 1 t)) b in
+          let k = and_parts (begins_char 35 t) (first_passes is_start (drop 1 t)) b in
           inr (inr (ap begins_raw_identifier (then_is c 114 35 t c_is k.0) ∙ k.1))
     ]
 

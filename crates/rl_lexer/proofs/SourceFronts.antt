@@ -2,7 +2,7 @@
 -- token, and each such token is what it takes off.
 use Rattle.rl_text.proofs.Common.{◌≡◌, ℕ, inl, inr, Bool, true, false, not, ◌||◌, ◌==◌, cond, List, [], ◌∷◌, ◌++◌, append-nil, Option, Some, None, drop, refl, sym, ◌∙◌, ap, subst, Bor, arith, or_parts, ltb-false, none-some, is_ascii, ⊤, codes, list_all, IfSome, IfNone, option_map, option_and_then, chars}
 use Rattle.rl_text.proofs.ScanLemmas.{not_false}
-use Rattle.rl_text.specs.Texts.{first_passes, begins, starts_with}
+use Rattle.rl_text.specs.Texts.{first_passes, begins, begins_char}
 use Rattle.rl_forms.specs.Trivia.{Inside, inside_text, IsInside, is_comment_line, is_comment_block}
 use Rattle.rl_lexer.specs.Skipping.{Skipped}
 use Rattle.rl_text.specs.Scanning.{is_one_of, is_other, IsNextMark}
@@ -61,7 +61,7 @@ line_plain body (c ∷ t) h = ap (λ x. is_comment_line (body ++ x ∷ t)) (is_e
 -- ---- the front of a whole source
 
 pub script_line : (t second following s r : List ℕ) → t ≡ 35 ∷ second → second ≡ 33 ∷ following → Skipped following s
-    → starts_with 91 s ≡ false → r ≡ after_run is_in_line following → IsScriptLine t r
+    → begins_char 91 s ≡ false → r ≡ after_run is_in_line following → IsScriptLine t r
 script_line t second following s r a b skipped other rest =
     let (row, is, same) = run_found is_in_line following in
     let e : following ≡ row ++ r = same ∙ ap (λ x. row ++ x) (sym rest) in
@@ -251,8 +251,8 @@ true_false false h k = absurd (cc)
 -- what opens nothing
 pub closed_here : (r : List ℕ) → opens r ≡ false → Opens r → ⊥
 closed_here r h o =
-    let e = or_parts (begins (codes "/*") r) (begins_quote r || starts_with 39 r) h in
-    let d = or_parts (begins_quote r) (starts_with 39 r) e.1 in
+    let e = or_parts (begins (codes "/*") r) (begins_quote r || begins_char 39 r) h in
+    let d = or_parts (begins_quote r) (begins_char 39 r) e.1 in
     elim o [
       | inl q ↦ no_quote_begins r d.0 q
       | inr x ↦ elim x [
@@ -262,9 +262,9 @@ closed_here r h o =
     ]
 
 pub opens_here : (r : List ℕ) → (Opens r → ⊥) → opens r ≡ false
-opens_here r none = go (begins (codes "/*") r) (begins_quote r) (starts_with 39 r) refl refl refl
+opens_here r none = go (begins (codes "/*") r) (begins_quote r) (begins_char 39 r) refl refl refl
   where
-    go : (a b d : Bool) → begins (codes "/*") r ≡ a → begins_quote r ≡ b → (starts_with 39 r) ≡ d → (a || (b || d))
+    go : (a b d : Bool) → begins (codes "/*") r ≡ a → begins_quote r ≡ b → (begins_char 39 r) ≡ d → (a || (b || d))
         ≡ false
     go true b d p q s = absurd (none (inr (inr p)))
     go false true d p q s = absurd (none (inl (quote_begins r q)))

@@ -1,6 +1,6 @@
 -- A source is cut in one way, and what the lexer cuts of a text is cut of it as a source too.
 use Rattle.rl_text.proofs.Common.{◌≡◌, ℕ, inl, inr, true, false, ◌==◌, cond, List, [], ◌∷◌, ◌++◌, map, Option, Some, None, drop, refl, sym, ◌∙◌, ap, subst, arith, lit<, and_parts, append_cancel_right, none-some, list_all, option_map}
-use Rattle.rl_text.specs.Texts.{first_passes, byte_len, is_start, is_continue, starts_with}
+use Rattle.rl_text.specs.Texts.{first_passes, byte_len, is_start, is_continue, begins_char}
 use Rattle.rl_forms.specs.Trivia.{inside_text}
 use Rattle.rl_lexer.specs.Lexemes.{Lexeme, lexeme_text, IsLexeme, IsRow, LexemeForm, form_of}
 use Rattle.rl_lexer.specs.Cuts.{LexedToken, end_of, LexesUpTo}
@@ -24,7 +24,7 @@ raw_no_lexeme c u is =
     let raw : Option (LexemeForm × List ℕ) = literal_at (raw_at (35 ∷ c ∷ u)) in
     let word : Option (LexemeForm × List ℕ) = word_at (35 ∷ c ∷ u) in
     at_class 114 (35 ∷ c ∷ u) LetterRHead class114
-    ∙ ap (λ b. cond (starts_with 34 (cond b (after_run is_hash u) (c ∷ u))) raw (cond (is_start c) None word)) hash
+    ∙ ap (λ b. cond (begins_char 34 (cond b (after_run is_hash u) (c ∷ u))) raw (cond (is_start c) None word)) hash
     ∙ ap (λ b. cond b raw (cond (is_start c) None word)) quote
     ∙ ap (λ b. cond b None word) is
 

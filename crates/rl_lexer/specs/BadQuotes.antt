@@ -1,10 +1,10 @@
 -- Quotes that begin neither a lexeme nor a lifetime, and end all the same: a source has them as
--- literals, as rustc does, and goes on behind them.
+-- literals, as rustc does, and goes on after them.
 use Rattle.std.specs.Prelude.{◌≡◌, ℕ, Bool, false, not, ◌||◌, ◌==◌, List, [], codes, ◌∷◌, ◌++◌, IsTrue, ⊤}
 use Rattle.std.specs.Char.{is_ascii_digit}
 use Rattle.std.specs.List.{list_all}
 use Prim.Native.Char.{code}
-use Rattle.rl_text.specs.Texts.{first_passes, is_start, is_continue}
+use Rattle.rl_text.specs.Texts.{first_passes, begins_char, is_start, is_continue}
 use Rattle.rl_lexer.specs.Lexemes.{BodyPart, PlainPart, EscapedPart, body_text, IsRow, IsLexedSuffix}
 
 pub data BadQuote : Type 0 where
@@ -49,7 +49,7 @@ IsBadQuote (RawWordQuote c more) after =
     IsTrue (is_start c) × IsTrue (list_all is_continue more)
 IsBadQuote (DigitQuote c more) after =
     IsTrue (is_ascii_digit c) × IsRow is_continue more after
-    × (first_passes (λ d. d == code "'") after ≡ false)
+    × (begins_char (code "'") after ≡ false)
 IsBadQuote (OtherQuote parts suffix) after =
     (first_passes begins_word_or_escape (body_text parts) ≡ false) × IsQuoteBody parts
     × IsLexedSuffix suffix after

@@ -5,7 +5,7 @@ use Rattle.std.specs.Prelude.{◌≡◌, ◌⊎◌, ℕ, ◌+◌, Bool, false, n
 use Prim.Native.Char.{code}
 use Rattle.std.specs.List.{AllByRecursion, list_all}
 use Rattle.std.specs.Str.{chars}
-use Rattle.rl_text.specs.Texts.{first_passes, begins, byte_len, IsTail, is_start, is_continue}
+use Rattle.rl_text.specs.Texts.{first_passes, begins_char, begins, byte_len, IsTail, is_start, is_continue}
 use Rattle.rl_forms.specs.Trivia.{Inside, inside_text, IsInside, is_comment_line, is_comment_block}
 use Rattle.rl_lexer.specs.Skipping.{Skipped}
 use Rattle.rl_lexer.specs.Lexemes.{Lexeme, lexeme_text, IsLexeme, IsRow, LexemeForm, LiteralForm, IdentifierForm, form_of, begins_raw_identifier}
@@ -145,7 +145,7 @@ pub record IsScriptLine (t rest : List ℕ) : Type 0 where
   pub text_is : t ≡ code "#" ∷ code "!" ∷ line ++ rest
   pub is_line : IsRow is_in_line line rest
   pub no_attribute : (s : List ℕ) → Skipped (line ++ rest) s
-      → first_passes (λ c. c == code "[") s ≡ false
+      → begins_char (code "[") s ≡ false
 
 -- the text without that line at its front
 abbrev pub IsWithoutLine : List ℕ → List ℕ → Type 0

@@ -8,7 +8,7 @@ mod suffix;
 ghost use Rattle.std.specs.Prelude.{◌≡◌, ◌<◌, ◌&&◌, ◌==◌, List, ℕ, length, drop, cond, option_map, IfSome, IfNone, IsFalse, IsTrue};
 ghost use Rattle.std.specs.Char.{is_ascii, is_ascii_digit};
 ghost use Rattle.std.specs.Str.{chars};
-ghost use Rattle.rl_text.specs.Texts.{code, is_among, first_passes, IsTail, starts_with};
+ghost use Rattle.rl_text.specs.Texts.{code, is_among, first_passes, IsTail, begins_char};
 ghost use Rattle.rl_lexer.specs.Lexemes.{delimiters, LexemeBefore};
 ghost use Rattle.rl_text.specs.Texts.{is_start};
 ghost use Rattle.rl_lexer.specs.Cursors.{form_view};
@@ -294,7 +294,7 @@ fn after_digit(text: &str) -> &str
 /// Whether `r`, hashes, perhaps none, and a `"` begin the text.
 fn begins_raw_literal(text: &str) -> bool
     ensures { result
-        ≡ (starts_with (code "r") (chars text.now) && begins_hashed_quote (drop 1 (chars text.now))) }
+        ≡ (begins_char (code "r") (chars text.now) && begins_hashed_quote (drop 1 (chars text.now))) }
 {
     begins_with(text, 'r') && begins_hashed_quote(without_first(text))
 }
@@ -302,7 +302,7 @@ fn begins_raw_literal(text: &str) -> bool
 /// Whether a hash and an identifier's start begin the text.
 pub(crate) fn begins_marked_identifier(text: &str) -> bool
     ensures { result
-        ≡ (starts_with (code "#") (chars text.now)
+        ≡ (begins_char (code "#") (chars text.now)
         && first_passes is_start (drop 1 (chars text.now))) }
 {
     match split_char(text) {

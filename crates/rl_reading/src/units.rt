@@ -1,8 +1,8 @@
 //! The units that stand between the quotes of a literal: characters and escapes.
 
-ghost use Rattle.std.specs.Prelude.{◌≡◌, ◌==◌, ◌<◌, ◌≤◌, ◌∷◌, [], ℕ, length, option_map, IfSome, IsTrue, IsFalse, ◌+◌, ◌++◌, drop, map, ◌≢◌, List, not, IfNone};
+ghost use Rattle.std.specs.Prelude.{◌≡◌, ◌<◌, ◌≤◌, ◌∷◌, [], ℕ, length, option_map, IfSome, IsTrue, IsFalse, ◌+◌, ◌++◌, drop, map, ◌≢◌, List, not, IfNone};
 ghost use Rattle.std.specs.Str.{chars};
-ghost use Rattle.rl_text.specs.Texts.{first_passes, IsTail, code};
+ghost use Rattle.rl_text.specs.Texts.{begins_char, first_passes, IsTail, code};
 ghost use Rattle.rl_forms.specs.Quoted.{holds_characters, is_plain, is_single, allows_code, may_be_hex, has_unicode, is_string};
 ghost use Rattle.rl_forms.specs.Strict.{is_bare_character};
 ghost use Rattle.rl_reading.specs.Bodies.{IsUnitValue};
@@ -285,7 +285,7 @@ fn escape(kind: Kind, text: &str) -> Option<(Piece, &str)>
 #[tactic(auto, unfolding(crate::specs::Mirrors::UnitAt::unit_at))]
 #[inline(always)]
 fn character(kind: Kind, text: &str) -> Option<(Piece, &str)>
-    requires { IsFalse (first_passes (λ c. c == code "\\") (chars text.now)) }
+    requires { IsFalse (begins_char (code "\\") (chars text.now)) }
     ensures value { option_map (λ p. (piece_value kind p.0, chars p.1.now)) result
         ≡ unit_at kind (chars text.now) }
     ensures piece { IfSome result (λ p. IsHeldBy kind p.0) }

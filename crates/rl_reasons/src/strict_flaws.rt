@@ -1,9 +1,9 @@
 //! Why a text is no literal token of the strict grammar, and where.
 
-ghost use Rattle.std.specs.Prelude.{◌≡◌, ◌==◌, IfNone, IfSome, IsFalse, None};
+ghost use Rattle.std.specs.Prelude.{◌≡◌, IfNone, IfSome, IsFalse, None};
 ghost use Rattle.std.specs.Char.{is_ascii_digit};
 ghost use Rattle.std.specs.Str.{chars};
-ghost use Rattle.rl_text.specs.Texts.{code, first_passes};
+ghost use Rattle.rl_text.specs.Texts.{code, begins_char, first_passes};
 ghost use Rattle.rl_reasons.specs.Flaws.{StopsBefore};
 ghost use Rattle.rl_reasons.specs.NumberFlaws.{HasKind};
 ghost use Rattle.rl_reasons.specs.StrictFlaws.{ExplainsStrictly, IsStrictFlawOf};
@@ -21,7 +21,7 @@ use rl_text::text::split_char;
 
 /// Whether the text begins with a minus.
 pub(crate) fn begins_minus(text: &str) -> bool
-    ensures { result ≡ first_passes (λ c. c == code "-") (chars text.now) }
+    ensures { result ≡ begins_char (code "-") (chars text.now) }
 {
     matches!(split_char(text), Some(('-', _)))
 }

@@ -163,7 +163,7 @@ impl<T: Tell, A: Allocator> Tell for Kept<T, A> {
     }
 }
 
-/// Puts trees last, each behind a space.
+/// Puts trees last, each after a space.
 #[cycle(trees)]
 fn tell_trees<A: Allocator>(trees: &[TokenTree<A>], page: &mut Page) {
     for tree in trees {

@@ -69,7 +69,7 @@ pub fn word<A: Scarce>(trial: &Trial<'_, A>, text: &str, page: &mut Page) {
     }
 }
 
-/// `TokenStream::append` of a literal behind the trees of the text.
+/// `TokenStream::append` of a literal after the trees of the text.
 pub fn append<A: Scarce>(trial: &Trial<'_, A>, text: &str, page: &mut Page) {
     match trial.token("last") {
         Some(last) => append_last(trial, text, last, page),
@@ -77,7 +77,7 @@ pub fn append<A: Scarce>(trial: &Trial<'_, A>, text: &str, page: &mut Page) {
     }
 }
 
-/// `TokenStream::append` of this literal behind the trees of the text, and what is left of the stream.
+/// `TokenStream::append` of this literal after the trees of the text, and what is left of the stream.
 fn append_last<A: Scarce>(trial: &Trial<'_, A>, text: &str, last: Literal<A>, page: &mut Page) {
     match trial.trees(text) {
         Some(mut stream) => {

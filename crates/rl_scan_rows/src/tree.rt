@@ -48,6 +48,7 @@ fn bytes_at(path: &str) -> Result<&'static [u8], PathError> {
         "hides" => Ok(
             b"\"a\\u{202e}b\" \"a\xe2\x80\xaeb\"\n'\xe2\x80\x8b' r\"\xc3\xa4\xef\xbb\xbf\" b\"\xe2\x80\xae\" // \"\xe2\x80\xae\"\n\"a\tb\" 1".as_slice(),
         ),
+        "long.rs" => Err(PathError::TooLong),
         "./.git/x.rs" => Ok(b"4".as_slice()),
         "./target/x.rs" => Ok(b"5".as_slice()),
         _ => Err(PathError::NotFound),

@@ -7,7 +7,7 @@ use Rattle.rl_files.specs.Trees.{World}
 use Rattle.rl_files.specs.Visible.{visible}
 use Rattle.rl_files.specs.Walks.{FileAt, path_error_message}
 use Rattle.rl_files.specs.declared.tree.PathError.{PathError}
-use Rattle.rl_files.specs.declared.tree.PathError.TheVariants.{NotFound, PermissionDenied, IsADirectory, NotADirectory, PathTooLong, NameNotUtf8, NotUtf8, OutOfMemory, ReadFailed}
+use Rattle.rl_files.specs.declared.tree.PathError.TheVariants.{NotFound, PermissionDenied, IsADirectory, NotADirectory, PathTooLong, NameNotUtf8, NotUtf8, TooLong, OutOfMemory, ReadFailed}
 use Rattle.rl_lines.proofs.LineLemmas.{pushed}
 use Rattle.rl_sources.specs.declared.command.Command.{Command}
 use Rattle.rl_sources.specs.declared.report.Report.{Report}
@@ -36,6 +36,7 @@ message_ascii PathTooLong = low_text (path_error_message PathTooLong) refl
 message_ascii NameNotUtf8 = low_text (path_error_message NameNotUtf8) refl
 message_ascii (NotUtf8 at) = IsAscii-append (codes "not UTF-8 at byte ") _ (low_text (codes "not UTF-8 at byte ") refl)
     (decimal_ascii at)
+message_ascii TooLong = low_text (path_error_message TooLong) refl
 message_ascii OutOfMemory = low_text (path_error_message OutOfMemory) refl
 message_ascii ReadFailed = low_text (path_error_message ReadFailed) refl
 

@@ -17,7 +17,7 @@ pub record Streams : Type 0 where
   pub err_old : Option (List ℕ)
   pub err_new : Option (List ℕ)
 
--- All of this was written, and it is told whether something was found, and whether an error was told.
+-- All of this was written, and it is told whether something was found, and whether an error was reported.
 pub record IsWritten (streams : Streams) (printed : Findings) (tally : Tally) : Type 0 where
   pub on_out : Appends streams.out_old streams.out_new printed.out
   pub on_err : Appends streams.err_old streams.err_new printed.told
@@ -54,12 +54,12 @@ WritesFront command w spots streams =
     (visits others : List Visited) × (printed : Findings) × Visits w spots (visits ++ others)
     × AreReports command w visits printed × WritesBeginning streams printed
 
--- The status of a run: 2 where an error was told; else 1 where what is bad was asked for, or what turns
--- or hides text, and some was found; else 0.
+-- The status of a run: 2 where an error was reported; else 1 where what is bad was asked for, or what
+-- turns or hides text, and some was found; else 0.
 abbrev pub run_status : Shown → Tally → ℕ
 run_status shown tally = cond tally.failed 2 (cond (is_alarm shown && tally.found) 1 0)
 
--- The status of a run that looked for a text: 2 where an error was told; else 0 where the text was
+-- The status of a run that looked for a text: 2 where an error was reported; else 0 where the text was
 -- found, else 1.
 abbrev pub find_status : Tally → ℕ
 find_status tally = cond tally.failed 2 (cond tally.found 0 1)

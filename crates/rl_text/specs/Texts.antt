@@ -32,8 +32,8 @@ first_passes test [] = false
 first_passes test (c ∷ cs) = test c
 
 -- the text begins with this character
-abbrev pub starts_with : ℕ → List ℕ → Bool
-starts_with k t = first_passes (λ c. c == k) t
+abbrev pub begins_char : ℕ → List ℕ → Bool
+begins_char k t = first_passes (λ c. c == k) t
 
 abbrev pub is_among : List ℕ → ℕ → Bool
 is_among codes c = list_any (λ k. c == k) codes

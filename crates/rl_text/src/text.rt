@@ -3,7 +3,7 @@
 ghost use Rattle.std.specs.Prelude.{◌≡◌, ◌<◌, ◌==◌, ◌++◌, ◌∷◌, ◌≢◌, ℕ, List, [], length, drop, encode_utf8, MatchOption, IfSome, IfNone, IsFalse};
 ghost use Rattle.std.specs.Char.{is_ascii};
 ghost use Rattle.std.specs.Str.{chars};
-ghost use Rattle.rl_text.specs.Texts.{first_passes, IsTail, starts_with};
+ghost use Rattle.rl_text.specs.Texts.{first_passes, IsTail, begins_char};
 
 /// The first character, and the text after it: `None` where the text is empty.
 pub fn split_char(text: &str) -> Option<(char, &str)>
@@ -38,7 +38,7 @@ pub fn split_ascii(text: &str) -> Option<(u8, &str)>
 
 /// Whether the text begins with a character.
 pub fn begins_with(text: &str, c: char) -> bool
-    ensures { result ≡ starts_with c (chars text.now) }
+    ensures { result ≡ begins_char c (chars text.now) }
 {
     match split_char(text) {
         Some((first, _)) => first == c,

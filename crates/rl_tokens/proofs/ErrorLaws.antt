@@ -2,7 +2,7 @@
 use Rattle.rl_text.proofs.Common.{◌≡◌, ◌≢◌, ℕ, Bool, true, false, not, ◌&&◌, ◌||◌, ◌==◌, cond, List, [], ◌∷◌, ◌++◌, length, Option, Some, None, refl, sym, ◌∙◌, ap, subst, lit<, and_parts, or_parts, none-some, codes, nat_lt, if◌then◌else◌}
 use Rattle.rl_lexer.specs.declared.lex_error.LexKind.{LexKind}
 use Rattle.rl_lexer.specs.declared.lex_error.LexKind.TheVariants.{DocComment, UnclosedComment, UnclosedQuote, Lifetime, RawIdentifier, StrayCharacter, UnmatchedClose, UnclosedGroup, TooDeep, Memory}
-use Rattle.rl_text.specs.Texts.{is_among, first_passes, begins, is_start, starts_with}
+use Rattle.rl_text.specs.Texts.{is_among, first_passes, begins, is_start, begins_char}
 use Rattle.rl_lexer.specs.Lexemes.{Lexeme, lexeme_text, IsLexeme, LexemeForm, form_of, DelimiterForm, MarkForm, delimiters, begins_raw_identifier}
 use Rattle.rl_lexer.specs.Mirrors.LexemeAt.{lexeme_at, SlashHead, begins_quote}
 use Rattle.rl_text.specs.Classes.{after_run, is_hash}
@@ -210,7 +210,7 @@ raw_no_quote r h =
     let hash : (d == 35) ≡ false = not_among d 35 is_start is (start_ascii 35 (lit< tt)) in
     let quote : (d == 34) ≡ false = not_among d 34 is_start is (start_ascii 34 (lit< tt)) in
     ap begins_quote same
-    ∙ ap (λ b. (starts_with 34 (cond b (after_run is_hash u) (d ∷ u))) || false || false || false) hash
+    ∙ ap (λ b. (begins_char 34 (cond b (after_run is_hash u) (d ∷ u))) || false || false || false) hash
     ∙ ap (λ b. b || false || false || false) quote
 
 raw_no_life : (r : List ℕ) → begins_raw_identifier r ≡ true → begins_lifetime r ≡ false

@@ -1,6 +1,6 @@
 -- A lexeme but a mark stays one before a gap and at the end.
 use Rattle.rl_text.proofs.Common.{◌≡◌, ℕ, ◌<◌, Bool, true, false, not, ◌&&◌, ◌||◌, ◌==◌, cond, List, [], ◌∷◌, ◌++◌, drop, replicate, refl, sym, ◌∙◌, ap, subst, arith, append_assoc, lit<, and_parts, nat_tests, list_all, is_xid_start, is_xid_continue, is_ascii_alphanumeric, is_ascii_digit, is_xid_continue-ascii}
-use Rattle.rl_text.specs.Texts.{is_white, is_underscore, first_passes, is_row_part, is_start, is_continue, starts_with}
+use Rattle.rl_text.specs.Texts.{is_white, is_underscore, first_passes, is_row_part, is_start, is_continue, begins_char}
 use Rattle.rl_lexer.specs.Lexemes.{is_base_letter, begins_dot, LexedFraction, NoLexedFraction, LexedDot, lexed_fraction_text, lexed_sign_text, LexedExponent, NoLexedExponent, LexedPower, lexed_exponent_text, IsRow, IsLexedSuffix, IsLexedFraction, IsLexedExponent, QuotedLexeme, RawLexeme, CharacterLexeme, BasedLexeme, DecimalLexeme, IdentifierLexeme, DelimiterLexeme, MarkLexeme, IsLexeme}
 use Rattle.rl_lexer.proofs.Gaps.{BeginsGap, StaysBeforeGap}
 use Rattle.rl_text.proofs.Basics.{false_unless}
@@ -201,7 +201,7 @@ decimal_gap d more f e x after gap is (id, not_based, row, fraction, exponent, s
 
 -- Identifiers.
 hash_none : (k : ℕ) (x gap : List ℕ) → list_all is_continue x ≡ true → BeginsGap gap → Solid (λ c. c == k)
-    → is_continue k ≡ false → starts_with k (x ++ gap) ≡ false
+    → is_continue k ≡ false → begins_char k (x ++ gap) ≡ false
 hash_none k [] [] row is solid no_cont = refl
 hash_none k [] (c ∷ t) row is solid no_cont = solid c is
 hash_none k (c ∷ x) gap row is solid no_cont = not_among c k is_continue
@@ -209,11 +209,11 @@ hash_none k (c ∷ x) gap row is solid no_cont = not_among c k is_continue
 
 raw_none : (x gap : List ℕ) → list_all is_continue x ≡ true → BeginsGap gap → begins_hashed_quote (x ++ gap) ≡ false
 raw_none [] [] row is = refl
-raw_none [] (c ∷ t) row is = ap (λ b. starts_with 34 (cond b (after_run is_hash t) (c ∷ t)))
+raw_none [] (c ∷ t) row is = ap (λ b. begins_char 34 (cond b (after_run is_hash t) (c ∷ t)))
     (code_solid 35 refl refl c is) ∙ code_solid 34 refl refl c is
 raw_none (c ∷ x) gap row is =
     let k : is_continue c ≡ true = (and_parts (is_continue c) (list_all is_continue x) row).0 in
-    ap (λ b. starts_with 34 (cond b (after_run is_hash (x ++ gap)) (c ∷ x ++ gap)))
+    ap (λ b. begins_char 34 (cond b (after_run is_hash (x ++ gap)) (c ∷ x ++ gap)))
     (not_among c 35 is_continue k (continue_ascii 35 (lit< tt)))
     ∙ not_among c 34 is_continue k (continue_ascii 34 (lit< tt))
 
@@ -238,7 +238,7 @@ none_of a b r x y z v w p q s t u =
     ∙ none_all a b r
 
 second_raw : (more gap : List ℕ) → list_all is_continue more ≡ true → BeginsGap gap
-    → (starts_with 114 (more ++ gap) && begins_hashed_quote (drop 1 (more ++ gap))) ≡ false
+    → (begins_char 114 (more ++ gap) && begins_hashed_quote (drop 1 (more ++ gap))) ≡ false
 second_raw [] [] row is = refl
 second_raw [] (c ∷ t) row is = ap (λ b. b && begins_hashed_quote t) (code_solid 114 refl refl c is)
 second_raw (c ∷ x) gap row is = ap (λ b. c == 114 && b) (raw_none x gap
@@ -248,9 +248,9 @@ otherwise_gap : (c : ℕ) (more gap : List ℕ) → list_all is_continue more �
     → begins_otherwise (c ∷ more ++ gap) ≡ false
 otherwise_gap c more gap row is =
     let u = more ++ gap in
-    none_of (c == 98) (c == 99) (c == 114) (starts_with 34 u) (starts_with 39 u)
-    (starts_with 114 u && begins_hashed_quote (drop 1 u)) (begins_hashed_quote u)
-    (starts_with 35 u && first_passes is_start (drop 1 u))
+    none_of (c == 98) (c == 99) (c == 114) (begins_char 34 u) (begins_char 39 u)
+    (begins_char 114 u && begins_hashed_quote (drop 1 u)) (begins_hashed_quote u)
+    (begins_char 35 u && first_passes is_start (drop 1 u))
     (hash_none 34 more gap row is (code_solid 34 refl refl) (continue_ascii 34 (lit< tt)))
     (hash_none 39 more gap row is (code_solid 39 refl refl) (continue_ascii 39 (lit< tt)))
     (second_raw more gap row is)

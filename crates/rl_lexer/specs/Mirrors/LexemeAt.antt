@@ -5,14 +5,14 @@ use Rattle.std.proofs.Common.{suc, zero, Option, Some, None}
 use Rattle.std.specs.Char.{is_ascii_digit}
 use Rattle.std.specs.Option.{option_map}
 use Prim.Native.Char.{code}
-use Rattle.rl_text.specs.Texts.{is_underscore, is_among, first_passes, begins, is_row_part, is_start, is_continue, starts_with}
+use Rattle.rl_text.specs.Texts.{is_underscore, is_among, first_passes, begins, is_row_part, is_start, is_continue, begins_char}
 use Rattle.rl_lexer.specs.Lexemes.{is_base_letter, delimiters, marks, begins_hashes, begins_dot, LexemeForm, LiteralForm, IdentifierForm, DelimiterForm, MarkForm, form_of, Lexeme, lexeme_text, IsLexeme, is_punct}
 use Rattle.rl_lexer.specs.Cuts.{begins_lifetime}
 use Rattle.rl_text.specs.Classes.{after_run, is_hash}
 
 -- hashes, perhaps none, and a quote
 abbrev pub begins_hashed_quote : List ℕ → Bool
-begins_hashed_quote t = starts_with (code "\"") (after_run is_hash t)
+begins_hashed_quote t = begins_char (code "\"") (after_run is_hash t)
 
 abbrev pub begins_raw_after : List ℕ → Bool → Bool
 begins_raw_after [] b = false
@@ -36,15 +36,15 @@ abbrev pub begins_otherwise : List ℕ → Bool
 begins_otherwise [] = false
 begins_otherwise (c ∷ t) =
     (c == code "b"
-    && (starts_with (code "\"") t
-    || (starts_with (code "'") t
-    || (starts_with (code "r") t && begins_hashed_quote (drop 1 t)))))
+    && (begins_char (code "\"") t
+    || (begins_char (code "'") t
+    || (begins_char (code "r") t && begins_hashed_quote (drop 1 t)))))
     || ((c == code "c"
-    && (starts_with (code "\"") t
-    || (starts_with (code "r") t && begins_hashed_quote (drop 1 t))))
+    && (begins_char (code "\"") t
+    || (begins_char (code "r") t && begins_hashed_quote (drop 1 t))))
     || (c == code "r"
     && (begins_hashed_quote t
-    || (starts_with (code "#") t && first_passes is_start (drop 1 t)))))
+    || (begins_char (code "#") t && first_passes is_start (drop 1 t)))))
 
 -- what follows a sign, where one begins the text
 abbrev pub after_sign : List ℕ → List ℕ
@@ -184,17 +184,17 @@ word_at t = Some (IdentifierForm, after_run is_continue t)
 -- by the first character's class, the character, and what stands after it
 abbrev pub by_class : HeadClass → ℕ → List ℕ → Option (LexemeForm × List ℕ)
 by_class LetterBHead c t =
-    cond (starts_with (code "\"") t) (literal_at (quoted_at (drop 1 t)))
-    (cond (starts_with (code "'") t) (literal_at (single_at (drop 1 t)))
-    (cond (starts_with (code "r") t && begins_hashed_quote (drop 1 t))
+    cond (begins_char (code "\"") t) (literal_at (quoted_at (drop 1 t)))
+    (cond (begins_char (code "'") t) (literal_at (single_at (drop 1 t)))
+    (cond (begins_char (code "r") t && begins_hashed_quote (drop 1 t))
     (literal_at (raw_at (drop 1 t))) (word_at t)))
 by_class LetterCHead c t =
-    cond (starts_with (code "\"") t) (literal_at (quoted_at (drop 1 t)))
-    (cond (starts_with (code "r") t && begins_hashed_quote (drop 1 t))
+    cond (begins_char (code "\"") t) (literal_at (quoted_at (drop 1 t)))
+    (cond (begins_char (code "r") t && begins_hashed_quote (drop 1 t))
     (literal_at (raw_at (drop 1 t))) (word_at t))
 by_class LetterRHead c t =
     cond (begins_hashed_quote t) (literal_at (raw_at t))
-    (cond (starts_with (code "#") t && first_passes is_start (drop 1 t)) None (word_at t))
+    (cond (begins_char (code "#") t && first_passes is_start (drop 1 t)) None (word_at t))
 by_class OtherLetterHead c t = word_at t
 by_class QuoteHead c t = literal_at (quoted_at t)
 by_class ApostropheHead c t = literal_at (single_at t)

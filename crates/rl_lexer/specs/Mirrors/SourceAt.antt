@@ -4,7 +4,7 @@ use Rattle.std.specs.Prelude.{ℕ, Bool, not, ◌==◌, ◌||◌, ◌&&◌, List
 use Rattle.std.proofs.Common.{Option, Some, None}
 use Rattle.std.specs.Option.{option_map, option_and_then}
 use Prim.Native.Char.{code}
-use Rattle.rl_text.specs.Texts.{first_passes, begins, is_start, is_continue, starts_with}
+use Rattle.rl_text.specs.Texts.{first_passes, begins, is_start, is_continue, begins_char}
 use Rattle.rl_lexer.specs.declared.lex_error.LexKind.{LexKind}
 use Rattle.rl_lexer.specs.declared.lex_error.LexKind.TheVariants.{UnclosedComment, UnclosedQuote}
 use Rattle.rl_forms.specs.Trivia.{is_comment_line, is_comment_block}
@@ -59,11 +59,11 @@ abbrev pub source_error_kind : List ℕ → LexKind
 source_error_kind r = if begins (codes "/*") r then UnclosedComment else UnclosedQuote
 
 abbrev pub opens : List ℕ → Bool
-opens r = begins (codes "/*") r || (begins_quote r || starts_with (code "'") r)
+opens r = begins (codes "/*") r || (begins_quote r || begins_char (code "'") r)
 
 -- what ends a quote before it is closed: a slash, and an LF without the quote right after it
 abbrev pub stops_quote : ℕ → List ℕ → Bool
-stops_quote c t = c == code "/" || (c == code "\n" && not (starts_with (code "'") t))
+stops_quote c t = c == code "/" || (c == code "\n" && not (begins_char (code "'") t))
 
 -- what follows any character
 abbrev pub after_any : List ℕ → Option (List ℕ)
@@ -86,7 +86,7 @@ after_next_quote (c ∷ e ∷ t) =
 -- what follows a quote up to the next and a suffix, by what stands after it
 abbrev pub after_other : List ℕ → Option (List ℕ)
 after_other t =
-    cond (starts_with (code "\\") t) None (option_map after_suffix (after_next_quote t))
+    cond (begins_char (code "\\") t) None (option_map after_suffix (after_next_quote t))
 
 -- what follows the quote that has to stand there, and the one that may
 abbrev pub after_closing : List ℕ → Option (List ℕ)
@@ -110,7 +110,7 @@ abbrev pub after_bad_quote : List ℕ → Option (List ℕ)
 after_bad_quote [] = None
 after_bad_quote (c ∷ t) =
     cond (c == code "'") (after_bare t)
-    (cond (c == code "b" && starts_with (code "'") t) (after_other (drop 1 t)) None)
+    (cond (c == code "b" && begins_char (code "'") t) (after_other (drop 1 t)) None)
 
 -- a stray character, or a bad quote
 abbrev pub stray_at : List ℕ → Option (SourceKind × List ℕ)

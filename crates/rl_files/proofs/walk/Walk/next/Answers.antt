@@ -1,4 +1,3 @@
-use Rattle.std.proofs.Common.{string_bytes, rules}
 use Rattle.rl_files.proofs.WalkLemmas.{go_none, go_file, go_bad_name, go_missing, go_given, go_enter}
 use Rattle.rl_files.proofs.walk.Walk.next.Goals as goal
 
