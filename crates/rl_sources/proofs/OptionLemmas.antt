@@ -1,5 +1,5 @@
 -- Words of a list, and words of the command line.
-use Rattle.rl_text.proofs.Common.{Bool, Bor, IsTrue, List, None, Option, Some, [], arith, common_steps, drop, false, get_or, length, refl, subst, sym, take, true, zero, suc, ℕ, ◌++◌, ◌+◌, ◌<◌, ◌∷◌, ◌≡◌, ◌≤◌}
+use Rattle.rl_text.proofs.Common.{Bool, Bor, IsTrue, List, None, Option, Some, [], arith, common_steps, drop, false, get_or, length, refl, subst, sym, take, true, zero, suc, ℕ, ◌++◌, ◌+◌, ◌<◌, ◌∷◌, ◌≡◌}
 use Rattle.std.proofs.Common.{MatchBool}
 use Rattle.std.specs.Prelude.{◌↔◌, MatchOption}
 use Rattle.std.specs.List.{All, AllWithin, HoldsAt, Any}

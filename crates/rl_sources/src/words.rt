@@ -8,7 +8,10 @@ ghost use Rattle.rl_sources.specs.declared.flags.Operand.TheVariants as takes;
 ghost use Rattle.rl_sources.specs.Words.{IsKindWord, AreKindWords, IsUnknownKind, is_path_word, taken_by as flag_before, first_wishes, wishes_of, wishes_in, MayStand, IsLenientAlone, with_kinds, with_path, with_text, IsAdded, IsTaken, IsStep, Asks, IsRejectedFlag, IsRejectedText, IsRejectedJoined, IsRejectedWord, IsMissing, AreRejected};
 
 use crate::command::{Command, Output, PlaceForm, Wish};
-use crate::flags::{Flag, Next, Operand, When, add_flag, flag_of, form_when, joined_of, next_after, recolored, taken_by, when_of};
+use crate::flags::{
+    Flag, Next, Operand, When, add_flag, flag_of, form_when, joined_of, next_after, recolored,
+    taken_by, when_of,
+};
 use crate::options::{Judge, Shown, Spelling, names};
 use crate::report::{is_bad, visible_text};
 use std::alloc::{AllocError, Allocator, Global};
@@ -69,15 +72,11 @@ impl<A: Allocator> fmt::Display for WordError<A> {
                 "unknown kind '{word}': one of Str, ByteStr, CStr, Byte, Char, Int, Float, Bool, Verbatim"
             ),
             WordError::NoKinds => write!(f, "--only: which kinds? as in --only Str,ByteStr"),
-            WordError::TwoChoices => {
-                write!(f, "--bad, --hidden and --only: one of them, once")
-            }
+            WordError::TwoChoices => write!(f, "--bad, --hidden and --only: one of them, once"),
             WordError::LenientAlone => write!(f, "--lenient: only with --bad"),
             WordError::NoText => write!(f, "--find: which text? as in --find TODO"),
             WordError::EmptyText => write!(f, "--find: an empty text stands everywhere"),
-            WordError::BadAndFind => {
-                write!(f, "--bad, --hidden and --find: one of them, once")
-            }
+            WordError::BadAndFind => write!(f, "--bad, --hidden and --find: one of them, once"),
             WordError::NoColor => write!(f, "--color: when? one of auto, always, never"),
             WordError::UnknownColor(word) => {
                 write!(f, "unknown colour '{word}': one of auto, always, never")

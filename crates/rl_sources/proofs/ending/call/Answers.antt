@@ -10,6 +10,7 @@ returns-in-Ok g c = call_asked c.args.args.now c.args.console (g.T.Tree.holds c.
 
 pub returns-in-Err : goal.returns-in-Err
 returns-in-Err g c = (
-  cannot_ask c.args.console.has_colors c.args.args.now c.in-Err.error c.in-len1-up.len_at_least c.in-Err.ensures.rejected,
+  cannot_ask c.args.console.has_colors c.args.args.now c.in-Err.error c.in-len1-up.len_at_least
+      c.in-Err.ensures.rejected,
   (keeps_same _, keeps_same _),
 )
