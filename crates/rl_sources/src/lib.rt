@@ -5,6 +5,8 @@
 mod command;
 mod ending;
 mod held;
+mod json;
+mod json_string;
 mod judge;
 mod options;
 mod place;
@@ -18,6 +20,7 @@ mod words;
 
 pub use crate::command::{Command, Output, PlaceForm, Wish};
 pub use crate::ending::{CallError, HELP, VERSION, call};
+pub use crate::json_string::json_strings_stand;
 pub use crate::options::{Judge, Options, Shown, Spelling};
 pub use crate::place::Place;
 pub use crate::report::{Report, report_of};
