@@ -9,3 +9,5 @@ pub mod ReportLemmas
 pub mod RunLemmas
 pub mod WordLemmas
 pub mod EndingLemmas
+pub mod JsonStringLemmas
+pub mod JsonLemmas

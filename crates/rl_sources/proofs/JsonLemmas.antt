@@ -1,0 +1,157 @@
+-- Objects of JSON, piece by piece.
+use Rattle.rl_text.proofs.Common.{◌≡◌, ◌⊎◌, ℕ, List, [], ◌∷◌, ◌++◌, refl, sym, ap, subst, ◌∙◌, inl, inr, true, lit<, append_assoc, append-nil, take, IsAscii, IsUtf8, chars, chars-IsAscii, chars_from_encodes, codes, encode_utf8, encode_utf8_all, list_all, is_ascii, flat_map}
+use Rattle.std.specs.Fmt.{decimal}
+use Rattle.std.proofs.lemmas.Grind.{flat_map-append}
+use Rattle.std.proofs.lemmas.Str.{IsAscii-append}
+use Rattle.std.proofs.lemmas.Str.Ascii.{IsAscii-nil, IsAscii-cons}
+use Rattle.rl_reading.proofs.Names.{Byte, ByteStr, Bytes, CStr, Characters, Contents, Digits, Float, HasContents, HasNoReading, HasSuffix, Int, Kind, Reads, ReadsAs, Truth, quoted_contents}
+use Rattle.rl_forms.proofs.OneReading.{one_reading}
+use Rattle.rl_reading.specs.NumberShapes.{AreDigits}
+use Rattle.rl_lexer.specs.declared.lines.LineColumn.{LineColumn}
+use Rattle.rl_lines.specs.Lines.{Appends, kind_label}
+use Rattle.rl_lines.proofs.LineLemmas.{pushed}
+use Rattle.rl_sources.specs.Held.{AreContentsOf}
+use Rattle.rl_sources.specs.Json.{more_numbers, number_array, object_front, place_members, json_front, json_value, string_member, literal_members, IsJsonLiteral, IsJsonValueOf, flaw_members, error_members}
+use Rattle.rl_sources.specs.JsonStrings.{json_string}
+use Rattle.rl_sources.proofs.ReasonLemmas.{low_text}
+use Rattle.rl_sources.proofs.StepLemmas.{decimal_ascii}
+
+-- ---- pieces
+
+pub ascii_chars : (cs : List ℕ) → list_all is_ascii cs ≡ true → chars cs ≡ cs
+ascii_chars cs h = chars-IsAscii cs (low_text cs h)
+
+pub ascii_pushed : (old new piece : List ℕ) → IsUtf8 old → IsAscii piece → new ≡ old ++ piece
+    → chars new ≡ chars old ++ piece
+ascii_pushed old new piece u ascii e = pushed old new piece u e ∙ ap (λ z. chars old ++ z) (chars-IsAscii piece ascii)
+
+pub two_pieces : (old a new p q : List ℕ) → a ≡ old ++ p → new ≡ a ++ q → new ≡ old ++ (p ++ q)
+two_pieces old a new p q e f = f ∙ ap (λ z. z ++ q) e ∙ append_assoc old p q
+
+pub three_pieces : (old a b new p q r : List ℕ) → a ≡ old ++ p → b ≡ a ++ q → new ≡ b ++ r
+    → new ≡ old ++ (p ++ (q ++ r))
+three_pieces old a b new p q r e f g = two_pieces old a new p (q ++ r) e (two_pieces a b new q r f g)
+
+pub four_parts : (old a b d new p q r s : List ℕ) → a ≡ old ++ p → b ≡ a ++ q → d ≡ b ++ r → new ≡ d ++ s
+    → new ≡ old ++ (p ++ (q ++ (r ++ s)))
+four_parts old a b d new p q r s e f g h =
+    two_pieces old a new p (q ++ (r ++ s)) e (three_pieces a b d new q r s f g h)
+
+pub five_parts : (old a b d f new p q r s t : List ℕ) → a ≡ old ++ p → b ≡ a ++ q → d ≡ b ++ r → f ≡ d ++ s
+    → new ≡ f ++ t → new ≡ old ++ (p ++ (q ++ (r ++ (s ++ t))))
+five_parts old a b d f new p q r s t e g h i j =
+    two_pieces old a new p (q ++ (r ++ (s ++ t))) e (four_parts a b d f new q r s t g h i j)
+
+-- ---- numbers
+
+pub first_ascii : (c n : ℕ) → IsAscii (c ∷ []) → IsAscii (c ∷ decimal n)
+first_ascii c n h = IsAscii-append (c ∷ []) (decimal n) h (decimal_ascii n)
+
+numbers_ascii : (ns : List ℕ) → IsAscii (more_numbers ns)
+numbers_ascii [] = IsAscii-nil
+numbers_ascii (n ∷ ns) =
+    IsAscii-append (44 ∷ decimal n) (more_numbers ns) (IsAscii-cons 44 (decimal n) (lit< tt) (decimal_ascii n))
+    (numbers_ascii ns)
+
+-- one number more
+pub number_more : (first old new done : List ℕ) (n : ℕ) → old ≡ first ++ more_numbers done
+    → new ≡ old ++ (44 ∷ decimal n) → new ≡ first ++ more_numbers (done ++ n ∷ [])
+number_more first old new done n before now =
+    now ∙ ap (λ (z : List ℕ). z ++ (44 ∷ decimal n)) before
+    ∙ append_assoc first (more_numbers done) (44 ∷ decimal n)
+    ∙ ap (λ (z : List ℕ). first ++ z) (ap (λ (z : List ℕ). more_numbers done ++ z) (sym (append-nil (44 ∷ decimal n)))
+    ∙ sym (flat_map-append (λ n. codes "," ++ decimal n) done (n ∷ [])))
+
+pub numbers_pushed : (old new ns : List ℕ) → IsUtf8 old → new ≡ old ++ more_numbers ns
+    → chars new ≡ chars old ++ more_numbers ns
+numbers_pushed old new ns u e = ascii_pushed old new (more_numbers ns) u (numbers_ascii ns) e
+
+-- an array
+pub array_pushed : (old a b new ns others : List ℕ) (n : ℕ) → IsUtf8 old → ns ≡ n ∷ others
+    → a ≡ old ++ (codes "[" ++ decimal n) → chars b ≡ chars a ++ more_numbers others
+    → chars new ≡ chars b ++ codes "]" → chars new ≡ chars old ++ number_array ns
+array_pushed old a b new ns others n u split first rest last =
+    let begun : chars a ≡ chars old ++ (91 ∷ decimal n) = ascii_pushed old a (91 ∷ decimal n) u
+    (IsAscii-cons 91 (decimal n) (lit< tt) (decimal_ascii n)) first in
+    three_pieces (chars old) (chars a) (chars b) (chars new) (91 ∷ decimal n) (more_numbers others) (codes "]") begun
+    rest last
+    ∙ ap (λ (z : List ℕ). chars old ++ number_array z) (sym split)
+
+-- a place
+pub place_pushed : (old new : List ℕ) (lo hi : ℕ) (at : LineColumn) → IsUtf8 old
+    → new ≡ old ++ place_members lo hi at → chars new ≡ chars old ++ place_members lo hi at
+place_pushed old new lo hi at u e =
+    let last : IsAscii (codes ",\"column\":" ++ decimal at.column) = named (codes ",\"column\":") at.column refl in
+    let line : IsAscii (codes ",\"line\":" ++ (decimal at.line ++ (codes ",\"column\":" ++ decimal at.column)))
+        = named_on (codes ",\"line\":") at.line (codes ",\"column\":" ++ decimal at.column) refl last in
+    let high : IsAscii (codes ",\"hi\":" ++ (decimal hi
+        ++ (codes ",\"line\":" ++ (decimal at.line ++ (codes ",\"column\":" ++ decimal at.column)))))
+        = named_on (codes ",\"hi\":") hi (codes ",\"line\":" ++ (decimal at.line
+        ++ (codes ",\"column\":" ++ decimal at.column))) refl line in
+    ascii_pushed old new (place_members lo hi at) u (named_on (codes "\"lo\":") lo (codes ",\"hi\":" ++ (decimal hi
+    ++ (codes ",\"line\":" ++ (decimal at.line ++ (codes ",\"column\":" ++ decimal at.column))))) refl high) e
+  where
+    named : (name : List ℕ) (n : ℕ) → list_all is_ascii name ≡ true → IsAscii (name ++ decimal n)
+    named name n low = IsAscii-append name (decimal n) (low_text name low) (decimal_ascii n)
+
+    named_on : (name : List ℕ) (n : ℕ) (rest : List ℕ) → list_all is_ascii name ≡ true → IsAscii rest
+        → IsAscii (name ++ (decimal n ++ rest))
+    named_on name n rest low ascii = IsAscii-append name (decimal n ++ rest) (low_text name low)
+        (IsAscii-append (decimal n) rest (decimal_ascii n) ascii)
+
+-- ---- values
+
+-- the value of contents that the text has
+pub value_is : (kind : Kind) (text old new : List ℕ) (contents : Contents) → HasContents kind text contents
+    → new ≡ old ++ json_value contents → Appends (IsJsonValueOf kind text) old new
+value_is kind text old new contents has e = (json_value contents, (contents, has, refl), e)
+
+-- bytes
+pub bytes_value : (kind : Kind) (text bytes old new : List ℕ) → (kind ≡ ByteStr) ⊎ (kind ≡ CStr)
+    → AreContentsOf text kind bytes → new ≡ old ++ number_array bytes → Appends (IsJsonValueOf kind text) old new
+bytes_value ByteStr text bytes old new is are e =
+    value_is ByteStr text old new (Bytes are.value) are.contents (e ∙ ap (λ z. old ++ number_array z) are.bytes_are)
+bytes_value CStr text bytes old new is are e =
+    value_is CStr text old new (Bytes are.value) are.contents (e ∙ ap (λ z. old ++ number_array z) are.bytes_are)
+bytes_value kind text bytes old new (inl is) are e = absurd (cc)
+bytes_value kind text bytes old new (inr is) are e = absurd (cc)
+
+pub byte_value : (text bytes old new : List ℕ) → AreContentsOf text Byte bytes → new ≡ old ++ number_array bytes
+    → Appends (IsJsonValueOf Byte text) old new
+byte_value text bytes old new are e =
+    value_is Byte text old new (Bytes are.value) are.contents (e ∙ ap (λ z. old ++ number_array z) are.bytes_are)
+
+-- digits
+pub digits_value : (kind : Kind) (text digits old new : List ℕ) → ReadsAs kind text → AreDigits kind text digits
+    → new ≡ old ++ json_string digits → Appends (IsJsonValueOf kind text) old new
+digits_value Int text digits old new (v, x, r) are e = value_is Int text old new v (x, r)
+    (e ∙ ap (λ z. old ++ json_value z) (sym (are v x r)))
+digits_value Float text digits old new (v, x, r) are e = value_is Float text old new v (x, r)
+    (e ∙ ap (λ z. old ++ json_string z) (are r.numeral x r.reads) ∙ ap (λ z. old ++ json_value z) (sym r.contents_is))
+digits_value kind text digits old new reads are e = absurd are
+
+-- ---- the members of a literal
+
+pub literal_is : (kind : Kind) (text old a b d f new suffix : List ℕ) → HasSuffix kind text suffix
+    → a ≡ old ++ string_member (codes "kind") (kind_label kind) → b ≡ a ++ string_member (codes "text") text
+    → d ≡ b ++ codes ",\"value\":" → Appends (IsJsonValueOf kind text) d f
+    → new ≡ f ++ (string_member (codes "suffix") suffix ++ codes "}\n") → Appends (IsJsonLiteral text) old new
+literal_is kind text old a b d f new suffix s e g h (value, (contents, c, is), i) j =
+    let one = one_reading text kind kind contents s.0 c.0 suffix c.1 s.1 in (
+      literal_members (kind_label kind) text (json_value contents) suffix,
+      inl (kind, contents, suffix, subst (λ x. Reads text kind contents x) one.2 c.1, refl),
+      five_parts old a b d f new (string_member (codes "kind") (kind_label kind)) (string_member (codes "text") text)
+          (codes ",\"value\":") (json_value contents) (string_member (codes "suffix") suffix ++ codes "}\n") e g h
+          (i ∙ ap (λ z. d ++ z) is) j,
+    )
+
+pub verbatim_is : (text old a b d new : List ℕ) → HasNoReading text
+    → a ≡ old ++ string_member (codes "kind") (codes "Verbatim") → b ≡ a ++ string_member (codes "text") text
+    → d ≡ b ++ codes ",\"value\":null" → new ≡ d ++ (string_member (codes "suffix") [] ++ codes "}\n")
+    → Appends (IsJsonLiteral text) old new
+verbatim_is text old a b d new none e g h j = (
+  literal_members (codes "Verbatim") text (codes "null") [],
+  inr (none, refl),
+  four_parts old a b d new (string_member (codes "kind") (codes "Verbatim")) (string_member (codes "text") text)
+      (codes ",\"value\":null") (string_member (codes "suffix") [] ++ codes "}\n") e g h j,
+)
