@@ -4,7 +4,14 @@ use Rattle.std.specs.Fmt.{decimal}
 use Rattle.std.proofs.lemmas.Grind.{flat_map-append}
 use Rattle.std.proofs.lemmas.Str.{IsAscii-append}
 use Rattle.std.proofs.lemmas.Str.Ascii.{IsAscii-nil, IsAscii-cons}
-use Rattle.rl_reading.proofs.Names.{Byte, ByteStr, Bytes, CStr, Characters, Contents, Digits, Float, HasContents, HasNoReading, HasSuffix, Int, Kind, Reads, ReadsAs, Truth, quoted_contents}
+use Rattle.rl_lexer.specs.LexErrors.{lex_message}
+use Rattle.rl_lexer.specs.declared.lex_error.LexKind.{LexKind}
+use Rattle.rl_reasons.specs.FlawWords.{flaw_message}
+use Rattle.rl_reasons.specs.declared.flaws.FlawKind.{FlawKind}
+use Rattle.rl_reading.specs.declared.found.Found.{Found}
+use Rattle.rl_reading.specs.Founds.{IsFound}
+use Rattle.rl_reading.proofs.FoundContents.{unit_of}
+use Rattle.rl_reading.proofs.Names.{Byte, Char, ByteStr, Bytes, CStr, Characters, Contents, Digits, Float, HasContents, HasNoReading, HasSuffix, Int, Kind, Reads, ReadsAs, Truth, quoted_contents}
 use Rattle.rl_forms.proofs.OneReading.{one_reading}
 use Rattle.rl_reading.specs.NumberShapes.{AreDigits}
 use Rattle.rl_lexer.specs.declared.lines.LineColumn.{LineColumn}
@@ -13,7 +20,7 @@ use Rattle.rl_lines.proofs.LineLemmas.{pushed}
 use Rattle.rl_sources.specs.Held.{AreContentsOf}
 use Rattle.rl_sources.specs.Json.{more_numbers, number_array, object_front, place_members, json_front, json_value, string_member, literal_members, IsJsonLiteral, IsJsonValueOf, flaw_members, error_members}
 use Rattle.rl_sources.specs.JsonStrings.{json_string}
-use Rattle.rl_sources.proofs.ReasonLemmas.{low_text}
+use Rattle.rl_sources.proofs.ReasonLemmas.{low_text, message_low, lex_low}
 use Rattle.rl_sources.proofs.StepLemmas.{decimal_ascii}
 
 -- ---- pieces
@@ -129,6 +136,26 @@ digits_value Int text digits old new (v, x, r) are e = value_is Int text old new
 digits_value Float text digits old new (v, x, r) are e = value_is Float text old new v (x, r)
     (e ∙ ap (λ z. old ++ json_string z) (are r.numeral x r.reads) ∙ ap (λ z. old ++ json_value z) (sym r.contents_is))
 digits_value kind text digits old new reads are e = absurd are
+
+-- a character
+pub character_value : (text old new value : List ℕ) (found : Found) (c : ℕ) → found.kind ≡ Char → IsFound text found
+    → c ≡ found.unit → chars value ≡ c ∷ [] → new ≡ old ++ json_string (chars value)
+    → Appends (IsJsonValueOf Char (chars text)) old new
+character_value text old new value found c same is unit one e =
+    value_is Char (chars text) old new (Characters (found.unit ∷ [])) (unit_of Char text found same refl is).reads
+    (e ∙ ap (λ z. old ++ json_string z) (one ∙ ap (λ (n : ℕ). n ∷ []) unit))
+
+-- ---- what is wrong
+
+pub flaw_words_are : (kind : FlawKind) (old new : List ℕ) → old ≡ [] → new ≡ old ++ flaw_message kind
+    → chars new ≡ flaw_message kind
+flaw_words_are kind old new none e =
+    ap chars (e ∙ ap (λ z. z ++ flaw_message kind) none) ∙ ascii_chars (flaw_message kind) (message_low kind)
+
+pub error_words_are : (kind : LexKind) (old new : List ℕ) → old ≡ [] → new ≡ old ++ lex_message kind
+    → chars new ≡ lex_message kind
+error_words_are kind old new none e =
+    ap chars (e ∙ ap (λ z. z ++ lex_message kind) none) ∙ ascii_chars (lex_message kind) (lex_low kind)
 
 -- ---- the members of a literal
 

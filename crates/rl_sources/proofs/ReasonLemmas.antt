@@ -157,7 +157,7 @@ low_text (c ∷ cs) h =
     let both = and_parts (is_ascii c) (list_all is_ascii cs) h in
     IsAscii-cons c cs (ltb-true c 128 both.0) (low_text cs both.1)
 
-message_low : (kind : FlawKind) → list_all is_ascii (flaw_message kind) ≡ true
+pub message_low : (kind : FlawKind) → list_all is_ascii (flaw_message kind) ≡ true
 message_low Empty = refl
 message_low NoLiteral = refl
 message_low Unfinished = refl
@@ -209,7 +209,7 @@ words_written message after old new is_low low utf8 written =
     ∙ ap (λ z. chars old ++ z)
     (chars-IsAscii (codes "error: " ++ (message ++ after)) (message_ascii message after is_low low))
 
-lex_low : (kind : LexKind) → list_all is_ascii (lex_message kind) ≡ true
+pub lex_low : (kind : LexKind) → list_all is_ascii (lex_message kind) ≡ true
 lex_low DocComment = refl
 lex_low UnclosedComment = refl
 lex_low UnclosedQuote = refl
