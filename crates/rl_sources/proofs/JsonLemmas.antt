@@ -138,6 +138,9 @@ digits_value Float text digits old new (v, x, r) are e = value_is Float text old
 digits_value kind text digits old new reads are e = absurd are
 
 -- a character
+pub one_char : (bytes : List ℕ) (c : ℕ) → IsUtf8 bytes → bytes ≡ encode_utf8 c → chars bytes ≡ c ∷ []
+one_char bytes c u e = sym (chars_from_encodes (c ∷ []) bytes u (append-nil (encode_utf8 c) ∙ sym e))
+
 pub character_value : (text old new value : List ℕ) (found : Found) (c : ℕ) → found.kind ≡ Char → IsFound text found
     → c ≡ found.unit → chars value ≡ c ∷ [] → new ≡ old ++ json_string (chars value)
     → Appends (IsJsonValueOf Char (chars text)) old new

@@ -1,11 +1,13 @@
 -- Strings of JSON: what is appended, and what they stand for.
-use Rattle.rl_text.proofs.Common.{◌≡◌, ◌⊎◌, ℕ, suc, ◌+◌, ◌-◌, ◌*◌, ◌/◌, ◌%◌, ◌<◌, ◌≤◌, ◌==◌, ◌≢◌, Bool, true, false, ◌||◌, cond, eqb, eqb-true, List, [], ◌∷◌, ◌++◌, refl, sym, ap, subst, ◌∙◌, inl, inr, arith, nat_tests, nat_lt, lt-ltb, ltb-true, ltb-false, both_ways, and_parts, agree_below_at, append_assoc, append-nil, encode_utf8, encode_utf8_all, encodes-append, flat_map, AllByRecursion, IsUtf8, chars, chars-IsAscii, codes, list_all, is_ascii, digit_value}
+use Rattle.rl_text.proofs.Common.{◌≡◌, ◌⊎◌, ℕ, suc, ◌+◌, ◌-◌, ◌*◌, ◌/◌, ◌%◌, ◌<◌, ◌≤◌, ◌==◌, ◌≢◌, lit<, IsAscii, Bool, true, false, ◌||◌, cond, eqb, eqb-true, List, [], ◌∷◌, ◌++◌, refl, sym, ap, subst, ◌∙◌, inl, inr, arith, nat_tests, nat_lt, lt-ltb, ltb-true, ltb-false, both_ways, and_parts, agree_below_at, append_assoc, append-nil, encode_utf8, encode_utf8_all, encodes-append, flat_map, AllByRecursion, IsUtf8, chars, chars-IsAscii, codes, list_all, is_ascii, digit_value}
 use Rattle.std.specs.Char.{digit_char, is_control, IsScalar}
 use Rattle.std.specs.Char.Escape.{encode_utf16}
 use Rattle.std.proofs.Math.Utf8.{scalars, scalar_cases}
 use Rattle.std.proofs.lemmas.Str.{digit_value-digit_char, scalars-chars}
+use Rattle.std.proofs.lemmas.Str.Ascii.{IsAscii-nil, IsAscii-cons}
 use Rattle.rl_forms.specs.Quoted.{is_hex_digit}
 use Rattle.rl_files.specs.Visible.{is_hiding}
+use Rattle.rl_lines.specs.Bare.{is_bare}
 use Rattle.rl_lines.specs.Lines.{Joins}
 use Rattle.rl_lines.proofs.LineLemmas.{pushed}
 use Rattle.rl_sources.specs.JsonStrings.{IsUnescaped, IsLetterEscape, JsonQuote, JsonBackslash, JsonLineFeed, JsonReturn, JsonTab, IsUnitEscape, IsPairEscape, IsJsonPiece, HidesNothing, IsJsonStringOf, two_digits, unit_escape, letter_escape, other_char, json_char, json_body, json_string}
@@ -42,6 +44,53 @@ two_units c h =
     let low : ℕ = 0xDC00 + (c - 0x10000) % 0x400 in
     ap (λ (b : Bool). flat_map unit_escape (cond b (c ∷ []) (high ∷ low ∷ []))) h
     ∙ ap (λ (z : List ℕ). unit_escape high ++ z) (append-nil (unit_escape low))
+
+-- bare ASCII
+low_not_hiding : (c : ℕ) → c < 127 → is_hiding c ≡ false
+low_not_hiding c h = grind (arith, nat_tests)
+
+not_control : (c : ℕ) → 32 ≤ c → c < 127 → is_control c ≡ false
+not_control c low high = grind (arith, nat_tests)
+
+-- A bare character is printable ASCII, and no quote and no backslash.
+record IsBare (c : ℕ) : Type 0 where
+  low : 32 ≤ c
+  high : c < 127
+  quote : (c == 34) ≡ false
+  backslash : (c == 92) ≡ false
+
+bare_parts : (c : ℕ) → is_bare c ≡ true → IsBare c
+bare_parts c h = record {
+  low = grind (arith, nat_tests);
+  high = grind (arith, nat_tests);
+  quote = grind (arith, nat_tests);
+  backslash = grind (arith, nat_tests);
+}
+
+control_apart : (c d : ℕ) → 32 ≤ c → d < 32 → (c == d) ≡ false
+control_apart c d low h = grind (arith, nat_tests)
+
+bare_char : (c : ℕ) → IsBare c → json_char c ≡ c ∷ []
+bare_char c is = rw (is.quote, is.backslash, control_apart c 10 is.low (lit< tt), control_apart c 13 is.low (lit< tt),
+  control_apart c 9 is.low (lit< tt), not_control c is.low is.high, low_not_hiding c is.high) refl
+
+bare_body : (cs : List ℕ) → list_all is_bare cs ≡ true → (json_body cs ≡ cs) × IsAscii cs
+bare_body [] h = (refl, IsAscii-nil)
+bare_body (c ∷ cs) h =
+    let each = and_parts _ _ h in
+    let is = bare_parts c each.0 in
+    let rest = bare_body cs each.1 in (
+      ap (λ (z : List ℕ). z ++ json_body cs) (bare_char c is) ∙ ap (λ (z : List ℕ). c ∷ z) rest.0,
+      IsAscii-cons c cs (omega (arith, is.high)) rest.1,
+    )
+
+pub bare_written : (old new text : List ℕ) → IsUtf8 old → list_all is_bare text ≡ true → new ≡ old ++ text
+    → chars new ≡ chars old ++ json_body (chars text)
+bare_written old new text u bare e =
+    let same = bare_body text bare in
+    let itself : chars text ≡ text = chars-IsAscii text same.1 in
+    pushed old new text u e
+    ∙ ap (λ (z : List ℕ). chars old ++ z) (itself ∙ sym same.0 ∙ ap json_body (sym itself))
 
 -- the quotes
 pub quotes_written : (old a b new body : List ℕ) → IsUtf8 old → IsUtf8 b → a ≡ old ++ codes "\""

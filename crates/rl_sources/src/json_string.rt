@@ -8,6 +8,7 @@ ghost use Rattle.std.specs.Str.{chars};
 ghost use Rattle.rl_sources.specs.JsonStrings.{IsJsonStringOf, two_digits, unit_escape, letter_escape, other_char, json_char, json_body, json_string};
 
 use rl_files::is_hiding;
+use rl_lines::are_bare;
 use std::alloc::{AllocError, Allocator};
 
 /// A hexadecimal digit.
@@ -97,8 +98,8 @@ fn push_char<A: Allocator>(out: &mut String<A>, c: char) -> Result<(), AllocErro
     }
 }
 
-/// Appends what stands between the quotes of a text's string.
-fn push_json_body<A: Allocator>(out: &mut String<A>, text: &str) -> Result<(), AllocError>
+/// Appends the characters of a text as they are written in a string.
+fn push_chars<A: Allocator>(out: &mut String<A>, text: &str) -> Result<(), AllocError>
     ensures { OnOk result (chars (string_bytes out.new)
         ≡ chars (string_bytes out.old) ++ json_body (chars text.now)) }
 {
@@ -106,6 +107,18 @@ fn push_json_body<A: Allocator>(out: &mut String<A>, text: &str) -> Result<(), A
         push_char(out, c)?;
     }
     Ok(())
+}
+
+/// Appends what stands between the quotes of a text's string. A text of bare ASCII is copied at once.
+fn push_json_body<A: Allocator>(out: &mut String<A>, text: &str) -> Result<(), AllocError>
+    ensures { OnOk result (chars (string_bytes out.new)
+        ≡ chars (string_bytes out.old) ++ json_body (chars text.now)) }
+{
+    if are_bare(text.as_bytes()) {
+        out.push_str(text)?;
+        return Ok(());
+    }
+    push_chars(out, text)
 }
 
 /// Appends a text as a string of JSON: a quote, a backslash, LF, CR and a tab by a letter after a backslash, other control

@@ -1,20 +1,9 @@
-use Rattle.std.proofs.Common.{◌≡◌, ◌++◌, ◌∙◌, ap, sym, string_bytes, encode_utf8_all}
-use Rattle.std.proofs.Utf8Push.{IsUtf8-string_bytes}
-use Rattle.std.proofs.lemmas.Iterator.{YieldsList-from_chars}
-use Rattle.std.proofs.lemmas.Iterator.Consumers.{YieldsList-end}
-use Rattle.std.proofs.lemmas.List.{map-id}
-use Rattle.rl_files.proofs.VisibleLemmas.{written_more, chars_written}
-use Rattle.rl_sources.specs.JsonStrings.{json_body, json_char}
+use Rattle.rl_text.proofs.Common.{IsUtf8-string_bytes, ap, list_all, sym, ◌∙◌}
+use Rattle.rl_lines.specs.Bare.{is_bare}
+use Rattle.rl_sources.proofs.JsonStringLemmas.{bare_written}
 use Rattle.rl_sources.proofs.json_string.push_json_body.Goals as goal
 
-pub loop-c-preserved : goal.loop-c-preserved
-loop-c-preserved g c = written_more json_char (string_bytes c.args.out.now) _ _ c.loop-c.yielded c.in-Some.c
-    c.loop-c.invariant c.in_ok-push_char.ensures
-
-pub returns : goal.returns
-returns g c =
-    let t = YieldsList-end (YieldsList-from_chars c.args.text.now c.utf8.text cc) c.loop-c.yielded _
-    c.loop-c.yielded_by _ _ c.in-None.is c.next.ensures.steps in
-    chars_written (string_bytes c.args.out.now) _ _ (IsUtf8-string_bytes c.args.out.now)
-    (IsUtf8-string_bytes c.loop-c.out) (c.loop-c.invariant ∙ ap
-    (λ z. string_bytes c.args.out.now ++ encode_utf8_all (json_body z)) (sym (map-id c.loop-c.yielded) ∙ t.0))
+pub returns-then-are_bare : goal.returns-then-are_bare
+returns-then-are_bare g c = bare_written _ _ c.args.text.now (IsUtf8-string_bytes c.args.out.now)
+    (sym (c.are_bare.ensures ∙ ap (list_all is_bare) c.as_bytes.ensures.value) ∙ c.if-are_bare.true)
+    c.in_ok-push_str.ensures.bytes
