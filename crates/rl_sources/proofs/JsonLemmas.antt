@@ -11,9 +11,10 @@ use Rattle.rl_reasons.specs.declared.flaws.FlawKind.{FlawKind}
 use Rattle.rl_reading.specs.declared.found.Found.{Found}
 use Rattle.rl_reading.specs.Founds.{IsFound}
 use Rattle.rl_reading.proofs.FoundContents.{unit_of}
-use Rattle.rl_reading.proofs.Names.{Byte, Char, ByteStr, Bytes, CStr, Characters, Contents, Digits, Float, HasContents, HasNoReading, HasSuffix, Int, Kind, Reads, ReadsAs, Truth, quoted_contents}
+use Rattle.rl_reading.proofs.Names.{BoolKind, Byte, Char, ByteStr, Bytes, CStr, Characters, Contents, Digits, Float, HasContents, HasNoReading, HasSuffix, Int, Kind, Reads, ReadsAs, Truth, quoted_contents, truth_text}
 use Rattle.rl_forms.proofs.OneReading.{one_reading}
 use Rattle.rl_reading.specs.NumberShapes.{AreDigits}
+use Rattle.rl_lines.proofs.PrintLemmas.{truth_chars}
 use Rattle.rl_lexer.specs.declared.lines.LineColumn.{LineColumn}
 use Rattle.rl_lines.specs.Lines.{Appends, kind_label}
 use Rattle.rl_lines.proofs.LineLemmas.{pushed}
@@ -90,11 +91,11 @@ pub place_pushed : (old new : List ℕ) (lo hi : ℕ) (at : LineColumn) → IsUt
 place_pushed old new lo hi at u e =
     let last : IsAscii (codes ",\"column\":" ++ decimal at.column) = named (codes ",\"column\":") at.column refl in
     let line : IsAscii (codes ",\"line\":" ++ (decimal at.line ++ (codes ",\"column\":" ++ decimal at.column)))
-        = named_on (codes ",\"line\":") at.line (codes ",\"column\":" ++ decimal at.column) refl last in
+    = named_on (codes ",\"line\":") at.line (codes ",\"column\":" ++ decimal at.column) refl last in
     let high : IsAscii (codes ",\"hi\":" ++ (decimal hi
-        ++ (codes ",\"line\":" ++ (decimal at.line ++ (codes ",\"column\":" ++ decimal at.column)))))
-        = named_on (codes ",\"hi\":") hi (codes ",\"line\":" ++ (decimal at.line
-        ++ (codes ",\"column\":" ++ decimal at.column))) refl line in
+    ++ (codes ",\"line\":" ++ (decimal at.line ++ (codes ",\"column\":" ++ decimal at.column)))))
+    = named_on (codes ",\"hi\":") hi (codes ",\"line\":" ++ (decimal at.line
+    ++ (codes ",\"column\":" ++ decimal at.column))) refl line in
     ascii_pushed old new (place_members lo hi at) u (named_on (codes "\"lo\":") lo (codes ",\"hi\":" ++ (decimal hi
     ++ (codes ",\"line\":" ++ (decimal at.line ++ (codes ",\"column\":" ++ decimal at.column))))) refl high) e
   where
@@ -147,6 +148,19 @@ pub character_value : (text old new value : List ℕ) (found : Found) (c : ℕ) 
 character_value text old new value found c same is unit one e =
     value_is Char (chars text) old new (Characters (found.unit ∷ [])) (unit_of Char text found same refl is).reads
     (e ∙ ap (λ z. old ++ json_string z) (one ∙ ap (λ (n : ℕ). n ∷ []) unit))
+
+-- a truth value
+pub truth_value : (text old new : List ℕ) (found : Found) → found.kind ≡ BoolKind → IsFound text found
+    → new ≡ old ++ truth_text found.truth → Appends (IsJsonValueOf found.kind (chars text)) old new
+truth_value text old new found same is e =
+    let reads : HasContents BoolKind (chars text) (Truth found.truth) = ([], record {
+      truth = found.truth;
+      text_is = ap chars (is.truth same) ∙ truth_chars found.truth;
+      suffix_is = refl;
+      contents_is = refl;
+    }) in
+    value_is found.kind (chars text) old new (Truth found.truth)
+    (subst (λ (k : Kind). HasContents k (chars text) (Truth found.truth)) (sym same) reads) e
 
 -- ---- what is wrong
 

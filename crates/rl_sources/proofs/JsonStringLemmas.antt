@@ -1,5 +1,6 @@
 -- Strings of JSON: what is appended, and what they stand for.
 use Rattle.rl_text.proofs.Common.{◌≡◌, ◌⊎◌, ℕ, suc, ◌+◌, ◌-◌, ◌*◌, ◌/◌, ◌%◌, ◌<◌, ◌≤◌, ◌==◌, ◌≢◌, lit<, IsAscii, Bool, true, false, ◌||◌, cond, eqb, eqb-true, List, [], ◌∷◌, ◌++◌, refl, sym, ap, subst, ◌∙◌, inl, inr, arith, nat_tests, nat_lt, lt-ltb, ltb-true, ltb-false, both_ways, and_parts, agree_below_at, append_assoc, append-nil, encode_utf8, encode_utf8_all, encodes-append, flat_map, AllByRecursion, IsUtf8, chars, chars-IsAscii, codes, list_all, is_ascii, digit_value}
+use Rattle.std.proofs.lemmas.Bool.{le-ltb}
 use Rattle.std.specs.Char.{digit_char, is_control, IsScalar}
 use Rattle.std.specs.Char.Escape.{encode_utf16}
 use Rattle.std.proofs.Math.Utf8.{scalars, scalar_cases}
@@ -45,6 +46,16 @@ two_units c h =
     ap (λ (b : Bool). flat_map unit_escape (cond b (c ∷ []) (high ∷ low ∷ []))) h
     ∙ ap (λ (z : List ℕ). unit_escape high ++ z) (append-nil (unit_escape low))
 
+pub number_written : (c code : ℕ) (old mid new : List ℕ) → code ≡ c → 0x10000 ≤ code
+    → mid ≡ old ++ encode_utf8_all (unit_escape (0xD800 + (code - 0x10000) / 0x400))
+    → new ≡ mid ++ encode_utf8_all (unit_escape (0xDC00 + (code - 0x10000) % 0x400))
+    → new ≡ old ++ encode_utf8_all (flat_map unit_escape (encode_utf16 c))
+number_written c code old mid new same past e f =
+    both_written old mid new (unit_escape (0xD800 + (code - 0x10000) / 0x400))
+    (unit_escape (0xDC00 + (code - 0x10000) % 0x400)) e f
+    ∙ ap (λ (z : List ℕ). old ++ encode_utf8_all z) (sym (two_units code (le-ltb code 0x10000 past)))
+    ∙ ap (λ (n : ℕ). old ++ encode_utf8_all (flat_map unit_escape (encode_utf16 n))) same
+
 -- bare ASCII
 low_not_hiding : (c : ℕ) → c < 127 → is_hiding c ≡ false
 low_not_hiding c h = grind (arith, nat_tests)
@@ -71,8 +82,15 @@ control_apart : (c d : ℕ) → 32 ≤ c → d < 32 → (c == d) ≡ false
 control_apart c d low h = grind (arith, nat_tests)
 
 bare_char : (c : ℕ) → IsBare c → json_char c ≡ c ∷ []
-bare_char c is = rw (is.quote, is.backslash, control_apart c 10 is.low (lit< tt), control_apart c 13 is.low (lit< tt),
-  control_apart c 9 is.low (lit< tt), not_control c is.low is.high, low_not_hiding c is.high) refl
+bare_char c is = rw (
+  is.quote,
+  is.backslash,
+  control_apart c 10 is.low (lit< tt),
+  control_apart c 13 is.low (lit< tt),
+  control_apart c 9 is.low (lit< tt),
+  not_control c is.low is.high,
+  low_not_hiding c is.high,
+) refl
 
 bare_body : (cs : List ℕ) → list_all is_bare cs ≡ true → (json_body cs ≡ cs) × IsAscii cs
 bare_body [] h = (refl, IsAscii-nil)

@@ -83,7 +83,10 @@ fn push_place<A: Allocator>(
         ≡ chars (string_bytes out.old) ++ place_members lo hi at) }
 {
     let LineColumn { line, column } = at;
-    write!(out, "\"lo\":{lo},\"hi\":{hi},\"line\":{line},\"column\":{column}")?;
+    write!(
+        out,
+        "\"lo\":{lo},\"hi\":{hi},\"line\":{line},\"column\":{column}"
+    )?;
     Ok(())
 }
 
@@ -103,11 +106,7 @@ pub(crate) fn push_json_front<A: Allocator>(
 }
 
 /// Appends a member after others, whose value is a string.
-fn push_member<A: Allocator>(
-    out: &mut String<A>,
-    name: &str,
-    text: &str,
-) -> Result<(), AllocError>
+fn push_member<A: Allocator>(out: &mut String<A>, name: &str, text: &str) -> Result<(), AllocError>
     requires { list_all is_ascii name.now ≡ true }
     ensures { OnOk result (chars (string_bytes out.new)
         ≡ chars (string_bytes out.old) ++ string_member name.now (chars text.now)) }
