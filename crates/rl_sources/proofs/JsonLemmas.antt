@@ -1,5 +1,5 @@
 -- Objects of JSON, piece by piece.
-use Rattle.rl_text.proofs.Common.{◌≡◌, ◌⊎◌, ℕ, List, [], ◌∷◌, ◌++◌, refl, sym, ap, subst, ◌∙◌, inl, inr, true, lit<, append_assoc, append-nil, take, IsAscii, IsUtf8, chars, chars-IsAscii, chars_from_encodes, codes, encode_utf8, encode_utf8_all, list_all, is_ascii, flat_map}
+use Rattle.rl_text.proofs.Common.{◌≡◌, ◌⊎◌, ℕ, List, [], ◌∷◌, ◌++◌, refl, sym, ap, subst, ◌∙◌, inl, inr, true, lit<, append_assoc, append-nil, IsAscii, IsUtf8, chars, chars-IsAscii, chars_from_encodes, codes, encode_utf8, list_all, is_ascii}
 use Rattle.std.specs.Fmt.{decimal}
 use Rattle.std.proofs.lemmas.Grind.{flat_map-append}
 use Rattle.std.proofs.lemmas.Str.{IsAscii-append}
@@ -11,7 +11,7 @@ use Rattle.rl_reasons.specs.declared.flaws.FlawKind.{FlawKind}
 use Rattle.rl_reading.specs.declared.found.Found.{Found}
 use Rattle.rl_reading.specs.Founds.{IsFound}
 use Rattle.rl_reading.proofs.FoundContents.{unit_of}
-use Rattle.rl_reading.proofs.Names.{BoolKind, Byte, Char, ByteStr, Bytes, CStr, Characters, Contents, Digits, Float, HasContents, HasNoReading, HasSuffix, Int, Kind, Reads, ReadsAs, Truth, quoted_contents, truth_text}
+use Rattle.rl_reading.proofs.Names.{BoolKind, Byte, Char, ByteStr, Bytes, CStr, Characters, Contents, Float, HasContents, HasNoReading, HasSuffix, Int, Kind, Reads, ReadsAs, Truth, truth_text}
 use Rattle.rl_forms.proofs.OneReading.{one_reading}
 use Rattle.rl_reading.specs.NumberShapes.{AreDigits}
 use Rattle.rl_lines.proofs.PrintLemmas.{truth_chars}
@@ -19,7 +19,7 @@ use Rattle.rl_lexer.specs.declared.lines.LineColumn.{LineColumn}
 use Rattle.rl_lines.specs.Lines.{Appends, kind_label}
 use Rattle.rl_lines.proofs.LineLemmas.{pushed}
 use Rattle.rl_sources.specs.Held.{AreContentsOf}
-use Rattle.rl_sources.specs.Json.{more_numbers, number_array, object_front, place_members, json_front, json_value, string_member, literal_members, IsJsonLiteral, IsJsonValueOf, flaw_members, error_members}
+use Rattle.rl_sources.specs.Json.{more_numbers, number_array, place_members, json_value, string_member, literal_members, IsJsonLiteral, IsJsonValueOf}
 use Rattle.rl_sources.specs.JsonStrings.{json_string}
 use Rattle.rl_sources.proofs.ReasonLemmas.{low_text, message_low, lex_low}
 use Rattle.rl_sources.proofs.StepLemmas.{decimal_ascii}
@@ -153,12 +153,15 @@ character_value text old new value found c same is unit one e =
 pub truth_value : (text old new : List ℕ) (found : Found) → found.kind ≡ BoolKind → IsFound text found
     → new ≡ old ++ truth_text found.truth → Appends (IsJsonValueOf found.kind (chars text)) old new
 truth_value text old new found same is e =
-    let reads : HasContents BoolKind (chars text) (Truth found.truth) = ([], record {
-      truth = found.truth;
-      text_is = ap chars (is.truth same) ∙ truth_chars found.truth;
-      suffix_is = refl;
-      contents_is = refl;
-    }) in
+    let reads : HasContents BoolKind (chars text) (Truth found.truth) = (
+      [],
+      record {
+        truth = found.truth;
+        text_is = ap chars (is.truth same) ∙ truth_chars found.truth;
+        suffix_is = refl;
+        contents_is = refl;
+      },
+    ) in
     value_is found.kind (chars text) old new (Truth found.truth)
     (subst (λ (k : Kind). HasContents k (chars text) (Truth found.truth)) (sym same) reads) e
 

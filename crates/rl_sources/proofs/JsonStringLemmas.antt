@@ -1,5 +1,5 @@
 -- Strings of JSON: what is appended, and what they stand for.
-use Rattle.rl_text.proofs.Common.{◌≡◌, ◌⊎◌, ℕ, suc, ◌+◌, ◌-◌, ◌*◌, ◌/◌, ◌%◌, ◌<◌, ◌≤◌, ◌==◌, ◌≢◌, lit<, IsAscii, Bool, true, false, ◌||◌, cond, eqb, eqb-true, List, [], ◌∷◌, ◌++◌, refl, sym, ap, subst, ◌∙◌, inl, inr, arith, nat_tests, nat_lt, lt-ltb, ltb-true, ltb-false, both_ways, and_parts, agree_below_at, append_assoc, append-nil, encode_utf8, encode_utf8_all, encodes-append, flat_map, AllByRecursion, IsUtf8, chars, chars-IsAscii, codes, list_all, is_ascii, digit_value}
+use Rattle.rl_text.proofs.Common.{◌≡◌, ◌⊎◌, ℕ, ◌+◌, ◌-◌, ◌*◌, ◌/◌, ◌%◌, ◌<◌, ◌≤◌, ◌==◌, ◌≢◌, lit<, IsAscii, Bool, true, false, ◌||◌, cond, eqb-true, List, [], ◌∷◌, ◌++◌, refl, sym, ap, subst, ◌∙◌, inl, inr, arith, nat_tests, nat_lt, lt-ltb, ltb-true, ltb-false, both_ways, and_parts, agree_below_at, append_assoc, append-nil, encode_utf8, encode_utf8_all, encodes-append, flat_map, AllByRecursion, IsUtf8, chars, chars-IsAscii, codes, list_all, digit_value}
 use Rattle.std.proofs.lemmas.Bool.{le-ltb}
 use Rattle.std.specs.Char.{digit_char, is_control, IsScalar}
 use Rattle.std.specs.Char.Escape.{encode_utf16}
@@ -11,7 +11,7 @@ use Rattle.rl_files.specs.Visible.{is_hiding}
 use Rattle.rl_lines.specs.Bare.{is_bare}
 use Rattle.rl_lines.specs.Lines.{Joins}
 use Rattle.rl_lines.proofs.LineLemmas.{pushed}
-use Rattle.rl_sources.specs.JsonStrings.{IsUnescaped, IsLetterEscape, JsonQuote, JsonBackslash, JsonLineFeed, JsonReturn, JsonTab, IsUnitEscape, IsPairEscape, IsJsonPiece, HidesNothing, IsJsonStringOf, two_digits, unit_escape, letter_escape, other_char, json_char, json_body, json_string}
+use Rattle.rl_sources.specs.JsonStrings.{IsLetterEscape, JsonQuote, JsonBackslash, JsonLineFeed, JsonReturn, JsonTab, IsUnitEscape, IsPairEscape, IsJsonPiece, HidesNothing, IsJsonStringOf, unit_escape, letter_escape, other_char, json_char, json_body, json_string}
 use Rattle.rl_sources.proofs.ReasonLemmas.{low_text}
 
 -- ---- what is appended, in bytes

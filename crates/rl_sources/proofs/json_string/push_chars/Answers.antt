@@ -1,4 +1,4 @@
-use Rattle.std.proofs.Common.{◌≡◌, ◌++◌, ◌∙◌, ap, sym, string_bytes, encode_utf8_all}
+use Rattle.std.proofs.Common.{◌++◌, ◌∙◌, ap, sym, string_bytes, encode_utf8_all}
 use Rattle.std.proofs.Utf8Push.{IsUtf8-string_bytes}
 use Rattle.std.proofs.lemmas.Iterator.{YieldsList-from_chars}
 use Rattle.std.proofs.lemmas.Iterator.Consumers.{YieldsList-end}
