@@ -4,7 +4,7 @@ use crate::tell::Tell;
 use crate::trial::{Scarce, Trial};
 use rl_program::Fault;
 use rl_refusing::Page;
-use rl_sources::{Judge, Options, ScanError, Shown, Spelling, scan};
+use rl_sources::{Form, Judge, Options, ScanError, Shown, Spelling, scan};
 use std::alloc::Allocator;
 
 impl Tell for bool {
@@ -29,6 +29,7 @@ pub fn scanned<A: Scarce>(trial: &Trial<'_, A>, text: &str, page: &mut Page) {
         shown: Shown::All,
         finds: None,
         spelling: Spelling::Value,
+        form: Form::Plain,
         by_line: false,
         rejects_strays: false,
         explains: false,

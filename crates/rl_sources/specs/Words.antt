@@ -65,11 +65,13 @@ pub data Wanted : Type 0 where
   AllWanted : Wanted
   OnlyWanted : (list : List ℕ) → Wanted
   BadWanted : Wanted
+  HiddenWanted : Wanted
 
 abbrev pub wanted_of : Shown → Wanted
 wanted_of shown.All = AllWanted
 wanted_of (shown.Only list) = OnlyWanted list.now
 wanted_of shown.Bad = BadWanted
+wanted_of shown.Hidden = HiddenWanted
 
 -- the text that is looked for, where there is one
 abbrev pub sought_of : Option (Bor (List ℕ)) → Option (List ℕ)

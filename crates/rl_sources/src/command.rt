@@ -1,6 +1,6 @@
 //! What a call of the program asks for.
 
-use crate::options::{Judge, Shown, Spelling};
+use crate::options::{Form, Judge, Shown, Spelling};
 
 /// What a call asks for.
 #[derive(Clone, Copy)]
@@ -48,6 +48,8 @@ pub struct Command<'a> {
     pub finds: Option<&'a str>,
     /// How they are printed.
     pub spelling: Spelling,
+    /// How each line is written.
+    pub form: Form,
     /// How their places are printed.
     pub places: PlaceForm,
     /// What is printed of their lines.

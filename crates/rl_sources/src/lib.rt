@@ -2,12 +2,15 @@
 //! and the command line of the program that does so.
 #![tactic(auto)]
 
+mod color;
 mod command;
 mod ending;
 mod held;
+mod hidden;
 mod json;
 mod json_string;
 mod judge;
+mod literal;
 mod options;
 mod place;
 mod reason;
@@ -21,7 +24,7 @@ mod words;
 pub use crate::command::{Command, Output, PlaceForm, Wish};
 pub use crate::ending::{CallError, HELP, VERSION, call};
 pub use crate::json_string::json_strings_stand;
-pub use crate::options::{Judge, Options, Shown, Spelling};
+pub use crate::options::{Form, Judge, Options, Shown, Spelling};
 pub use crate::place::Place;
 pub use crate::report::{Report, report_of};
 pub use crate::runs::{RunStop, Tally, run};

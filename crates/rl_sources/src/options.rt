@@ -21,6 +21,17 @@ pub enum Spelling {
     Source,
 }
 
+/// How a line is written.
+#[derive(Clone, Copy)]
+pub enum Form {
+    /// As words after its place.
+    Plain,
+    /// As these, with colours for a terminal.
+    Colored,
+    /// As an object of JSON.
+    Json,
+}
+
 /// Which literals are shown.
 #[derive(Clone, Copy)]
 pub enum Shown<'a> {
@@ -30,6 +41,8 @@ pub enum Shown<'a> {
     Only(&'a str),
     /// Those that are bad.
     Bad,
+    /// Those that hold characters which turn or hide text, as they are written.
+    Hidden,
 }
 
 /// How a source is scanned.
@@ -41,6 +54,8 @@ pub struct Options<'a> {
     pub finds: Option<&'a str>,
     /// How they are printed.
     pub spelling: Spelling,
+    /// How each line is written.
+    pub form: Form,
     /// Whether places are printed as lines and columns, and not as bytes.
     pub by_line: bool,
     /// Whether a stray character is an error, as it is in Rust.
@@ -61,14 +76,16 @@ pub(crate) fn names(list: &str, label: &str) -> bool
 }
 
 impl Shown<'_> {
-    /// Whether a literal is shown whose line begins with this word, and which is bad or not.
-    pub fn picks(self, label: &str, is_bad: bool) -> bool
-        ensures { IsTrue result ↔ Picks self.entry label.now (IsTrue is_bad) }
+    /// Whether a literal is shown whose line begins with this word, which is bad or not, and which holds characters that
+    /// turn or hide text or not.
+    pub fn picks(self, label: &str, is_bad: bool, is_hidden: bool) -> bool
+        ensures { IsTrue result ↔ Picks self.entry label.now (IsTrue is_bad) (IsTrue is_hidden) }
     {
         match self {
             Shown::All => true,
             Shown::Only(list) => names(list, label),
             Shown::Bad => is_bad,
+            Shown::Hidden => is_hidden,
         }
     }
 }

@@ -7,7 +7,7 @@ ghost use Rattle.rl_sources.specs.declared.words.Next.TheVariants as next;
 ghost use Rattle.rl_sources.specs.Words.{IsOptionWord, IsKindWord, AreKindWords, is_path_word, wishes_of, wishes_in, IsAllowed, GoesWithFind, IsLenientAlone, with_flag as flagged, next_after as follows, with_path, IsStep, Asks, IsRejectedWord, AreRejected};
 
 use crate::command::{Command, Output, PlaceForm, Wish};
-use crate::options::{Judge, Shown, Spelling, names};
+use crate::options::{Form, Judge, Shown, Spelling, names};
 use crate::report::{is_bad, visible_text};
 use std::alloc::{AllocError, Allocator, Global};
 use std::fmt;
@@ -336,6 +336,7 @@ pub(crate) fn asked_by<A: Allocator + Copy>(
         rejects_strays: false,
         judge: Judge::Rust,
         spelling: Spelling::Value,
+        form: Form::Plain,
     };
     let mut asked = Asked {
         command,

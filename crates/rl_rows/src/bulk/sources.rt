@@ -1,6 +1,6 @@
 //! The literals of a whole source.
 
-use rl_sources::{Judge, Options, ScanError, Shown, Spelling, scan};
+use rl_sources::{Form, Judge, Options, ScanError, Shown, Spelling, scan};
 use std::alloc::{AllocError, Global};
 use std::fmt::Write as _;
 
@@ -21,6 +21,7 @@ pub(crate) fn source_answer(alloc: Global, text: &str) -> Result<String, AllocEr
         shown: Shown::All,
         finds: None,
         spelling: Spelling::Value,
+        form: Form::Plain,
         by_line: false,
         rejects_strays: false,
         explains: false,
