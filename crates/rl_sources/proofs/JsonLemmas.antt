@@ -1,5 +1,5 @@
 -- Objects of JSON, piece by piece.
-use Rattle.rl_text.proofs.Common.{◌≡◌, ◌⊎◌, ℕ, List, [], ◌∷◌, ◌++◌, refl, sym, ap, subst, ◌∙◌, inl, inr, true, lit<, append_assoc, append-nil, IsAscii, IsUtf8, chars, chars-IsAscii, chars_from_encodes, codes, encode_utf8, list_all, is_ascii}
+use Rattle.rl_text.proofs.Common.{◌≡◌, ◌⊎◌, ℕ, List, [], ◌∷◌, ◌++◌, refl, sym, ap, subst, ◌∙◌, inl, inr, Bool, cond, false, true, lit<, append_assoc, append-nil, IsAscii, IsUtf8, chars, chars-IsAscii, chars_from_encodes, codes, encode_utf8, list_all, is_ascii}
 use Rattle.std.specs.Fmt.{decimal}
 use Rattle.std.proofs.lemmas.Grind.{flat_map-append}
 use Rattle.std.proofs.lemmas.Str.{IsAscii-append}
@@ -15,14 +15,13 @@ use Rattle.rl_reading.proofs.Names.{BoolKind, Byte, Char, ByteStr, Bytes, CStr, 
 use Rattle.rl_forms.proofs.OneReading.{one_reading}
 use Rattle.rl_reading.specs.NumberShapes.{AreDigits}
 use Rattle.rl_lines.proofs.PrintLemmas.{truth_chars}
-use Rattle.rl_lexer.specs.declared.lines.LineColumn.{LineColumn}
 use Rattle.rl_lines.specs.Lines.{Appends, kind_label}
 use Rattle.rl_lines.proofs.LineLemmas.{pushed}
 use Rattle.rl_sources.specs.Held.{AreContentsOf}
-use Rattle.rl_sources.specs.Json.{more_numbers, number_array, place_members, json_value, string_member, literal_members, IsJsonLiteral, IsJsonValueOf}
+use Rattle.rl_sources.specs.Json.{more_numbers, number_array, json_value, string_member, literal_members, IsJsonLiteral, IsJsonValueOf}
 use Rattle.rl_sources.specs.JsonStrings.{json_string}
-use Rattle.rl_sources.proofs.ReasonLemmas.{low_text, message_low, lex_low}
-use Rattle.rl_sources.proofs.StepLemmas.{decimal_ascii}
+use Rattle.rl_sources.proofs.ReasonLemmas.{message_low, lex_low}
+use Rattle.rl_sources.proofs.StepLemmas.{decimal_ascii, low_text}
 
 -- ---- pieces
 
@@ -49,6 +48,13 @@ pub five_parts : (old a b d f new p q r s t : List ℕ) → a ≡ old ++ p → b
     → new ≡ f ++ t → new ≡ old ++ (p ++ (q ++ (r ++ (s ++ t))))
 five_parts old a b d f new p q r s t e g h i j =
     two_pieces old a new p (q ++ (r ++ (s ++ t))) e (four_parts a b d f new q r s t g h i j)
+
+-- one of two
+pub chosen_on : (b : Bool) (x y old new : List ℕ) → b ≡ true → new ≡ old ++ x → new ≡ old ++ cond b x y
+chosen_on b x y old new is e = e ∙ ap (λ (t : Bool). old ++ cond t x y) (sym is)
+
+pub chosen_off : (b : Bool) (x y old new : List ℕ) → b ≡ false → new ≡ old ++ y → new ≡ old ++ cond b x y
+chosen_off b x y old new is e = e ∙ ap (λ (t : Bool). old ++ cond t x y) (sym is)
 
 -- ---- numbers
 
@@ -84,28 +90,6 @@ array_pushed old a b new ns others n u split first rest last =
     three_pieces (chars old) (chars a) (chars b) (chars new) (91 ∷ decimal n) (more_numbers others) (codes "]") begun
     rest last
     ∙ ap (λ (z : List ℕ). chars old ++ number_array z) (sym split)
-
--- a place
-pub place_pushed : (old new : List ℕ) (lo hi : ℕ) (at : LineColumn) → IsUtf8 old
-    → new ≡ old ++ place_members lo hi at → chars new ≡ chars old ++ place_members lo hi at
-place_pushed old new lo hi at u e =
-    let last : IsAscii (codes ",\"column\":" ++ decimal at.column) = named (codes ",\"column\":") at.column refl in
-    let line : IsAscii (codes ",\"line\":" ++ (decimal at.line ++ (codes ",\"column\":" ++ decimal at.column)))
-    = named_on (codes ",\"line\":") at.line (codes ",\"column\":" ++ decimal at.column) refl last in
-    let high : IsAscii (codes ",\"hi\":" ++ (decimal hi
-    ++ (codes ",\"line\":" ++ (decimal at.line ++ (codes ",\"column\":" ++ decimal at.column)))))
-    = named_on (codes ",\"hi\":") hi (codes ",\"line\":" ++ (decimal at.line
-    ++ (codes ",\"column\":" ++ decimal at.column))) refl line in
-    ascii_pushed old new (place_members lo hi at) u (named_on (codes "\"lo\":") lo (codes ",\"hi\":" ++ (decimal hi
-    ++ (codes ",\"line\":" ++ (decimal at.line ++ (codes ",\"column\":" ++ decimal at.column))))) refl high) e
-  where
-    named : (name : List ℕ) (n : ℕ) → list_all is_ascii name ≡ true → IsAscii (name ++ decimal n)
-    named name n low = IsAscii-append name (decimal n) (low_text name low) (decimal_ascii n)
-
-    named_on : (name : List ℕ) (n : ℕ) (rest : List ℕ) → list_all is_ascii name ≡ true → IsAscii rest
-        → IsAscii (name ++ (decimal n ++ rest))
-    named_on name n rest low ascii = IsAscii-append name (decimal n ++ rest) (low_text name low)
-        (IsAscii-append (decimal n) rest (decimal_ascii n) ascii)
 
 -- ---- values
 

@@ -12,7 +12,7 @@ use Rattle.rl_lines.specs.Bare.{is_bare}
 use Rattle.rl_lines.specs.Lines.{Joins}
 use Rattle.rl_lines.proofs.LineLemmas.{pushed}
 use Rattle.rl_sources.specs.JsonStrings.{IsLetterEscape, JsonQuote, JsonBackslash, JsonLineFeed, JsonReturn, JsonTab, IsUnitEscape, IsPairEscape, IsJsonPiece, HidesNothing, IsJsonStringOf, unit_escape, letter_escape, other_char, json_char, json_body, json_string}
-use Rattle.rl_sources.proofs.ReasonLemmas.{low_text}
+use Rattle.rl_sources.proofs.StepLemmas.{low_text}
 
 -- ---- what is appended, in bytes
 

@@ -1,5 +1,5 @@
 -- What is printed of a source as JSON: an object a line. All are lists of characters.
-use Rattle.std.specs.Prelude.{◌≡◌, ◌⊎◌, ℕ, List, [], ◌∷◌, ◌++◌, codes, Option, Some, None}
+use Rattle.std.specs.Prelude.{◌≡◌, ◌⊎◌, ℕ, Bool, false, true, List, [], ◌∷◌, ◌++◌, codes, Option, Some, None}
 use denote.Ref.{Bor}
 use Rattle.std.specs.Fmt.{decimal}
 use Rattle.std.specs.List.{flat_map}
@@ -8,7 +8,15 @@ use Rattle.rl_forms.specs.declared.kind.Kind.{Kind}
 use Rattle.rl_forms.specs.Reading.{Contents, Characters, Bytes, Digits, Truth, truth_text, Reads, HasContents, HasNoReading}
 use Rattle.rl_lexer.specs.declared.lines.LineColumn.{LineColumn}
 use Rattle.rl_lines.specs.Lines.{kind_label}
+use Rattle.rl_sources.specs.declared.options.Form.{Form}
+use Rattle.rl_sources.specs.declared.options.Form.TheVariants.{Plain, Colored, Json}
 use Rattle.rl_sources.specs.JsonStrings.{json_string}
+
+-- whether lines are objects
+abbrev pub is_json : Form → Bool
+is_json Plain = false
+is_json Colored = false
+is_json Json = true
 
 -- numbers in base ten, each after a comma
 abbrev pub more_numbers : List ℕ → List ℕ
@@ -29,10 +37,6 @@ abbrev pub place_members : ℕ → ℕ → LineColumn → List ℕ
 place_members lo hi at =
     codes "\"lo\":" ++ (decimal lo ++ (codes ",\"hi\":" ++ (decimal hi
     ++ (codes ",\"line\":" ++ (decimal at.line ++ (codes ",\"column\":" ++ decimal at.column))))))
-
--- an object up to its place
-abbrev pub json_front : Option (Bor (List ℕ)) → ℕ → ℕ → LineColumn → List ℕ
-json_front path lo hi at = object_front path ++ place_members lo hi at
 
 -- what a literal stands for: characters as a string, bytes as an array of their numbers, a number by its
 -- digits in base ten, as a string, a truth value by its word

@@ -10,15 +10,24 @@ ghost use Rattle.rl_lexer.specs.LexErrors.{lex_message};
 ghost use Rattle.rl_lines.specs.Lines.{Appends};
 ghost use Rattle.rl_reading.specs.Founds.{IsFound};
 ghost use Rattle.rl_reasons.specs.FlawWords.{flaw_message};
-ghost use Rattle.rl_sources.specs.Json.{more_numbers, number_array, object_front, place_members, json_front, string_member, IsJsonLiteral, IsJsonValueOf, flaw_members, error_members};
+ghost use Rattle.rl_sources.specs.Json.{is_json as prints_json, more_numbers, number_array, object_front, string_member, IsJsonLiteral, IsJsonValueOf, flaw_members, error_members};
 ghost use Rattle.rl_sources.specs.JsonStrings.{json_string};
 
 use crate::held::{byte_contents, bytes_contents};
 use crate::json_string::push_json_string;
+use crate::options::Form;
 use rl_grammar::{FlawKind, Found, Kind, digits_of_found, str_of_body};
 use rl_lines::label_of;
-use rl_tokens::{LexKind, LineColumn};
+use rl_tokens::LexKind;
 use std::alloc::{AllocError, Allocator};
+
+/// Whether lines are objects.
+#[inline(always)]
+pub(crate) fn is_json(form: Form) -> bool
+    ensures { result ≡ prints_json form }
+{
+    matches!(form, Form::Json)
+}
 
 /// Appends ASCII.
 fn push_ascii<A: Allocator>(out: &mut String<A>, piece: &str) -> Result<(), AllocError>
@@ -55,7 +64,7 @@ fn push_array<A: Allocator>(out: &mut String<A>, numbers: &[u8]) -> Result<(), A
 }
 
 /// Appends where an object begins.
-fn push_object_front<A: Allocator>(
+pub(crate) fn push_object_front<A: Allocator>(
     out: &mut String<A>,
     path: Option<&str>,
 ) -> Result<(), AllocError>
@@ -70,39 +79,6 @@ fn push_object_front<A: Allocator>(
             push_ascii(out, ",")
         }
     }
-}
-
-/// Appends the members of a place.
-fn push_place<A: Allocator>(
-    out: &mut String<A>,
-    lo: usize,
-    hi: usize,
-    at: LineColumn,
-) -> Result<(), AllocError>
-    ensures { OnOk result (chars (string_bytes out.new)
-        ≡ chars (string_bytes out.old) ++ place_members lo hi at) }
-{
-    let LineColumn { line, column } = at;
-    write!(
-        out,
-        "\"lo\":{lo},\"hi\":{hi},\"line\":{line},\"column\":{column}"
-    )?;
-    Ok(())
-}
-
-/// Appends an object up to its place: the bytes from `lo` to `hi`, and the line and column of the first.
-pub(crate) fn push_json_front<A: Allocator>(
-    out: &mut String<A>,
-    path: Option<&str>,
-    lo: usize,
-    hi: usize,
-    at: LineColumn,
-) -> Result<(), AllocError>
-    ensures { OnOk result (chars (string_bytes out.new)
-        ≡ chars (string_bytes out.old) ++ json_front path.entry lo hi at) }
-{
-    push_object_front(out, path)?;
-    push_place(out, lo, hi, at)
 }
 
 /// Appends a member after others, whose value is a string.

@@ -1,6 +1,6 @@
 use Rattle.rl_text.proofs.Common.{IsUtf8-string_bytes}
 use Rattle.rl_sources.proofs.JsonLemmas.{ascii_pushed}
-use Rattle.rl_sources.proofs.ReasonLemmas.{low_text}
+use Rattle.rl_sources.proofs.StepLemmas.{low_text}
 use Rattle.rl_sources.proofs.json.push_ascii.Goals as goal
 
 pub returns : goal.returns
