@@ -80,7 +80,8 @@ fn push_line_end<A: Allocator + Copy>(
     literal: &Literal<'_>,
 ) -> Result<(), AllocError>
     requires { IsReadAs literal.now.token.text.now literal.now.found }
-    ensures { OnOk result (Appends (IsLineEnd options.form options.spelling (chars literal.now.token.text.now))
+    ensures { OnOk result (Appends (IsLineEnd options.entry.form options.entry.spelling
+        (chars literal.now.token.text.now))
         (chars (string_bytes out.old)) (chars (string_bytes out.new))) }
 {
     match options.form {
