@@ -45,6 +45,9 @@ fn bytes_at(path: &str) -> Result<&'static [u8], PathError> {
         "held" => Ok(
             b"\"\\u{61}b\" b\"ab\" c\"\\x61b\" 'a' b'a'\n\"x\\\n   ab\" r#\"ab\"# \"\xc3\xa4ab\" \"\\\\u{61}\" // \"ab\"\n\"ba\" 'b'".as_slice(),
         ),
+        "hides" => Ok(
+            b"\"a\\u{202e}b\" \"a\xe2\x80\xaeb\"\n'\xe2\x80\x8b' r\"\xc3\xa4\xef\xbb\xbf\" b\"\xe2\x80\xae\" // \"\xe2\x80\xae\"\n\"a\tb\" 1".as_slice(),
+        ),
         "./.git/x.rs" => Ok(b"4".as_slice()),
         "./target/x.rs" => Ok(b"5".as_slice()),
         _ => Err(PathError::NotFound),

@@ -4,6 +4,8 @@ pub mod StepLemmas
 pub mod HeldLemmas
 pub mod HeldPlaces
 pub mod ReasonLemmas
+pub mod ColorLemmas
+pub mod HiddenLemmas
 pub mod WriteLemmas
 pub mod ReportLemmas
 pub mod RunLemmas

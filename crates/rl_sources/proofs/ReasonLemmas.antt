@@ -23,13 +23,15 @@ use Rattle.rl_files.specs.Visible.{visible}
 use Rattle.rl_lines.specs.Lines.{Appends}
 use Rattle.rl_lines.proofs.LineLemmas.{pushed}
 use Rattle.rl_grammar.specs.FileTexts.{ExplainsInFile}
+use Rattle.rl_sources.specs.declared.color.Paint.TheVariants as paint
 use Rattle.rl_sources.specs.declared.options.Judge.{Judge}
 use Rattle.rl_sources.specs.declared.options.Judge.TheVariants.{Rust, Syn}
 use Rattle.rl_sources.specs.declared.options.Options.{Options}
 use Rattle.rl_sources.specs.declared.place.Place.{Place}
+use Rattle.rl_sources.specs.Colors.{painted}
 use Rattle.rl_sources.specs.Held.{IsCutAt}
 use Rattle.rl_sources.specs.Places.{line_front, HoldsPlaces, IsPlaceIn}
-use Rattle.rl_sources.specs.Scans.{FindsFlaw, IsFlawLine, IsFlawPiece, IsSlice, error_words}
+use Rattle.rl_sources.specs.Scans.{FindsFlaw, IsFlawLine, IsFlawLineAt, IsFlawPiece, IsSlice, error_reason}
 use Rattle.rl_sources.specs.Steps.{BeginsRest, HasPlace}
 use Rattle.rl_sources.proofs.StepLemmas.{back_utf8}
 
@@ -196,18 +198,18 @@ message_low NoFractionDigit = refl
 
 -- the words of an error, as they are written
 message_ascii : (message after : List ℕ) → list_all is_ascii message ≡ true → list_all is_ascii after ≡ true
-    → IsAscii (codes "error: " ++ (message ++ after))
+    → IsAscii (codes ": " ++ (message ++ after))
 message_ascii message after is_low low =
-    IsAscii-append (codes "error: ") (message ++ after) (low_text (codes "error: ") refl)
+    IsAscii-append (codes ": ") (message ++ after) (low_text (codes ": ") refl)
     (IsAscii-append message after (low_text message is_low) (low_text after low))
 
 pub words_written : (message after old new : List ℕ) → list_all is_ascii message ≡ true
-    → list_all is_ascii after ≡ true → IsUtf8 old → new ≡ old ++ (codes "error: " ++ (message ++ after))
-    → chars new ≡ chars old ++ (codes "error: " ++ (message ++ after))
+    → list_all is_ascii after ≡ true → IsUtf8 old → new ≡ old ++ (codes ": " ++ (message ++ after))
+    → chars new ≡ chars old ++ (codes ": " ++ (message ++ after))
 words_written message after old new is_low low utf8 written =
-    pushed old new (codes "error: " ++ (message ++ after)) utf8 written
+    pushed old new (codes ": " ++ (message ++ after)) utf8 written
     ∙ ap (λ z. chars old ++ z)
-    (chars-IsAscii (codes "error: " ++ (message ++ after)) (message_ascii message after is_low low))
+    (chars-IsAscii (codes ": " ++ (message ++ after)) (message_ascii message after is_low low))
 
 lex_low : (kind : LexKind) → list_all is_ascii (lex_message kind) ≡ true
 lex_low DocComment = refl
@@ -222,21 +224,22 @@ lex_low TooDeep = refl
 lex_low Memory = refl
 
 -- the line of a source's error
-pub source_error : (kind : LexKind) (front old mid new : List ℕ) → IsUtf8 mid → chars mid ≡ chars old ++ front
-    → new ≡ mid ++ (codes "error: " ++ (lex_message kind ++ codes "\n"))
-    → chars new ≡ chars old ++ (front ++ error_words (lex_message kind) [])
-source_error kind front old mid new utf8 begun written =
-    words_written (lex_message kind) (codes "\n") mid new (lex_low kind) refl utf8 written
-    ∙ ap (λ z. z ++ error_words (lex_message kind) []) begun
-    ∙ append_assoc (chars old) front (error_words (lex_message kind) [])
+pub source_error : (kind : LexKind) (front word old a b new : List ℕ) → IsUtf8 b → chars a ≡ chars old ++ front
+    → chars b ≡ chars a ++ word → new ≡ b ++ (codes ": " ++ (lex_message kind ++ codes "\n"))
+    → chars new ≡ chars old ++ (front ++ (word ++ error_reason (lex_message kind) []))
+source_error kind front word old a b new utf8 begun said written =
+    words_written (lex_message kind) (codes "\n") b new (lex_low kind) refl utf8 written
+    ∙ ap (λ z. z ++ error_reason (lex_message kind) []) (said ∙ ap (λ z. z ++ word) begun)
+    ∙ append_assoc (chars old ++ front) word (error_reason (lex_message kind) [])
+    ∙ append_assoc (chars old) front (word ++ error_reason (lex_message kind) [])
 
 -- without a piece
 pub error_alone : (kind : FlawKind) (piece old new : List ℕ) → (length piece == 0) ≡ true → IsUtf8 old
-    → new ≡ old ++ (codes "error: " ++ (flaw_message kind ++ codes "\n"))
-    → chars new ≡ chars old ++ error_words (flaw_message kind) (chars piece)
+    → new ≡ old ++ (codes ": " ++ (flaw_message kind ++ codes "\n"))
+    → chars new ≡ chars old ++ error_reason (flaw_message kind) (chars piece)
 error_alone kind [] old new none utf8 written =
     words_written (flaw_message kind) (codes "\n") old new (message_low kind) refl utf8 written
-    ∙ ap (λ z. chars old ++ error_words (flaw_message kind) z) (sym chars-nil)
+    ∙ ap (λ z. chars old ++ error_reason (flaw_message kind) z) (sym chars-nil)
 error_alone kind (b ∷ bs) old new none utf8 written = absurd (false≢true (sym (not_empty (length bs)) ∙ none))
   where
     not_empty : (n : ℕ) → (suc n == 0) ≡ false
@@ -244,35 +247,35 @@ error_alone kind (b ∷ bs) old new none utf8 written = absurd (false≢true (sy
 
 -- with one
 pub error_of_piece : (kind : FlawKind) (piece old a b new : List ℕ) → (length piece == 0) ≡ false → IsUtf8 piece
-    → IsUtf8 old → IsUtf8 b → a ≡ old ++ (codes "error: " ++ (flaw_message kind ++ codes ": "))
+    → IsUtf8 old → IsUtf8 b → a ≡ old ++ (codes ": " ++ (flaw_message kind ++ codes ": "))
     → chars b ≡ chars a ++ visible (chars piece) → new ≡ b ++ codes "\n"
-    → chars new ≡ chars old ++ error_words (flaw_message kind) (chars piece)
+    → chars new ≡ chars old ++ error_reason (flaw_message kind) (chars piece)
 error_of_piece kind piece old a b new some utf8 u v begun shown ended = go (chars piece) refl shown
   where
     message : List ℕ
     message = flaw_message kind
 
     tail : (cs : List ℕ) → chars b ≡ chars a ++ visible cs → chars new
-        ≡ chars old ++ (codes "error: " ++ (message ++ (codes ": " ++ (visible cs ++ codes "\n"))))
+        ≡ chars old ++ (codes ": " ++ (message ++ (codes ": " ++ (visible cs ++ codes "\n"))))
     tail cs e =
         pushed b new (codes "\n") v ended
         ∙ ap (λ z. chars b ++ z) (chars-IsAscii (codes "\n") (low_text (codes "\n") refl))
         ∙ ap (λ z. z ++ codes "\n") e
         ∙ ap (λ z. (z ++ visible cs) ++ codes "\n") (words_written message (codes ": ") old a (message_low kind) refl u
         begun)
-        ∙ append_assoc (chars old ++ (codes "error: " ++ (message ++ codes ": "))) (visible cs) (codes "\n")
-        ∙ append_assoc (chars old) (codes "error: " ++ (message ++ codes ": ")) (visible cs ++ codes "\n")
-        ∙ ap (λ z. chars old ++ z) (append_assoc (codes "error: ") (message ++ codes ": ") (visible cs ++ codes "\n")
-        ∙ ap (λ z. codes "error: " ++ z) (append_assoc message (codes ": ") (visible cs ++ codes "\n")))
+        ∙ append_assoc (chars old ++ (codes ": " ++ (message ++ codes ": "))) (visible cs) (codes "\n")
+        ∙ append_assoc (chars old) (codes ": " ++ (message ++ codes ": ")) (visible cs ++ codes "\n")
+        ∙ ap (λ z. chars old ++ z) (append_assoc (codes ": ") (message ++ codes ": ") (visible cs ++ codes "\n")
+        ∙ ap (λ z. codes ": " ++ z) (append_assoc message (codes ": ") (visible cs ++ codes "\n")))
 
     go : (cs : List ℕ) → chars piece ≡ cs → chars b ≡ chars a ++ visible (chars piece) → chars new
-        ≡ chars old ++ error_words message (chars piece)
+        ≡ chars old ++ error_reason message (chars piece)
     go [] none e =
         let empty : piece ≡ [] = sym (encodes-chars piece utf8) ∙ ap encode_utf8_all none in
         absurd (false≢true (sym some ∙ ap (λ (z : List ℕ). length z == 0) empty))
     go (c ∷ cs) is e =
         tail (c ∷ cs) (e ∙ ap (λ z. chars a ++ visible z) is)
-        ∙ ap (λ z. chars old ++ error_words message z) (sym is)
+        ∙ ap (λ z. chars old ++ error_reason message z) (sym is)
 
 -- a text as it is written, and the line's end
 pub source_shown : (text old b new : List ℕ) → IsUtf8 b → chars b ≡ chars old ++ visible text → new ≡ b ++ codes "\n"
@@ -284,18 +287,28 @@ source_shown text old b new u shown ended =
     ∙ append_assoc (chars old) (visible text) (codes "\n")
 
 -- what stands before the line, and what is wrong
-pub flaw_shown : (options : Options) (whole text : List ℕ) (lo : ℕ) (flaw : Flaw) (place : Place)
-    (piece old a new : List ℕ) → FindsFlaw options.judge text flaw
-    → IsPlaceIn options.by_line whole (lo + flaw.lo) (lo + flaw.hi) place → IsFlawPiece text flaw piece
-    → a ≡ old ++ line_front options.path place → new ≡ a ++ error_words (flaw_message flaw.kind) piece
-    → Appends (IsFlawLine options whole text lo) old new
-flaw_shown options whole text lo flaw place piece old a new explains is_place is_piece front words =
-    let line = line_front options.path place ++ error_words (flaw_message flaw.kind) piece in (
-      line,
-      (flaw, place, piece, explains, is_place, is_piece, refl),
-      words ∙ ap (λ z. z ++ error_words (flaw_message flaw.kind) piece) front
-          ∙ append_assoc old (line_front options.path place) (error_words (flaw_message flaw.kind) piece),
+pub flaw_shown : (options : Options) (text : List ℕ) (flaw : Flaw) (place : Place) (piece old a b new : List ℕ)
+    → IsFlawPiece text flaw piece → a ≡ old ++ line_front options.form options.path place
+    → b ≡ a ++ painted options.form paint.Error (codes "error")
+    → new ≡ b ++ error_reason (flaw_message flaw.kind) piece
+    → Appends (IsFlawLineAt options text flaw place) old new
+flaw_shown options text flaw place piece old a b new is_piece begun said ended =
+    let front = line_front options.form options.path place in
+    let word = painted options.form paint.Error (codes "error") in
+    let reason = error_reason (flaw_message flaw.kind) piece in (
+      front ++ (word ++ reason),
+      (piece, is_piece, refl),
+      ended ∙ ap (λ z. z ++ reason) (said ∙ ap (λ z. z ++ word) begun) ∙ append_assoc (old ++ front) word reason
+          ∙ append_assoc old front (word ++ reason),
     )
+
+-- the flaw, at its place
+pub flaw_placed : (options : Options) (whole text : List ℕ) (lo : ℕ) (flaw : Flaw) (place : Place)
+    (old new : List ℕ) → FindsFlaw options.judge text flaw
+    → IsPlaceIn options.by_line whole (lo + flaw.lo) (lo + flaw.hi) place
+    → Appends (IsFlawLineAt options text flaw place) old new → Appends (IsFlawLine options whole text lo) old new
+flaw_placed options whole text lo flaw place old new explains is_place (shown, is, e) =
+    (shown, (flaw, place, explains, is_place, is), e)
 
 -- ---- the piece
 

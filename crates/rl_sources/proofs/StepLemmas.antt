@@ -27,8 +27,9 @@ use Rattle.rl_sources.specs.declared.place.Place.{Place}
 use Rattle.rl_sources.specs.declared.place.Place.TheVariants.{Bytes, Line}
 use Rattle.rl_sources.specs.Options.{Picks}
 use Rattle.rl_sources.specs.Places.{line_front, place_text, IsPlaceIn}
-use Rattle.rl_sources.specs.Held.{Holds}
-use Rattle.rl_sources.specs.Scans.{FindsFlaw, FindsNoFlaw, IsBad, IsPlacedLine, IsFlawLine, IsHeldLine, IsLineIn, IsPickedLine, IsPrintedAs, IsShownLiteral}
+use Rattle.rl_sources.specs.Held.{Holds, IsHeldAt}
+use Rattle.rl_sources.specs.Hidden.{HoldsHidden, IsHiddenAt}
+use Rattle.rl_sources.specs.Scans.{FindsFlaw, FindsNoFlaw, IsAskedLine, IsBad, IsPicked, IsPlacedLine, IsFlawLine, IsHeldLine, IsHiddenLine, IsLineAt, IsLineIn, IsPickedLine, IsPrintedAs, IsShownLiteral}
 use Rattle.rl_sources.specs.Steps.{LooksForFlaws}
 
 -- ---- places are ASCII
@@ -133,14 +134,18 @@ line_printed text old now new u v (line, is_line, e) made =
     )
 
 -- what stands before it, and the line
-pub placed : (options : Options) (whole text : List ℕ) (lo hi : ℕ) (place : Place) (old mid new : List ℕ)
-    → IsPlaceIn options.by_line whole lo hi place → mid ≡ old ++ line_front options.path place
-    → Appends (IsPrintedAs options.spelling text) mid new → Appends (IsPlacedLine options whole text lo hi) old new
-placed options whole text lo hi place old mid new is_place front (shown, is, e) = (
-  line_front options.path place ++ shown,
-  (place, shown, is_place, is, refl),
-  e ∙ ap (λ z. z ++ shown) front ∙ append_assoc old (line_front options.path place) shown,
-)
+pub line_at : (options : Options) (text : List ℕ) (place : Place) (old mid new : List ℕ)
+    → mid ≡ old ++ line_front options.form options.path place
+    → Appends (IsPrintedAs options.spelling text) mid new → Appends (IsLineAt options text place) old new
+line_at options text place old mid new begun (shown, is, e) =
+    let front = line_front options.form options.path place in
+    (front ++ shown, (shown, is, refl), e ∙ ap (λ z. z ++ shown) begun ∙ append_assoc old front shown)
+
+-- the line, after its place
+pub placed : (options : Options) (whole text : List ℕ) (lo hi : ℕ) (place : Place) (old new : List ℕ)
+    → IsPlaceIn options.by_line whole lo hi place → Appends (IsLineAt options text place) old new
+    → Appends (IsPlacedLine options whole text lo hi) old new
+placed options whole text lo hi place old new is_place (shown, is, e) = (shown, (place, is_place, is), e)
 
 -- a line that says why
 pub explained : (options : Options) (whole text : List ℕ) (lo hi : ℕ) (old new : List ℕ) → IsTrue options.explains
@@ -168,11 +173,12 @@ not_bad Rust text flaw (token, (kind, (contents, suffix, reads))) (inr (same, e)
 not_bad Syn text flaw (kind, (contents, suffix, reads)) e = e.unread kind contents suffix reads
 
 -- what was looked for says whether a literal is picked
-pub picks_bad : (options : Options) (text label : List ℕ) (flaw : Option Flaw) (r b : Bool) → r ≡ is_some flaw
+pub picks_found : (options : Options) (text label : List ℕ) (flaw : Option Flaw) (r h b : Bool) → r ≡ is_some flaw
     → IfSome flaw (FindsFlaw options.judge text)
     → IfNone flaw (LooksForFlaws options → FindsNoFlaw options.judge text)
-    → IsTrue b ↔ Picks options.shown label (IsTrue r) → IsTrue b ↔ Picks options.shown label (IsBad options.judge text)
-picks_bad options text label flaw r b is found none picks = go options.shown refl picks
+    → (options.shown ≡ Hidden → IsTrue h ↔ HoldsHidden text)
+    → IsTrue b ↔ Picks options.shown label (IsTrue r) (IsTrue h) → IsTrue b ↔ IsPicked options text label
+picks_found options text label flaw r h b is found none hides picks = go options.shown refl picks
   where
     bad : (f : Option Flaw) → r ≡ is_some f → IfSome f (FindsFlaw options.judge text)
         → IfNone f (LooksForFlaws options → FindsNoFlaw options.judge text) → LooksForFlaws options
@@ -183,14 +189,44 @@ picks_bad options text label flaw r b is found none picks = go options.shown ref
       λ (f, finds). absurd (not_bad options.judge text f (nothing looks) finds),
     )
 
-    go : (shown : Shown) → options.shown ≡ shown → IsTrue b ↔ Picks shown label (IsTrue r)
-        → IsTrue b ↔ Picks shown label (IsBad options.judge text)
+    go : (shown : Shown) → options.shown ≡ shown → IsTrue b ↔ Picks shown label (IsTrue r) (IsTrue h)
+        → IsTrue b ↔ Picks shown label (IsBad options.judge text) (HoldsHidden text)
     go All e p = p
     go (Only list) e p = p
-    go Hidden e p = p
     go Bad e p =
         let both = bad flaw is found none (inr e) in
         (λ t. both.0 (p.0 t), λ t. p.1 (both.1 t))
+    go Hidden e p =
+        let both = hides e in
+        (λ t. both.0 (p.0 t), λ t. p.1 (both.1 t))
+
+-- the line where the contents hold what is looked for
+pub at_held : (sought : List ℕ) (options : Options) (whole text : List ℕ) (lo first last : ℕ) (old new : List ℕ)
+    → IsHeldAt sought text first last
+    → Appends (IsPlacedLine options whole text (lo + first) (lo + last)) old new
+    → Appends (IsHeldLine sought options whole text lo) old new
+at_held sought options whole text lo first last old new held (shown, is, e) =
+    (shown, inl (first, last, held, is), e)
+
+-- the line at the first character that hides
+pub at_hidden : (options : Options) (whole text : List ℕ) (lo first last : ℕ) (old new : List ℕ)
+    → IsHiddenAt text first last → Appends (IsPlacedLine options whole text (lo + first) (lo + last)) old new
+    → Appends (IsHiddenLine options whole text lo) old new
+at_hidden options whole text lo first last old new at (shown, is, e) = (shown, inl (first, last, at, is), e)
+
+-- nothing where none hides
+pub not_hidden : (options : Options) (whole text : List ℕ) (lo : ℕ) (old : List ℕ) → (HoldsHidden text → ⊥)
+    → Appends (IsHiddenLine options whole text lo) old old
+not_hidden options whole text lo old none = ([], inr (none, refl), sym (append-nil old))
+
+-- the line where hiding characters aren't asked for
+pub asked_line : (wanted : Shown) (options : Options) (whole text : List ℕ) (lo hi : ℕ) (old new : List ℕ)
+    → (wanted ≡ Hidden → ⊥) → Appends (IsLineIn options whole text lo hi) old new
+    → Appends (IsAskedLine wanted options whole text lo hi) old new
+asked_line All options whole text lo hi old new other is = is
+asked_line (Only list) options whole text lo hi old new other is = is
+asked_line Bad options whole text lo hi old new other is = is
+asked_line Hidden options whole text lo hi old new other is = absurd (other refl)
 
 -- nothing of a literal whose contents don't hold what is looked for
 pub not_held : (sought : List ℕ) (options : Options) (whole text : List ℕ) (lo : ℕ) (old : List ℕ)
@@ -210,7 +246,7 @@ found_label text label kind None none is k e = (None, none, e ∙ ap label_of k)
 
 -- the line of a text that is picked
 pub picked_line : (options : Options) (whole text label : List ℕ) (lo hi : ℕ) (old new : List ℕ)
-    → IsLabelOf text label → Picks options.shown label (IsBad options.judge text)
+    → IsLabelOf text label → IsPicked options text label
     → Appends (IsPickedLine options.finds options whole text lo hi) old new
     → Appends (IsShownLiteral options whole text lo hi) old new
 picked_line options whole text label lo hi old new is_label picked (shown, is, e) =
@@ -218,7 +254,7 @@ picked_line options whole text label lo hi old new is_label picked (shown, is, e
 
 -- nothing of a text that isn't picked
 pub not_picked : (options : Options) (whole text label : List ℕ) (lo hi : ℕ) (old : List ℕ) → IsLabelOf text label
-    → (Picks options.shown label (IsBad options.judge text) → ⊥)
+    → (IsPicked options text label → ⊥)
     → Appends (IsShownLiteral options whole text lo hi) old old
 not_picked options whole text label lo hi old is_label none =
     ([], (label, is_label, inr (none, refl)), sym (append-nil old))

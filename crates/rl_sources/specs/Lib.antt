@@ -1,4 +1,6 @@
 pub mod Options
+pub mod Colors
+pub mod Hidden
 pub mod Places
 pub mod Scans
 pub mod Steps

@@ -18,11 +18,15 @@ use Rattle.rl_sources.specs.declared.command.PlaceForm.{PlaceForm}
 use Rattle.rl_sources.specs.declared.command.PlaceForm.TheVariants as form
 use Rattle.rl_sources.specs.declared.command.Output.{Output}
 use Rattle.rl_sources.specs.declared.command.Output.TheVariants as output
+use Rattle.rl_sources.specs.declared.color.Paint.TheVariants as paint
+use Rattle.rl_sources.specs.declared.options.Form.{Form}
+use Rattle.rl_sources.specs.declared.options.Form.TheVariants.{Plain}
 use Rattle.rl_sources.specs.declared.options.Options.{Options}
 use Rattle.rl_sources.specs.declared.options.Shown.{Shown}
 use Rattle.rl_sources.specs.declared.options.Shown.TheVariants.{All, Only, Bad, Hidden}
 use Rattle.rl_sources.specs.declared.place.Place.{Place}
 use Rattle.rl_sources.specs.declared.report.Report.{Report}
+use Rattle.rl_sources.specs.Colors.{painted}
 use Rattle.rl_sources.specs.Places.{line_front}
 use Rattle.rl_sources.specs.Scans.{Scans, StopsAtError, error_words}
 
@@ -42,6 +46,13 @@ is_bad All = false
 is_bad (Only list) = false
 is_bad Bad = true
 is_bad Hidden = false
+
+-- whether what is found is an alarm: where what is bad is asked for, or what turns or hides text
+abbrev pub is_alarm : Shown → Bool
+is_alarm All = false
+is_alarm (Only list) = false
+is_alarm Bad = true
+is_alarm Hidden = true
 
 -- a path as it stands before each place: what is printed of it; that of standard input doesn't
 abbrev pub IsShownPath : List ℕ → Option (Bor (List ℕ)) → Type 0
@@ -66,29 +77,35 @@ IsScannedAs options text lines None = (any : Bool) × Scans options (chars text)
 IsScannedAs options text lines (Some (place, kind)) =
     (shown : List ℕ) × StopsAtError options (chars text) shown place kind × (lines ≡ encode_utf8_all shown)
 
+-- how the line of a text's error is written: as the others, where errors are among what is found; else
+-- plain, since it goes to standard error
+abbrev pub error_form : Options → Form
+error_form options = cond options.explains options.form Plain
+
 -- the line of a text's error, in characters; nothing where it has none
-abbrev pub error_text : Option (Bor (List ℕ)) → Option (Place × LexKind) → List ℕ
-error_text path None = []
-error_text path (Some (place, kind)) = line_front path place ++ error_words (lex_message kind) []
+abbrev pub error_text : Form → Option (Bor (List ℕ)) → Option (Place × LexKind) → List ℕ
+error_text form path None = []
+error_text form path (Some (place, kind)) = line_front form path place ++ error_words form (lex_message kind) []
 
 -- how many lines there are
 abbrev pub line_count : List ℕ → ℕ
 line_count lines = count_by (λ b. b == 10) lines
 
-abbrev pub count_line : Option (Bor (List ℕ)) → ℕ → List ℕ
-count_line None count = decimal count ++ codes "\n"
-count_line (Some path) count = path.now ++ (codes ":" ++ (decimal count ++ codes "\n"))
+abbrev pub count_line : Form → Option (Bor (List ℕ)) → ℕ → List ℕ
+count_line form None count = decimal count ++ codes "\n"
+count_line form (Some path) count =
+    painted form paint.Path path.now ++ (codes ":" ++ (decimal count ++ codes "\n"))
 
-abbrev pub path_line : Option (Bor (List ℕ)) → List ℕ
-path_line None = codes "-\n"
-path_line (Some path) = path.now ++ codes "\n"
+abbrev pub path_line : Form → Option (Bor (List ℕ)) → List ℕ
+path_line form None = painted form paint.Path (codes "-") ++ codes "\n"
+path_line form (Some path) = painted form paint.Path path.now ++ codes "\n"
 
 -- what is printed of the lines of a file: where there are none, nothing
-abbrev pub printed_of : Output → Option (Bor (List ℕ)) → List ℕ → List ℕ
-printed_of output.Lines path lines = lines
-printed_of output.Count path lines = cond (length lines == 0) [] (count_line path (line_count lines))
-printed_of output.Path path lines = cond (length lines == 0) [] (path_line path)
-printed_of output.Nothing path lines = []
+abbrev pub printed_of : Output → Form → Option (Bor (List ℕ)) → List ℕ → List ℕ
+printed_of output.Lines form path lines = lines
+printed_of output.Count form path lines = cond (length lines == 0) [] (count_line form path (line_count lines))
+printed_of output.Path form path lines = cond (length lines == 0) [] (path_line form path)
+printed_of output.Nothing form path lines = []
 
 -- What is written on standard output and on standard error, and whether something was found.
 pub record Findings : Type 0 where
@@ -111,7 +128,7 @@ told_of false error = error
 
 -- What is reported of a text with these lines and this error.
 pub record IsReportOf (output : Output) (options : Options) (lines error : List ℕ) (printed : Findings) : Type 0 where
-  pub out : printed.out ≡ printed_of output options.path (found_in options.explains lines error)
+  pub out : printed.out ≡ printed_of output options.form options.path (found_in options.explains lines error)
   pub told : printed.told ≡ told_of options.explains error
   pub found : printed.found ≡ not (length (found_in options.explains lines error) == 0)
 
@@ -120,7 +137,8 @@ abbrev pub IsTextReport : Command → List ℕ → List ℕ → Findings → Typ
 IsTextReport command path text printed =
     (options : Options) × (lines : List ℕ) × (error : Option (Place × LexKind))
     × IsOptionsFor command path options × IsScannedAs options text lines error
-    × IsReportOf command.output options lines (encode_utf8_all (error_text options.path error)) printed
+    × IsReportOf command.output options lines
+    (encode_utf8_all (error_text (error_form options) options.path error)) printed
 
 -- Of a path that can't be read one line is told.
 pub record IsErrorReport (path : List ℕ) (why : PathError) (printed : Findings) : Type 0 where

@@ -8,7 +8,7 @@ use Rattle.rl_program.specs.Streams.{AppendsBeginning}
 use Rattle.rl_sources.specs.declared.command.Command.{Command}
 use Rattle.rl_sources.specs.declared.options.Shown.{Shown}
 use Rattle.rl_sources.specs.declared.runs.Tally.{Tally}
-use Rattle.rl_sources.specs.Reports.{Findings, IsReport, AreReports, is_bad}
+use Rattle.rl_sources.specs.Reports.{Findings, IsReport, AreReports, is_alarm}
 
 -- The bytes that two writers held before and hold now: standard output and standard error.
 pub record Streams : Type 0 where
@@ -54,10 +54,10 @@ WritesFront command w spots streams =
     (visits others : List Visited) × (printed : Findings) × Visits w spots (visits ++ others)
     × AreReports command w visits printed × WritesBeginning streams printed
 
--- The status of a run: 2 where an error was told; else 1 where what is bad was asked for, and some was
--- found; else 0.
+-- The status of a run: 2 where an error was told; else 1 where what is bad was asked for, or what turns
+-- or hides text, and some was found; else 0.
 abbrev pub run_status : Shown → Tally → ℕ
-run_status shown tally = cond tally.failed 2 (cond (is_bad shown && tally.found) 1 0)
+run_status shown tally = cond tally.failed 2 (cond (is_alarm shown && tally.found) 1 0)
 
 -- The status of a run that looked for a text: 2 where an error was told; else 0 where the text was
 -- found, else 1.

@@ -21,15 +21,21 @@ use Rattle.rl_lines.specs.Lines.{IsLineOf, IsLabelOf, Joins}
 use Rattle.rl_files.specs.Visible.{visible, visible_lines}
 use Rattle.rl_program.specs.Streams.{AppendsBeginning}
 use Rattle.rl_program.specs.declared.fault.Fault.TheVariants.{Write, Memory}
+use Rattle.rl_sources.specs.declared.color.Paint.TheVariants as paint
+use Rattle.rl_sources.specs.declared.options.Form.{Form}
 use Rattle.rl_sources.specs.declared.options.Judge.{Judge}
 use Rattle.rl_sources.specs.declared.options.Spelling.{Spelling}
 use Rattle.rl_sources.specs.declared.options.Spelling.TheVariants.{Value, Source}
 use Rattle.rl_sources.specs.declared.options.Judge.TheVariants.{Rust, Syn}
 use Rattle.rl_sources.specs.declared.options.Options.{Options}
+use Rattle.rl_sources.specs.declared.options.Shown.{Shown}
+use Rattle.rl_sources.specs.declared.options.Shown.TheVariants as asked
 use Rattle.rl_sources.specs.declared.place.Place.{Place}
 use Rattle.rl_sources.specs.declared.scan_error.ScanError.{ScanError}
 use Rattle.rl_sources.specs.declared.scan_error.ScanError.TheVariants.{Fault, Source}
+use Rattle.rl_sources.specs.Colors.{painted}
 use Rattle.rl_sources.specs.Held.{Holds, IsHeldAt}
+use Rattle.rl_sources.specs.Hidden.{HoldsHidden, IsHiddenAt}
 use Rattle.rl_sources.specs.Options.{Picks}
 use Rattle.rl_sources.specs.Places.{line_front, IsPlaceIn}
 
@@ -53,11 +59,16 @@ abbrev pub IsPrintedAs : Spelling → List ℕ → List ℕ → Type 0
 IsPrintedAs Value text shown = (line : List ℕ) × IsLineOf text line × (shown ≡ visible_lines line)
 IsPrintedAs Source text shown = shown ≡ visible text ++ codes "\n"
 
+-- the line of a literal, after this place
+abbrev pub IsLineAt : Options → List ℕ → Place → List ℕ → Type 0
+IsLineAt options text place shown =
+    (words : List ℕ) × IsPrintedAs options.spelling text words
+    × (shown ≡ line_front options.form options.path place ++ words)
+
 -- the line of a literal, after its place in the whole source
 abbrev pub IsPlacedLine : Options → List ℕ → List ℕ → ℕ → ℕ → List ℕ → Type 0
 IsPlacedLine options whole text lo hi shown =
-    (place : Place) × (words : List ℕ) × IsPlaceIn options.by_line whole lo hi place
-    × IsPrintedAs options.spelling text words × (shown ≡ line_front options.path place ++ words)
+    (place : Place) × IsPlaceIn options.by_line whole lo hi place × IsLineAt options text place shown
 
 -- the bytes from `lo` to `hi` are a text
 abbrev pub IsSlice : List ℕ → ℕ → ℕ → Type 0
@@ -72,17 +83,29 @@ IsFlawPiece text flaw piece =
     ⊎ ((IsSlice (encode_utf8_all text) flaw.from flaw.hi → ⊥) × (piece ≡ []))
 
 -- what is wrong: a message and, where there is one, a piece as it is printed
-abbrev pub error_words : List ℕ → List ℕ → List ℕ
-error_words message [] = codes "error: " ++ (message ++ codes "\n")
-error_words message piece = codes "error: " ++ (message ++ (codes ": " ++ (visible piece ++ codes "\n")))
+abbrev pub error_reason : List ℕ → List ℕ → List ℕ
+error_reason message [] = codes ": " ++ (message ++ codes "\n")
+error_reason message piece = codes ": " ++ (message ++ (codes ": " ++ (visible piece ++ codes "\n")))
 
--- the line that says why a text, which begins at this byte of the whole source, is bad: the place
--- of the flaw that the judge finds, what is wrong, and the piece that it spoils
+-- that it is wrong, and what is
+abbrev pub error_words : Form → List ℕ → List ℕ → List ℕ
+error_words form message piece = painted form paint.Error (codes "error") ++ error_reason message piece
+
+-- the line that says why a text is bad, after this place: what is wrong, and the piece that the flaw
+-- spoils
+abbrev pub IsFlawLineAt : Options → List ℕ → Flaw → Place → List ℕ → Type 0
+IsFlawLineAt options text flaw place shown =
+    (piece : List ℕ) × IsFlawPiece text flaw piece
+    × (shown ≡ line_front options.form options.path place
+    ++ error_words options.form (flaw_message flaw.kind) piece)
+
+-- the line that says why a text, which begins at this byte of the whole source, is bad: of the flaw
+-- that the judge finds, at its place
 abbrev pub IsFlawLine : Options → List ℕ → List ℕ → ℕ → List ℕ → Type 0
 IsFlawLine options whole text lo shown =
-    (flaw : Flaw) × (place : Place) × (piece : List ℕ) × FindsFlaw options.judge text flaw
-    × IsPlaceIn options.by_line whole (lo + flaw.lo) (lo + flaw.hi) place × IsFlawPiece text flaw piece
-    × (shown ≡ line_front options.path place ++ error_words (flaw_message flaw.kind) piece)
+    (flaw : Flaw) × (place : Place) × FindsFlaw options.judge text flaw
+    × IsPlaceIn options.by_line whole (lo + flaw.lo) (lo + flaw.hi) place
+    × IsFlawLineAt options text flaw place shown
 
 -- the line of a text: where it is asked for, and the text is bad, the line that says why; else its
 -- line as a literal
@@ -99,19 +122,38 @@ IsHeldLine sought options whole text lo shown =
     × IsPlacedLine options whole text (lo + first) (lo + last) shown)
     ⊎ ((Holds sought text → ⊥) × (shown ≡ []))
 
+-- what is shown where characters are asked for which turn or hide text: where the text holds one, the
+-- literal's line, at the place of the first; else nothing
+abbrev pub IsHiddenLine : Options → List ℕ → List ℕ → ℕ → List ℕ → Type 0
+IsHiddenLine options whole text lo shown =
+    ((first : ℕ) × (last : ℕ) × IsHiddenAt text first last
+    × IsPlacedLine options whole text (lo + first) (lo + last) shown)
+    ⊎ ((HoldsHidden text → ⊥) × (shown ≡ []))
+
+-- what is shown where no text is looked for, by what is asked for
+abbrev pub IsAskedLine : Shown → Options → List ℕ → List ℕ → ℕ → ℕ → List ℕ → Type 0
+IsAskedLine asked.All options whole text lo hi shown = IsLineIn options whole text lo hi shown
+IsAskedLine (asked.Only list) options whole text lo hi shown = IsLineIn options whole text lo hi shown
+IsAskedLine asked.Bad options whole text lo hi shown = IsLineIn options whole text lo hi shown
+IsAskedLine asked.Hidden options whole text lo hi shown = IsHiddenLine options whole text lo shown
+
 -- what is shown of a literal that is picked
 abbrev pub IsPickedLine : Option (Bor (List ℕ)) → Options → List ℕ → List ℕ → ℕ → ℕ → List ℕ → Type 0
-IsPickedLine None options whole text lo hi shown = IsLineIn options whole text lo hi shown
+IsPickedLine None options whole text lo hi shown = IsAskedLine options.shown options whole text lo hi shown
 IsPickedLine (Some sought) options whole text lo hi shown =
     IsHeldLine sought.now options whole text lo shown
+
+-- the literal is picked, whose line begins with this word
+abbrev pub IsPicked : Options → List ℕ → List ℕ → Type 0
+IsPicked options text label = Picks options.shown label (IsBad options.judge text) (HoldsHidden text)
 
 -- what is shown of a literal: where it is picked, what is shown of it then, else nothing
 abbrev pub IsShownLiteral : Options → List ℕ → List ℕ → ℕ → ℕ → List ℕ → Type 0
 IsShownLiteral options whole text lo hi shown =
     (label : List ℕ) × IsLabelOf text label
-    × ((Picks options.shown label (IsBad options.judge text)
+    × ((IsPicked options text label
     × IsPickedLine options.finds options whole text lo hi shown)
-    ⊎ ((Picks options.shown label (IsBad options.judge text) → ⊥) × (shown ≡ [])))
+    ⊎ ((IsPicked options text label → ⊥) × (shown ≡ [])))
 
 -- what is shown of a token: of a literal, and of the words `true` and `false`, what is shown of
 -- that literal; of anything else nothing

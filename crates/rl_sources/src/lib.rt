@@ -2,11 +2,14 @@
 //! and the command line of the program that does so.
 #![tactic(auto)]
 
+mod color;
 mod command;
 mod ending;
 mod flags;
 mod held;
+mod hidden;
 mod judge;
+mod literal;
 mod options;
 mod place;
 mod reason;

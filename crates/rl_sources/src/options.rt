@@ -76,15 +76,16 @@ pub(crate) fn names(list: &str, label: &str) -> bool
 }
 
 impl Shown<'_> {
-    /// Whether a literal is shown whose line begins with this word, and which is bad or not.
-    pub fn picks(self, label: &str, is_bad: bool) -> bool
-        ensures { IsTrue result ↔ Picks self.entry label.now (IsTrue is_bad) }
+    /// Whether a literal is shown whose line begins with this word, which is bad or not, and which holds characters that
+    /// turn or hide text or not.
+    pub fn picks(self, label: &str, is_bad: bool, is_hidden: bool) -> bool
+        ensures { IsTrue result ↔ Picks self.entry label.now (IsTrue is_bad) (IsTrue is_hidden) }
     {
         match self {
             Shown::All => true,
             Shown::Only(list) => names(list, label),
             Shown::Bad => is_bad,
-            Shown::Hidden => true,
+            Shown::Hidden => is_hidden,
         }
     }
 }

@@ -8,8 +8,12 @@ ghost use Rattle.rl_lexer.specs.Lines.{BeginsAt};
 ghost use Rattle.rl_sources.specs.Held.{IsCutAt};
 ghost use Rattle.rl_sources.specs.Places.{line_front, place_text, IsPlaceIn};
 ghost use Rattle.rl_sources.specs.Steps.{BeginsRest};
+ghost use Rattle.rl_sources.specs.declared.options.Form.TheVariants.{Colored};
 
-use rl_tokens::{LineColumn, Lines, SourceToken};
+use crate::color::{PAINT_END, Paint, has_colors, start_of};
+use crate::literal::Literal;
+use crate::options::Form;
+use rl_tokens::{LineColumn, Lines};
 use std::alloc::{AllocError, Allocator};
 use std::fmt;
 use std::marker::Model;
@@ -36,16 +40,53 @@ fn push_in_file<A: Allocator>(
     Ok(())
 }
 
-/// Appends what stands before a line: its place, after the path where there is one.
-#[inline(always)]
-pub(crate) fn push_front<A: Allocator>(
+/// Appends what stands before a line in a file, in colours.
+fn push_colored_in_file<A: Allocator>(
+    out: &mut String<A>,
+    path: &str,
+    place: Place,
+) -> Result<(), AllocError>
+    ensures { OnOk result (chars (string_bytes out.new)
+        ≡ chars (string_bytes out.old) ++ line_front Colored (Some path.entry) place) }
+{
+    let of_path = start_of(Paint::Path);
+    let of_place = start_of(Paint::Place);
+    write!(
+        out,
+        "{of_path}{path}{PAINT_END}:{of_place}{place}{PAINT_END}: "
+    )
+}
+
+/// Appends what stands before a line, in colours.
+#[inline(never)]
+fn push_colored_front<A: Allocator>(
     out: &mut String<A>,
     path: Option<&str>,
     place: Place,
 ) -> Result<(), AllocError>
     ensures { OnOk result (chars (string_bytes out.new)
-        ≡ chars (string_bytes out.old) ++ line_front path.entry place) }
+        ≡ chars (string_bytes out.old) ++ line_front Colored path.entry place) }
 {
+    match path {
+        Some(path) => push_colored_in_file(out, path, place),
+        None => write!(out, "{}{place}{PAINT_END} ", start_of(Paint::Place)),
+    }
+}
+
+/// Appends what stands before a line: its place, after the path where there is one.
+#[inline(always)]
+pub(crate) fn push_front<A: Allocator>(
+    out: &mut String<A>,
+    form: Form,
+    path: Option<&str>,
+    place: Place,
+) -> Result<(), AllocError>
+    ensures { OnOk result (chars (string_bytes out.new)
+        ≡ chars (string_bytes out.old) ++ line_front form path.entry place) }
+{
+    if has_colors(form) {
+        return push_colored_front(out, path, place);
+    }
     match path {
         Some(path) => push_in_file(out, path, place),
         None => {
@@ -143,24 +184,23 @@ pub(crate) fn place_of<'t>(
     Place::Bytes(lo, hi)
 }
 
-/// The place in the source of bytes of the token's text, at whose first byte the rest begins.
+/// The place in the source of bytes of the literal's text.
 pub(crate) fn place_inside<'t>(
     by_line: bool,
     places: &mut Places<'t>,
-    token: SourceToken<'t>,
-    rest: &'t str,
+    literal: &Literal<'t>,
     first: usize,
     last: usize,
 ) -> Place
-    requires rest { BeginsRest token places.old rest.now }
-    requires cut { IsCutAt (chars token.text.now) first }
-    requires within { last ≤ byte_len (chars token.text.now) }
+    requires rest { BeginsRest literal.now.token places.old literal.now.rest.now }
+    requires cut { IsCutAt (chars literal.now.token.text.now) first }
+    requires within { last ≤ byte_len (chars literal.now.token.text.now) }
     ensures place { IsPlaceIn by_line (chars places.old)
-        (token.entry.lo + first) (token.entry.lo + last) result }
+        (literal.now.token.lo + first) (literal.now.token.lo + last) result }
     ensures same { places.new ≡ places.old }
 {
-    let lo = token.lo + first;
-    let hi = token.lo + last;
-    let inside = &rest[first..];
+    let lo = literal.token.lo + first;
+    let hi = literal.token.lo + last;
+    let inside = &literal.rest[first..];
     place_of(by_line, places, inside, lo, hi)
 }

@@ -4,14 +4,15 @@ ghost use Rattle.std.specs.Prelude.{◌≡◌, ◌++◌, ◌↔◌, IsTrue, OnOk
 ghost use Rattle.std.specs.Str.{chars};
 ghost use Rattle.rl_lines.specs.Lines.{Appends};
 ghost use Rattle.rl_reasons.specs.FlawWords.{flaw_message};
-ghost use Rattle.rl_sources.specs.Scans.{FindsFlaw, IsFlawLine, IsFlawPiece, IsSlice, error_words};
+ghost use Rattle.rl_sources.specs.Scans.{FindsFlaw, IsFlawLine, IsFlawLineAt, IsFlawPiece, IsSlice, error_reason};
 ghost use Rattle.rl_sources.specs.Steps.{BeginsRest};
 
+use crate::color::push_error_word;
+use crate::literal::Literal;
 use crate::options::Options;
-use crate::place::{Places, place_inside, push_front};
+use crate::place::{Place, Places, place_inside, push_front};
 use rl_files::push_visible;
 use rl_grammar::{Flaw, FlawKind};
-use rl_tokens::SourceToken;
 use std::alloc::{AllocError, Allocator};
 
 /// Whether the bytes from `lo` to `hi` are a text.
@@ -32,40 +33,54 @@ fn piece_of(text: &str, flaw: Flaw) -> &str
 }
 
 /// Appends what is wrong: a message, and a piece of the text where there is one.
-fn push_error<A: Allocator>(
+fn push_reason<A: Allocator>(
     out: &mut String<A>,
     kind: FlawKind,
     piece: &str,
 ) -> Result<(), AllocError>
     ensures { OnOk result (chars (string_bytes out.new)
-        ≡ chars (string_bytes out.old) ++ error_words (flaw_message kind) (chars piece.now)) }
+        ≡ chars (string_bytes out.old) ++ error_reason (flaw_message kind) (chars piece.now)) }
 {
     if piece.is_empty() {
-        return writeln!(out, "error: {kind}");
+        return writeln!(out, ": {kind}");
     }
-    write!(out, "error: {kind}: ")?;
+    write!(out, ": {kind}: ")?;
     push_visible(out, piece)?;
     out.push_str("\n")?;
     Ok(())
+}
+
+/// Appends the line that says why a text is bad, after this place.
+fn push_flaw_at<A: Allocator>(
+    out: &mut String<A>,
+    options: Options<'_>,
+    text: &str,
+    flaw: Flaw,
+    place: Place,
+) -> Result<(), AllocError>
+    ensures { OnOk result (Appends (IsFlawLineAt options.entry (chars text.now) flaw place)
+        (chars (string_bytes out.old)) (chars (string_bytes out.new))) }
+{
+    push_front(out, options.form, options.path, place)?;
+    push_error_word(out, options.form)?;
+    push_reason(out, flaw.kind, piece_of(text, flaw))
 }
 
 /// Appends the line that says why a literal is bad, and where.
 pub(crate) fn push_flaw<'t, A: Allocator>(
     out: &mut String<A>,
     options: Options<'_>,
-    token: SourceToken<'t>,
-    rest: &'t str,
+    literal: &Literal<'t>,
     places: &mut Places<'t>,
     flaw: Flaw,
 ) -> Result<(), AllocError>
-    requires rest { BeginsRest token places.old rest.now }
-    requires flaw { FindsFlaw options.judge (chars token.text.now) flaw }
+    requires rest { BeginsRest literal.now.token places.old literal.now.rest.now }
+    requires flaw { FindsFlaw options.judge (chars literal.now.token.text.now) flaw }
     ensures shown { OnOk result (Appends
-        (IsFlawLine options.entry (chars places.old) (chars token.entry.text.now) token.entry.lo)
+        (IsFlawLine options.entry (chars places.old) (chars literal.now.token.text.now) literal.now.token.lo)
         (chars (string_bytes out.old)) (chars (string_bytes out.new))) }
     ensures same { places.new ≡ places.old }
 {
-    let place = place_inside(options.by_line, places, token, rest, flaw.lo, flaw.hi);
-    push_front(out, options.path, place)?;
-    push_error(out, flaw.kind, piece_of(token.text, flaw))
+    let place = place_inside(options.by_line, places, literal, flaw.lo, flaw.hi);
+    push_flaw_at(out, options, literal.token.text, flaw, place)
 }

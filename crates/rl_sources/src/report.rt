@@ -8,10 +8,11 @@ ghost use Rattle.rl_files.specs.declared.tree.PathError.{PathError};
 ghost use Rattle.rl_lexer.specs.LexErrors.{lex_message};
 ghost use Rattle.rl_sources.specs.Places.{line_front};
 ghost use Rattle.rl_sources.specs.Scans.{error_words};
-ghost use Rattle.rl_sources.specs.Reports.{is_input as input, is_by_line as by_line, is_bad as bad, IsShownPath, IsOptionsFor, IsScannedAs, error_text, line_count, printed_of, in_report, IsTextReport, IsErrorReport, IsNotUtf8, IsReport};
+ghost use Rattle.rl_sources.specs.Reports.{is_input as input, is_by_line as by_line, is_bad as bad, is_alarm as alarm, IsShownPath, IsOptionsFor, IsScannedAs, error_form as told_form, error_text, line_count, count_line, path_line, printed_of, in_report, IsTextReport, IsErrorReport, IsNotUtf8, IsReport};
 
+use crate::color::{Paint, push_error_word, push_painted};
 use crate::command::{Command, Output, PlaceForm};
-use crate::options::{Options, Shown};
+use crate::options::{Form, Options, Shown};
 use crate::place::{Place, push_front};
 use crate::scan_error::ScanError;
 use crate::scanner::scan;
@@ -71,6 +72,13 @@ pub(crate) fn is_bad(shown: Shown<'_>) -> bool
     matches!(shown, Shown::Bad)
 }
 
+/// Whether what is found is an alarm: where what is bad is asked for, or what turns or hides text.
+pub(crate) fn is_alarm(shown: Shown<'_>) -> bool
+    ensures { result ≡ alarm shown.entry }
+{
+    matches!(shown, Shown::Bad | Shown::Hidden)
+}
+
 /// What stands before each place in a file, whose path is printed so; nothing before those of standard input.
 fn path_before<'a>(path: &str, shown: &'a str) -> Option<&'a str>
     requires { chars shown.now ≡ visible (chars path.now) }
@@ -119,33 +127,48 @@ fn scan_text<A: Allocator + Copy>(
     }
 }
 
+/// How the line of a source's error is written: as the others, where errors are among what is found; else plain, since
+/// it goes to standard error.
+fn error_form(options: Options<'_>) -> Form
+    ensures { result ≡ told_form options.entry }
+{
+    if options.explains {
+        options.form
+    } else {
+        Form::Plain
+    }
+}
+
 /// Appends the line of a source's error.
 fn push_source_error<A: Allocator>(
     out: &mut String<A>,
+    form: Form,
     path: Option<&str>,
     place: Place,
     kind: LexKind,
 ) -> Result<(), AllocError>
     ensures { OnOk result (chars (string_bytes out.new) ≡ chars (string_bytes out.old)
-        ++ (line_front path.entry place ++ error_words (lex_message kind) [])) }
+        ++ (line_front form path.entry place ++ error_words form (lex_message kind) [])) }
 {
-    push_front(out, path, place)?;
-    writeln!(out, "error: {kind}")
+    push_front(out, form, path, place)?;
+    push_error_word(out, form)?;
+    writeln!(out, ": {kind}")
 }
 
 /// The line of a source's error; nothing where there is none.
 fn error_line<A: Allocator>(
     alloc: A,
+    form: Form,
     path: Option<&str>,
     error: Option<(Place, LexKind)>,
 ) -> Result<String<A>, AllocError>
-    ensures { IfOk result (λ line. string_bytes line ≡ encode_utf8_all (error_text path.entry error)) }
+    ensures { IfOk result (λ line. string_bytes line ≡ encode_utf8_all (error_text form path.entry error)) }
 {
     let mut line = String::new(alloc);
     match error {
         None => Ok(line),
         Some((place, kind)) => {
-            push_source_error(&mut line, path, place, kind)?;
+            push_source_error(&mut line, form, path, place, kind)?;
             Ok(line)
         }
     }
@@ -158,30 +181,56 @@ fn count_lines(lines: &[u8]) -> usize
     lines.iter().filter(|byte| **byte == b'\n').count()
 }
 
+/// Appends the line that says how many lines a file has.
+fn push_count_line<A: Allocator>(
+    out: &mut String<A>,
+    form: Form,
+    path: Option<&str>,
+    count: usize,
+) -> Result<(), AllocError>
+    ensures { OnOk result (string_bytes out.new ≡ string_bytes out.old ++ count_line form path.entry count) }
+{
+    match path {
+        Some(path) => {
+            push_painted(out, form, Paint::Path, path)?;
+            writeln!(out, ":{count}")
+        }
+        None => writeln!(out, "{count}"),
+    }
+}
+
+/// Appends the line that names a file.
+fn push_path_line<A: Allocator>(
+    out: &mut String<A>,
+    form: Form,
+    path: Option<&str>,
+) -> Result<(), AllocError>
+    ensures { OnOk result (string_bytes out.new ≡ string_bytes out.old ++ path_line form path.entry) }
+{
+    push_painted(out, form, Paint::Path, path.unwrap_or("-"))?;
+    out.push_str("\n")?;
+    Ok(())
+}
+
 /// What is printed of the lines of a file.
 fn written<A: Allocator + Copy>(
     alloc: A,
     output: Output,
+    form: Form,
     path: Option<&str>,
     lines: Vec<u8, A>,
 ) -> Result<Vec<u8, A>, AllocError>
-    ensures { IfOk result (λ out. out.items ≡ printed_of output path.entry lines.items) }
+    ensures { IfOk result (λ out. out.items ≡ printed_of output form path.entry lines.items) }
 {
     if lines.is_empty() {
         return Ok(lines);
     }
     let mut line = String::new(alloc);
-    match (output, path) {
-        (Output::Lines, _) => return Ok(lines),
-        (Output::Nothing, _) => {}
-        (Output::Count, Some(path)) => writeln!(
-            &mut line,
-            "{path}:{}",
-            count_lines(lines.as_slice())
-        )?,
-        (Output::Count, None) => writeln!(&mut line, "{}", count_lines(lines.as_slice()))?,
-        (Output::Path, Some(path)) => writeln!(&mut line, "{path}")?,
-        (Output::Path, None) => writeln!(&mut line, "-")?,
+    match output {
+        Output::Lines => return Ok(lines),
+        Output::Count => push_count_line(&mut line, form, path, count_lines(lines.as_slice()))?,
+        Output::Path => push_path_line(&mut line, form, path)?,
+        Output::Nothing => {}
     }
     Ok(line.into_bytes())
 }
@@ -198,13 +247,19 @@ fn report_text<A: Allocator + Copy>(
     let shown = visible_text(alloc, path)?;
     let options = options_for(command, path, shown.as_str());
     let mut scanned = scan_text(alloc, options, text)?;
-    let mut told = error_line(alloc, options.path, scanned.error)?;
+    let mut told = error_line(alloc, error_form(options), options.path, scanned.error)?;
     if options.explains {
         scanned.lines.extend_from_slice(told.as_bytes())?;
         told.clear();
     }
     let found = !scanned.lines.is_empty();
-    let out = written(alloc, command.output, options.path, scanned.lines)?;
+    let out = written(
+        alloc,
+        command.output,
+        options.form,
+        options.path,
+        scanned.lines,
+    )?;
     Ok(Report { out, told, found })
 }
 

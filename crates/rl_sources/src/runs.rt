@@ -6,7 +6,7 @@ ghost use Rattle.rl_sources.specs.Runs.{WritesReport, WritesSome, WritesWalk, Wr
 
 use crate::command::Command;
 use crate::options::Shown;
-use crate::report::{is_bad, report_of};
+use crate::report::{is_alarm, report_of};
 use rl_files::{Tree, Visit, Walk, WalkError};
 use rl_program::{WriteError, write_bytes};
 use std::alloc::Allocator;
@@ -42,15 +42,15 @@ impl Tally {
         }
     }
 
-    /// The status that a run ends with which found this: 2 where an error was reported; else 1 where what was looked
-    /// for is bad, and some was found; else 0.
+    /// The status that a run ends with which found this: 2 where an error was reported; else 1 where what is bad was
+    /// asked for, or what turns or hides text, and some was found; else 0.
     pub fn status(self, shown: Shown<'_>) -> u8
         ensures { result ≡ run_status shown.entry self }
     {
         if self.failed {
             return 2;
         }
-        if is_bad(shown) && self.found {
+        if is_alarm(shown) && self.found {
             return 1;
         }
         0

@@ -1,40 +1,32 @@
 //! What is shown of the tokens of a source, one after another.
 
-ghost use Rattle.std.specs.Prelude.{◌≡◌, ◌+◌, ◌<◌, ◌++◌, [], length, codes, Some, None, IfSome, IfNone, IfOk, IfErr, OnOk, MatchOption, string_bytes};
+ghost use Rattle.std.specs.Prelude.{◌≡◌, ◌+◌, ◌<◌, ◌≤◌, ◌++◌, [], length, codes, IfSome, IfOk, IfErr, OnOk, MatchOption, string_bytes};
 ghost use Rattle.std.specs.Str.{chars};
-ghost use Rattle.rl_forms.specs.Reading.{HasNoReading};
+ghost use Rattle.rl_text.specs.Texts.{byte_len};
 ghost use Rattle.rl_lexer.specs.Cursors.{IsCursorState};
 ghost use Rattle.rl_lexer.specs.Sources.{TakesSource};
-ghost use Rattle.rl_reading.specs.Founds.{IsFound};
 ghost use Rattle.rl_files.specs.Visible.{visible};
 ghost use Rattle.rl_lines.specs.Lines.{Appends};
-ghost use Rattle.rl_sources.specs.Scans.{FindsFlaw, FindsNoFlaw, IsHeldLine, IsLineIn, IsPickedLine, IsPlacedLine, IsPrintedAs, IsShownLiteral, IsErrorAt};
+ghost use Rattle.rl_sources.specs.Held.{IsCutAt};
+ghost use Rattle.rl_sources.specs.Scans.{IsAskedLine, IsErrorAt, IsHeldLine, IsHiddenLine, IsLineAt, IsLineIn, IsPickedLine, IsPlacedLine, IsPrintedAs, IsShownLiteral};
 ghost use Rattle.rl_sources.specs.declared.options.Spelling.TheVariants.{Value};
-ghost use Rattle.rl_sources.specs.Steps.{IsAcceptedToken, BeginsRest, IsCursorOver, LooksForFlaws, TakesShown, EndsUnshown, StopsUnshown, IsStepOf};
+ghost use Rattle.rl_sources.specs.Steps.{BeginsRest, EndsUnshown, IsAcceptedToken, IsCursorOver, IsLiteralOf, IsReadAs, IsStepOf, StopsUnshown, TakesShown};
 
 use crate::held::held_at;
+use crate::hidden::{hidden_at, is_hidden};
 use crate::judge::{flaw_of, reason_of};
-use crate::options::{Options, Spelling};
+use crate::literal::{Literal, kind_of};
+use crate::options::{Options, Shown, Spelling};
 use crate::place::{Place, Places, place_inside, place_of, push_front};
 use crate::reason::push_flaw;
 use rl_files::{make_visible, push_visible};
-use rl_grammar::{Flaw, Found, Kind, find};
+use rl_grammar::{Found, find};
 use rl_lines::{label_of, push_found};
 use rl_tokens::{LexError, LexKind, SourceForm, SourceToken, Sources};
 use std::alloc::{AllocError, Allocator};
 
 /// How many bytes of lines are gathered before they are written.
 const FULL: usize = 65_536;
-
-/// The kind of what was found.
-fn kind_of(found: &Option<Found>) -> Option<Kind>
-    ensures { MatchOption found.now (result ≡ None) (λ f. result ≡ Some f.kind) }
-{
-    match found {
-        Some(found) => Some(found.kind),
-        None => None,
-    }
-}
 
 /// Appends the line of a text, of what reading it found, as it is printed.
 fn push_text_line<A: Allocator + Copy>(
@@ -43,8 +35,7 @@ fn push_text_line<A: Allocator + Copy>(
     text: &str,
     found: Option<Found>,
 ) -> Result<(), AllocError>
-    requires none { IfNone found (HasNoReading (chars text.now)) }
-    requires found { IfSome found (IsFound text.now) }
+    requires { IsReadAs text.now found }
     ensures { OnOk result (Appends (IsPrintedAs Value (chars text.now))
         (chars (string_bytes out.old)) (chars (string_bytes out.new))) }
 {
@@ -63,23 +54,37 @@ fn push_source<A: Allocator>(out: &mut String<A>, text: &str) -> Result<(), Allo
     Ok(())
 }
 
-/// Appends what is printed of a literal, of what reading it found.
+/// Appends what is printed of a literal.
 fn push_printed<A: Allocator + Copy>(
     alloc: A,
     out: &mut String<A>,
     spelling: Spelling,
-    text: &str,
-    found: Option<Found>,
+    literal: &Literal<'_>,
 ) -> Result<(), AllocError>
-    requires none { IfNone found (HasNoReading (chars text.now)) }
-    requires found { IfSome found (IsFound text.now) }
-    ensures { OnOk result (Appends (IsPrintedAs spelling (chars text.now))
+    requires { IsReadAs literal.now.token.text.now literal.now.found }
+    ensures { OnOk result (Appends (IsPrintedAs spelling (chars literal.now.token.text.now))
         (chars (string_bytes out.old)) (chars (string_bytes out.new))) }
 {
     match spelling {
-        Spelling::Value => push_text_line(alloc, out, text, found),
-        Spelling::Source => push_source(out, text),
+        Spelling::Value => push_text_line(alloc, out, literal.token.text, literal.found),
+        Spelling::Source => push_source(out, literal.token.text),
     }
+}
+
+/// Appends the line of a literal, after this place.
+fn push_line_at<A: Allocator + Copy>(
+    alloc: A,
+    out: &mut String<A>,
+    options: Options<'_>,
+    literal: &Literal<'_>,
+    place: Place,
+) -> Result<(), AllocError>
+    requires { IsReadAs literal.now.token.text.now literal.now.found }
+    ensures { OnOk result (Appends (IsLineAt options.entry (chars literal.now.token.text.now) place)
+        (chars (string_bytes out.old)) (chars (string_bytes out.new))) }
+{
+    push_front(out, options.form, options.path, place)?;
+    push_printed(alloc, out, options.spelling, literal)
 }
 
 /// Appends the line of a literal, after its place.
@@ -87,23 +92,41 @@ fn push_placed<'t, A: Allocator + Copy>(
     alloc: A,
     out: &mut String<A>,
     options: Options<'_>,
-    token: SourceToken<'t>,
-    found: Option<Found>,
-    rest: &'t str,
+    literal: &Literal<'t>,
     places: &mut Places<'t>,
 ) -> Result<(), AllocError>
-    requires rest { BeginsRest token places.old rest.now }
-    requires none { IfNone found (HasNoReading (chars token.text.now)) }
-    requires found { IfSome found (IsFound token.text.now) }
+    requires { IsLiteralOf options places.old literal.now }
     ensures shown { OnOk result (Appends
-        (IsPlacedLine options.entry (chars places.old) (chars token.entry.text.now)
-        token.entry.lo token.entry.hi)
+        (IsPlacedLine options.entry (chars places.old) (chars literal.now.token.text.now)
+        literal.now.token.lo literal.now.token.hi)
         (chars (string_bytes out.old)) (chars (string_bytes out.new))) }
     ensures same { places.new ≡ places.old }
 {
-    let place = place_of(options.by_line, places, rest, token.lo, token.hi);
-    push_front(out, options.path, place)?;
-    push_printed(alloc, out, options.spelling, token.text, found)
+    let token = literal.token;
+    let place = place_of(options.by_line, places, literal.rest, token.lo, token.hi);
+    push_line_at(alloc, out, options, literal, place)
+}
+
+/// Appends the line of a literal, after the place of these bytes of its text.
+fn push_inside<'t, A: Allocator + Copy>(
+    alloc: A,
+    out: &mut String<A>,
+    options: Options<'_>,
+    literal: &Literal<'t>,
+    places: &mut Places<'t>,
+    range: (usize, usize),
+) -> Result<(), AllocError>
+    requires literal { IsLiteralOf options places.old literal.now }
+    requires cut { IsCutAt (chars literal.now.token.text.now) range.0 }
+    requires within { range.1 ≤ byte_len (chars literal.now.token.text.now) }
+    ensures shown { OnOk result (Appends
+        (IsPlacedLine options.entry (chars places.old) (chars literal.now.token.text.now)
+        (literal.now.token.lo + range.0) (literal.now.token.lo + range.1))
+        (chars (string_bytes out.old)) (chars (string_bytes out.new))) }
+    ensures same { places.new ≡ places.old }
+{
+    let place = place_inside(options.by_line, places, literal, range.0, range.1);
+    push_line_at(alloc, out, options, literal, place)
 }
 
 /// Appends the line of a literal: its own, or where lines tell flaws and it has one, the line that says why it is bad.
@@ -111,26 +134,19 @@ fn push_line_in<'t, A: Allocator + Copy>(
     alloc: A,
     out: &mut String<A>,
     options: Options<'_>,
-    token: SourceToken<'t>,
-    found: Option<Found>,
-    flaw: Option<Flaw>,
-    rest: &'t str,
+    literal: &Literal<'t>,
     places: &mut Places<'t>,
 ) -> Result<(), AllocError>
-    requires rest { BeginsRest token places.old rest.now }
-    requires none { IfNone found (HasNoReading (chars token.text.now)) }
-    requires found { IfSome found (IsFound token.text.now) }
-    requires flaw { IfSome flaw (FindsFlaw options.judge (chars token.text.now)) }
-    requires no_flaw { IfNone flaw (LooksForFlaws options → FindsNoFlaw options.judge (chars token.text.now)) }
+    requires { IsLiteralOf options places.old literal.now }
     ensures shown { OnOk result (Appends
-        (IsLineIn options.entry (chars places.old) (chars token.entry.text.now)
-        token.entry.lo token.entry.hi)
+        (IsLineIn options.entry (chars places.old) (chars literal.now.token.text.now)
+        literal.now.token.lo literal.now.token.hi)
         (chars (string_bytes out.old)) (chars (string_bytes out.new))) }
     ensures same { places.new ≡ places.old }
 {
-    match reason_of(options.explains, flaw) {
-        Some(flaw) => push_flaw(out, options, token, rest, places, flaw),
-        None => push_placed(alloc, out, options, token, found, rest, places),
+    match reason_of(options.explains, literal.flaw) {
+        Some(flaw) => push_flaw(out, options, literal, places, flaw),
+        None => push_placed(alloc, out, options, literal, places),
     }
 }
 
@@ -140,53 +156,83 @@ fn push_held_line<'t, A: Allocator + Copy>(
     alloc: A,
     out: &mut String<A>,
     options: Options<'_>,
-    token: SourceToken<'t>,
-    found: Option<Found>,
-    rest: &'t str,
+    literal: &Literal<'t>,
     places: &mut Places<'t>,
     sought: &str,
 ) -> Result<(), AllocError>
-    requires rest { BeginsRest token places.old rest.now }
-    requires none { IfNone found (HasNoReading (chars token.text.now)) }
-    requires found { IfSome found (IsFound token.text.now) }
+    requires { IsLiteralOf options places.old literal.now }
     ensures shown { OnOk result (Appends
-        (IsHeldLine sought.now options.entry (chars places.old) (chars token.entry.text.now) token.entry.lo)
+        (IsHeldLine sought.now options.entry (chars places.old) (chars literal.now.token.text.now)
+        literal.now.token.lo)
         (chars (string_bytes out.old)) (chars (string_bytes out.new))) }
     ensures same { places.new ≡ places.old }
 {
-    let Some((first, last)) = held_at(alloc, token.text, found, sought)? else {
+    let Some(range) = held_at(alloc, literal.token.text, literal.found, sought)? else {
         return Ok(());
     };
-    let place = place_inside(options.by_line, places, token, rest, first, last);
-    push_front(out, options.path, place)?;
-    push_printed(alloc, out, options.spelling, token.text, found)
+    push_inside(alloc, out, options, literal, places, range)
 }
 
-/// Appends what is shown of a literal that is picked: its line, where nothing is looked for, or its contents hold that.
+/// Appends the line of a literal whose text holds a character that turns or hides text, at the place of the first.
+fn push_hidden_line<'t, A: Allocator + Copy>(
+    alloc: A,
+    out: &mut String<A>,
+    options: Options<'_>,
+    literal: &Literal<'t>,
+    places: &mut Places<'t>,
+) -> Result<(), AllocError>
+    requires { IsLiteralOf options places.old literal.now }
+    ensures shown { OnOk result (Appends
+        (IsHiddenLine options.entry (chars places.old) (chars literal.now.token.text.now) literal.now.token.lo)
+        (chars (string_bytes out.old)) (chars (string_bytes out.new))) }
+    ensures same { places.new ≡ places.old }
+{
+    let Some(range) = hidden_at(literal.token.text) else {
+        return Ok(());
+    };
+    push_inside(alloc, out, options, literal, places, range)
+}
+
+/// Appends what is shown of a literal where no text is looked for: its line, which stands at the first character that
+/// turns or hides text where these are asked for.
+fn push_asked<'t, A: Allocator + Copy>(
+    alloc: A,
+    out: &mut String<A>,
+    options: Options<'_>,
+    literal: &Literal<'t>,
+    places: &mut Places<'t>,
+) -> Result<(), AllocError>
+    requires { IsLiteralOf options places.old literal.now }
+    ensures shown { OnOk result (Appends
+        (IsAskedLine options.entry.shown options.entry (chars places.old)
+        (chars literal.now.token.text.now) literal.now.token.lo literal.now.token.hi)
+        (chars (string_bytes out.old)) (chars (string_bytes out.new))) }
+    ensures same { places.new ≡ places.old }
+{
+    match options.shown {
+        Shown::Hidden => push_hidden_line(alloc, out, options, literal, places),
+        _ => push_line_in(alloc, out, options, literal, places),
+    }
+}
+
+/// Appends what is shown of a literal that is picked: where a text is looked for, its line where its contents hold that.
 fn push_picked<'t, A: Allocator + Copy>(
     alloc: A,
     out: &mut String<A>,
     options: Options<'_>,
-    token: SourceToken<'t>,
-    found: Option<Found>,
-    flaw: Option<Flaw>,
-    rest: &'t str,
+    literal: &Literal<'t>,
     places: &mut Places<'t>,
 ) -> Result<(), AllocError>
-    requires rest { BeginsRest token places.old rest.now }
-    requires none { IfNone found (HasNoReading (chars token.text.now)) }
-    requires found { IfSome found (IsFound token.text.now) }
-    requires flaw { IfSome flaw (FindsFlaw options.judge (chars token.text.now)) }
-    requires no_flaw { IfNone flaw (LooksForFlaws options → FindsNoFlaw options.judge (chars token.text.now)) }
+    requires { IsLiteralOf options places.old literal.now }
     ensures shown { OnOk result (Appends
-        (IsPickedLine options.entry.finds options.entry (chars places.old) (chars token.entry.text.now)
-        token.entry.lo token.entry.hi)
+        (IsPickedLine options.entry.finds options.entry (chars places.old)
+        (chars literal.now.token.text.now) literal.now.token.lo literal.now.token.hi)
         (chars (string_bytes out.old)) (chars (string_bytes out.new))) }
     ensures same { places.new ≡ places.old }
 {
     match options.finds {
-        None => push_line_in(alloc, out, options, token, found, flaw, rest, places),
-        Some(sought) => push_held_line(alloc, out, options, token, found, rest, places, sought),
+        None => push_asked(alloc, out, options, literal, places),
+        Some(sought) => push_held_line(alloc, out, options, literal, places, sought),
     }
 }
 
@@ -209,13 +255,20 @@ fn push_literal_token<'t, A: Allocator + Copy>(
 {
     let found = find(token.text);
     let flaw = flaw_of(alloc, options, token.text)?;
+    let hides = is_hidden(options.shown, token.text);
     if !options
         .shown
-        .picks(label_of(kind_of(&found)), flaw.is_some())
+        .picks(label_of(kind_of(&found)), flaw.is_some(), hides)
     {
         return Ok(());
     }
-    push_picked(alloc, out, options, token, found, flaw, rest, places)
+    let literal = Literal {
+        token,
+        rest,
+        found,
+        flaw,
+    };
+    push_picked(alloc, out, options, &literal, places)
 }
 
 /// Cuts off the next token: `None` at the end of the source.

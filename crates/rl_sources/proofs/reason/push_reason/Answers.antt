@@ -1,6 +1,6 @@
 use Rattle.rl_text.proofs.Common.{IsUtf8-string_bytes, on_ok_weaker, sym, ◌∙◌}
 use Rattle.rl_sources.proofs.ReasonLemmas.{error_alone, error_of_piece}
-use Rattle.rl_sources.proofs.reason.push_error.Goals as goal
+use Rattle.rl_sources.proofs.reason.push_reason.Goals as goal
 
 pub returns-then-is_empty : goal.returns-then-is_empty
 returns-then-is_empty g c = on_ok_weaker c.writeln.result (error_alone c.args.kind c.args.piece.now _ _

@@ -1,0 +1,29 @@
+//! A literal of a source.
+
+ghost use Rattle.std.specs.Prelude.{◌≡◌, None, Some, MatchOption};
+
+use rl_grammar::{Flaw, Found, Kind};
+use rl_tokens::SourceToken;
+
+/// A literal of a source.
+#[derive(Clone, Copy)]
+pub(crate) struct Literal<'t> {
+    /// Its token.
+    pub(crate) token: SourceToken<'t>,
+    /// The rest of the source that begins with it.
+    pub(crate) rest: &'t str,
+    /// What reading its text found.
+    pub(crate) found: Option<Found>,
+    /// Its flaw, where flaws are looked for.
+    pub(crate) flaw: Option<Flaw>,
+}
+
+/// The kind of what was found.
+pub(crate) fn kind_of(found: &Option<Found>) -> Option<Kind>
+    ensures { MatchOption found.now (result ≡ None) (λ f. result ≡ Some f.kind) }
+{
+    match found {
+        Some(found) => Some(found.kind),
+        None => None,
+    }
+}
