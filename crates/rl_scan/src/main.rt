@@ -4,17 +4,42 @@
 
 use rl_files::Host;
 use rl_program::{arguments, finish};
-use rl_sources::call;
+use rl_sources::{Console, call};
+use std::env;
+use std::env::VarError;
 use std::io::IsTerminal;
 use std::process::ExitCode;
 
+/// Whether NO_COLOR has a value that isn't empty, as it says that no program colours its output.
+fn forbids_colors(rt: &HostRuntime) -> bool {
+    match env::var(rt, "NO_COLOR") {
+        Ok(value) => !value.is_empty(),
+        Err(error) => !matches!(error, VarError::NotPresent),
+    }
+}
+
+/// Whether TERM names a terminal without colours.
+fn is_dumb(rt: &HostRuntime) -> bool {
+    match env::var(rt, "TERM") {
+        Ok(value) => value.as_str() == "dumb",
+        Err(_) => false,
+    }
+}
+
+/// What a call is told of where it runs.
+fn console(rt: &HostRuntime) -> Console {
+    Console {
+        input_is_terminal: rt.stdin().is_terminal(),
+        has_colors: rt.stdout().is_terminal() && !forbids_colors(rt) && !is_dumb(rt),
+    }
+}
+
 fn main(rt: HostRuntime) -> ExitCode {
     let args = arguments(&rt);
-    let is_terminal = rt.stdin().is_terminal();
     let ending = call(
         rt.alloc(),
         args.as_slice(),
-        is_terminal,
+        console(&rt),
         &Host { rt: &rt },
         &mut rt.stdout(),
         &mut rt.stderr(),

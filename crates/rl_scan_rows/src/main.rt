@@ -1,6 +1,6 @@
 //! Rows of tests: calls of `rl_scan` over a small tree in memory, some of whose files and directories can't be read, and
-//! writers that fail. Each line of input has the words of a call; before them may stand how many bytes the output takes
-//! before it is closed, as `@20`, or fails, as `!20`.
+//! writers that fail. Each line of input has the words of a call; before them may stand `^` where the output takes
+//! colours, and how many bytes it takes before it is closed, as `@20`, or fails, as `!20`.
 #![tactic(auto)]
 
 mod tree;

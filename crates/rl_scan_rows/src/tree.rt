@@ -3,7 +3,7 @@
 use crate::writers::Narrow;
 use rl_files::{PathError, Tree};
 use rl_program::Ending;
-use rl_sources::{CallError, call};
+use rl_sources::{CallError, Console, call};
 use std::alloc::{AllocError, Allocator, Global};
 use std::io;
 use std::io::Write;
@@ -38,6 +38,7 @@ fn bytes_at(path: &str) -> Result<&'static [u8], PathError> {
         "./n.rs" => Ok(b"1 \"a\xff\"".as_slice()),
         "./t\n.rs" => Ok(b"3.5".as_slice()),
         "./none.rs" => Ok(b"fn f() {}".as_slice()),
+        "eq.rs" => Ok(b"\"a=b\" '='".as_slice()),
         "alone" => Ok(b"b'\xc3\xa9' /*".as_slice()),
         "bad.rs" => Ok(BAD.as_bytes()),
         "crlf.rs" => Ok(b"\"a\r\nb\" \"a\r\n\\q\" \"c\r\nd\re\" \"\\\r\n x\"".as_slice()),
@@ -118,6 +119,7 @@ impl Tree for Sample {
 /// Calls the program over the tree, with the words of a line.
 fn call_over(
     alloc: Global,
+    has_colors: bool,
     line: &str,
     out: &mut Narrow,
     err: &mut Vec<u8>,
@@ -128,13 +130,23 @@ fn call_over(
         all.push_str(line)?;
     }
     let words = pieces(alloc, all.as_str(), ' ')?;
-    Ok(call(alloc, words.as_slice(), false, &Sample, out, err))
+    let console = Console {
+        input_is_terminal: false,
+        has_colors,
+    };
+    Ok(call(alloc, words.as_slice(), console, &Sample, out, err))
 }
 
 /// Writes what a call writes, and how it ends.
-fn show<W: Write>(alloc: Global, line: &str, mut narrow: Narrow, page: &mut W) -> io::Result<()> {
+fn show<W: Write>(
+    alloc: Global,
+    has_colors: bool,
+    line: &str,
+    mut narrow: Narrow,
+    page: &mut W,
+) -> io::Result<()> {
     let mut err = Vec::new(alloc);
-    let ending = call_over(alloc, line, &mut narrow, &mut err)?;
+    let ending = call_over(alloc, has_colors, line, &mut narrow, &mut err)?;
     page.write_all(narrow.held.as_slice())?;
     page.write_all(b"--\n".as_slice())?;
     page.write_all(err.as_slice())?;
@@ -147,9 +159,13 @@ pub(crate) fn answer<W: Write>(alloc: Global, line: &str, page: &mut W) -> io::R
     page.write_all(b"== ".as_slice())?;
     page.write_all(line.as_bytes())?;
     page.write_all(b"\n".as_slice())?;
-    let (front, rest) = line.split_once(' ').unwrap_or((line, ""));
+    let (has_colors, words) = match line.strip_prefix("^ ") {
+        Some(words) => (true, words),
+        None => (false, line),
+    };
+    let (front, rest) = words.split_once(' ').unwrap_or((words, ""));
     match Narrow::of_word(alloc, front) {
-        Some(narrow) => show(alloc, rest, narrow, page),
-        None => show(alloc, line, Narrow::wide(alloc), page),
+        Some(narrow) => show(alloc, has_colors, rest, narrow, page),
+        None => show(alloc, has_colors, words, Narrow::wide(alloc), page),
     }
 }

@@ -11,6 +11,7 @@ use Rattle.rl_program.specs.declared.ending.Ending.TheVariants.{Done, FoundBad, 
 use Rattle.rl_sources.specs.declared.command.Wish.{Wish}
 use Rattle.rl_sources.specs.declared.command.Wish.TheVariants.{Scan, Help, Version}
 use Rattle.rl_sources.specs.declared.command.Command.{Command}
+use Rattle.rl_sources.specs.declared.command.Console.{Console}
 use Rattle.rl_sources.specs.declared.words.WordError.{WordError}
 use Rattle.rl_sources.specs.declared.ending.CallError.{CallError}
 use Rattle.rl_sources.specs.declared.ending.CallError.TheVariants.{NoArguments, Word, Walk, Write}
@@ -67,17 +68,17 @@ no_word error Scan wishes is_terminal holds streams (command, is, never) = never
 no_word error Help wishes is_terminal holds streams (text, (never, begun), kept) = never
 no_word error Version wishes is_terminal holds streams (text, (never, begun), kept) = never
 
-pub call_asked : {A B : Type 0} (args : List (String A)) (is_terminal : Bool) (holds : Option World) (streams : Streams)
-    (ending : Ending (CallError B)) (wishes : Wishes) → AskForWishes args wishes
-    → EndsAsked wishes is_terminal holds streams ending → EndsAsScan args is_terminal holds streams ending
-call_asked args is_terminal holds streams Done wishes asks ends = (wishes, asks, ends)
-call_asked args is_terminal holds streams FoundBad wishes asks ends = (wishes, asks, ends)
-call_asked args is_terminal holds streams Reported wishes asks ends = (wishes, asks, ends)
-call_asked args is_terminal holds streams Closed wishes asks ends = (wishes, asks, ends)
-call_asked args is_terminal holds streams (Usage line) wishes asks ends = (wishes, asks, ends)
-call_asked {A} {B} args is_terminal holds streams (Failed NoArguments) wishes asks ends = absurd
-    (no_arguments B wishes.wish wishes is_terminal holds streams ends)
-call_asked args is_terminal holds streams (Failed (Word error)) wishes asks ends = absurd
-    (no_word error wishes.wish wishes is_terminal holds streams ends)
-call_asked args is_terminal holds streams (Failed (Walk error)) wishes asks ends = (wishes, asks, ends)
-call_asked args is_terminal holds streams (Failed Write) wishes asks ends = (wishes, asks, ends)
+pub call_asked : {A B : Type 0} (args : List (String A)) (console : Console) (holds : Option World) (streams : Streams)
+    (ending : Ending (CallError B)) (wishes : Wishes) → AskForWishes console.has_colors args wishes
+    → EndsAsked wishes console.input_is_terminal holds streams ending → EndsAsScan args console holds streams ending
+call_asked args console holds streams Done wishes asks ends = (wishes, asks, ends)
+call_asked args console holds streams FoundBad wishes asks ends = (wishes, asks, ends)
+call_asked args console holds streams Reported wishes asks ends = (wishes, asks, ends)
+call_asked args console holds streams Closed wishes asks ends = (wishes, asks, ends)
+call_asked args console holds streams (Usage line) wishes asks ends = (wishes, asks, ends)
+call_asked {A} {B} args console holds streams (Failed NoArguments) wishes asks ends = absurd
+    (no_arguments B wishes.wish wishes console.input_is_terminal holds streams ends)
+call_asked args console holds streams (Failed (Word error)) wishes asks ends = absurd
+    (no_word error wishes.wish wishes console.input_is_terminal holds streams ends)
+call_asked args console holds streams (Failed (Walk error)) wishes asks ends = (wishes, asks, ends)
+call_asked args console holds streams (Failed Write) wishes asks ends = (wishes, asks, ends)

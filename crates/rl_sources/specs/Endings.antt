@@ -9,6 +9,7 @@ use Rattle.rl_program.specs.declared.ending.Ending.TheVariants.{Done, FoundBad, 
 use Rattle.rl_sources.specs.declared.command.Wish.{Wish}
 use Rattle.rl_sources.specs.declared.command.Wish.TheVariants.{Scan}
 use Rattle.rl_sources.specs.declared.command.Command.{Command}
+use Rattle.rl_sources.specs.declared.command.Console.{Console}
 use Rattle.rl_sources.specs.declared.runs.Tally.{Tally}
 use Rattle.rl_sources.specs.declared.words.WordError.{WordError}
 use Rattle.rl_sources.specs.declared.ending.CallError.{CallError}
@@ -24,14 +25,14 @@ call_error_line (Walk error) = codes "rl_scan: " ++ walk_error_message error
 call_error_line Write = codes "rl_scan: write failed"
 
 -- the arguments are the program's own name and words that ask for this
-abbrev pub AskForWishes : {A : Type 0} → List (String A) → Wishes → Type 0
-AskForWishes [] wishes = ⊥
-AskForWishes (program ∷ words) wishes = Asks (string_texts words) wishes
+abbrev pub AskForWishes : {A : Type 0} → Bool → List (String A) → Wishes → Type 0
+AskForWishes has_colors [] wishes = ⊥
+AskForWishes has_colors (program ∷ words) wishes = Asks has_colors (string_texts words) wishes
 
 -- they are its name and words that can't be asked for
-abbrev pub CannotAsk : {A B : Type 0} → List (String A) → WordError B → Type 0
-CannotAsk [] error = ⊥
-CannotAsk (program ∷ words) error = AreRejected (string_texts words) error
+abbrev pub CannotAsk : {A B : Type 0} → Bool → List (String A) → WordError B → Type 0
+CannotAsk has_colors [] error = ⊥
+CannotAsk has_colors (program ∷ words) error = AreRejected has_colors (string_texts words) error
 
 -- the paths that are read; where none is named, `.` or standard input
 abbrev pub paths_read : Bool → List (List ℕ) → List (List ℕ)
@@ -85,9 +86,11 @@ EndsAsked wishes is_terminal holds streams ending =
 
 -- How a call with these arguments ends: as what they ask for does; or, where they ask for nothing or
 -- can't be had, nothing is written.
-abbrev pub EndsAsScan : {A B : Type 0} → List (String A) → Bool → Option World → Streams → Ending (CallError B)
+abbrev pub EndsAsScan : {A B : Type 0} → List (String A) → Console → Option World → Streams → Ending (CallError B)
     → Type 0
-EndsAsScan args is_terminal holds streams (Failed NoArguments) = (args ≡ []) × WritesNothing streams
-EndsAsScan args is_terminal holds streams (Failed (Word error)) = CannotAsk args error × WritesNothing streams
-EndsAsScan args is_terminal holds streams ending =
-    (wishes : Wishes) × AskForWishes args wishes × EndsAsked wishes is_terminal holds streams ending
+EndsAsScan args console holds streams (Failed NoArguments) = (args ≡ []) × WritesNothing streams
+EndsAsScan args console holds streams (Failed (Word error)) =
+    CannotAsk console.has_colors args error × WritesNothing streams
+EndsAsScan args console holds streams ending =
+    (wishes : Wishes) × AskForWishes console.has_colors args wishes
+    × EndsAsked wishes console.input_is_terminal holds streams ending

@@ -59,3 +59,12 @@ pub struct Command<'a> {
     /// By which grammar a literal is bad.
     pub judge: Judge,
 }
+
+/// What a call is told of where it runs.
+#[derive(Clone, Copy)]
+pub struct Console {
+    /// Whether input is a terminal: where no path is named, `.` is read then.
+    pub input_is_terminal: bool,
+    /// Whether output takes colours: where nothing is said of them, lines have them then.
+    pub has_colors: bool,
+}

@@ -7,7 +7,7 @@ ghost use Rattle.rl_sources.specs.Endings.{paths_read, EndsAsScan, EndsAsked, En
 ghost use Rattle.rl_sources.specs.Runs.{asked_status};
 ghost use Rattle.rl_sources.specs.Words.{wishes_in};
 
-use crate::command::{Command, Wish};
+use crate::command::{Command, Console, Wish};
 use crate::runs::{RunStop, Tally, run};
 use crate::words::{Asked, WordError, asked_by};
 use rl_files::{Tree, Walk, WalkError};
@@ -21,10 +21,11 @@ pub const HELP: &str = "usage: rl_scan [OPTIONS] [PATH..]
 Prints the literals of Rust sources, or what is wrong with them.
 
   PATH   a file, or a directory: all *.rs below it, in the order of their names, without hidden directories and
-         `target`; links aren't followed. `-` is standard input, and so is no PATH, unless input is a terminal (then `.`)
+         `target`; links aren't followed. `-` is standard input, as is no PATH, unless input is a terminal (then `.`)
 What is printed (every literal, if nothing is said)
   -b, --bad            what Rust rejects: bad literals, quotes and comments left open, and why
       --lenient        with --bad: what `syn` rejects too
+  -B, --hidden         literals with raw characters in them that turn or hide text, such as U+202E
   -k, --only KIND,..   Str ByteStr CStr Byte Char Int Float Bool Verbatim, in any case
   -f, --find TEXT      what holds TEXT in its contents, however it is written, at the place where TEXT begins
       --no-stray       a character that begins no token is an error
@@ -34,11 +35,14 @@ How
   -o, --bytes          LO..HI in place of LINE:COLUMN
       --lines          LINE:COLUMN in place of LO..HI
       --text           the literal as it is written, in place of KIND VALUE SUFFIX
+      --json           an object of JSON for each line: path, lo, hi, line, column; kind, text, value, suffix, or error
+      --color WHEN     auto (on a terminal, unless NO_COLOR is set or TERM is dumb), always or never
   -c, --count          how many lines a file has      -l, --files   its path      -q, --quiet   nothing
       --               what follows is a PATH
   -h, --help           -V, --version
-Status: 0 all was read; 1 --bad found something, or --find nothing; 2 wrong arguments, or a file that can't be read to
-its end: each has a line on standard error, and the others are still read
+In one word: --only=KIND,.. --find=TEXT --color=WHEN
+Status: 0 all was read; 1 --bad or --hidden found something, or --find nothing; 2 wrong arguments, or a file that can't
+be read to its end: each has a line on standard error, and the others are still read
 ";
 
 /// Which version it is.
@@ -186,17 +190,16 @@ fn answer<A: Allocator + Copy, T: Tree, W: Write, E: Write>(
     }
 }
 
-/// A call of the program with these arguments, its own name the first; whether input is a terminal decides what is read
-/// where they name no path.
+/// A call of the program with these arguments, its own name the first.
 pub fn call<A: Allocator + Copy, T: Tree, W: Write, E: Write>(
     alloc: A,
     args: &[String<A>],
-    is_terminal: bool,
+    console: Console,
     tree: &T,
     out: &mut W,
     err: &mut E,
 ) -> Ending<CallError<A>>
-    ensures { EndsAsScan args.now is_terminal (T.holds tree.now) (record {
+    ensures { EndsAsScan args.now console (T.holds tree.now) (record {
       out_old = W.contents out.old;
       out_new = W.contents out.new;
       err_old = E.contents err.old;
@@ -206,8 +209,8 @@ pub fn call<A: Allocator + Copy, T: Tree, W: Write, E: Write>(
     let [_, words @ ..] = args else {
         return Ending::Failed(CallError::NoArguments);
     };
-    match asked_by(alloc, words) {
-        Ok(asked) => answer(alloc, asked, is_terminal, tree, out, err),
+    match asked_by(alloc, console.has_colors, words) {
+        Ok(asked) => answer(alloc, asked, console.input_is_terminal, tree, out, err),
         Err(error) => Ending::Failed(CallError::Word(error)),
     }
 }

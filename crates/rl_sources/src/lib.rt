@@ -5,6 +5,7 @@
 mod color;
 mod command;
 mod ending;
+mod flags;
 mod held;
 mod hidden;
 mod json;
@@ -21,7 +22,7 @@ mod scanner;
 mod step;
 mod words;
 
-pub use crate::command::{Command, Output, PlaceForm, Wish};
+pub use crate::command::{Command, Console, Output, PlaceForm, Wish};
 pub use crate::ending::{CallError, HELP, VERSION, call};
 pub use crate::json_string::json_strings_stand;
 pub use crate::options::{Form, Judge, Options, Shown, Spelling};
