@@ -9,5 +9,5 @@ mod print;
 
 pub use crate::digits::decoded;
 pub use crate::found_line::push_found;
-pub use crate::line::label_of;
+pub use crate::line::{are_bare, label_of};
 pub use crate::print::{line_of, lines_of, push_literal, push_literals};

@@ -29,8 +29,8 @@ fn is_bare(byte: u8) -> bool
     byte >= b' ' && byte < 127 && byte != b'"' && byte != b'\\'
 }
 
-/// Whether a string literal holds the text as it stands.
-fn are_bare(bytes: &[u8]) -> bool
+/// Whether all bytes are bare: printable ASCII, and no quotes and no backslashes.
+pub fn are_bare(bytes: &[u8]) -> bool
     ensures { result ≡ list_all is_bare bytes.now }
 {
     bytes.iter().all(|byte| is_bare(*byte))

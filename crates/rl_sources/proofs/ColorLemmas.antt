@@ -9,9 +9,8 @@ use Rattle.rl_sources.specs.declared.options.Form.{Form}
 use Rattle.rl_sources.specs.declared.options.Form.TheVariants.{Plain, Colored, Json}
 use Rattle.rl_sources.specs.declared.place.Place.{Place}
 use Rattle.rl_sources.specs.Colors.{has_colors, paint_end, paint_start, painted}
-use Rattle.rl_sources.specs.Places.{line_front, place_text}
-use Rattle.rl_sources.proofs.StepLemmas.{place_ascii}
-use Rattle.rl_sources.proofs.ReasonLemmas.{low_text}
+use Rattle.rl_sources.specs.Places.{worded_front, place_text}
+use Rattle.rl_sources.proofs.StepLemmas.{low_text, place_ascii}
 
 -- a text in a colour, and one without
 pub painted_on : (form : Form) (color : Paint) (start text old new : List ℕ) → has_colors form ≡ true
@@ -39,7 +38,7 @@ error_word form old new utf8 written =
 
 -- without colours
 pub plain_front : (form : Form) (path : Option (Bor (List ℕ))) (place : Place) → has_colors form ≡ false
-    → line_front Plain path place ≡ line_front form path place
+    → worded_front Plain path place ≡ worded_front form path place
 plain_front Plain path place off = refl
 plain_front Colored path place off = absurd (false≢true (sym off))
 plain_front Json None place off = refl
@@ -64,7 +63,7 @@ place_low place after low =
 
 pub colored_bare : (place : Place) (start old new : List ℕ) → IsUtf8 old → start ≡ paint_start paint.Place
     → new ≡ old ++ (start ++ (place_text place ++ (paint_end ++ codes " ")))
-    → chars new ≡ chars old ++ line_front Colored None place
+    → chars new ≡ chars old ++ worded_front Colored None place
 unfolding place_after
 colored_bare place start old new utf8 is written =
     let piece : List ℕ = place_after place (codes " ") in
@@ -77,7 +76,7 @@ pub colored_in_file : (path : Bor (List ℕ)) (place : Place) (first second old 
     → IsUtf8 path.now → first ≡ paint_start paint.Path → second ≡ paint_start paint.Place
     → new ≡ old ++ (first ++ (path.now
     ++ (paint_end ++ (codes ":" ++ (second ++ (place_text place ++ (paint_end ++ codes ": ")))))))
-    → chars new ≡ chars old ++ line_front Colored (Some path) place
+    → chars new ≡ chars old ++ worded_front Colored (Some path) place
 unfolding place_after
 colored_in_file path place first second old new utf8 is_path is_first is_second written =
     let start : List ℕ = paint_start paint.Path in

@@ -11,3 +11,5 @@ pub mod ReportLemmas
 pub mod RunLemmas
 pub mod WordLemmas
 pub mod EndingLemmas
+pub mod JsonStringLemmas
+pub mod JsonLemmas

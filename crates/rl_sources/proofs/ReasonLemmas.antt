@@ -31,9 +31,9 @@ use Rattle.rl_sources.specs.declared.place.Place.{Place}
 use Rattle.rl_sources.specs.Colors.{painted}
 use Rattle.rl_sources.specs.Held.{IsCutAt}
 use Rattle.rl_sources.specs.Places.{line_front, HoldsPlaces, IsPlaceIn}
-use Rattle.rl_sources.specs.Scans.{FindsFlaw, IsFlawLine, IsFlawLineAt, IsFlawPiece, IsSlice, error_reason}
+use Rattle.rl_sources.specs.Scans.{FindsFlaw, IsFlawLine, IsFlawLineAt, IsFlawPiece, IsSlice, error_reason, flaw_end}
 use Rattle.rl_sources.specs.Steps.{BeginsRest, HasPlace}
-use Rattle.rl_sources.proofs.StepLemmas.{back_utf8}
+use Rattle.rl_sources.proofs.StepLemmas.{back_utf8, low_text}
 
 -- a rest that isn't longer stands after another
 tail_by : (x y a b : List ℕ) → x ++ a ≡ y ++ b → length b ≤ length a → (z : List ℕ) × (a ≡ z ++ b)
@@ -152,14 +152,7 @@ flaw_cut text flaw place = record { front = place.front; back = place.rest; text
 
 -- ---- the line
 
--- what ASCII passes
-pub low_text : (cs : List ℕ) → list_all is_ascii cs ≡ true → IsAscii cs
-low_text [] h = IsAscii-nil
-low_text (c ∷ cs) h =
-    let both = and_parts (is_ascii c) (list_all is_ascii cs) h in
-    IsAscii-cons c cs (ltb-true c 128 both.0) (low_text cs both.1)
-
-message_low : (kind : FlawKind) → list_all is_ascii (flaw_message kind) ≡ true
+pub message_low : (kind : FlawKind) → list_all is_ascii (flaw_message kind) ≡ true
 message_low Empty = refl
 message_low NoLiteral = refl
 message_low Unfinished = refl
@@ -211,7 +204,7 @@ words_written message after old new is_low low utf8 written =
     ∙ ap (λ z. chars old ++ z)
     (chars-IsAscii (codes ": " ++ (message ++ after)) (message_ascii message after is_low low))
 
-lex_low : (kind : LexKind) → list_all is_ascii (lex_message kind) ≡ true
+pub lex_low : (kind : LexKind) → list_all is_ascii (lex_message kind) ≡ true
 lex_low DocComment = refl
 lex_low UnclosedComment = refl
 lex_low UnclosedQuote = refl
@@ -224,14 +217,13 @@ lex_low TooDeep = refl
 lex_low Memory = refl
 
 -- the line of a source's error
-pub source_error : (kind : LexKind) (front word old a b new : List ℕ) → IsUtf8 b → chars a ≡ chars old ++ front
-    → chars b ≡ chars a ++ word → new ≡ b ++ (codes ": " ++ (lex_message kind ++ codes "\n"))
-    → chars new ≡ chars old ++ (front ++ (word ++ error_reason (lex_message kind) []))
-source_error kind front word old a b new utf8 begun said written =
-    words_written (lex_message kind) (codes "\n") b new (lex_low kind) refl utf8 written
-    ∙ ap (λ z. z ++ error_reason (lex_message kind) []) (said ∙ ap (λ z. z ++ word) begun)
-    ∙ append_assoc (chars old ++ front) word (error_reason (lex_message kind) [])
-    ∙ append_assoc (chars old) front (word ++ error_reason (lex_message kind) [])
+pub source_error : (kind : LexKind) (word old a new : List ℕ) → IsUtf8 a → chars a ≡ chars old ++ word
+    → new ≡ a ++ (codes ": " ++ (lex_message kind ++ codes "\n"))
+    → chars new ≡ chars old ++ (word ++ error_reason (lex_message kind) [])
+source_error kind word old a new utf8 said written =
+    words_written (lex_message kind) (codes "\n") a new (lex_low kind) refl utf8 written
+    ∙ ap (λ z. z ++ error_reason (lex_message kind) []) said
+    ∙ append_assoc (chars old) word (error_reason (lex_message kind) [])
 
 -- without a piece
 pub error_alone : (kind : FlawKind) (piece old new : List ℕ) → (length piece == 0) ≡ true → IsUtf8 old
@@ -287,25 +279,22 @@ source_shown text old b new u shown ended =
     ∙ append_assoc (chars old) (visible text) (codes "\n")
 
 -- what stands before the line, and what is wrong
-pub flaw_shown : (options : Options) (text : List ℕ) (flaw : Flaw) (place : Place) (piece old a b new : List ℕ)
+pub flaw_shown : (options : Options) (text : List ℕ) (flaw : Flaw) (place : Place) (piece old a new : List ℕ)
     → IsFlawPiece text flaw piece → a ≡ old ++ line_front options.form options.path place
-    → b ≡ a ++ painted options.form paint.Error (codes "error")
-    → new ≡ b ++ error_reason (flaw_message flaw.kind) piece
+    → new ≡ a ++ flaw_end options.form text (flaw_message flaw.kind) piece
     → Appends (IsFlawLineAt options text flaw place) old new
-flaw_shown options text flaw place piece old a b new is_piece begun said ended =
+flaw_shown options text flaw place piece old a new is_piece begun ended =
     let front = line_front options.form options.path place in
-    let word = painted options.form paint.Error (codes "error") in
-    let reason = error_reason (flaw_message flaw.kind) piece in (
-      front ++ (word ++ reason),
+    let end = flaw_end options.form text (flaw_message flaw.kind) piece in (
+      front ++ end,
       (piece, is_piece, refl),
-      ended ∙ ap (λ z. z ++ reason) (said ∙ ap (λ z. z ++ word) begun) ∙ append_assoc (old ++ front) word reason
-          ∙ append_assoc old front (word ++ reason),
+      ended ∙ ap (λ z. z ++ end) begun ∙ append_assoc old front end,
     )
 
 -- the flaw, at its place
 pub flaw_placed : (options : Options) (whole text : List ℕ) (lo : ℕ) (flaw : Flaw) (place : Place)
     (old new : List ℕ) → FindsFlaw options.judge text flaw
-    → IsPlaceIn options.by_line whole (lo + flaw.lo) (lo + flaw.hi) place
+    → IsPlaceIn options whole (lo + flaw.lo) (lo + flaw.hi) place
     → Appends (IsFlawLineAt options text flaw place) old new → Appends (IsFlawLine options whole text lo) old new
 flaw_placed options whole text lo flaw place old new explains is_place (shown, is, e) =
     (shown, (flaw, place, explains, is_place, is), e)

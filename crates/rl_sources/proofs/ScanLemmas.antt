@@ -124,9 +124,9 @@ begins_rest tokens next places rest l stands takes same =
 pub stops : (options : Options) (text : List ℕ) (old : CursorState) (places : List ℕ) (start piece : List ℕ)
     (e : LexError) (place : Place) → old.text ≡ text → IsCursorOver old places
     → Adds options (chars text) start (chars old.rest) piece → IsErrorAt options.rejects_strays e.kind (chars old.rest)
-    → e.at + length old.rest ≡ length old.text → IsPlaceIn options.by_line (chars places) e.at e.at place → (at : ℕ)
+    → e.at + length old.rest ≡ length old.text → IsPlaceIn options (chars places) e.at e.at place → (at : ℕ)
     × (rest : List ℕ) × Adds options (chars text) start rest piece × IsErrorAt options.rejects_strays e.kind rest
-    × (at + byte_len rest ≡ byte_len (chars text)) × IsPlaceIn options.by_line (chars text) at at place
+    × (at + byte_len rest ≡ byte_len (chars text)) × IsPlaceIn options (chars text) at at place
 stops options text old places start piece e place same stands adds error at is_place = (
   e.at,
   chars old.rest,
@@ -141,7 +141,7 @@ stops options text old places start piece e place same stands adds error at is_p
         stands.cursor.following.is_text,
     char_len old.text stands.cursor.is_text,
   ),
-  subst (λ (t : List ℕ). IsPlaceIn options.by_line (chars t) e.at e.at place) (stands.text_is ∙ same) is_place,
+  subst (λ (t : List ℕ). IsPlaceIn options (chars t) e.at e.at place) (stands.text_is ∙ same) is_place,
 )
 
 -- two pieces, one after the other

@@ -1,6 +1,6 @@
 -- What is appended for one token.
 use Rattle.rl_reading.proofs.Names.{HasNoReading, Kind}
-use Rattle.rl_text.proofs.Common.{Bool, IsAscii, IsUtf8, List, None, Option, Some, [], ap, append_assoc, arith, chars, chars-IsAscii, cond, false, inl, inr, lit<, nat_tests, refl, subst, suc, sym, true, zero, ℕ, ◌%◌, ◌++◌, ◌/◌, ◌<◌, ◌==◌, ◌∙◌, ◌∷◌, ◌≡◌, ◌⊎◌, IsCharBoundary, length, take, drop, ◌+◌, chars-append, chars_from_encodes, encodes-append, encodes-chars, length-append, take-append_seam}
+use Rattle.rl_text.proofs.Common.{Bool, IsAscii, IsUtf8, List, None, Option, Some, [], ap, append_assoc, arith, chars, chars-IsAscii, cond, false, inl, inr, lit<, nat_tests, refl, subst, suc, sym, true, zero, ℕ, ◌%◌, ◌++◌, ◌/◌, ◌<◌, ◌==◌, ◌∙◌, ◌∷◌, ◌≡◌, ◌⊎◌, IsCharBoundary, and_parts, codes, is_ascii, list_all, ltb-true, length, take, drop, ◌+◌, chars-append, chars_from_encodes, encodes-append, encodes-chars, length-append, take-append_seam}
 use Rattle.std.specs.Fmt.{digits, decimal, digits_onto, digit_glyph}
 use Rattle.std.proofs.lemmas.List.{append-nil}
 use Rattle.std.proofs.lemmas.Str.{IsAscii-append, IsUtf8-past_char, IsCharBoundary-from_drop}
@@ -24,12 +24,14 @@ use Rattle.rl_sources.specs.declared.options.Spelling.TheVariants.{Value}
 use Rattle.rl_sources.specs.declared.options.Shown.{Shown}
 use Rattle.rl_sources.specs.declared.options.Shown.TheVariants.{All, Only, Bad, Hidden}
 use Rattle.rl_sources.specs.declared.place.Place.{Place}
-use Rattle.rl_sources.specs.declared.place.Place.TheVariants.{Bytes, Line}
+use Rattle.rl_sources.specs.declared.place.Place.TheVariants.{Bytes, Line, Both}
 use Rattle.rl_sources.specs.Options.{Picks}
+use Rattle.rl_lexer.specs.declared.lines.LineColumn.{LineColumn}
+use Rattle.rl_sources.specs.Json.{place_members}
 use Rattle.rl_sources.specs.Places.{line_front, place_text, IsPlaceIn}
 use Rattle.rl_sources.specs.Held.{Holds, IsHeldAt}
 use Rattle.rl_sources.specs.Hidden.{HoldsHidden, IsHiddenAt}
-use Rattle.rl_sources.specs.Scans.{FindsFlaw, FindsNoFlaw, IsAskedLine, IsBad, IsPicked, IsPlacedLine, IsFlawLine, IsHeldLine, IsHiddenLine, IsLineAt, IsLineIn, IsPickedLine, IsPrintedAs, IsShownLiteral}
+use Rattle.rl_sources.specs.Scans.{FindsFlaw, FindsNoFlaw, IsAskedLine, IsBad, IsPicked, IsPlacedLine, IsFlawLine, IsHeldLine, IsHiddenLine, IsLineAt, IsLineEnd, IsLineIn, IsPickedLine, IsPrintedAs, IsShownLiteral}
 use Rattle.rl_sources.specs.Steps.{LooksForFlaws}
 
 -- ---- places are ASCII
@@ -52,6 +54,27 @@ pub decimal_ascii : (n : ℕ) → IsAscii (decimal n)
 unfolding digits
 decimal_ascii n = onto_ascii 64 n [] IsAscii-nil
 
+-- what ASCII passes
+pub low_text : (cs : List ℕ) → list_all is_ascii cs ≡ true → IsAscii cs
+low_text [] h = IsAscii-nil
+low_text (c ∷ cs) h =
+    let both = and_parts (is_ascii c) (list_all is_ascii cs) h in
+    IsAscii-cons c cs (ltb-true c 128 both.0) (low_text cs both.1)
+
+named_on : (name rest : List ℕ) (n : ℕ) → list_all is_ascii name ≡ true → IsAscii rest
+    → IsAscii (name ++ (decimal n ++ rest))
+named_on name rest n low ascii =
+    IsAscii-append name (decimal n ++ rest) (low_text name low) (IsAscii-append (decimal n) rest (decimal_ascii n) ascii)
+
+members_ascii : (lo hi : ℕ) (at : LineColumn) → IsAscii (place_members lo hi at)
+members_ascii lo hi at =
+    let last : List ℕ = codes ",\"column\":" ++ decimal at.column in
+    let line : List ℕ = codes ",\"line\":" ++ (decimal at.line ++ last) in
+    let end : List ℕ = codes ",\"hi\":" ++ (decimal hi ++ line) in
+    named_on (codes "\"lo\":") end lo refl (named_on (codes ",\"hi\":") line hi refl
+    (named_on (codes ",\"line\":") last at.line refl (IsAscii-append (codes ",\"column\":") (decimal at.column)
+    (low_text (codes ",\"column\":") refl) (decimal_ascii at.column))))
+
 pub place_ascii : (place : Place) → IsAscii (place_text place)
 place_ascii (Bytes lo hi) =
     IsAscii-append (decimal lo) (46 ∷ 46 ∷ decimal hi) (decimal_ascii lo)
@@ -59,6 +82,7 @@ place_ascii (Bytes lo hi) =
 place_ascii (Line at) =
     IsAscii-append (decimal at.line) (58 ∷ decimal at.column) (decimal_ascii at.line)
     (IsAscii-cons 58 (decimal at.column) (lit< tt) (decimal_ascii at.column))
+place_ascii (Both lo hi at) = members_ascii lo hi at
 
 pub spaced_ascii : (place : Place) → IsAscii (place_text place ++ 32 ∷ [])
 spaced_ascii place = IsAscii-append (place_text place) (32 ∷ []) (place_ascii place)
@@ -136,14 +160,14 @@ line_printed text old now new u v (line, is_line, e) made =
 -- what stands before it, and the line
 pub line_at : (options : Options) (text : List ℕ) (place : Place) (old mid new : List ℕ)
     → mid ≡ old ++ line_front options.form options.path place
-    → Appends (IsPrintedAs options.spelling text) mid new → Appends (IsLineAt options text place) old new
+    → Appends (IsLineEnd options.form options.spelling text) mid new → Appends (IsLineAt options text place) old new
 line_at options text place old mid new begun (shown, is, e) =
     let front = line_front options.form options.path place in
     (front ++ shown, (shown, is, refl), e ∙ ap (λ z. z ++ shown) begun ∙ append_assoc old front shown)
 
 -- the line, after its place
 pub placed : (options : Options) (whole text : List ℕ) (lo hi : ℕ) (place : Place) (old new : List ℕ)
-    → IsPlaceIn options.by_line whole lo hi place → Appends (IsLineAt options text place) old new
+    → IsPlaceIn options whole lo hi place → Appends (IsLineAt options text place) old new
     → Appends (IsPlacedLine options whole text lo hi) old new
 placed options whole text lo hi place old new is_place (shown, is, e) = (shown, (place, is_place, is), e)
 
@@ -193,7 +217,6 @@ picks_found options text label flaw r h b is found none hides picks = go options
         → IsTrue b ↔ Picks shown label (IsBad options.judge text) (HoldsHidden text)
     go All e p = p
     go (Only list) e p = p
-    go Hidden e p = p
     go Bad e p =
         let both = bad flaw is found none (inr e) in
         (λ t. both.0 (p.0 t), λ t. p.1 (both.1 t))

@@ -72,7 +72,7 @@ writes_up_to A options text lines old new places place kind any more out mid aft
         error = error;
         at = at;
         rest_place = rest_place ∙ ap (λ t. byte_len (chars t)) same;
-        place_is = subst (λ (t : List ℕ). IsPlaceIn options.by_line (chars t) at at place) same is_place;
+        place_is = subst (λ (t : List ℕ). IsPlaceIn options (chars t) at at place) same is_place;
       },
       all.written,
     )

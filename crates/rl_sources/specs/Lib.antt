@@ -10,3 +10,5 @@ pub mod Runs
 pub mod Words
 pub mod Endings
 pub mod Held
+pub mod JsonStrings
+pub mod Json

@@ -25,10 +25,12 @@ use Rattle.rl_sources.specs.declared.options.Options.{Options}
 use Rattle.rl_sources.specs.declared.options.Shown.{Shown}
 use Rattle.rl_sources.specs.declared.options.Shown.TheVariants.{All, Only, Bad, Hidden}
 use Rattle.rl_sources.specs.declared.place.Place.{Place}
+use Rattle.rl_sources.specs.declared.place.Place.TheVariants.{Bytes, Line, Both}
 use Rattle.rl_sources.specs.declared.report.Report.{Report}
 use Rattle.rl_sources.specs.Colors.{painted}
+use Rattle.rl_sources.specs.Json.{is_json}
 use Rattle.rl_sources.specs.Places.{line_front}
-use Rattle.rl_sources.specs.Scans.{Scans, StopsAtError, error_words}
+use Rattle.rl_sources.specs.Scans.{Scans, StopsAtError, error_end}
 
 -- the path of standard input
 abbrev pub is_input : List ℕ → Bool
@@ -54,10 +56,17 @@ is_alarm (Only list) = false
 is_alarm Bad = true
 is_alarm Hidden = true
 
--- a path as it stands before each place: what is printed of it; that of standard input doesn't
+-- a path as it is printed before each place; that of standard input isn't
 abbrev pub IsShownPath : List ℕ → Option (Bor (List ℕ)) → Type 0
 IsShownPath path None = is_input path ≡ true
 IsShownPath path (Some shown) = (is_input path ≡ false) × (chars shown.now ≡ visible (chars path))
+
+-- a path as it stands before each place: as it is printed, or in an object as it is; that of standard
+-- input doesn't
+abbrev pub IsPathIn : Form → List ℕ → Option (Bor (List ℕ)) → Type 0
+IsPathIn form path None = is_input path ≡ true
+IsPathIn form path (Some shown) =
+    (is_input path ≡ false) × (chars shown.now ≡ cond (is_json form) (chars path) (visible (chars path)))
 
 -- How a file of this path is scanned.
 pub record IsOptionsFor (command : Command) (path : List ℕ) (options : Options) : Type 0 where
@@ -69,7 +78,7 @@ pub record IsOptionsFor (command : Command) (path : List ℕ) (options : Options
   pub rejects_strays : options.rejects_strays ≡ command.rejects_strays
   pub explains : options.explains ≡ is_bad command.shown
   pub judge : options.judge ≡ command.judge
-  pub before : IsShownPath path options.path
+  pub before : IsPathIn command.form path options.path
 
 -- the lines of a text, and its error where it has one
 abbrev pub IsScannedAs : Options → List ℕ → List ℕ → Option (Place × LexKind) → Type 0
@@ -82,10 +91,25 @@ IsScannedAs options text lines (Some (place, kind)) =
 abbrev pub error_form : Options → Form
 error_form options = cond options.explains options.form Plain
 
+-- a place by its bytes, or by its line and column
+abbrev pub worded_place : Bool → Place → Place
+worded_place by_line (Bytes lo hi) = Bytes lo hi
+worded_place by_line (Line at) = Line at
+worded_place by_line (Both lo hi at) = cond by_line (Line at) (Bytes lo hi)
+
+-- the place in that line, and the path before it, of which this is printed
+abbrev pub error_place : Options → Place → Place
+error_place options place = cond options.explains place (worded_place options.by_line place)
+
+abbrev pub error_path : Options → Option (Bor (List ℕ)) → Option (Bor (List ℕ))
+error_path options shown = cond options.explains options.path shown
+
 -- the line of a text's error, in characters; nothing where it has none
-abbrev pub error_text : Form → Option (Bor (List ℕ)) → Option (Place × LexKind) → List ℕ
-error_text form path None = []
-error_text form path (Some (place, kind)) = line_front form path place ++ error_words form (lex_message kind) []
+abbrev pub error_text : Options → Option (Bor (List ℕ)) → Option (Place × LexKind) → List ℕ
+error_text options shown None = []
+error_text options shown (Some (place, kind)) =
+    line_front (error_form options) (error_path options shown) (error_place options place)
+    ++ error_end (error_form options) (lex_message kind)
 
 -- how many lines there are
 abbrev pub line_count : List ℕ → ℕ
@@ -126,19 +150,19 @@ abbrev pub told_of : Bool → List ℕ → List ℕ
 told_of true error = []
 told_of false error = error
 
--- What is reported of a text with these lines and this error.
-pub record IsReportOf (output : Output) (options : Options) (lines error : List ℕ) (printed : Findings) : Type 0 where
-  pub out : printed.out ≡ printed_of output options.form options.path (found_in options.explains lines error)
+-- What is reported of a text with these lines and this error, of whose path this is printed.
+pub record IsReportOf (output : Output) (options : Options) (path : Option (Bor (List ℕ))) (lines error : List ℕ)
+    (printed : Findings) : Type 0 where
+  pub out : printed.out ≡ printed_of output options.form path (found_in options.explains lines error)
   pub told : printed.told ≡ told_of options.explains error
   pub found : printed.found ≡ not (length (found_in options.explains lines error) == 0)
 
 -- what is reported of a text
 abbrev pub IsTextReport : Command → List ℕ → List ℕ → Findings → Type 0
 IsTextReport command path text printed =
-    (options : Options) × (lines : List ℕ) × (error : Option (Place × LexKind))
-    × IsOptionsFor command path options × IsScannedAs options text lines error
-    × IsReportOf command.output options lines
-    (encode_utf8_all (error_text (error_form options) options.path error)) printed
+    (options : Options) × (shown : Option (Bor (List ℕ))) × (lines : List ℕ) × (error : Option (Place × LexKind))
+    × IsOptionsFor command path options × IsShownPath path shown × IsScannedAs options text lines error
+    × IsReportOf command.output options shown lines (encode_utf8_all (error_text options shown error)) printed
 
 -- Of a path that can't be read one line is told.
 pub record IsErrorReport (path : List ℕ) (why : PathError) (printed : Findings) : Type 0 where

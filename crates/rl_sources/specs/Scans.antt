@@ -1,7 +1,7 @@
 -- What is shown of a source: a line for each of its literals, after its place, or where it is asked
 -- for one that says why it is bad. Texts and what is shown are lists of characters, what
 -- is written lists of bytes.
-use Rattle.std.specs.Prelude.{◌≡◌, ◌≢◌, ◌⊎◌, ◌↔◌, ℕ, ◌+◌, ◌-◌, ◌≤◌, Bool, List, [], ◌++◌, IsTrue, take, drop, codes, encode_utf8_all, Option, Some, None}
+use Rattle.std.specs.Prelude.{◌≡◌, ◌≢◌, ◌⊎◌, ◌↔◌, ℕ, ◌+◌, ◌-◌, ◌≤◌, Bool, cond, List, [], ◌++◌, IsTrue, take, drop, codes, encode_utf8_all, Option, Some, None}
 use denote.Ref.{Bor}
 use Rattle.std.specs.List.{All}
 use Rattle.std.specs.Str.{IsCharBoundary}
@@ -23,6 +23,7 @@ use Rattle.rl_program.specs.Streams.{AppendsBeginning}
 use Rattle.rl_program.specs.declared.fault.Fault.TheVariants.{Write, Memory}
 use Rattle.rl_sources.specs.declared.color.Paint.TheVariants as paint
 use Rattle.rl_sources.specs.declared.options.Form.{Form}
+use Rattle.rl_sources.specs.declared.options.Form.TheVariants.{Plain, Colored, Json}
 use Rattle.rl_sources.specs.declared.options.Judge.{Judge}
 use Rattle.rl_sources.specs.declared.options.Spelling.{Spelling}
 use Rattle.rl_sources.specs.declared.options.Spelling.TheVariants.{Value, Source}
@@ -36,6 +37,7 @@ use Rattle.rl_sources.specs.declared.scan_error.ScanError.TheVariants.{Fault, So
 use Rattle.rl_sources.specs.Colors.{painted}
 use Rattle.rl_sources.specs.Held.{Holds, IsHeldAt}
 use Rattle.rl_sources.specs.Hidden.{HoldsHidden, IsHiddenAt}
+use Rattle.rl_sources.specs.Json.{is_json, IsJsonLiteral, flaw_members, error_members}
 use Rattle.rl_sources.specs.Options.{Picks}
 use Rattle.rl_sources.specs.Places.{line_front, IsPlaceIn}
 
@@ -59,16 +61,23 @@ abbrev pub IsPrintedAs : Spelling → List ℕ → List ℕ → Type 0
 IsPrintedAs Value text shown = (line : List ℕ) × IsLineOf text line × (shown ≡ visible_lines line)
 IsPrintedAs Source text shown = shown ≡ visible text ++ codes "\n"
 
+-- what stands after the place in the line of a literal: what is printed of it, or the members of its
+-- object
+abbrev pub IsLineEnd : Form → Spelling → List ℕ → List ℕ → Type 0
+IsLineEnd Plain spelling text shown = IsPrintedAs spelling text shown
+IsLineEnd Colored spelling text shown = IsPrintedAs spelling text shown
+IsLineEnd Json spelling text shown = IsJsonLiteral text shown
+
 -- the line of a literal, after this place
 abbrev pub IsLineAt : Options → List ℕ → Place → List ℕ → Type 0
 IsLineAt options text place shown =
-    (words : List ℕ) × IsPrintedAs options.spelling text words
+    (words : List ℕ) × IsLineEnd options.form options.spelling text words
     × (shown ≡ line_front options.form options.path place ++ words)
 
 -- the line of a literal, after its place in the whole source
 abbrev pub IsPlacedLine : Options → List ℕ → List ℕ → ℕ → ℕ → List ℕ → Type 0
 IsPlacedLine options whole text lo hi shown =
-    (place : Place) × IsPlaceIn options.by_line whole lo hi place × IsLineAt options text place shown
+    (place : Place) × IsPlaceIn options whole lo hi place × IsLineAt options text place shown
 
 -- the bytes from `lo` to `hi` are a text
 abbrev pub IsSlice : List ℕ → ℕ → ℕ → Type 0
@@ -91,20 +100,27 @@ error_reason message piece = codes ": " ++ (message ++ (codes ": " ++ (visible p
 abbrev pub error_words : Form → List ℕ → List ℕ → List ℕ
 error_words form message piece = painted form paint.Error (codes "error") ++ error_reason message piece
 
+-- what stands after the place in the line of a flaw, and in that of a source's error
+abbrev pub flaw_end : Form → List ℕ → List ℕ → List ℕ → List ℕ
+flaw_end form text message piece = cond (is_json form) (flaw_members text message piece) (error_words form message piece)
+
+abbrev pub error_end : Form → List ℕ → List ℕ
+error_end form message = cond (is_json form) (error_members message) (error_words form message [])
+
 -- the line that says why a text is bad, after this place: what is wrong, and the piece that the flaw
 -- spoils
 abbrev pub IsFlawLineAt : Options → List ℕ → Flaw → Place → List ℕ → Type 0
 IsFlawLineAt options text flaw place shown =
     (piece : List ℕ) × IsFlawPiece text flaw piece
     × (shown ≡ line_front options.form options.path place
-    ++ error_words options.form (flaw_message flaw.kind) piece)
+    ++ flaw_end options.form text (flaw_message flaw.kind) piece)
 
 -- the line that says why a text, which begins at this byte of the whole source, is bad: of the flaw
 -- that the judge finds, at its place
 abbrev pub IsFlawLine : Options → List ℕ → List ℕ → ℕ → List ℕ → Type 0
 IsFlawLine options whole text lo shown =
     (flaw : Flaw) × (place : Place) × FindsFlaw options.judge text flaw
-    × IsPlaceIn options.by_line whole (lo + flaw.lo) (lo + flaw.hi) place
+    × IsPlaceIn options whole (lo + flaw.lo) (lo + flaw.hi) place
     × IsFlawLineAt options text flaw place shown
 
 -- the line of a text: where it is asked for, and the text is bad, the line that says why; else its
@@ -203,7 +219,7 @@ pub record StopsAtError (options : Options) (whole shown : List ℕ) (place : Pl
   pub error : IsErrorAt options.rejects_strays kind rest
   pub at : ℕ
   pub rest_place : at + byte_len rest ≡ byte_len whole
-  pub place_is : IsPlaceIn options.by_line whole at at place
+  pub place_is : IsPlaceIn options whole at at place
 
 -- What was written is what is shown of the whole source, and it says whether that is anything.
 abbrev pub Scans : Options → List ℕ → Option (List ℕ) → Option (List ℕ) → Bool → Type 0

@@ -112,4 +112,4 @@ IsStepOf options old piece new places (Error place kind) =
     (at : ℕ) × (rest : List ℕ) × Adds options (chars old.text) (chars old.rest) rest piece
     × IsErrorAt options.rejects_strays kind rest
     × (at + byte_len rest ≡ byte_len (chars old.text))
-    × IsPlaceIn options.by_line (chars old.text) at at place
+    × IsPlaceIn options (chars old.text) at at place

@@ -39,7 +39,7 @@ fn str_contents<A: Allocator>(alloc: A, text: &str, found: &Found) -> Result<Vec
 }
 
 /// The contents of the byte string or the C string that was found in the text.
-fn bytes_contents<A: Allocator>(
+pub(crate) fn bytes_contents<A: Allocator>(
     alloc: A,
     text: &str,
     found: &Found,
@@ -55,7 +55,7 @@ fn bytes_contents<A: Allocator>(
 }
 
 /// The contents of the byte that was found in the text.
-fn byte_contents<A: Allocator>(
+pub(crate) fn byte_contents<A: Allocator>(
     alloc: A,
     text: &str,
     found: &Found,

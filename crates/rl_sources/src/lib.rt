@@ -8,6 +8,8 @@ mod ending;
 mod flags;
 mod held;
 mod hidden;
+mod json;
+mod json_string;
 mod judge;
 mod literal;
 mod options;
@@ -22,6 +24,7 @@ mod words;
 
 pub use crate::command::{Command, Console, Output, PlaceForm, Wish};
 pub use crate::ending::{CallError, HELP, VERSION, call};
+pub use crate::json_string::json_strings_stand;
 pub use crate::options::{Form, Judge, Options, Shown, Spelling};
 pub use crate::place::Place;
 pub use crate::report::{Report, report_of};

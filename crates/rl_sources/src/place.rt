@@ -6,25 +6,29 @@ ghost use Rattle.rl_text.specs.Texts.{byte_len};
 ghost use Rattle.rl_lexer.specs.Cursors.{IsCursorState};
 ghost use Rattle.rl_lexer.specs.Lines.{BeginsAt};
 ghost use Rattle.rl_sources.specs.Held.{IsCutAt};
-ghost use Rattle.rl_sources.specs.Places.{line_front, place_text, IsPlaceIn};
+ghost use Rattle.rl_sources.specs.Places.{line_front, worded_front, place_text, IsPlaceIn};
+ghost use Rattle.rl_sources.specs.Json.{object_front};
 ghost use Rattle.rl_sources.specs.Steps.{BeginsRest};
 ghost use Rattle.rl_sources.specs.declared.options.Form.TheVariants.{Colored};
 
 use crate::color::{PAINT_END, Paint, has_colors, start_of};
 use crate::literal::Literal;
-use crate::options::Form;
+use crate::json::{is_json, push_object_front};
+use crate::options::{Form, Options};
 use rl_tokens::{LineColumn, Lines};
 use std::alloc::{AllocError, Allocator};
 use std::fmt;
 use std::marker::Model;
 
-/// A place of a source, as it is printed: `LO..HI` or `LINE:COLUMN`.
+/// A place of a source, as it is printed: `LO..HI`, `LINE:COLUMN`, or in an object of JSON both, as members.
 #[derive(Clone, Copy)]
 pub enum Place {
     /// From a byte up to the byte after the last.
     Bytes(usize, usize),
     /// The line and column where it begins.
     Line(LineColumn),
+    /// From a byte up to the byte after the last, and the line and column where it begins.
+    Both(usize, usize, LineColumn),
 }
 
 /// Appends what stands before a line in a file: the path and the place, each with a colon, and a space.
@@ -65,7 +69,7 @@ fn push_colored_front<A: Allocator>(
     place: Place,
 ) -> Result<(), AllocError>
     ensures { OnOk result (chars (string_bytes out.new)
-        ≡ chars (string_bytes out.old) ++ line_front Colored path.entry place) }
+        ≡ chars (string_bytes out.old) ++ worded_front Colored path.entry place) }
 {
     match path {
         Some(path) => push_colored_in_file(out, path, place),
@@ -73,16 +77,16 @@ fn push_colored_front<A: Allocator>(
     }
 }
 
-/// Appends what stands before a line: its place, after the path where there is one.
+/// Appends what stands before a line of words: its place, after the path where there is one.
 #[inline(always)]
-pub(crate) fn push_front<A: Allocator>(
+fn push_worded_front<A: Allocator>(
     out: &mut String<A>,
     form: Form,
     path: Option<&str>,
     place: Place,
 ) -> Result<(), AllocError>
     ensures { OnOk result (chars (string_bytes out.new)
-        ≡ chars (string_bytes out.old) ++ line_front form path.entry place) }
+        ≡ chars (string_bytes out.old) ++ worded_front form path.entry place) }
 {
     if has_colors(form) {
         return push_colored_front(out, path, place);
@@ -96,6 +100,38 @@ pub(crate) fn push_front<A: Allocator>(
     }
 }
 
+/// Appends an object up to its place.
+#[inline(never)]
+fn push_json_front<A: Allocator>(
+    out: &mut String<A>,
+    path: Option<&str>,
+    place: Place,
+) -> Result<(), AllocError>
+    ensures { OnOk result (chars (string_bytes out.new)
+        ≡ chars (string_bytes out.old) ++ (object_front path.entry ++ place_text place)) }
+{
+    push_object_front(out, path)?;
+    write!(out, "{place}")?;
+    Ok(())
+}
+
+/// Appends what stands before a line, up to its place.
+#[inline(always)]
+pub(crate) fn push_front<A: Allocator>(
+    out: &mut String<A>,
+    form: Form,
+    path: Option<&str>,
+    place: Place,
+) -> Result<(), AllocError>
+    ensures { OnOk result (chars (string_bytes out.new)
+        ≡ chars (string_bytes out.old) ++ line_front form path.entry place) }
+{
+    if is_json(form) {
+        return push_json_front(out, path, place);
+    }
+    push_worded_front(out, form, path, place)
+}
+
 impl fmt::Display for Place {
     ghost output = { λ place. Some (place_text place) };
 
@@ -103,6 +139,10 @@ impl fmt::Display for Place {
         match self {
             Place::Bytes(lo, hi) => write!(f, "{lo}..{hi}"),
             Place::Line(LineColumn { line, column }) => write!(f, "{line}:{column}"),
+            Place::Both(lo, hi, LineColumn { line, column }) => write!(
+                f,
+                "\"lo\":{lo},\"hi\":{hi},\"line\":{line},\"column\":{column}"
+            ),
         }
     }
 }
@@ -167,7 +207,7 @@ impl<'t> Places<'t> {
 /// The place of the bytes from `lo` to `hi`, where the rest of the text begins at the first.
 #[inline(always)]
 pub(crate) fn place_of<'t>(
-    by_line: bool,
+    options: Options<'_>,
     places: &mut Places<'t>,
     rest: &'t str,
     lo: usize,
@@ -175,10 +215,13 @@ pub(crate) fn place_of<'t>(
 ) -> Place
     requires text { IsCursorState places.old rest.now }
     requires lo { lo + length rest.now ≡ length places.old }
-    ensures place { IsPlaceIn by_line (chars places.old) lo hi result }
+    ensures place { IsPlaceIn options.entry (chars places.old) lo hi result }
     ensures same { places.new ≡ places.old }
 {
-    if by_line {
+    if is_json(options.form) {
+        return Place::Both(lo, hi, places.at(rest));
+    }
+    if options.by_line {
         return Place::Line(places.at(rest));
     }
     Place::Bytes(lo, hi)
@@ -186,7 +229,7 @@ pub(crate) fn place_of<'t>(
 
 /// The place in the source of bytes of the literal's text.
 pub(crate) fn place_inside<'t>(
-    by_line: bool,
+    options: Options<'_>,
     places: &mut Places<'t>,
     literal: &Literal<'t>,
     first: usize,
@@ -195,12 +238,12 @@ pub(crate) fn place_inside<'t>(
     requires rest { BeginsRest literal.now.token places.old literal.now.rest.now }
     requires cut { IsCutAt (chars literal.now.token.text.now) first }
     requires within { last ≤ byte_len (chars literal.now.token.text.now) }
-    ensures place { IsPlaceIn by_line (chars places.old)
+    ensures place { IsPlaceIn options.entry (chars places.old)
         (literal.now.token.lo + first) (literal.now.token.lo + last) result }
     ensures same { places.new ≡ places.old }
 {
     let lo = literal.token.lo + first;
     let hi = literal.token.lo + last;
     let inside = &literal.rest[first..];
-    place_of(by_line, places, inside, lo, hi)
+    place_of(options, places, inside, lo, hi)
 }

@@ -4,12 +4,13 @@ ghost use Rattle.std.specs.Prelude.{◌≡◌, ◌++◌, ◌↔◌, IsTrue, OnOk
 ghost use Rattle.std.specs.Str.{chars};
 ghost use Rattle.rl_lines.specs.Lines.{Appends};
 ghost use Rattle.rl_reasons.specs.FlawWords.{flaw_message};
-ghost use Rattle.rl_sources.specs.Scans.{FindsFlaw, IsFlawLine, IsFlawLineAt, IsFlawPiece, IsSlice, error_reason};
+ghost use Rattle.rl_sources.specs.Scans.{FindsFlaw, IsFlawLine, IsFlawLineAt, IsFlawPiece, IsSlice, error_reason, flaw_end};
 ghost use Rattle.rl_sources.specs.Steps.{BeginsRest};
 
 use crate::color::push_error_word;
+use crate::json::{is_json, push_json_flaw};
 use crate::literal::Literal;
-use crate::options::Options;
+use crate::options::{Form, Options};
 use crate::place::{Place, Places, place_inside, push_front};
 use rl_files::push_visible;
 use rl_grammar::{Flaw, FlawKind};
@@ -50,8 +51,28 @@ fn push_reason<A: Allocator>(
     Ok(())
 }
 
+/// Appends what stands after the place in the line of a flaw.
+fn push_flaw_end<A: Allocator>(
+    alloc: A,
+    out: &mut String<A>,
+    form: Form,
+    text: &str,
+    kind: FlawKind,
+    piece: &str,
+) -> Result<(), AllocError>
+    ensures { OnOk result (chars (string_bytes out.new) ≡ chars (string_bytes out.old)
+        ++ flaw_end form (chars text.now) (flaw_message kind) (chars piece.now)) }
+{
+    if is_json(form) {
+        return push_json_flaw(alloc, out, text, kind, piece);
+    }
+    push_error_word(out, form)?;
+    push_reason(out, kind, piece)
+}
+
 /// Appends the line that says why a text is bad, after this place.
 fn push_flaw_at<A: Allocator>(
+    alloc: A,
     out: &mut String<A>,
     options: Options<'_>,
     text: &str,
@@ -62,12 +83,19 @@ fn push_flaw_at<A: Allocator>(
         (chars (string_bytes out.old)) (chars (string_bytes out.new))) }
 {
     push_front(out, options.form, options.path, place)?;
-    push_error_word(out, options.form)?;
-    push_reason(out, flaw.kind, piece_of(text, flaw))
+    push_flaw_end(
+        alloc,
+        out,
+        options.form,
+        text,
+        flaw.kind,
+        piece_of(text, flaw),
+    )
 }
 
 /// Appends the line that says why a literal is bad, and where.
 pub(crate) fn push_flaw<'t, A: Allocator>(
+    alloc: A,
     out: &mut String<A>,
     options: Options<'_>,
     literal: &Literal<'t>,
@@ -81,6 +109,6 @@ pub(crate) fn push_flaw<'t, A: Allocator>(
         (chars (string_bytes out.old)) (chars (string_bytes out.new))) }
     ensures same { places.new ≡ places.old }
 {
-    let place = place_inside(options.by_line, places, literal, flaw.lo, flaw.hi);
-    push_flaw_at(out, options, literal.token.text, flaw, place)
+    let place = place_inside(options, places, literal, flaw.lo, flaw.hi);
+    push_flaw_at(alloc, out, options, literal.token.text, flaw, place)
 }

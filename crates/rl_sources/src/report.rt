@@ -7,11 +7,12 @@ ghost use Rattle.rl_files.specs.Walks.{FileAt, visited};
 ghost use Rattle.rl_files.specs.declared.tree.PathError.{PathError};
 ghost use Rattle.rl_lexer.specs.LexErrors.{lex_message};
 ghost use Rattle.rl_sources.specs.Places.{line_front};
-ghost use Rattle.rl_sources.specs.Scans.{error_words};
-ghost use Rattle.rl_sources.specs.Reports.{is_input as input, is_by_line as by_line, is_bad as bad, is_alarm as alarm, IsShownPath, IsOptionsFor, IsScannedAs, error_form as told_form, error_text, line_count, count_line, path_line, printed_of, in_report, IsTextReport, IsErrorReport, IsNotUtf8, IsReport};
+ghost use Rattle.rl_sources.specs.Scans.{error_end};
+ghost use Rattle.rl_sources.specs.Reports.{is_input as input, is_by_line as by_line, is_bad as bad, is_alarm as alarm, IsShownPath, IsPathIn, IsOptionsFor, IsScannedAs, error_form as told_form, error_place as told_place, error_path as told_path, worded_place as as_words, error_text, line_count, count_line, path_line, printed_of, in_report, IsTextReport, IsErrorReport, IsNotUtf8, IsReport};
 
 use crate::color::{Paint, push_error_word, push_painted};
 use crate::command::{Command, Output, PlaceForm};
+use crate::json::{is_json, push_json_error};
 use crate::options::{Form, Options, Shown};
 use crate::place::{Place, push_front};
 use crate::scan_error::ScanError;
@@ -90,9 +91,24 @@ fn path_before<'a>(path: &str, shown: &'a str) -> Option<&'a str>
     Some(shown)
 }
 
+/// What stands before each place in a file whose path is printed so: in an object the path itself.
+fn path_in<'a>(form: Form, path: &'a str, shown: Option<&'a str>) -> Option<&'a str>
+    requires { IsShownPath path.now shown }
+    ensures { IsPathIn form path.now result }
+{
+    if is_json(form) && shown.is_some() {
+        return Some(path);
+    }
+    shown
+}
+
 /// How a file is scanned, whose path is printed so.
-fn options_for<'a>(command: Command<'a>, path: &str, shown: &'a str) -> Options<'a>
-    requires { chars shown.now ≡ visible (chars path.now) }
+fn options_for<'a>(
+    command: Command<'a>,
+    path: &'a str,
+    shown: Option<&'a str>,
+) -> Options<'a>
+    requires { IsShownPath path.now shown }
     ensures { IsOptionsFor command.entry path.now result }
 {
     Options {
@@ -104,7 +120,7 @@ fn options_for<'a>(command: Command<'a>, path: &str, shown: &'a str) -> Options<
         rejects_strays: command.rejects_strays,
         explains: is_bad(command.shown),
         judge: command.judge,
-        path: path_before(path, shown),
+        path: path_in(command.form, path, shown),
     }
 }
 
@@ -139,8 +155,54 @@ fn error_form(options: Options<'_>) -> Form
     }
 }
 
+/// A place by its bytes, or by its line and column.
+fn worded_place(by_line: bool, place: Place) -> Place
+    ensures { result ≡ as_words by_line place }
+{
+    match place {
+        Place::Both(_, _, at) if by_line => Place::Line(at),
+        Place::Both(lo, hi, _) => Place::Bytes(lo, hi),
+        _ => place,
+    }
+}
+
+/// The place in the line of a source's error.
+fn error_place(options: Options<'_>, place: Place) -> Place
+    ensures { result ≡ told_place options.entry place }
+{
+    if options.explains {
+        return place;
+    }
+    worded_place(options.by_line, place)
+}
+
+/// The path in the line of a source's error, which is printed so.
+fn error_path<'a>(options: Options<'a>, shown: Option<&'a str>) -> Option<&'a str>
+    ensures { result ≡ told_path options.entry shown.entry }
+{
+    if options.explains { options.path } else { shown }
+}
+
+/// Appends what stands after the place in the line of a source's error.
+fn push_error_end<A: Allocator>(
+    alloc: A,
+    out: &mut String<A>,
+    form: Form,
+    kind: LexKind,
+) -> Result<(), AllocError>
+    ensures { OnOk result (chars (string_bytes out.new) ≡ chars (string_bytes out.old)
+        ++ error_end form (lex_message kind)) }
+{
+    if is_json(form) {
+        return push_json_error(alloc, out, kind);
+    }
+    push_error_word(out, form)?;
+    writeln!(out, ": {kind}")
+}
+
 /// Appends the line of a source's error.
 fn push_source_error<A: Allocator>(
+    alloc: A,
     out: &mut String<A>,
     form: Form,
     path: Option<&str>,
@@ -148,27 +210,29 @@ fn push_source_error<A: Allocator>(
     kind: LexKind,
 ) -> Result<(), AllocError>
     ensures { OnOk result (chars (string_bytes out.new) ≡ chars (string_bytes out.old)
-        ++ (line_front form path.entry place ++ error_words form (lex_message kind) [])) }
+        ++ (line_front form path.entry place ++ error_end form (lex_message kind))) }
 {
     push_front(out, form, path, place)?;
-    push_error_word(out, form)?;
-    writeln!(out, ": {kind}")
+    push_error_end(alloc, out, form, kind)
 }
 
 /// The line of a source's error; nothing where there is none.
-fn error_line<A: Allocator>(
+fn error_line<A: Allocator + Copy>(
     alloc: A,
-    form: Form,
-    path: Option<&str>,
+    options: Options<'_>,
+    shown: Option<&str>,
     error: Option<(Place, LexKind)>,
 ) -> Result<String<A>, AllocError>
-    ensures { IfOk result (λ line. string_bytes line ≡ encode_utf8_all (error_text form path.entry error)) }
+    ensures { IfOk result (λ line. string_bytes line
+        ≡ encode_utf8_all (error_text options.entry shown.entry error)) }
 {
     let mut line = String::new(alloc);
     match error {
         None => Ok(line),
         Some((place, kind)) => {
-            push_source_error(&mut line, form, path, place, kind)?;
+            let path = error_path(options, shown);
+            let place = error_place(options, place);
+            push_source_error(alloc, &mut line, error_form(options), path, place, kind)?;
             Ok(line)
         }
     }
@@ -245,9 +309,10 @@ fn report_text<A: Allocator + Copy>(
     ensures { IfOk result (λ r. IsTextReport command.entry path.now text.now (in_report r)) }
 {
     let shown = visible_text(alloc, path)?;
-    let options = options_for(command, path, shown.as_str());
+    let before = path_before(path, shown.as_str());
+    let options = options_for(command, path, before);
     let mut scanned = scan_text(alloc, options, text)?;
-    let mut told = error_line(alloc, error_form(options), options.path, scanned.error)?;
+    let mut told = error_line(alloc, options, before, scanned.error)?;
     if options.explains {
         scanned.lines.extend_from_slice(told.as_bytes())?;
         told.clear();
@@ -257,7 +322,7 @@ fn report_text<A: Allocator + Copy>(
         alloc,
         command.output,
         options.form,
-        options.path,
+        before,
         scanned.lines,
     )?;
     Ok(Report { out, told, found })

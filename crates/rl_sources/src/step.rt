@@ -8,15 +8,16 @@ ghost use Rattle.rl_lexer.specs.Sources.{TakesSource};
 ghost use Rattle.rl_files.specs.Visible.{visible};
 ghost use Rattle.rl_lines.specs.Lines.{Appends};
 ghost use Rattle.rl_sources.specs.Held.{IsCutAt};
-ghost use Rattle.rl_sources.specs.Scans.{IsAskedLine, IsErrorAt, IsHeldLine, IsHiddenLine, IsLineAt, IsLineIn, IsPickedLine, IsPlacedLine, IsPrintedAs, IsShownLiteral};
+ghost use Rattle.rl_sources.specs.Scans.{IsAskedLine, IsErrorAt, IsHeldLine, IsHiddenLine, IsLineAt, IsLineEnd, IsLineIn, IsPickedLine, IsPlacedLine, IsPrintedAs, IsShownLiteral};
 ghost use Rattle.rl_sources.specs.declared.options.Spelling.TheVariants.{Value};
 ghost use Rattle.rl_sources.specs.Steps.{BeginsRest, EndsUnshown, IsAcceptedToken, IsCursorOver, IsLiteralOf, IsReadAs, IsStepOf, StopsUnshown, TakesShown};
 
 use crate::held::held_at;
 use crate::hidden::{hidden_at, is_hidden};
 use crate::judge::{flaw_of, reason_of};
+use crate::json::push_json_literal;
 use crate::literal::{Literal, kind_of};
-use crate::options::{Options, Shown, Spelling};
+use crate::options::{Form, Options, Shown, Spelling};
 use crate::place::{Place, Places, place_inside, place_of, push_front};
 use crate::reason::push_flaw;
 use rl_files::{make_visible, push_visible};
@@ -71,6 +72,24 @@ fn push_printed<A: Allocator + Copy>(
     }
 }
 
+/// Appends what stands after the place in the line of a literal: what is printed of it, or the members of its object.
+fn push_line_end<A: Allocator + Copy>(
+    alloc: A,
+    out: &mut String<A>,
+    options: Options<'_>,
+    literal: &Literal<'_>,
+) -> Result<(), AllocError>
+    requires { IsReadAs literal.now.token.text.now literal.now.found }
+    ensures { OnOk result (Appends (IsLineEnd options.entry.form options.entry.spelling
+        (chars literal.now.token.text.now))
+        (chars (string_bytes out.old)) (chars (string_bytes out.new))) }
+{
+    match options.form {
+        Form::Plain | Form::Colored => push_printed(alloc, out, options.spelling, literal),
+        Form::Json => push_json_literal(alloc, out, literal.token.text, literal.found),
+    }
+}
+
 /// Appends the line of a literal, after this place.
 fn push_line_at<A: Allocator + Copy>(
     alloc: A,
@@ -84,7 +103,7 @@ fn push_line_at<A: Allocator + Copy>(
         (chars (string_bytes out.old)) (chars (string_bytes out.new))) }
 {
     push_front(out, options.form, options.path, place)?;
-    push_printed(alloc, out, options.spelling, literal)
+    push_line_end(alloc, out, options, literal)
 }
 
 /// Appends the line of a literal, after its place.
@@ -103,7 +122,7 @@ fn push_placed<'t, A: Allocator + Copy>(
     ensures same { places.new ≡ places.old }
 {
     let token = literal.token;
-    let place = place_of(options.by_line, places, literal.rest, token.lo, token.hi);
+    let place = place_of(options, places, literal.rest, token.lo, token.hi);
     push_line_at(alloc, out, options, literal, place)
 }
 
@@ -125,7 +144,7 @@ fn push_inside<'t, A: Allocator + Copy>(
         (chars (string_bytes out.old)) (chars (string_bytes out.new))) }
     ensures same { places.new ≡ places.old }
 {
-    let place = place_inside(options.by_line, places, literal, range.0, range.1);
+    let place = place_inside(options, places, literal, range.0, range.1);
     push_line_at(alloc, out, options, literal, place)
 }
 
@@ -145,7 +164,7 @@ fn push_line_in<'t, A: Allocator + Copy>(
     ensures same { places.new ≡ places.old }
 {
     match reason_of(options.explains, literal.flaw) {
-        Some(flaw) => push_flaw(out, options, literal, places, flaw),
+        Some(flaw) => push_flaw(alloc, out, options, literal, places, flaw),
         None => push_placed(alloc, out, options, literal, places),
     }
 }
@@ -382,7 +401,7 @@ pub(crate) fn gather<'t, A: Allocator + Copy>(
             Ok(None) => return Ok(Step::End),
             Err(error) => {
                 let rest = places.rest_at(error.at);
-                let place = place_of(options.by_line, places, rest, error.at, error.at);
+                let place = place_of(options, places, rest, error.at, error.at);
                 return Ok(Step::Error(place, error.kind));
             }
         }

@@ -1,13 +1,11 @@
-use Rattle.rl_text.proofs.Common.{IsUtf8-string_bytes, codes, on_ok_weaker, string_bytes}
-use Rattle.rl_sources.specs.declared.color.Paint.TheVariants as paint
-use Rattle.rl_sources.specs.Colors.{painted}
+use Rattle.rl_text.proofs.Common.{on_ok_weaker}
+use Rattle.rl_lexer.specs.LexErrors.{lex_message}
 use Rattle.rl_sources.specs.Places.{line_front}
-use Rattle.rl_sources.proofs.ReasonLemmas.{source_error}
+use Rattle.rl_sources.specs.Scans.{error_end}
+use Rattle.rl_sources.proofs.JsonLemmas.{two_pieces}
 use Rattle.rl_sources.proofs.report.push_source_error.Goals as goal
 
 pub returns : goal.returns
-returns g c = on_ok_weaker c.writeln.result (source_error c.args.kind
-    (line_front c.args.form c.args.path c.args.place) (painted c.args.form paint.Error (codes "error"))
-    (string_bytes c.args.out.now) (string_bytes c.push_front.new.out) (string_bytes c.push_error_word.new.out) _
-    (IsUtf8-string_bytes c.push_error_word.new.out) c.in_ok-push_front.ensures c.in_ok-push_error_word.ensures)
-    c.writeln.ensures.bytes
+returns g c = on_ok_weaker c.push_error_end.result (λ last. two_pieces _ _ _
+    (line_front c.args.form c.args.path c.args.place) (error_end c.args.form (lex_message c.args.kind))
+    c.in_ok-push_front.ensures last) c.push_error_end.ensures

@@ -1,0 +1,188 @@
+-- Objects of JSON, piece by piece.
+use Rattle.rl_text.proofs.Common.{◌≡◌, ◌⊎◌, ℕ, List, [], ◌∷◌, ◌++◌, refl, sym, ap, subst, ◌∙◌, inl, inr, Bool, cond, false, true, lit<, append_assoc, append-nil, IsAscii, IsUtf8, chars, chars-IsAscii, chars_from_encodes, codes, encode_utf8, list_all, is_ascii}
+use Rattle.std.specs.Fmt.{decimal}
+use Rattle.std.proofs.lemmas.Grind.{flat_map-append}
+use Rattle.std.proofs.lemmas.Str.{IsAscii-append}
+use Rattle.std.proofs.lemmas.Str.Ascii.{IsAscii-nil, IsAscii-cons}
+use Rattle.rl_lexer.specs.LexErrors.{lex_message}
+use Rattle.rl_lexer.specs.declared.lex_error.LexKind.{LexKind}
+use Rattle.rl_reasons.specs.FlawWords.{flaw_message}
+use Rattle.rl_reasons.specs.declared.flaws.FlawKind.{FlawKind}
+use Rattle.rl_reading.specs.declared.found.Found.{Found}
+use Rattle.rl_reading.specs.Founds.{IsFound}
+use Rattle.rl_reading.proofs.FoundContents.{unit_of}
+use Rattle.rl_reading.proofs.Names.{BoolKind, Byte, Char, ByteStr, Bytes, CStr, Characters, Contents, Float, HasContents, HasNoReading, HasSuffix, Int, Kind, Reads, ReadsAs, Truth, truth_text}
+use Rattle.rl_forms.proofs.OneReading.{one_reading}
+use Rattle.rl_reading.specs.NumberShapes.{AreDigits}
+use Rattle.rl_lines.proofs.PrintLemmas.{truth_chars}
+use Rattle.rl_lines.specs.Lines.{Appends, kind_label}
+use Rattle.rl_lines.proofs.LineLemmas.{pushed}
+use Rattle.rl_sources.specs.Held.{AreContentsOf}
+use Rattle.rl_sources.specs.Json.{more_numbers, number_array, json_value, string_member, literal_members, IsJsonLiteral, IsJsonValueOf}
+use Rattle.rl_sources.specs.JsonStrings.{json_string}
+use Rattle.rl_sources.proofs.ReasonLemmas.{message_low, lex_low}
+use Rattle.rl_sources.proofs.StepLemmas.{decimal_ascii, low_text}
+
+-- ---- pieces
+
+pub ascii_chars : (cs : List ℕ) → list_all is_ascii cs ≡ true → chars cs ≡ cs
+ascii_chars cs h = chars-IsAscii cs (low_text cs h)
+
+pub ascii_pushed : (old new piece : List ℕ) → IsUtf8 old → IsAscii piece → new ≡ old ++ piece
+    → chars new ≡ chars old ++ piece
+ascii_pushed old new piece u ascii e = pushed old new piece u e ∙ ap (λ z. chars old ++ z) (chars-IsAscii piece ascii)
+
+pub two_pieces : (old a new p q : List ℕ) → a ≡ old ++ p → new ≡ a ++ q → new ≡ old ++ (p ++ q)
+two_pieces old a new p q e f = f ∙ ap (λ z. z ++ q) e ∙ append_assoc old p q
+
+pub three_pieces : (old a b new p q r : List ℕ) → a ≡ old ++ p → b ≡ a ++ q → new ≡ b ++ r
+    → new ≡ old ++ (p ++ (q ++ r))
+three_pieces old a b new p q r e f g = two_pieces old a new p (q ++ r) e (two_pieces a b new q r f g)
+
+pub four_parts : (old a b d new p q r s : List ℕ) → a ≡ old ++ p → b ≡ a ++ q → d ≡ b ++ r → new ≡ d ++ s
+    → new ≡ old ++ (p ++ (q ++ (r ++ s)))
+four_parts old a b d new p q r s e f g h =
+    two_pieces old a new p (q ++ (r ++ s)) e (three_pieces a b d new q r s f g h)
+
+pub five_parts : (old a b d f new p q r s t : List ℕ) → a ≡ old ++ p → b ≡ a ++ q → d ≡ b ++ r → f ≡ d ++ s
+    → new ≡ f ++ t → new ≡ old ++ (p ++ (q ++ (r ++ (s ++ t))))
+five_parts old a b d f new p q r s t e g h i j =
+    two_pieces old a new p (q ++ (r ++ (s ++ t))) e (four_parts a b d f new q r s t g h i j)
+
+-- one of two
+pub chosen_on : (b : Bool) (x y old new : List ℕ) → b ≡ true → new ≡ old ++ x → new ≡ old ++ cond b x y
+chosen_on b x y old new is e = e ∙ ap (λ (t : Bool). old ++ cond t x y) (sym is)
+
+pub chosen_off : (b : Bool) (x y old new : List ℕ) → b ≡ false → new ≡ old ++ y → new ≡ old ++ cond b x y
+chosen_off b x y old new is e = e ∙ ap (λ (t : Bool). old ++ cond t x y) (sym is)
+
+-- ---- numbers
+
+pub first_ascii : (c n : ℕ) → IsAscii (c ∷ []) → IsAscii (c ∷ decimal n)
+first_ascii c n h = IsAscii-append (c ∷ []) (decimal n) h (decimal_ascii n)
+
+numbers_ascii : (ns : List ℕ) → IsAscii (more_numbers ns)
+numbers_ascii [] = IsAscii-nil
+numbers_ascii (n ∷ ns) =
+    IsAscii-append (44 ∷ decimal n) (more_numbers ns) (IsAscii-cons 44 (decimal n) (lit< tt) (decimal_ascii n))
+    (numbers_ascii ns)
+
+-- one number more
+pub number_more : (first old new done : List ℕ) (n : ℕ) → old ≡ first ++ more_numbers done
+    → new ≡ old ++ (44 ∷ decimal n) → new ≡ first ++ more_numbers (done ++ n ∷ [])
+number_more first old new done n before now =
+    now ∙ ap (λ (z : List ℕ). z ++ (44 ∷ decimal n)) before
+    ∙ append_assoc first (more_numbers done) (44 ∷ decimal n)
+    ∙ ap (λ (z : List ℕ). first ++ z) (ap (λ (z : List ℕ). more_numbers done ++ z) (sym (append-nil (44 ∷ decimal n)))
+    ∙ sym (flat_map-append (λ n. codes "," ++ decimal n) done (n ∷ [])))
+
+pub numbers_pushed : (old new ns : List ℕ) → IsUtf8 old → new ≡ old ++ more_numbers ns
+    → chars new ≡ chars old ++ more_numbers ns
+numbers_pushed old new ns u e = ascii_pushed old new (more_numbers ns) u (numbers_ascii ns) e
+
+-- an array
+pub array_pushed : (old a b new ns others : List ℕ) (n : ℕ) → IsUtf8 old → ns ≡ n ∷ others
+    → a ≡ old ++ (codes "[" ++ decimal n) → chars b ≡ chars a ++ more_numbers others
+    → chars new ≡ chars b ++ codes "]" → chars new ≡ chars old ++ number_array ns
+array_pushed old a b new ns others n u split first rest last =
+    let begun : chars a ≡ chars old ++ (91 ∷ decimal n) = ascii_pushed old a (91 ∷ decimal n) u
+    (IsAscii-cons 91 (decimal n) (lit< tt) (decimal_ascii n)) first in
+    three_pieces (chars old) (chars a) (chars b) (chars new) (91 ∷ decimal n) (more_numbers others) (codes "]") begun
+    rest last
+    ∙ ap (λ (z : List ℕ). chars old ++ number_array z) (sym split)
+
+-- ---- values
+
+-- the value of contents that the text has
+pub value_is : (kind : Kind) (text old new : List ℕ) (contents : Contents) → HasContents kind text contents
+    → new ≡ old ++ json_value contents → Appends (IsJsonValueOf kind text) old new
+value_is kind text old new contents has e = (json_value contents, (contents, has, refl), e)
+
+-- bytes
+pub bytes_value : (kind : Kind) (text bytes old new : List ℕ) → (kind ≡ ByteStr) ⊎ (kind ≡ CStr)
+    → AreContentsOf text kind bytes → new ≡ old ++ number_array bytes → Appends (IsJsonValueOf kind text) old new
+bytes_value ByteStr text bytes old new is are e =
+    value_is ByteStr text old new (Bytes are.value) are.contents (e ∙ ap (λ z. old ++ number_array z) are.bytes_are)
+bytes_value CStr text bytes old new is are e =
+    value_is CStr text old new (Bytes are.value) are.contents (e ∙ ap (λ z. old ++ number_array z) are.bytes_are)
+bytes_value kind text bytes old new (inl is) are e = absurd (cc)
+bytes_value kind text bytes old new (inr is) are e = absurd (cc)
+
+pub byte_value : (text bytes old new : List ℕ) → AreContentsOf text Byte bytes → new ≡ old ++ number_array bytes
+    → Appends (IsJsonValueOf Byte text) old new
+byte_value text bytes old new are e =
+    value_is Byte text old new (Bytes are.value) are.contents (e ∙ ap (λ z. old ++ number_array z) are.bytes_are)
+
+-- digits
+pub digits_value : (kind : Kind) (text digits old new : List ℕ) → ReadsAs kind text → AreDigits kind text digits
+    → new ≡ old ++ json_string digits → Appends (IsJsonValueOf kind text) old new
+digits_value Int text digits old new (v, x, r) are e = value_is Int text old new v (x, r)
+    (e ∙ ap (λ z. old ++ json_value z) (sym (are v x r)))
+digits_value Float text digits old new (v, x, r) are e = value_is Float text old new v (x, r)
+    (e ∙ ap (λ z. old ++ json_string z) (are r.numeral x r.reads) ∙ ap (λ z. old ++ json_value z) (sym r.contents_is))
+digits_value kind text digits old new reads are e = absurd are
+
+-- a character
+pub one_char : (bytes : List ℕ) (c : ℕ) → IsUtf8 bytes → bytes ≡ encode_utf8 c → chars bytes ≡ c ∷ []
+one_char bytes c u e = sym (chars_from_encodes (c ∷ []) bytes u (append-nil (encode_utf8 c) ∙ sym e))
+
+pub character_value : (text old new value : List ℕ) (found : Found) (c : ℕ) → found.kind ≡ Char → IsFound text found
+    → c ≡ found.unit → chars value ≡ c ∷ [] → new ≡ old ++ json_string (chars value)
+    → Appends (IsJsonValueOf Char (chars text)) old new
+character_value text old new value found c same is unit one e =
+    value_is Char (chars text) old new (Characters (found.unit ∷ [])) (unit_of Char text found same refl is).reads
+    (e ∙ ap (λ z. old ++ json_string z) (one ∙ ap (λ (n : ℕ). n ∷ []) unit))
+
+-- a truth value
+pub truth_value : (text old new : List ℕ) (found : Found) → found.kind ≡ BoolKind → IsFound text found
+    → new ≡ old ++ truth_text found.truth → Appends (IsJsonValueOf found.kind (chars text)) old new
+truth_value text old new found same is e =
+    let reads : HasContents BoolKind (chars text) (Truth found.truth) = (
+      [],
+      record {
+        truth = found.truth;
+        text_is = ap chars (is.truth same) ∙ truth_chars found.truth;
+        suffix_is = refl;
+        contents_is = refl;
+      },
+    ) in
+    value_is found.kind (chars text) old new (Truth found.truth)
+    (subst (λ (k : Kind). HasContents k (chars text) (Truth found.truth)) (sym same) reads) e
+
+-- ---- what is wrong
+
+pub flaw_words_are : (kind : FlawKind) (old new : List ℕ) → old ≡ [] → new ≡ old ++ flaw_message kind
+    → chars new ≡ flaw_message kind
+flaw_words_are kind old new none e =
+    ap chars (e ∙ ap (λ z. z ++ flaw_message kind) none) ∙ ascii_chars (flaw_message kind) (message_low kind)
+
+pub error_words_are : (kind : LexKind) (old new : List ℕ) → old ≡ [] → new ≡ old ++ lex_message kind
+    → chars new ≡ lex_message kind
+error_words_are kind old new none e =
+    ap chars (e ∙ ap (λ z. z ++ lex_message kind) none) ∙ ascii_chars (lex_message kind) (lex_low kind)
+
+-- ---- the members of a literal
+
+pub literal_is : (kind : Kind) (text old a b d f new suffix : List ℕ) → HasSuffix kind text suffix
+    → a ≡ old ++ string_member (codes "kind") (kind_label kind) → b ≡ a ++ string_member (codes "text") text
+    → d ≡ b ++ codes ",\"value\":" → Appends (IsJsonValueOf kind text) d f
+    → new ≡ f ++ (string_member (codes "suffix") suffix ++ codes "}\n") → Appends (IsJsonLiteral text) old new
+literal_is kind text old a b d f new suffix s e g h (value, (contents, c, is), i) j =
+    let one = one_reading text kind kind contents s.0 c.0 suffix c.1 s.1 in (
+      literal_members (kind_label kind) text (json_value contents) suffix,
+      inl (kind, contents, suffix, subst (λ x. Reads text kind contents x) one.2 c.1, refl),
+      five_parts old a b d f new (string_member (codes "kind") (kind_label kind)) (string_member (codes "text") text)
+          (codes ",\"value\":") (json_value contents) (string_member (codes "suffix") suffix ++ codes "}\n") e g h
+          (i ∙ ap (λ z. d ++ z) is) j,
+    )
+
+pub verbatim_is : (text old a b d new : List ℕ) → HasNoReading text
+    → a ≡ old ++ string_member (codes "kind") (codes "Verbatim") → b ≡ a ++ string_member (codes "text") text
+    → d ≡ b ++ codes ",\"value\":null" → new ≡ d ++ (string_member (codes "suffix") [] ++ codes "}\n")
+    → Appends (IsJsonLiteral text) old new
+verbatim_is text old a b d new none e g h j = (
+  literal_members (codes "Verbatim") text (codes "null") [],
+  inr (none, refl),
+  four_parts old a b d new (string_member (codes "kind") (codes "Verbatim")) (string_member (codes "text") text)
+      (codes ",\"value\":null") (string_member (codes "suffix") [] ++ codes "}\n") e g h j,
+)

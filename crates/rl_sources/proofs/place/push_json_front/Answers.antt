@@ -1,0 +1,11 @@
+use Rattle.rl_text.proofs.Common.{IsUtf8-string_bytes}
+use Rattle.rl_sources.specs.Json.{object_front}
+use Rattle.rl_sources.specs.Places.{place_text}
+use Rattle.rl_sources.proofs.JsonLemmas.{ascii_pushed, two_pieces}
+use Rattle.rl_sources.proofs.StepLemmas.{place_ascii}
+use Rattle.rl_sources.proofs.place.push_json_front.Goals as goal
+
+pub returns : goal.returns
+returns g c = two_pieces _ _ _ (object_front c.args.path) (place_text c.args.place) c.in_ok-push_object_front.ensures
+    (ascii_pushed _ _ (place_text c.args.place) (IsUtf8-string_bytes c.push_object_front.new.out)
+    (place_ascii c.args.place) c.in_ok-write.ensures.bytes)

@@ -1,0 +1,80 @@
+-- What is printed of a source as JSON: an object a line. All are lists of characters.
+use Rattle.std.specs.Prelude.{◌≡◌, ◌⊎◌, ℕ, Bool, false, true, List, [], ◌∷◌, ◌++◌, codes, Option, Some, None}
+use denote.Ref.{Bor}
+use Rattle.std.specs.Fmt.{decimal}
+use Rattle.std.specs.List.{flat_map}
+use Rattle.std.specs.Str.{chars}
+use Rattle.rl_forms.specs.declared.kind.Kind.{Kind}
+use Rattle.rl_forms.specs.Reading.{Contents, Characters, Bytes, Digits, Truth, truth_text, Reads, HasContents, HasNoReading}
+use Rattle.rl_lexer.specs.declared.lines.LineColumn.{LineColumn}
+use Rattle.rl_lines.specs.Lines.{kind_label}
+use Rattle.rl_sources.specs.declared.options.Form.{Form}
+use Rattle.rl_sources.specs.declared.options.Form.TheVariants.{Plain, Colored, Json}
+use Rattle.rl_sources.specs.JsonStrings.{json_string}
+
+-- whether lines are objects
+abbrev pub is_json : Form → Bool
+is_json Plain = false
+is_json Colored = false
+is_json Json = true
+
+-- numbers in base ten, each after a comma
+abbrev pub more_numbers : List ℕ → List ℕ
+more_numbers numbers = flat_map (λ n. codes "," ++ decimal n) numbers
+
+-- an array of numbers
+abbrev pub number_array : List ℕ → List ℕ
+number_array [] = codes "[]"
+number_array (n ∷ ns) = codes "[" ++ (decimal n ++ (more_numbers ns ++ codes "]"))
+
+-- where an object begins: the brace, and the path where there is one
+abbrev pub object_front : Option (Bor (List ℕ)) → List ℕ
+object_front None = codes "{"
+object_front (Some path) = codes "{\"path\":" ++ (json_string (chars path.now) ++ codes ",")
+
+-- the members of a place: its bytes, and the line and column of the first
+abbrev pub place_members : ℕ → ℕ → LineColumn → List ℕ
+place_members lo hi at =
+    codes "\"lo\":" ++ (decimal lo ++ (codes ",\"hi\":" ++ (decimal hi
+    ++ (codes ",\"line\":" ++ (decimal at.line ++ (codes ",\"column\":" ++ decimal at.column))))))
+
+-- what a literal stands for: characters as a string, bytes as an array of their numbers, a number by its
+-- digits in base ten, as a string, a truth value by its word
+abbrev pub json_value : Contents → List ℕ
+json_value (Characters cs) = json_string cs
+json_value (Bytes bs) = number_array bs
+json_value (Digits ds) = json_string ds
+json_value (Truth b) = truth_text b
+
+-- a member after others, whose name has no escapes, and whose value is a string
+abbrev pub string_member : List ℕ → List ℕ → List ℕ
+string_member name text = codes ",\"" ++ (name ++ (codes "\":" ++ json_string text))
+
+-- the members of a literal, and the object's end: its kind, its text, its value, and its suffix
+abbrev pub literal_members : List ℕ → List ℕ → List ℕ → List ℕ → List ℕ
+literal_members label text value suffix =
+    string_member (codes "kind") label ++ (string_member (codes "text") text
+    ++ (codes ",\"value\":" ++ (value ++ (string_member (codes "suffix") suffix ++ codes "}\n"))))
+
+-- The members are those of the text's one reading, or the text has none.
+abbrev pub IsJsonLiteral : List ℕ → List ℕ → Type 0
+IsJsonLiteral text members =
+    ((kind : Kind) × (contents : Contents) × (suffix : List ℕ) × Reads text kind contents suffix
+    × (members ≡ literal_members (kind_label kind) text (json_value contents) suffix))
+    ⊎ (HasNoReading text × (members ≡ literal_members (codes "Verbatim") text (codes "null") []))
+
+-- the value of the text, a literal of the kind
+abbrev pub IsJsonValueOf : Kind → List ℕ → List ℕ → Type 0
+IsJsonValueOf kind text value =
+    (contents : Contents) × HasContents kind text contents × (value ≡ json_value contents)
+
+-- the members of a flaw, and the object's end: the literal's text, what is wrong, and the piece that it
+-- spoils, which is empty where there is none
+abbrev pub flaw_members : List ℕ → List ℕ → List ℕ → List ℕ
+flaw_members text message piece =
+    string_member (codes "text") text ++ (string_member (codes "error") message
+    ++ (string_member (codes "piece") piece ++ codes "}\n"))
+
+-- the member of a source's error, and the object's end
+abbrev pub error_members : List ℕ → List ℕ
+error_members message = string_member (codes "error") message ++ codes "}\n"
