@@ -2,9 +2,9 @@
 use Rattle.std.proofs.Common.{◌≡◌, ℕ, ◌+◌, ◌≤◌, List, length, take, Option, Some, None, IfSome, option_map, ap, ◌∙◌, arith, take_all, length-take}
 
 -- where what was read keeps to the limit, it is all there was
-pub all_read : (n : ℕ) (known : Option (List ℕ)) (bytes : List ℕ)
-    → IfSome (option_map (take (n + 1)) known) (λ xs. bytes ≡ xs) → length bytes ≤ n
+pub all_read : (most asked : ℕ) (known : Option (List ℕ)) (bytes : List ℕ) → asked ≡ most + 1
+    → IfSome (option_map (take asked) known) (λ xs. bytes ≡ xs) → length bytes ≤ most
     → IfSome known (λ all. bytes ≡ all)
-all_read n None bytes is short = tt
-all_read n (Some all) bytes is short = is
-    ∙ take_all (n + 1) all (omega (arith, short, ap length is, length-take (n + 1) all))
+all_read most asked None bytes more is short = tt
+all_read most asked (Some all) bytes more is short = is
+    ∙ take_all asked all (omega (arith, more, short, ap length is, length-take asked all))
