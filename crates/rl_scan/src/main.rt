@@ -4,7 +4,7 @@
 
 use rl_files::Host;
 use rl_program::{arguments, finish};
-use rl_sources::{Console, call};
+use rl_reports::{Console, call};
 use std::env;
 use std::env::VarError;
 use std::io::IsTerminal;

@@ -3,7 +3,7 @@
 use crate::writers::Narrow;
 use rl_files::{PathError, Tree};
 use rl_program::Ending;
-use rl_sources::{CallError, Console, call};
+use rl_reports::{CallError, Console, call};
 use std::alloc::{AllocError, Allocator, Global};
 use std::io;
 use std::io::Write;

@@ -7,9 +7,5 @@ pub mod ReasonLemmas
 pub mod ColorLemmas
 pub mod HiddenLemmas
 pub mod WriteLemmas
-pub mod ReportLemmas
-pub mod RunLemmas
-pub mod WordLemmas
-pub mod EndingLemmas
 pub mod JsonStringLemmas
 pub mod JsonLemmas

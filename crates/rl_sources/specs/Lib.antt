@@ -5,10 +5,6 @@ pub mod Places
 pub mod Scans
 pub mod Steps
 pub mod ScanErrors
-pub mod Reports
-pub mod Runs
-pub mod Words
-pub mod Endings
 pub mod Held
 pub mod JsonStrings
 pub mod Json

@@ -13,7 +13,7 @@ pub(crate) const PAINT_END: &str = "\x1b[0m";
 
 /// What of a line has a colour.
 #[derive(Clone, Copy)]
-pub(crate) enum Paint {
+pub enum Paint {
     /// Its path: magenta.
     Path,
     /// Its place: green.
@@ -42,7 +42,11 @@ pub(crate) fn has_colors(form: Form) -> bool
 }
 
 /// Appends a text, in a colour where lines have colours.
-pub(crate) fn push_painted<A: Allocator>(
+///
+/// # Errors
+///
+/// An allocation failure. A beginning may have been appended then.
+pub fn push_painted<A: Allocator>(
     out: &mut String<A>,
     form: Form,
     paint: Paint,

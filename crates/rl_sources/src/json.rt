@@ -23,7 +23,7 @@ use std::alloc::{AllocError, Allocator};
 
 /// Whether lines are objects.
 #[inline(always)]
-pub(crate) fn is_json(form: Form) -> bool
+pub fn is_json(form: Form) -> bool
     ensures { result ≡ prints_json form }
 {
     matches!(form, Form::Json)

@@ -1,11 +1,8 @@
-//! The literals of whole Rust sources as lines, each after its place; of the files that a walk visits what is reported;
-//! and the command line of the program that does so.
+//! The literals of whole Rust sources as lines, each after its place: all of them, or those that are bad, that hide text, or
+//! whose contents hold a text.
 #![tactic(auto)]
 
 mod color;
-mod command;
-mod ending;
-mod flags;
 mod held;
 mod hidden;
 mod json;
@@ -15,20 +12,15 @@ mod literal;
 mod options;
 mod place;
 mod reason;
-mod report;
-mod runs;
 mod scan_error;
 mod scanner;
 mod step;
-mod words;
 
-pub use crate::command::{Command, Console, Output, PlaceForm, Wish};
-pub use crate::ending::{CallError, HELP, VERSION, call};
+pub use crate::color::{Paint, push_painted};
+pub use crate::json::is_json;
 pub use crate::json_string::json_strings_stand;
-pub use crate::options::{Form, Judge, Options, Shown, Spelling};
+pub use crate::options::{Form, Judge, Options, Shown, Spelling, names};
 pub use crate::place::Place;
-pub use crate::report::{Report, report_of};
-pub use crate::runs::{RunStop, Tally, run};
+pub use crate::reason::push_source_error;
 pub use crate::scan_error::ScanError;
 pub use crate::scanner::scan;
-pub use crate::words::WordError;

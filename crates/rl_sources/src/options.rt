@@ -69,7 +69,7 @@ pub struct Options<'a> {
 }
 
 /// Whether this is one of the words of a list, in any case of its letters; commas separate the words.
-pub(crate) fn names(list: &str, label: &str) -> bool
+pub fn names(list: &str, label: &str) -> bool
     ensures { IsTrue result ↔ Names list.now label.now }
 {
     list.split(',').any(|word| word.eq_ignore_ascii_case(label))

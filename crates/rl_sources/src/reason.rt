@@ -2,18 +2,21 @@
 
 ghost use Rattle.std.specs.Prelude.{◌≡◌, ◌++◌, ◌↔◌, IsTrue, OnOk, string_bytes};
 ghost use Rattle.std.specs.Str.{chars};
+ghost use Rattle.rl_lexer.specs.LexErrors.{lex_message};
 ghost use Rattle.rl_lines.specs.Lines.{Appends};
 ghost use Rattle.rl_reasons.specs.FlawWords.{flaw_message};
-ghost use Rattle.rl_sources.specs.Scans.{FindsFlaw, IsFlawLine, IsFlawLineAt, IsFlawPiece, IsSlice, error_reason, flaw_end};
+ghost use Rattle.rl_sources.specs.Places.{line_front};
+ghost use Rattle.rl_sources.specs.Scans.{error_end, FindsFlaw, IsFlawLine, IsFlawLineAt, IsFlawPiece, IsSlice, error_reason, flaw_end};
 ghost use Rattle.rl_sources.specs.Steps.{BeginsRest};
 
 use crate::color::push_error_word;
-use crate::json::{is_json, push_json_flaw};
+use crate::json::{is_json, push_json_error, push_json_flaw};
 use crate::literal::Literal;
 use crate::options::{Form, Options};
 use crate::place::{Place, Places, place_inside, push_front};
 use rl_files::push_visible;
 use rl_grammar::{Flaw, FlawKind};
+use rl_tokens::LexKind;
 use std::alloc::{AllocError, Allocator};
 
 /// Whether the bytes from `lo` to `hi` are a text.
@@ -111,4 +114,41 @@ pub(crate) fn push_flaw<'t, A: Allocator>(
 {
     let place = place_inside(options, places, literal, flaw.lo, flaw.hi);
     push_flaw_at(alloc, out, options, literal.token.text, flaw, place)
+}
+
+/// Appends what stands after the place in the line of a source's error.
+fn push_error_end<A: Allocator>(
+    alloc: A,
+    out: &mut String<A>,
+    form: Form,
+    kind: LexKind,
+) -> Result<(), AllocError>
+    ensures { OnOk result (chars (string_bytes out.new) ≡ chars (string_bytes out.old)
+        ++ error_end form (lex_message kind)) }
+{
+    if is_json(form) {
+        return push_json_error(alloc, out, kind);
+    }
+    push_error_word(out, form)?;
+    writeln!(out, ": {kind}")
+}
+
+/// Appends the line of a source's error: the path where there is one, the place, and what is wrong.
+///
+/// # Errors
+///
+/// An allocation failure. A beginning of the line may have been appended then.
+pub fn push_source_error<A: Allocator>(
+    alloc: A,
+    out: &mut String<A>,
+    form: Form,
+    path: Option<&str>,
+    place: Place,
+    kind: LexKind,
+) -> Result<(), AllocError>
+    ensures { OnOk result (chars (string_bytes out.new) ≡ chars (string_bytes out.old)
+        ++ (line_front form path.entry place ++ error_end form (lex_message kind))) }
+{
+    push_front(out, form, path, place)?;
+    push_error_end(alloc, out, form, kind)
 }

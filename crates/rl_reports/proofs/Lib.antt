@@ -1,0 +1,4 @@
+pub mod WordLemmas
+pub mod ReportLemmas
+pub mod RunLemmas
+pub mod EndingLemmas

@@ -1,0 +1,83 @@
+-- What is reported of a file.
+use Rattle.rl_text.proofs.Common.{IsAscii, IsUtf8, List, None, Option, Some, [], ap, append_assoc, chars, chars-IsAscii, chars-nil, codes, encodes-chars, inl, inr, refl, sym, ℕ, ◌++◌, ◌∙◌, ◌≡◌, ◌⊎◌}
+use Rattle.std.specs.Prelude.{encode_utf8_all, IfSome, IfOk, Ok, Err}
+use Rattle.std.specs.declared.result.Result.{Result}
+use Rattle.std.proofs.lemmas.Str.{IsAscii-append}
+use Rattle.rl_files.specs.Trees.{World}
+use Rattle.rl_files.specs.Visible.{visible}
+use Rattle.rl_files.specs.Walks.{FileAt, path_error_message}
+use Rattle.rl_files.specs.declared.tree.PathError.{PathError}
+use Rattle.rl_files.specs.declared.tree.PathError.TheVariants.{NotFound, PermissionDenied, IsADirectory, NotADirectory, PathTooLong, NameNotUtf8, NotUtf8, TooLong, OutOfMemory, ReadFailed}
+use Rattle.rl_lines.proofs.LineLemmas.{pushed}
+use Rattle.rl_reports.specs.declared.command.Command.{Command}
+use Rattle.rl_reports.specs.declared.report.Report.{Report}
+use Rattle.rl_reports.specs.Reports.{in_report, IsTextReport, IsErrorReport, IsNotUtf8, IsReport}
+use Rattle.rl_sources.proofs.StepLemmas.{decimal_ascii, low_text}
+
+-- what is appended to nothing
+pub from_nothing : (old new piece : List ℕ) → old ≡ [] → chars new ≡ chars old ++ piece → chars new ≡ piece
+from_nothing old new piece none e = e ∙ ap (λ (z : List ℕ). chars z ++ piece) none
+    ∙ ap (λ (z : List ℕ). z ++ piece) chars-nil
+
+-- the bytes of what is appended to nothing
+pub bytes_from_nothing : (old new piece : List ℕ) → IsUtf8 new → old ≡ [] → chars new ≡ chars old ++ piece → new
+    ≡ encode_utf8_all piece
+bytes_from_nothing old new piece utf8 none e = sym (encodes-chars new utf8)
+    ∙ ap encode_utf8_all (from_nothing old new piece none e)
+
+-- messages are ASCII
+message_ascii : (why : PathError) → IsAscii (path_error_message why)
+message_ascii NotFound = low_text (path_error_message NotFound) refl
+message_ascii PermissionDenied = low_text (path_error_message PermissionDenied) refl
+message_ascii IsADirectory = low_text (path_error_message IsADirectory) refl
+message_ascii NotADirectory = low_text (path_error_message NotADirectory) refl
+message_ascii PathTooLong = low_text (path_error_message PathTooLong) refl
+message_ascii NameNotUtf8 = low_text (path_error_message NameNotUtf8) refl
+message_ascii (NotUtf8 at) = IsAscii-append (codes "not UTF-8 at byte ") _ (low_text (codes "not UTF-8 at byte ") refl)
+    (decimal_ascii at)
+message_ascii TooLong = low_text (path_error_message TooLong) refl
+message_ascii OutOfMemory = low_text (path_error_message OutOfMemory) refl
+message_ascii ReadFailed = low_text (path_error_message ReadFailed) refl
+
+-- the line of a path that can't be read
+pub error_told : (path : List ℕ) (why : PathError) (a b told : List ℕ) → IsUtf8 b → a ≡ codes "rl_scan: " → chars b
+    ≡ chars a ++ visible (chars path) → told ≡ b ++ (codes ": " ++ (path_error_message why ++ codes "\n"))
+    → chars told ≡ codes "rl_scan: " ++ (visible (chars path) ++ (codes ": " ++ (path_error_message why ++ codes "\n")))
+error_told path why a b told utf8 first shown written =
+    let after : List ℕ = codes ": " ++ (path_error_message why ++ codes "\n") in
+    let ascii : IsAscii after = IsAscii-append (codes ": ") (path_error_message why ++ codes "\n")
+    (low_text (codes ": ") refl) (IsAscii-append (path_error_message why) (codes "\n") (message_ascii why)
+    (low_text (codes "\n") refl)) in
+    let begun : chars a ≡ codes "rl_scan: " = ap chars first ∙ chars-IsAscii (codes "rl_scan: ")
+    (low_text (codes "rl_scan: ") refl) in
+    pushed b told after utf8 written ∙ ap (λ (z : List ℕ). chars b ++ z) (chars-IsAscii after ascii)
+    ∙ ap (λ (z : List ℕ). z ++ after) (shown ∙ ap (λ (z : List ℕ). z ++ visible (chars path)) begun)
+    ∙ append_assoc (codes "rl_scan: ") (visible (chars path)) after
+
+-- a file that can't be read
+pub not_read : {A E : Type 0} (command : Command) (holds : Option World) (path : List ℕ) (why : PathError)
+    (r : Result (Report A) E) → (why ≡ OutOfMemory) ⊎ IfSome holds (λ w. w.bytes path ≡ Err why)
+    → IfOk r (λ p. IsErrorReport path why (in_report p)) → IfOk r
+    (λ p. IfSome holds (λ w. IsReport command w (FileAt path) (in_report p)))
+not_read command None path why (Ok p) found is = tt
+not_read command None path why (Err e) found is = tt
+not_read command (Some w) path why (Ok p) (inl memory) is = inr (why, inl memory, is)
+not_read command (Some w) path why (Ok p) (inr found) is = inr (why, inr (inl found), is)
+not_read command (Some w) path why (Err e) found is = tt
+
+-- a file that was read
+pub was_read : {A : Type 0} (command : Command) (holds : Option World) (path bytes : List ℕ) (p : Report A)
+    → IfSome holds (λ w. w.bytes path ≡ Ok bytes) → (IsUtf8 bytes × IsTextReport command path bytes (in_report p))
+    ⊎ ((why : PathError) × IsNotUtf8 bytes why × IsErrorReport path why (in_report p))
+    → IfSome holds (λ w. IsReport command w (FileAt path) (in_report p))
+was_read command None path bytes p found is = tt
+was_read command (Some w) path bytes p found (inl (utf8, is)) = inl (bytes, found, utf8, is)
+was_read command (Some w) path bytes p found (inr (why, no_text, is)) = inr (why, inr (inr (bytes, found, no_text)), is)
+
+-- what is no text
+pub no_text_told : {A E : Type 0} (command : Command) (path bytes : List ℕ) (why : PathError) (r : Result (Report A) E)
+    → IsNotUtf8 bytes why → IfOk r (λ p. IsErrorReport path why (in_report p))
+    → IfOk r (λ p. (IsUtf8 bytes × IsTextReport command path bytes (in_report p))
+    ⊎ ((other : PathError) × IsNotUtf8 bytes other × IsErrorReport path other (in_report p)))
+no_text_told command path bytes why (Ok p) no_text is = inr (why, no_text, is)
+no_text_told command path bytes why (Err e) no_text is = tt

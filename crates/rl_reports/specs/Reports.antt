@@ -1,0 +1,207 @@
+-- What is reported of what a walk visits. All are lists of bytes, but where `chars` makes characters of
+-- them.
+use Rattle.std.specs.Prelude.{◌≡◌, ◌⊎◌, ℕ, ◌==◌, Bool, true, false, cond, not, ◌||◌, List, [], ◌∷◌, ◌++◌, length, codes, string_bytes, encode_utf8_all, Option, Some, None}
+use denote.Ref.{Bor}
+use Rattle.std.specs.declared.result.Result.TheVariants.{Ok, Err}
+use Rattle.std.specs.Fmt.{decimal}
+use Rattle.std.specs.List.{count_by}
+use Rattle.std.specs.Str.{chars, bytes_eq, IsUtf8, IsValidUpTo}
+use Rattle.rl_files.specs.Trees.{World}
+use Rattle.rl_files.specs.Visible.{visible}
+use Rattle.rl_files.specs.Walks.{Visited, FileAt, ErrorAt, path_error_message}
+use Rattle.rl_files.specs.declared.tree.PathError.{PathError}
+use Rattle.rl_files.specs.declared.tree.PathError.TheVariants.{NotUtf8, OutOfMemory}
+use Rattle.rl_lexer.specs.LexErrors.{lex_message}
+use Rattle.rl_lexer.specs.declared.lex_error.LexKind.{LexKind}
+use Rattle.rl_reports.specs.declared.command.Command.{Command}
+use Rattle.rl_reports.specs.declared.command.PlaceForm.{PlaceForm}
+use Rattle.rl_reports.specs.declared.command.PlaceForm.TheVariants as form
+use Rattle.rl_reports.specs.declared.command.Output.{Output}
+use Rattle.rl_reports.specs.declared.command.Output.TheVariants as output
+use Rattle.rl_sources.specs.declared.color.Paint.TheVariants as paint
+use Rattle.rl_sources.specs.declared.options.Form.{Form}
+use Rattle.rl_sources.specs.declared.options.Form.TheVariants.{Plain}
+use Rattle.rl_sources.specs.declared.options.Options.{Options}
+use Rattle.rl_sources.specs.declared.options.Shown.{Shown}
+use Rattle.rl_sources.specs.declared.options.Shown.TheVariants.{All, Only, Bad, Hidden}
+use Rattle.rl_sources.specs.declared.place.Place.{Place}
+use Rattle.rl_sources.specs.declared.place.Place.TheVariants.{Bytes, Line, Both}
+use Rattle.rl_reports.specs.declared.report.Report.{Report}
+use Rattle.rl_sources.specs.Colors.{painted}
+use Rattle.rl_sources.specs.Json.{is_json}
+use Rattle.rl_sources.specs.Places.{line_front}
+use Rattle.rl_sources.specs.Scans.{Scans, StopsAtError, error_end}
+
+-- the path of standard input
+abbrev pub is_input : List ℕ → Bool
+is_input path = bytes_eq path (codes "-")
+
+-- whether places are printed by lines and columns
+abbrev pub is_by_line : PlaceForm → List ℕ → Bool
+is_by_line form.Usual path = not (is_input path)
+is_by_line form.Bytes path = false
+is_by_line form.Lines path = true
+
+-- whether what is bad is asked for
+abbrev pub is_bad : Shown → Bool
+is_bad All = false
+is_bad (Only list) = false
+is_bad Bad = true
+is_bad Hidden = false
+
+-- whether what is found is an alarm: where what is bad is asked for, or what turns or hides text
+abbrev pub is_alarm : Shown → Bool
+is_alarm All = false
+is_alarm (Only list) = false
+is_alarm Bad = true
+is_alarm Hidden = true
+
+-- a path as it is printed before each place; that of standard input isn't
+abbrev pub IsShownPath : List ℕ → Option (Bor (List ℕ)) → Type 0
+IsShownPath path None = is_input path ≡ true
+IsShownPath path (Some shown) = (is_input path ≡ false) × (chars shown.now ≡ visible (chars path))
+
+-- a path as it stands before each place: as it is printed, or in an object as it is; that of standard
+-- input doesn't
+abbrev pub IsPathIn : Form → List ℕ → Option (Bor (List ℕ)) → Type 0
+IsPathIn form path None = is_input path ≡ true
+IsPathIn form path (Some shown) =
+    (is_input path ≡ false) × (chars shown.now ≡ cond (is_json form) (chars path) (visible (chars path)))
+
+-- How a file of this path is scanned.
+pub record IsOptionsFor (command : Command) (path : List ℕ) (options : Options) : Type 0 where
+  pub shown : options.shown ≡ command.shown
+  pub finds : options.finds ≡ command.finds
+  pub spelling : options.spelling ≡ command.spelling
+  pub form : options.form ≡ command.form
+  pub by_line : options.by_line ≡ is_by_line command.places path
+  pub rejects_strays : options.rejects_strays ≡ command.rejects_strays
+  pub explains : options.explains ≡ is_bad command.shown
+  pub judge : options.judge ≡ command.judge
+  pub before : IsPathIn command.form path options.path
+
+-- the lines of a text, and its error where it has one
+abbrev pub IsScannedAs : Options → List ℕ → List ℕ → Option (Place × LexKind) → Type 0
+IsScannedAs options text lines None = (any : Bool) × Scans options (chars text) (Some []) (Some lines) any
+IsScannedAs options text lines (Some (place, kind)) =
+    (shown : List ℕ) × StopsAtError options (chars text) shown place kind × (lines ≡ encode_utf8_all shown)
+
+-- how the line of a text's error is written: as the others, where errors are among what is found; else
+-- plain, since it goes to standard error
+abbrev pub error_form : Options → Form
+error_form options = cond options.explains options.form Plain
+
+-- a place by its bytes, or by its line and column
+abbrev pub worded_place : Bool → Place → Place
+worded_place by_line (Bytes lo hi) = Bytes lo hi
+worded_place by_line (Line at) = Line at
+worded_place by_line (Both lo hi at) = cond by_line (Line at) (Bytes lo hi)
+
+-- the place in that line, and the path before it, of which this is printed
+abbrev pub error_place : Options → Place → Place
+error_place options place = cond options.explains place (worded_place options.by_line place)
+
+abbrev pub error_path : Options → Option (Bor (List ℕ)) → Option (Bor (List ℕ))
+error_path options shown = cond options.explains options.path shown
+
+-- the line of a text's error, in characters; nothing where it has none
+abbrev pub error_text : Options → Option (Bor (List ℕ)) → Option (Place × LexKind) → List ℕ
+error_text options shown None = []
+error_text options shown (Some (place, kind)) =
+    line_front (error_form options) (error_path options shown) (error_place options place)
+    ++ error_end (error_form options) (lex_message kind)
+
+-- how many lines there are
+abbrev pub line_count : List ℕ → ℕ
+line_count lines = count_by (λ b. b == 10) lines
+
+abbrev pub count_line : Form → Option (Bor (List ℕ)) → ℕ → List ℕ
+count_line form None count = decimal count ++ codes "\n"
+count_line form (Some path) count =
+    painted form paint.Path path.now ++ (codes ":" ++ (decimal count ++ codes "\n"))
+
+abbrev pub path_line : Form → Option (Bor (List ℕ)) → List ℕ
+path_line form None = painted form paint.Path (codes "-") ++ codes "\n"
+path_line form (Some path) = painted form paint.Path path.now ++ codes "\n"
+
+-- what is printed of the lines of a file: where there are none, nothing
+abbrev pub printed_of : Output → Form → Option (Bor (List ℕ)) → List ℕ → List ℕ
+printed_of output.Lines form path lines = lines
+printed_of output.Count form path lines = cond (length lines == 0) [] (count_line form path (line_count lines))
+printed_of output.Path form path lines = cond (length lines == 0) [] (path_line form path)
+printed_of output.Nothing form path lines = []
+
+-- What is written on standard output and on standard error, and whether something was found.
+pub record Findings : Type 0 where
+  pub out : List ℕ
+  pub told : List ℕ
+  pub found : Bool
+
+abbrev pub in_report : {A : Type 0} → Report A → Findings
+in_report report = record { out = report.out.items; told = string_bytes report.told; found = report.found }
+
+-- what is found in a text: its lines, and its error where what is bad is asked for
+abbrev pub found_in : Bool → List ℕ → List ℕ → List ℕ
+found_in true lines error = lines ++ error
+found_in false lines error = lines
+
+-- what is told of it: its error where that isn't found
+abbrev pub told_of : Bool → List ℕ → List ℕ
+told_of true error = []
+told_of false error = error
+
+-- What is reported of a text with these lines and this error, of whose path this is printed.
+pub record IsReportOf (output : Output) (options : Options) (path : Option (Bor (List ℕ))) (lines error : List ℕ)
+    (printed : Findings) : Type 0 where
+  pub out : printed.out ≡ printed_of output options.form path (found_in options.explains lines error)
+  pub told : printed.told ≡ told_of options.explains error
+  pub found : printed.found ≡ not (length (found_in options.explains lines error) == 0)
+
+-- what is reported of a text
+abbrev pub IsTextReport : Command → List ℕ → List ℕ → Findings → Type 0
+IsTextReport command path text printed =
+    (options : Options) × (shown : Option (Bor (List ℕ))) × (lines : List ℕ) × (error : Option (Place × LexKind))
+    × IsOptionsFor command path options × IsShownPath path shown × IsScannedAs options text lines error
+    × IsReportOf command.output options shown lines (encode_utf8_all (error_text options shown error)) printed
+
+-- Of a path that can't be read one line is told.
+pub record IsErrorReport (path : List ℕ) (why : PathError) (printed : Findings) : Type 0 where
+  pub out : printed.out ≡ []
+  pub found : printed.found ≡ false
+  pub told : chars printed.told
+      ≡ codes "rl_scan: " ++ (visible (chars path) ++ (codes ": " ++ (path_error_message why ++ codes "\n")))
+
+-- these bytes are no text, from the byte on that the error says
+abbrev pub IsNotUtf8 : List ℕ → PathError → Type 0
+IsNotUtf8 bytes why = (at : ℕ) × (why ≡ NotUtf8 at) × (IsUtf8 bytes → ⊥) × IsValidUpTo bytes at
+
+-- why a file isn't scanned: what the tree says, or an allocation failed, or it is no text
+abbrev pub IsReadError : World → List ℕ → PathError → Type 0
+IsReadError w path why =
+    (why ≡ OutOfMemory) ⊎ (w.bytes path ≡ Err why)
+    ⊎ ((bytes : List ℕ) × (w.bytes path ≡ Ok bytes) × IsNotUtf8 bytes why)
+
+-- what is reported of a file, or of a path that can't be gone into
+abbrev pub IsReport : Command → World → Visited → Findings → Type 0
+IsReport command w (FileAt path) printed =
+    ((text : List ℕ) × (w.bytes path ≡ Ok text) × IsUtf8 text × IsTextReport command path text printed)
+    ⊎ ((why : PathError) × IsReadError w path why × IsErrorReport path why printed)
+IsReport command w (ErrorAt path why) printed = IsErrorReport path why printed
+
+-- nothing, and one after another
+abbrev pub nothing : Findings
+nothing = record { out = []; told = []; found = false }
+
+abbrev pub both_of : Findings → Findings → Findings
+both_of first second = record {
+  out = first.out ++ second.out;
+  told = first.told ++ second.told;
+  found = first.found || second.found;
+}
+
+-- what is reported of all that is visited, in order
+abbrev pub AreReports : Command → World → List Visited → Findings → Type 0
+AreReports command w [] printed = printed ≡ nothing
+AreReports command w (visit ∷ visits) printed =
+    (first : Findings) × (others : Findings) × IsReport command w visit first × AreReports command w visits others
+    × (printed ≡ both_of first others)

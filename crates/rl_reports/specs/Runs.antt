@@ -1,0 +1,70 @@
+-- What a run over a walk writes, and the status that it ends with.
+use Rattle.std.specs.Prelude.{◌≡◌, ◌⊎◌, ℕ, ◌==◌, cond, not, ◌&&◌, List, length, ◌++◌, Option, Some, None}
+use denote.Ref.{Bor}
+use Rattle.std.specs.Io.KnownBytes.{Appends, Keeps}
+use Rattle.rl_files.specs.Trees.{World}
+use Rattle.rl_files.specs.Walks.{Spot, Visited, Visits}
+use Rattle.rl_program.specs.Streams.{AppendsBeginning}
+use Rattle.rl_reports.specs.declared.command.Command.{Command}
+use Rattle.rl_sources.specs.declared.options.Shown.{Shown}
+use Rattle.rl_reports.specs.declared.runs.Tally.{Tally}
+use Rattle.rl_reports.specs.Reports.{Findings, IsReport, AreReports, is_alarm}
+
+-- The bytes that two writers held before and hold now: standard output and standard error.
+pub record Streams : Type 0 where
+  pub out_old : Option (List ℕ)
+  pub out_new : Option (List ℕ)
+  pub err_old : Option (List ℕ)
+  pub err_new : Option (List ℕ)
+
+-- All of this was written, and it is told whether something was found, and whether an error was reported.
+pub record IsWritten (streams : Streams) (printed : Findings) (tally : Tally) : Type 0 where
+  pub on_out : Appends streams.out_old streams.out_new printed.out
+  pub on_err : Appends streams.err_old streams.err_new printed.told
+  pub found : tally.found ≡ printed.found
+  pub failed : tally.failed ≡ not (length printed.told == 0)
+
+-- what was written of one visit
+abbrev pub WritesReport : Command → World → Visited → Streams → Tally → Type 0
+WritesReport command w visit streams tally =
+    (printed : Findings) × IsReport command w visit printed × IsWritten streams printed tally
+
+-- What was written of a walk from these places on: what is reported of all that is visited, in order.
+abbrev pub WritesWalk : Command → World → List Spot → Streams → Tally → Type 0
+WritesWalk command w spots streams tally =
+    (visits : List Visited) × (printed : Findings) × Visits w spots visits
+    × AreReports command w visits printed × IsWritten streams printed tally
+
+-- a beginning of this was written
+abbrev pub WritesBeginning : Streams → Findings → Type 0
+WritesBeginning streams printed =
+    AppendsBeginning streams.out_old streams.out_new printed.out
+    × AppendsBeginning streams.err_old streams.err_new printed.told
+
+-- what was written of one visit where that failed: nothing, or a beginning of what is reported
+abbrev pub WritesSome : Command → World → Visited → Streams → Type 0
+WritesSome command w visit streams =
+    (Keeps streams.out_old streams.out_new × Keeps streams.err_old streams.err_new)
+    ⊎ ((printed : Findings) × IsReport command w visit printed × WritesBeginning streams printed)
+
+-- What was written where the run ended early: a beginning of what is reported of the first that a walk
+-- visits.
+abbrev pub WritesFront : Command → World → List Spot → Streams → Type 0
+WritesFront command w spots streams =
+    (visits others : List Visited) × (printed : Findings) × Visits w spots (visits ++ others)
+    × AreReports command w visits printed × WritesBeginning streams printed
+
+-- The status of a run: 2 where an error was reported; else 1 where what is bad was asked for, or what
+-- turns or hides text, and some was found; else 0.
+abbrev pub run_status : Shown → Tally → ℕ
+run_status shown tally = cond tally.failed 2 (cond (is_alarm shown && tally.found) 1 0)
+
+-- The status of a run that looked for a text: 2 where an error was reported; else 0 where the text was
+-- found, else 1.
+abbrev pub find_status : Tally → ℕ
+find_status tally = cond tally.failed 2 (cond tally.found 0 1)
+
+-- the status of a run, by whether a text was looked for, and what was wanted
+abbrev pub asked_status : Option (Bor (List ℕ)) → Shown → Tally → ℕ
+asked_status None shown tally = run_status shown tally
+asked_status (Some sought) shown tally = find_status tally

@@ -1,0 +1,354 @@
+-- What the words of a command line ask for. Words are lists of bytes.
+use Rattle.std.specs.Prelude.{◌≡◌, ◌≢◌, ◌⊎◌, ℕ, ◌==◌, Bool, true, false, cond, not, ◌||◌, List, [], ◌∷◌, ◌++◌, codes, string_bytes, ⊤, Option, Some, None}
+use denote.Ref.{Bor}
+use Rattle.std.specs.List.{All, starts_with}
+use Rattle.std.specs.Str.{chars, bytes_eq}
+use Rattle.rl_files.specs.Trees.{string_texts}
+use Rattle.rl_files.specs.Visible.{visible}
+use Rattle.rl_reports.specs.declared.command.Wish.{Wish}
+use Rattle.rl_reports.specs.declared.command.Wish.TheVariants as wish
+use Rattle.rl_reports.specs.declared.command.PlaceForm.{PlaceForm}
+use Rattle.rl_reports.specs.declared.command.PlaceForm.TheVariants as form
+use Rattle.rl_reports.specs.declared.command.Output.{Output}
+use Rattle.rl_reports.specs.declared.command.Output.TheVariants as output
+use Rattle.rl_reports.specs.declared.command.Command.{Command}
+use Rattle.rl_sources.specs.declared.options.Form.{Form}
+use Rattle.rl_sources.specs.declared.options.Form.TheVariants as written
+use Rattle.rl_sources.specs.declared.options.Judge.{Judge}
+use Rattle.rl_sources.specs.declared.options.Judge.TheVariants as judge
+use Rattle.rl_sources.specs.declared.options.Shown.{Shown}
+use Rattle.rl_sources.specs.declared.options.Spelling.{Spelling}
+use Rattle.rl_sources.specs.declared.options.Spelling.TheVariants.{Value, Source}
+use Rattle.rl_sources.specs.declared.options.Shown.TheVariants as shown
+use Rattle.rl_reports.specs.declared.flags.Flag.{Flag}
+use Rattle.rl_reports.specs.declared.flags.Flag.TheVariants.{Bad, Hidden, Lenient, Only, Find, Text, Json, Color, Bytes, Lines, NoStray, Count, Files, Quiet, Help, Version, Paths}
+use Rattle.rl_reports.specs.declared.flags.Operand.{Operand}
+use Rattle.rl_reports.specs.declared.flags.Operand.TheVariants as takes
+use Rattle.rl_reports.specs.declared.flags.Next.{Next}
+use Rattle.rl_reports.specs.declared.flags.Next.TheVariants as next
+use Rattle.rl_reports.specs.declared.flags.When.{When}
+use Rattle.rl_reports.specs.declared.flags.When.TheVariants.{Auto, Always, Never}
+use Rattle.rl_reports.specs.declared.words.Asked.{Asked}
+use Rattle.rl_reports.specs.declared.words.WordError.{WordError}
+use Rattle.rl_reports.specs.declared.words.WordError.TheVariants.{Memory, UnknownOption, UnknownKind, NoKinds, TwoChoices, LenientAlone, NoText, EmptyText, BadAndFind, NoColor, UnknownColor}
+use Rattle.rl_sources.specs.Options.{Names, words_of}
+
+-- the words of an option
+abbrev pub IsOptionWord : Flag → List ℕ → Type 0
+IsOptionWord Bad word = (word ≡ codes "-b") ⊎ (word ≡ codes "--bad")
+IsOptionWord Hidden word = (word ≡ codes "-B") ⊎ (word ≡ codes "--hidden")
+IsOptionWord Lenient word = word ≡ codes "--lenient"
+IsOptionWord Only word = (word ≡ codes "-k") ⊎ (word ≡ codes "--only")
+IsOptionWord Find word = (word ≡ codes "-f") ⊎ (word ≡ codes "--find")
+IsOptionWord Text word = word ≡ codes "--text"
+IsOptionWord Json word = word ≡ codes "--json"
+IsOptionWord Color word = word ≡ codes "--color"
+IsOptionWord Bytes word = (word ≡ codes "-o") ⊎ (word ≡ codes "--bytes")
+IsOptionWord Lines word = word ≡ codes "--lines"
+IsOptionWord NoStray word = word ≡ codes "--no-stray"
+IsOptionWord Count word = (word ≡ codes "-c") ⊎ (word ≡ codes "--count")
+IsOptionWord Files word = (word ≡ codes "-l") ⊎ (word ≡ codes "--files")
+IsOptionWord Quiet word = (word ≡ codes "-q") ⊎ (word ≡ codes "--quiet")
+IsOptionWord Help word = (word ≡ codes "-h") ⊎ (word ≡ codes "--help")
+IsOptionWord Version word = (word ≡ codes "-V") ⊎ (word ≡ codes "--version")
+IsOptionWord Paths word = word ≡ codes "--"
+
+-- an option and, after `=`, what it takes, in one word
+abbrev pub joined_word : Operand → List ℕ → List ℕ
+joined_word takes.Kinds text = codes "--only=" ++ text
+joined_word takes.Text text = codes "--find=" ++ text
+joined_word takes.Color text = codes "--color=" ++ text
+
+-- the option that takes it
+abbrev pub taken_by : Operand → Flag
+taken_by takes.Kinds = Only
+taken_by takes.Text = Find
+taken_by takes.Color = Color
+
+-- the word that says when lines have colours
+abbrev pub color_word : When → List ℕ
+color_word Auto = codes "auto"
+color_word Always = codes "always"
+color_word Never = codes "never"
+
+-- how lines are written that have colours then: where nothing is said of them, as output takes them
+abbrev pub colored_form : Bool → When → Form
+colored_form has_colors Auto = cond has_colors written.Colored written.Plain
+colored_form has_colors Always = written.Colored
+colored_form has_colors Never = written.Plain
+
+-- how lines are written by a later word; objects of JSON stay so
+abbrev pub recolored : Form → Form → Form
+recolored written.Json later = written.Json
+recolored written.Plain later = later
+recolored written.Colored later = later
+
+-- the kinds of literals, and `Verbatim` for those without a reading
+abbrev pub kind_list : List ℕ
+kind_list = codes "Str,ByteStr,CStr,Byte,Char,Int,Float,Bool,Verbatim"
+
+-- one of them, in any case of its letters
+abbrev pub IsKindWord : List ℕ → Type 0
+IsKindWord word = Names kind_list word
+
+-- each word of a list is one; commas separate the words
+abbrev pub AreKindWords : List ℕ → Type 0
+AreKindWords list = All IsKindWord (words_of list)
+
+-- the first word of a list that is none of them
+abbrev pub IsUnknownKind : List ℕ → List ℕ → Type 0
+IsUnknownKind list word =
+    (before after : List (List ℕ)) × (words_of list ≡ before ++ word ∷ after) × All IsKindWord before
+    × (IsKindWord word → ⊥)
+
+-- `-`, and what doesn't begin with a dash
+abbrev pub is_path_word : List ℕ → Bool
+is_path_word word = bytes_eq word (codes "-") || not (starts_with ◌==◌ word (codes "-"))
+
+-- which literals are wanted: all, those of a list's kinds, those that are bad, those that hold what hides
+-- text
+pub data Wanted : Type 0 where
+  AllWanted : Wanted
+  OnlyWanted : (list : List ℕ) → Wanted
+  BadWanted : Wanted
+  HiddenWanted : Wanted
+
+abbrev pub wanted_of : Shown → Wanted
+wanted_of shown.All = AllWanted
+wanted_of (shown.Only list) = OnlyWanted list.now
+wanted_of shown.Bad = BadWanted
+wanted_of shown.Hidden = HiddenWanted
+
+-- the text that is looked for, where there is one
+abbrev pub sought_of : Option (Bor (List ℕ)) → Option (List ℕ)
+sought_of None = None
+sought_of (Some text) = Some text.now
+
+-- what a command line asks for
+pub record Wishes : Type 0 where
+  pub wish : Wish
+  pub wanted : Wanted
+  pub finds : Option (List ℕ)
+  pub places : PlaceForm
+  pub output : Output
+  pub rejects_strays : Bool
+  pub judge : Judge
+  pub spelling : Spelling
+  pub form : Form
+  pub paths : List (List ℕ)
+
+-- what is asked for where nothing is said
+abbrev pub first_wishes : Bool → Wishes
+first_wishes has_colors = record {
+  wish = wish.Scan;
+  wanted = AllWanted;
+  finds = None;
+  places = form.Usual;
+  output = output.Lines;
+  rejects_strays = false;
+  judge = judge.Rust;
+  spelling = Value;
+  form = colored_form has_colors Auto;
+  paths = [];
+}
+
+-- what the code holds
+abbrev pub wishes_of : Command → List (List ℕ) → Wishes
+wishes_of command paths = record {
+  wish = command.wish;
+  wanted = wanted_of command.shown;
+  finds = sought_of command.finds;
+  places = command.places;
+  output = command.output;
+  rejects_strays = command.rejects_strays;
+  judge = command.judge;
+  spelling = command.spelling;
+  form = command.form;
+  paths = paths;
+}
+
+abbrev pub wishes_in : {A : Type 0} → Asked A → Wishes
+wishes_in asked = wishes_of asked.command (string_texts asked.paths.items)
+
+-- only one option may say which literals are wanted
+abbrev pub IsAllowed : Flag → Wishes → Type 0
+IsAllowed Bad w = w.wanted ≡ AllWanted
+IsAllowed Hidden w = w.wanted ≡ AllWanted
+IsAllowed Only w = w.wanted ≡ AllWanted
+IsAllowed _ w = ⊤
+
+-- one text at most is looked for, and none where what is bad or hidden is wanted
+abbrev pub GoesWithFind : Flag → Wishes → Type 0
+GoesWithFind Bad w = w.finds ≡ None
+GoesWithFind Hidden w = w.finds ≡ None
+GoesWithFind Find w = (w.finds ≡ None) × (w.wanted ≢ BadWanted) × (w.wanted ≢ HiddenWanted)
+GoesWithFind _ w = ⊤
+
+-- the option goes with what is asked for
+abbrev pub MayStand : Flag → Wishes → Type 0
+MayStand flag w = IsAllowed flag w × GoesWithFind flag w
+
+abbrev pub with_flag : Flag → Wishes → Wishes
+with_flag Bad w = record w { wanted = BadWanted }
+with_flag Hidden w = record w { wanted = HiddenWanted }
+with_flag Lenient w = record w { judge = judge.Syn }
+with_flag Only w = w
+with_flag Find w = w
+with_flag Text w = record w { spelling = Source }
+with_flag Json w = record w { form = written.Json }
+with_flag Color w = w
+with_flag Bytes w = record w { places = form.Bytes }
+with_flag Lines w = record w { places = form.Lines }
+with_flag NoStray w = record w { rejects_strays = true }
+with_flag Count w = record w { output = output.Count }
+with_flag Files w = record w { output = output.Path }
+with_flag Quiet w = record w { output = output.Nothing }
+with_flag Help w = record w { wish = wish.Help }
+with_flag Version w = record w { wish = wish.Version }
+with_flag Paths w = w
+
+-- after `--only` stands a list of kinds, after `--find` a text, after `--color` when there are colours,
+-- after `--` stand paths
+abbrev pub next_after : Flag → Next
+next_after Only = next.Operand takes.Kinds
+next_after Find = next.Operand takes.Text
+next_after Color = next.Operand takes.Color
+next_after Paths = next.Path
+next_after _ = next.Any
+
+abbrev pub with_path : List ℕ → Wishes → Wishes
+with_path path w = record w { paths = w.paths ++ path ∷ [] }
+
+abbrev pub with_kinds : List ℕ → Wishes → Wishes
+with_kinds list w = record w { wanted = OnlyWanted list }
+
+abbrev pub with_text : List ℕ → Wishes → Wishes
+with_text text w = record w { finds = Some text }
+
+-- With this option more, so much is asked for, and such a word may stand next.
+abbrev pub IsAdded : Flag → Wishes → Next → Wishes → Type 0
+IsAdded flag old then new = MayStand flag old × (then ≡ next_after flag) × (new ≡ with_flag flag old)
+
+-- With this, which an option takes, so much is asked for.
+abbrev pub IsTaken : Bool → Operand → Wishes → List ℕ → Wishes → Type 0
+IsTaken has_colors takes.Kinds old list new = AreKindWords list × (new ≡ with_kinds list old)
+IsTaken has_colors takes.Text old text new = (text ≢ []) × (new ≡ with_text text old)
+IsTaken has_colors takes.Color old word new =
+    (when : When) × (word ≡ color_word when)
+    × (new ≡ record old { form = recolored old.form (colored_form has_colors when) })
+
+-- With this word more, where such a word may stand, so much is asked for, and such a word may stand
+-- next.
+abbrev pub IsStep : Bool → Next → Wishes → List ℕ → Next → Wishes → Type 0
+IsStep has_colors (next.Operand operand) old word then new =
+    (then ≡ next.Any) × IsTaken has_colors operand old word new
+IsStep has_colors next.Path old word then new = (then ≡ next.Path) × (new ≡ with_path word old)
+IsStep has_colors next.Any old word then new =
+    ((is_path_word word ≡ true) × (then ≡ next.Any) × (new ≡ with_path word old))
+    ⊎ ((flag : Flag) × (is_path_word word ≡ false) × IsOptionWord flag word × IsAdded flag old then new)
+    ⊎ ((operand : Operand) × (text : List ℕ) × (word ≡ joined_word operand text)
+    × MayStand (taken_by operand) old × (then ≡ next.Any) × IsTaken has_colors operand old text new)
+
+abbrev pub AreSteps : Bool → Next → Wishes → List (List ℕ) → Next → Wishes → Type 0
+AreSteps has_colors first old [] then new = (then ≡ first) × (new ≡ old)
+AreSteps has_colors first old (word ∷ words) then new =
+    (between : Next) × (middle : Wishes) × IsStep has_colors first old word between middle
+    × AreSteps has_colors between middle words then new
+
+-- the words ask for this so far, and such a word may stand next
+abbrev pub AskSoFar : Bool → List (List ℕ) → Next → Wishes → Type 0
+AskSoFar has_colors words then new = AreSteps has_colors next.Any (first_wishes has_colors) words then new
+
+-- the lenient judge was asked for, and nothing of which it judges
+abbrev pub IsLenientAlone : Wishes → Type 0
+IsLenientAlone w = (w.judge ≡ judge.Syn) × (w.wanted ≢ BadWanted)
+
+-- all words ask for this
+abbrev pub Asks : Bool → List (List ℕ) → Wishes → Type 0
+Asks has_colors words wishes =
+    (then : Next) × AskSoFar has_colors words then wishes
+    × ((operand : Operand) → then ≢ next.Operand operand) × (IsLenientAlone wishes → ⊥)
+
+-- what is wrong
+abbrev pub word_message : {A : Type 0} → WordError A → List ℕ
+word_message Memory = codes "out of memory"
+word_message (UnknownOption word) =
+    codes "unknown option '" ++ (string_bytes word ++ codes "': rl_scan --help lists them")
+word_message (UnknownKind word) =
+    codes "unknown kind '" ++ (string_bytes word
+    ++ codes "': one of Str, ByteStr, CStr, Byte, Char, Int, Float, Bool, Verbatim")
+word_message NoKinds = codes "--only: which kinds? as in --only Str,ByteStr"
+word_message TwoChoices = codes "--bad, --hidden and --only: one of them, once"
+word_message LenientAlone = codes "--lenient: only with --bad"
+word_message NoText = codes "--find: which text? as in --find TODO"
+word_message EmptyText = codes "--find: an empty text stands everywhere"
+word_message BadAndFind = codes "--bad, --hidden and --find: one of them, once"
+word_message NoColor = codes "--color: when? one of auto, always, never"
+word_message (UnknownColor word) =
+    codes "unknown colour '" ++ (string_bytes word ++ codes "': one of auto, always, never")
+
+-- why this option doesn't go with what is asked for
+abbrev pub IsRejectedFlag : {A : Type 0} → Flag → Wishes → WordError A → Type 0
+IsRejectedFlag flag old TwoChoices = IsAllowed flag old → ⊥
+IsRejectedFlag flag old BadAndFind = GoesWithFind flag old → ⊥
+IsRejectedFlag flag old _ = ⊥
+
+-- why this isn't what an option takes
+abbrev pub IsRejectedText : {A : Type 0} → Operand → List ℕ → WordError A → Type 0
+IsRejectedText operand text Memory = ⊤
+IsRejectedText operand text (UnknownKind said) =
+    (operand ≡ takes.Kinds)
+    × ((word : List ℕ) × IsUnknownKind text word × (chars (string_bytes said) ≡ visible (chars word)))
+IsRejectedText operand text EmptyText = (operand ≡ takes.Text) × (text ≡ [])
+IsRejectedText operand text (UnknownColor said) =
+    (operand ≡ takes.Color) × ((when : When) → text ≢ color_word when)
+    × (chars (string_bytes said) ≡ visible (chars text))
+IsRejectedText operand text _ = ⊥
+
+-- why an option can't be asked for that takes this
+abbrev pub IsRejectedJoined : {A : Type 0} → Operand → Wishes → List ℕ → WordError A → Type 0
+IsRejectedJoined operand old text error =
+    IsRejectedFlag (taken_by operand) old error
+    ⊎ (MayStand (taken_by operand) old × IsRejectedText operand text error)
+
+-- there is no option of this word
+abbrev pub IsUnknownOption : {A : Type 0} → List ℕ → WordError A → Type 0
+IsUnknownOption word (UnknownOption said) =
+    (is_path_word word ≡ false) × ((flag : Flag) → IsOptionWord flag word → ⊥)
+    × ((operand : Operand) → (text : List ℕ) → word ≢ joined_word operand text)
+    × (chars (string_bytes said) ≡ visible (chars word))
+IsUnknownOption word _ = ⊥
+
+-- why this word can't be asked for, where any may stand: an allocation failed; there is no such option; it
+-- doesn't go with what is asked for; or what it takes can't be asked for
+abbrev pub IsRejectedOption : {A : Type 0} → Wishes → List ℕ → WordError A → Type 0
+IsRejectedOption old word error =
+    (error ≡ Memory)
+    ⊎ IsUnknownOption word error
+    ⊎ ((flag : Flag) × IsOptionWord flag word × IsRejectedFlag flag old error)
+    ⊎ ((operand : Operand) × (text : List ℕ) × (word ≡ joined_word operand text)
+    × IsRejectedJoined operand old text error)
+
+-- why this word can't be asked for, where such a word may stand
+abbrev pub IsRejectedWord : {A : Type 0} → Next → Wishes → List ℕ → WordError A → Type 0
+IsRejectedWord (next.Operand operand) old word error = IsRejectedText operand word error
+IsRejectedWord next.Any old word error = IsRejectedOption old word error
+IsRejectedWord next.Path old word error = error ≡ Memory
+
+-- this is wrong where the words end before what an option takes
+abbrev pub IsMissing : {A : Type 0} → Operand → WordError A → Type 0
+IsMissing takes.Kinds error = error ≡ NoKinds
+IsMissing takes.Text error = error ≡ NoText
+IsMissing takes.Color error = error ≡ NoColor
+
+-- Why the words can't be asked for: where they end, what the lenient judge is to judge is missing, or what
+-- an option takes; or they ask for something up to one that can't be asked for.
+abbrev pub AreRejected : {A : Type 0} → Bool → List (List ℕ) → WordError A → Type 0
+AreRejected has_colors words error =
+    ((then : Next) × (old : Wishes) × (error ≡ LenientAlone) × AskSoFar has_colors words then old
+    × ((operand : Operand) → then ≢ next.Operand operand) × IsLenientAlone old)
+    ⊎ ((operand : Operand) × (old : Wishes) × IsMissing operand error
+    × AskSoFar has_colors words (next.Operand operand) old)
+    ⊎ ((before after : List (List ℕ)) × (word : List ℕ) × (first : Next) × (old : Wishes)
+    × (words ≡ before ++ word ∷ after) × AskSoFar has_colors before first old
+    × IsRejectedWord first old word error)

@@ -1,0 +1,243 @@
+//! The options of a command line, and what they take.
+
+ghost use Rattle.std.specs.Prelude.{◌≡◌, ◌≢◌, ◌++◌, ℕ, List, IfOk, IfErr, IfSome, IfNone, MatchBool};
+ghost use Rattle.rl_reports.specs.declared.flags.Flag.{Flag};
+ghost use Rattle.rl_reports.specs.declared.flags.Operand.{Operand};
+ghost use Rattle.rl_reports.specs.declared.flags.When.{When};
+ghost use Rattle.rl_reports.specs.Words.{IsOptionWord, joined_word, taken_by as flag_before, color_word, wishes_of, IsAllowed, GoesWithFind, MayStand, IsRejectedFlag, with_flag as flagged, next_after as follows, colored_form, recolored as with_colors};
+
+use crate::command::{Command, Output, PlaceForm, Wish};
+use crate::words::WordError;
+use rl_sources::{Form, Judge, Shown, Spelling};
+use std::alloc::Allocator;
+
+/// An option.
+#[derive(Clone, Copy)]
+pub(crate) enum Flag {
+    Bad,
+    Hidden,
+    Lenient,
+    Only,
+    Find,
+    Text,
+    Json,
+    Color,
+    Bytes,
+    Lines,
+    NoStray,
+    Count,
+    Files,
+    Quiet,
+    Help,
+    Version,
+    Paths,
+}
+
+/// What an option takes, in the word after it, or in its own word after `=`.
+#[derive(Clone, Copy)]
+pub(crate) enum Operand {
+    /// A list of kinds.
+    Kinds,
+    /// A text that is looked for.
+    Text,
+    /// When lines have colours.
+    Color,
+}
+
+/// What the next word may be.
+#[derive(Clone, Copy)]
+pub(crate) enum Next {
+    /// An option or a path.
+    Any,
+    /// What the option before it takes.
+    Operand(Operand),
+    /// A path.
+    Path,
+}
+
+/// When lines have colours.
+#[derive(Clone, Copy)]
+pub(crate) enum When {
+    /// Where output takes them.
+    Auto,
+    Always,
+    Never,
+}
+
+/// The option that a word is.
+pub(crate) fn flag_of(word: &str) -> Option<Flag>
+    ensures known { IfSome result (λ flag. IsOptionWord flag word.now) }
+    ensures unknown { IfNone result ((flag : Flag) → IsOptionWord flag word.now → ⊥) }
+{
+    match word {
+        "-b" | "--bad" => Some(Flag::Bad),
+        "-B" | "--hidden" => Some(Flag::Hidden),
+        "--lenient" => Some(Flag::Lenient),
+        "-k" | "--only" => Some(Flag::Only),
+        "-f" | "--find" => Some(Flag::Find),
+        "--text" => Some(Flag::Text),
+        "--json" => Some(Flag::Json),
+        "--color" => Some(Flag::Color),
+        "-o" | "--bytes" => Some(Flag::Bytes),
+        "--lines" => Some(Flag::Lines),
+        "--no-stray" => Some(Flag::NoStray),
+        "-c" | "--count" => Some(Flag::Count),
+        "-l" | "--files" => Some(Flag::Files),
+        "-q" | "--quiet" => Some(Flag::Quiet),
+        "-h" | "--help" => Some(Flag::Help),
+        "-V" | "--version" => Some(Flag::Version),
+        "--" => Some(Flag::Paths),
+        _ => None,
+    }
+}
+
+/// What stands after the front of a word, where the word begins with that.
+#[tactic(auto, using(crate::proofs::WordLemmas::front_some, crate::proofs::WordLemmas::front_none))]
+fn after_front<'w>(front: &str, word: &'w str) -> Option<&'w str>
+    ensures some { IfSome result (λ rest. word.now ≡ front.now ++ rest.now) }
+    ensures none { IfNone result ((rest : List ℕ) → word.now ≢ front.now ++ rest) }
+{
+    word.strip_prefix(front)
+}
+
+/// What a word has after an option and `=`.
+#[tactic(auto, using(crate::proofs::WordLemmas::no_joined))]
+pub(crate) fn joined_of(word: &str) -> Option<(Operand, &str)>
+    ensures some { IfSome result (λ p. word.now ≡ joined_word p.0 p.1.now) }
+    ensures none { IfNone result ((operand : Operand) → (text : List ℕ) → word.now ≢ joined_word operand text) }
+{
+    if let Some(list) = after_front("--only=", word) {
+        return Some((Operand::Kinds, list));
+    }
+    if let Some(text) = after_front("--find=", word) {
+        return Some((Operand::Text, text));
+    }
+    let when = after_front("--color=", word)?;
+    Some((Operand::Color, when))
+}
+
+/// The option that takes this.
+pub(crate) fn taken_by(operand: Operand) -> Flag
+    ensures { result ≡ flag_before operand }
+{
+    match operand {
+        Operand::Kinds => Flag::Only,
+        Operand::Text => Flag::Find,
+        Operand::Color => Flag::Color,
+    }
+}
+
+/// The command with an option more; `None` where another option says already which literals are printed.
+fn with_flag(command: Command<'_>, flag: Flag) -> Option<Command<'_>>
+    ensures some { IfSome result (λ next. (paths : List (List ℕ))
+        → IsAllowed flag (wishes_of command.entry paths)
+        × (wishes_of next paths ≡ flagged flag (wishes_of command.entry paths))) }
+    ensures none { IfNone result ((paths : List (List ℕ))
+        → IsAllowed flag (wishes_of command.entry paths) → ⊥) }
+{
+    let mut next = command;
+    match (flag, command.shown) {
+        (Flag::Bad, Shown::All) => next.shown = Shown::Bad,
+        (Flag::Hidden, Shown::All) => next.shown = Shown::Hidden,
+        (Flag::Only, Shown::All) => {}
+        (Flag::Bad | Flag::Hidden | Flag::Only, _) => return None,
+        (Flag::Lenient, _) => next.judge = Judge::Syn,
+        (Flag::Find | Flag::Color | Flag::Paths, _) => {}
+        (Flag::Text, _) => next.spelling = Spelling::Source,
+        (Flag::Json, _) => next.form = Form::Json,
+        (Flag::Bytes, _) => next.places = PlaceForm::Bytes,
+        (Flag::Lines, _) => next.places = PlaceForm::Lines,
+        (Flag::NoStray, _) => next.rejects_strays = true,
+        (Flag::Count, _) => next.output = Output::Count,
+        (Flag::Files, _) => next.output = Output::Path,
+        (Flag::Quiet, _) => next.output = Output::Nothing,
+        (Flag::Help, _) => next.wish = Wish::Help,
+        (Flag::Version, _) => next.wish = Wish::Version,
+    }
+    Some(next)
+}
+
+/// Whether an option goes with what is looked for: there is one text at most, and none where what is bad or hidden is
+/// wanted.
+fn goes_with_find(command: Command<'_>, flag: Flag) -> bool
+    ensures { MatchBool result
+        ((paths : List (List ℕ)) → GoesWithFind flag (wishes_of command.entry paths))
+        ((paths : List (List ℕ)) → GoesWithFind flag (wishes_of command.entry paths) → ⊥) }
+{
+    match (flag, command.finds, command.shown) {
+        (Flag::Bad | Flag::Hidden | Flag::Find, Some(_), _) => false,
+        (Flag::Find, None, Shown::Bad | Shown::Hidden) => false,
+        _ => true,
+    }
+}
+
+/// The command with an option more.
+///
+/// # Errors
+///
+/// `TwoChoices` or `BadAndFind`, where the option doesn't go with what the command asks for.
+pub(crate) fn add_flag<A: Allocator>(
+    command: Command<'_>,
+    flag: Flag,
+) -> Result<Command<'_>, WordError<A>>
+    ensures allowed { IfOk result (λ next. (paths : List (List ℕ))
+        → MayStand flag (wishes_of command.entry paths)) }
+    ensures wishes { IfOk result (λ next. (paths : List (List ℕ))
+        → wishes_of next paths ≡ flagged flag (wishes_of command.entry paths)) }
+    ensures rejected { IfErr result (λ error. (paths : List (List ℕ))
+        → IsRejectedFlag flag (wishes_of command.entry paths) error) }
+{
+    let Some(next) = with_flag(command, flag) else {
+        return Err(WordError::TwoChoices);
+    };
+    if !goes_with_find(command, flag) {
+        return Err(WordError::BadAndFind);
+    }
+    Ok(next)
+}
+
+/// What a word after an option may be.
+pub(crate) fn next_after(flag: Flag) -> Next
+    ensures { result ≡ follows flag }
+{
+    match flag {
+        Flag::Only => Next::Operand(Operand::Kinds),
+        Flag::Find => Next::Operand(Operand::Text),
+        Flag::Color => Next::Operand(Operand::Color),
+        Flag::Paths => Next::Path,
+        _ => Next::Any,
+    }
+}
+
+/// When lines have colours, by its word.
+pub(crate) fn when_of(word: &str) -> Option<When>
+    ensures known { IfSome result (λ when. word.now ≡ color_word when) }
+    ensures unknown { IfNone result ((when : When) → word.now ≢ color_word when) }
+{
+    match word {
+        "auto" => Some(When::Auto),
+        "always" => Some(When::Always),
+        "never" => Some(When::Never),
+        _ => None,
+    }
+}
+
+/// How lines are written that have colours then; `has_colors` says whether output takes them.
+pub(crate) fn form_when(has_colors: bool, when: When) -> Form
+    ensures { result ≡ colored_form has_colors when }
+{
+    match (when, has_colors) {
+        (When::Always, _) | (When::Auto, true) => Form::Colored,
+        (When::Never, _) | (When::Auto, false) => Form::Plain,
+    }
+}
+
+/// How lines are written by a later word; objects of JSON stay so.
+pub(crate) fn recolored(form: Form, later: Form) -> Form
+    ensures { result ≡ with_colors form later }
+{
+    match form {
+        Form::Json => Form::Json,
+        Form::Plain | Form::Colored => later,
+    }
+}

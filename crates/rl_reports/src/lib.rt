@@ -1,0 +1,15 @@
+//! What is reported of the files that a walk visits, and the command line of the program that does so.
+#![tactic(auto)]
+
+mod command;
+mod ending;
+mod flags;
+mod report;
+mod runs;
+mod words;
+
+pub use crate::command::{Command, Console, Output, PlaceForm, Wish};
+pub use crate::ending::{CallError, HELP, VERSION, call};
+pub use crate::report::{Report, report_of};
+pub use crate::runs::{RunStop, Tally, run};
+pub use crate::words::WordError;

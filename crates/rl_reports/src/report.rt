@@ -1,0 +1,367 @@
+//! What is reported of what a walk visits.
+
+ghost use Rattle.std.specs.Prelude.{◌≡◌, ◌⊎◌, ◌++◌, [], OnOk, IfOk, IfSome, string_bytes, encode_utf8_all};
+ghost use Rattle.std.specs.Str.{chars, IsUtf8};
+ghost use Rattle.rl_files.specs.Visible.{visible};
+ghost use Rattle.rl_files.specs.Walks.{FileAt, visited};
+ghost use Rattle.rl_files.specs.declared.tree.PathError.{PathError};
+ghost use Rattle.rl_lexer.specs.LexErrors.{lex_message};
+ghost use Rattle.rl_sources.specs.Places.{line_front};
+ghost use Rattle.rl_sources.specs.Scans.{error_end};
+ghost use Rattle.rl_reports.specs.Reports.{is_input as input, is_by_line as by_line, is_bad as bad, is_alarm as alarm, IsShownPath, IsPathIn, IsOptionsFor, IsScannedAs, error_form as told_form, error_place as told_place, error_path as told_path, worded_place as as_words, error_text, line_count, count_line, path_line, printed_of, in_report, IsTextReport, IsErrorReport, IsNotUtf8, IsReport};
+
+use crate::command::{Command, Output, PlaceForm};
+use rl_files::{PathError, Tree, Visit, push_visible};
+use rl_sources::{
+    Form, Options, Paint, Place, ScanError, Shown, is_json, push_painted, push_source_error, scan,
+};
+use rl_tokens::LexKind;
+use std::alloc::{AllocError, Allocator, Global};
+
+/// What is reported of what a walk visits.
+#[derive(Drop)]
+pub struct Report<A: Allocator = Global> {
+    /// On standard output.
+    pub out: Vec<u8, A>,
+    /// On standard error.
+    pub told: String<A>,
+    /// Whether something was found.
+    pub found: bool,
+}
+
+/// The lines of a source, and its error where it has one.
+#[derive(Drop)]
+struct Scanned<A: Allocator = Global> {
+    lines: Vec<u8, A>,
+    error: Option<(Place, LexKind)>,
+}
+
+/// Whether a path is standard input.
+fn is_input(path: &str) -> bool
+    ensures { result ≡ input path.now }
+{
+    path == "-"
+}
+
+/// A text as it is printed.
+pub(crate) fn visible_text<A: Allocator>(alloc: A, text: &str) -> Result<String<A>, AllocError>
+    ensures { IfOk result (λ shown. chars (string_bytes shown) ≡ visible (chars text.now)) }
+{
+    let mut shown = String::new(alloc);
+    push_visible(&mut shown, text)?;
+    Ok(shown)
+}
+
+/// Whether the places in a file are printed by lines and columns.
+fn is_by_line(form: PlaceForm, path: &str) -> bool
+    ensures { result ≡ by_line form path.now }
+{
+    match form {
+        PlaceForm::Usual => !is_input(path),
+        PlaceForm::Bytes => false,
+        PlaceForm::Lines => true,
+    }
+}
+
+/// Whether what is bad is asked for.
+pub(crate) fn is_bad(shown: Shown<'_>) -> bool
+    ensures { result ≡ bad shown.entry }
+{
+    matches!(shown, Shown::Bad)
+}
+
+/// Whether what is found is an alarm: where what is bad is asked for, or what turns or hides text.
+pub(crate) fn is_alarm(shown: Shown<'_>) -> bool
+    ensures { result ≡ alarm shown.entry }
+{
+    matches!(shown, Shown::Bad | Shown::Hidden)
+}
+
+/// What stands before each place in a file, whose path is printed so; nothing before those of standard input.
+fn path_before<'a>(path: &str, shown: &'a str) -> Option<&'a str>
+    requires { chars shown.now ≡ visible (chars path.now) }
+    ensures { IsShownPath path.now result }
+{
+    if is_input(path) {
+        return None;
+    }
+    Some(shown)
+}
+
+/// What stands before each place in a file whose path is printed so: in an object the path itself.
+fn path_in<'a>(form: Form, path: &'a str, shown: Option<&'a str>) -> Option<&'a str>
+    requires { IsShownPath path.now shown }
+    ensures { IsPathIn form path.now result }
+{
+    if is_json(form) && shown.is_some() {
+        return Some(path);
+    }
+    shown
+}
+
+/// How a file is scanned, whose path is printed so.
+fn options_for<'a>(
+    command: Command<'a>,
+    path: &'a str,
+    shown: Option<&'a str>,
+) -> Options<'a>
+    requires { IsShownPath path.now shown }
+    ensures { IsOptionsFor command.entry path.now result }
+{
+    Options {
+        shown: command.shown,
+        finds: command.finds,
+        spelling: command.spelling,
+        form: command.form,
+        by_line: is_by_line(command.places, path),
+        rejects_strays: command.rejects_strays,
+        explains: is_bad(command.shown),
+        judge: command.judge,
+        path: path_in(command.form, path, shown),
+    }
+}
+
+/// The lines of a source.
+fn scan_text<A: Allocator + Copy>(
+    alloc: A,
+    options: Options<'_>,
+    text: &str,
+) -> Result<Scanned<A>, AllocError>
+    ensures { IfOk result (λ s. IsScannedAs options.entry text.now s.lines.items s.error) }
+{
+    let mut lines = Vec::new(alloc);
+    match scan(alloc, options, text, &mut lines) {
+        Ok(_) => Ok(Scanned { lines, error: None }),
+        Err(ScanError::Source(place, kind)) => Ok(Scanned {
+            lines,
+            error: Some((place, kind)),
+        }),
+        Err(ScanError::Fault(_)) => Err(AllocError),
+    }
+}
+
+/// How the line of a source's error is written: as the others, where errors are among what is found; else plain, since
+/// it goes to standard error.
+fn error_form(options: Options<'_>) -> Form
+    ensures { result ≡ told_form options.entry }
+{
+    if options.explains {
+        options.form
+    } else {
+        Form::Plain
+    }
+}
+
+/// A place by its bytes, or by its line and column.
+fn worded_place(by_line: bool, place: Place) -> Place
+    ensures { result ≡ as_words by_line place }
+{
+    match place {
+        Place::Both(_, _, at) if by_line => Place::Line(at),
+        Place::Both(lo, hi, _) => Place::Bytes(lo, hi),
+        _ => place,
+    }
+}
+
+/// The place in the line of a source's error.
+fn error_place(options: Options<'_>, place: Place) -> Place
+    ensures { result ≡ told_place options.entry place }
+{
+    if options.explains {
+        return place;
+    }
+    worded_place(options.by_line, place)
+}
+
+/// The path in the line of a source's error, which is printed so.
+fn error_path<'a>(options: Options<'a>, shown: Option<&'a str>) -> Option<&'a str>
+    ensures { result ≡ told_path options.entry shown.entry }
+{
+    if options.explains { options.path } else { shown }
+}
+
+/// The line of a source's error; nothing where there is none.
+fn error_line<A: Allocator + Copy>(
+    alloc: A,
+    options: Options<'_>,
+    shown: Option<&str>,
+    error: Option<(Place, LexKind)>,
+) -> Result<String<A>, AllocError>
+    ensures { IfOk result (λ line. string_bytes line
+        ≡ encode_utf8_all (error_text options.entry shown.entry error)) }
+{
+    let mut line = String::new(alloc);
+    match error {
+        None => Ok(line),
+        Some((place, kind)) => {
+            let path = error_path(options, shown);
+            let place = error_place(options, place);
+            push_source_error(alloc, &mut line, error_form(options), path, place, kind)?;
+            Ok(line)
+        }
+    }
+}
+
+/// How many lines there are.
+fn count_lines(lines: &[u8]) -> usize
+    ensures { result ≡ line_count lines.now }
+{
+    lines.iter().filter(|byte| **byte == b'\n').count()
+}
+
+/// Appends the line that says how many lines a file has.
+fn push_count_line<A: Allocator>(
+    out: &mut String<A>,
+    form: Form,
+    path: Option<&str>,
+    count: usize,
+) -> Result<(), AllocError>
+    ensures { OnOk result (string_bytes out.new ≡ string_bytes out.old ++ count_line form path.entry count) }
+{
+    match path {
+        Some(path) => {
+            push_painted(out, form, Paint::Path, path)?;
+            writeln!(out, ":{count}")
+        }
+        None => writeln!(out, "{count}"),
+    }
+}
+
+/// Appends the line that names a file.
+fn push_path_line<A: Allocator>(
+    out: &mut String<A>,
+    form: Form,
+    path: Option<&str>,
+) -> Result<(), AllocError>
+    ensures { OnOk result (string_bytes out.new ≡ string_bytes out.old ++ path_line form path.entry) }
+{
+    push_painted(out, form, Paint::Path, path.unwrap_or("-"))?;
+    out.push_str("\n")?;
+    Ok(())
+}
+
+/// What is printed of the lines of a file.
+fn written<A: Allocator + Copy>(
+    alloc: A,
+    output: Output,
+    form: Form,
+    path: Option<&str>,
+    lines: Vec<u8, A>,
+) -> Result<Vec<u8, A>, AllocError>
+    ensures { IfOk result (λ out. out.items ≡ printed_of output form path.entry lines.items) }
+{
+    if lines.is_empty() {
+        return Ok(lines);
+    }
+    let mut line = String::new(alloc);
+    match output {
+        Output::Lines => return Ok(lines),
+        Output::Count => push_count_line(&mut line, form, path, count_lines(lines.as_slice()))?,
+        Output::Path => push_path_line(&mut line, form, path)?,
+        Output::Nothing => {}
+    }
+    Ok(line.into_bytes())
+}
+
+/// What is reported of a source.
+fn report_text<A: Allocator + Copy>(
+    alloc: A,
+    command: Command<'_>,
+    path: &str,
+    text: &str,
+) -> Result<Report<A>, AllocError>
+    ensures { IfOk result (λ r. IsTextReport command.entry path.now text.now (in_report r)) }
+{
+    let shown = visible_text(alloc, path)?;
+    let before = path_before(path, shown.as_str());
+    let options = options_for(command, path, before);
+    let mut scanned = scan_text(alloc, options, text)?;
+    let mut told = error_line(alloc, options, before, scanned.error)?;
+    if options.explains {
+        scanned.lines.extend_from_slice(told.as_bytes())?;
+        told.clear();
+    }
+    let found = !scanned.lines.is_empty();
+    let out = written(
+        alloc,
+        command.output,
+        options.form,
+        before,
+        scanned.lines,
+    )?;
+    Ok(Report { out, told, found })
+}
+
+/// What is reported of a path that can't be read.
+fn report_error<A: Allocator + Copy>(
+    alloc: A,
+    path: &str,
+    error: PathError,
+) -> Result<Report<A>, AllocError>
+    ensures { IfOk result (λ r. IsErrorReport path.now error (in_report r)) }
+{
+    let mut told = String::from_str(alloc, "rl_scan: ")?;
+    push_visible(&mut told, path)?;
+    writeln!(&mut told, ": {error}")?;
+    Ok(Report {
+        out: Vec::new(alloc),
+        told,
+        found: false,
+    })
+}
+
+/// What is reported of a file whose bytes these are.
+fn report_bytes<A: Allocator + Copy>(
+    alloc: A,
+    command: Command<'_>,
+    path: &str,
+    bytes: &[u8],
+) -> Result<Report<A>, AllocError>
+    ensures { IfOk result (λ r. (IsUtf8 bytes.now × IsTextReport command.entry path.now bytes.now (in_report r))
+        ⊎ ((why : PathError) × IsNotUtf8 bytes.now why × IsErrorReport path.now why (in_report r))) }
+{
+    match std::str::from_utf8(bytes) {
+        Ok(text) => report_text(alloc, command, path, text),
+        Err(error) => report_error(alloc, path, PathError::NotUtf8(error.valid_up_to())),
+    }
+}
+
+/// What is reported of a file, whose bytes are let go before the next is read.
+fn report_file<A: Allocator + Copy, T: Tree>(
+    alloc: A,
+    command: Command<'_>,
+    tree: &T,
+    path: &str,
+) -> Result<Report<A>, AllocError>
+    ensures { IfOk result (λ r. IfSome (T.holds tree.now)
+        (λ w. IsReport command.entry w (FileAt path.now) (in_report r))) }
+{
+    let bytes = match tree.bytes(alloc, path) {
+        Ok(bytes) => bytes,
+        Err(error) => return report_error(alloc, path, error),
+    };
+    match report_bytes(alloc, command, path, bytes.as_slice()) {
+        Ok(report) => Ok(report),
+        Err(_) => report_error(alloc, path, PathError::OutOfMemory),
+    }
+}
+
+/// What is reported of what a walk visits: of a file what is printed of its text, of what can't be read one line.
+///
+/// # Errors
+///
+/// An allocation failure, where not even that line could be made.
+pub fn report_of<A: Allocator + Copy, T: Tree>(
+    alloc: A,
+    command: Command<'_>,
+    tree: &T,
+    visit: &Visit<A>,
+) -> Result<Report<A>, AllocError>
+    ensures { IfOk result (λ r. IfSome (T.holds tree.now)
+        (λ w. IsReport command.entry w (visited visit.now) (in_report r))) }
+{
+    match visit {
+        Visit::File(path) => report_file(alloc, command, tree, path.as_str()),
+        Visit::Failed(path, error) => report_error(alloc, path.as_str(), *error),
+    }
+}

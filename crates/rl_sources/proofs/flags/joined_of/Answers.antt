@@ -1,5 +1,0 @@
-use Rattle.std.proofs.Common.{rules}
-use Rattle.rl_sources.proofs.flags.joined_of.Goals as goal
-
-pub returns-in-Some-after_front-clause-some : goal.returns-in-Some-after_front-clause-some
-returns-in-Some-after_front-clause-some c = search rules steps 300000
