@@ -103,11 +103,7 @@ fn path_in<'a>(form: Form, path: &'a str, shown: Option<&'a str>) -> Option<&'a 
 }
 
 /// How a file is scanned, whose path is printed so.
-fn options_for<'a>(
-    command: Command<'a>,
-    path: &'a str,
-    shown: Option<&'a str>,
-) -> Options<'a>
+fn options_for<'a>(command: Command<'a>, path: &'a str, shown: Option<&'a str>) -> Options<'a>
     requires { IsShownPath path.now shown }
     ensures { IsOptionsFor command.entry path.now result }
 {
@@ -180,7 +176,11 @@ fn error_place(options: Options<'_>, place: Place) -> Place
 fn error_path<'a>(options: Options<'a>, shown: Option<&'a str>) -> Option<&'a str>
     ensures { result ≡ told_path options.entry shown.entry }
 {
-    if options.explains { options.path } else { shown }
+    if options.explains {
+        options.path
+    } else {
+        shown
+    }
 }
 
 /// Appends what stands after the place in the line of a source's error.
@@ -318,13 +318,7 @@ fn report_text<A: Allocator + Copy>(
         told.clear();
     }
     let found = !scanned.lines.is_empty();
-    let out = written(
-        alloc,
-        command.output,
-        options.form,
-        before,
-        scanned.lines,
-    )?;
+    let out = written(alloc, command.output, options.form, before, scanned.lines)?;
     Ok(Report { out, told, found })
 }
 

@@ -14,8 +14,8 @@ ghost use Rattle.rl_sources.specs.Steps.{BeginsRest, EndsUnshown, IsAcceptedToke
 
 use crate::held::held_at;
 use crate::hidden::{hidden_at, is_hidden};
-use crate::judge::{flaw_of, reason_of};
 use crate::json::push_json_literal;
+use crate::judge::{flaw_of, reason_of};
 use crate::literal::{Literal, kind_of};
 use crate::options::{Form, Options, Shown, Spelling};
 use crate::place::{Place, Places, place_inside, place_of, push_front};
