@@ -8,7 +8,7 @@ ghost use Rattle.rl_files.specs.declared.tree.PathError.{PathError};
 ghost use Rattle.rl_lexer.specs.LexErrors.{lex_message};
 ghost use Rattle.rl_sources.specs.Places.{line_front};
 ghost use Rattle.rl_sources.specs.Scans.{error_end};
-ghost use Rattle.rl_sources.specs.Reports.{is_input as input, is_by_line as by_line, is_bad as bad, is_alarm as alarm, IsShownPath, IsPathIn, IsOptionsFor, IsScannedAs, error_form as told_form, error_place as told_place, error_path as told_path, worded_place as as_words, error_text, line_count, count_line, path_line, printed_of, in_report, IsTextReport, IsErrorReport, IsNotUtf8, IsReport};
+ghost use Rattle.rl_sources.specs.Reports.{is_input as input, is_by_line as by_line, is_bad as bad, is_alarm as alarm, IsShownPath, IsPathIn, IsOptionsFor, IsScannedAs, error_form as told_form, told_path, told_place, worded_place as as_words, error_text, line_count, count_line, path_line, printed_of, in_report, IsTextReport, IsErrorReport, IsNotUtf8, IsReport};
 
 use crate::color::{Paint, push_error_word, push_painted};
 use crate::command::{Command, Output, PlaceForm};
@@ -163,7 +163,7 @@ fn worded_place(by_line: bool, place: Place) -> Place
 }
 
 /// The place in the line of a source's error.
-fn error_place(options: Options<'_>, place: Place) -> Place
+fn told_place(options: Options<'_>, place: Place) -> Place
     ensures { result ≡ told_place options.entry place }
 {
     if options.explains {
@@ -173,7 +173,7 @@ fn error_place(options: Options<'_>, place: Place) -> Place
 }
 
 /// The path in the line of a source's error, which is printed so.
-fn error_path<'a>(options: Options<'a>, shown: Option<&'a str>) -> Option<&'a str>
+fn told_path<'a>(options: Options<'a>, shown: Option<&'a str>) -> Option<&'a str>
     ensures { result ≡ told_path options.entry shown.entry }
 {
     if options.explains {
@@ -230,8 +230,8 @@ fn error_line<A: Allocator + Copy>(
     match error {
         None => Ok(line),
         Some((place, kind)) => {
-            let path = error_path(options, shown);
-            let place = error_place(options, place);
+            let path = told_path(options, shown);
+            let place = told_place(options, place);
             push_source_error(alloc, &mut line, error_form(options), path, place, kind)?;
             Ok(line)
         }
