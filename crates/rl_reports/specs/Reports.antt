@@ -98,17 +98,17 @@ worded_place by_line (Line at) = Line at
 worded_place by_line (Both lo hi at) = cond by_line (Line at) (Bytes lo hi)
 
 -- the place in that line, and the path before it, of which this is printed
-abbrev pub error_place : Options → Place → Place
-error_place options place = cond options.explains place (worded_place options.by_line place)
+abbrev pub told_place : Options → Place → Place
+told_place options place = cond options.explains place (worded_place options.by_line place)
 
-abbrev pub error_path : Options → Option (Bor (List ℕ)) → Option (Bor (List ℕ))
-error_path options shown = cond options.explains options.path shown
+abbrev pub told_path : Options → Option (Bor (List ℕ)) → Option (Bor (List ℕ))
+told_path options shown = cond options.explains options.path shown
 
 -- the line of a text's error, in characters; nothing where it has none
 abbrev pub error_text : Options → Option (Bor (List ℕ)) → Option (Place × LexKind) → List ℕ
 error_text options shown None = []
 error_text options shown (Some (place, kind)) =
-    line_front (error_form options) (error_path options shown) (error_place options place)
+    line_front (error_form options) (told_path options shown) (told_place options place)
     ++ error_end (error_form options) (lex_message kind)
 
 -- how many lines there are

@@ -8,7 +8,7 @@ ghost use Rattle.rl_files.specs.declared.tree.PathError.{PathError};
 ghost use Rattle.rl_lexer.specs.LexErrors.{lex_message};
 ghost use Rattle.rl_sources.specs.Places.{line_front};
 ghost use Rattle.rl_sources.specs.Scans.{error_end};
-ghost use Rattle.rl_reports.specs.Reports.{is_input as input, is_by_line as by_line, is_bad as bad, is_alarm as alarm, IsShownPath, IsPathIn, IsOptionsFor, IsScannedAs, error_form as told_form, error_place as told_place, error_path as told_path, worded_place as as_words, error_text, line_count, count_line, path_line, printed_of, in_report, IsTextReport, IsErrorReport, IsNotUtf8, IsReport};
+ghost use Rattle.rl_reports.specs.Reports.{is_input as input, is_by_line as by_line, is_bad as bad, is_alarm as alarm, IsShownPath, IsPathIn, IsOptionsFor, IsScannedAs, error_form as told_form, told_path, told_place, worded_place as as_words, error_text, line_count, count_line, path_line, printed_of, in_report, IsTextReport, IsErrorReport, IsNotUtf8, IsReport};
 
 use crate::command::{Command, Output, PlaceForm};
 use rl_files::{PathError, Tree, Visit, push_visible};
@@ -100,11 +100,7 @@ fn path_in<'a>(form: Form, path: &'a str, shown: Option<&'a str>) -> Option<&'a 
 }
 
 /// How a file is scanned, whose path is printed so.
-fn options_for<'a>(
-    command: Command<'a>,
-    path: &'a str,
-    shown: Option<&'a str>,
-) -> Options<'a>
+fn options_for<'a>(command: Command<'a>, path: &'a str, shown: Option<&'a str>) -> Options<'a>
     requires { IsShownPath path.now shown }
     ensures { IsOptionsFor command.entry path.now result }
 {
@@ -164,7 +160,7 @@ fn worded_place(by_line: bool, place: Place) -> Place
 }
 
 /// The place in the line of a source's error.
-fn error_place(options: Options<'_>, place: Place) -> Place
+fn told_place(options: Options<'_>, place: Place) -> Place
     ensures { result ≡ told_place options.entry place }
 {
     if options.explains {
@@ -174,10 +170,14 @@ fn error_place(options: Options<'_>, place: Place) -> Place
 }
 
 /// The path in the line of a source's error, which is printed so.
-fn error_path<'a>(options: Options<'a>, shown: Option<&'a str>) -> Option<&'a str>
+fn told_path<'a>(options: Options<'a>, shown: Option<&'a str>) -> Option<&'a str>
     ensures { result ≡ told_path options.entry shown.entry }
 {
-    if options.explains { options.path } else { shown }
+    if options.explains {
+        options.path
+    } else {
+        shown
+    }
 }
 
 /// The line of a source's error; nothing where there is none.
@@ -194,8 +194,8 @@ fn error_line<A: Allocator + Copy>(
     match error {
         None => Ok(line),
         Some((place, kind)) => {
-            let path = error_path(options, shown);
-            let place = error_place(options, place);
+            let path = told_path(options, shown);
+            let place = told_place(options, place);
             push_source_error(alloc, &mut line, error_form(options), path, place, kind)?;
             Ok(line)
         }
@@ -282,13 +282,7 @@ fn report_text<A: Allocator + Copy>(
         told.clear();
     }
     let found = !scanned.lines.is_empty();
-    let out = written(
-        alloc,
-        command.output,
-        options.form,
-        before,
-        scanned.lines,
-    )?;
+    let out = written(alloc, command.output, options.form, before, scanned.lines)?;
     Ok(Report { out, told, found })
 }
 

@@ -28,6 +28,11 @@ b'\u{e9}'
 0x1F 'a' 1u9 1. r\"a\" \"a\"b true
 ";
 
+/// Literals whose texts and values have escapes in JSON, and a pair of these past FFFF; bytes, and digits.
+const JSON: &str = "\"\\u{e0041}\u{e0041}\u{202e}\x7f\\0\\x1f/é😀\" '\\u{1f600}' '\"'
+'\\\\' c\"\\xff\\\"\" b'\\xff' b\"\\\\a\" b\"\" \"\"
+1_000.5e-3_f64 0b1111_0000 340282366920938463463374607431768211455 \"a\"b false r\"\\ \t\" \"\\q\"";
+
 /// What a file of the tree holds.
 fn bytes_at(path: &str) -> Result<&'static [u8], PathError> {
     match path {
@@ -45,6 +50,7 @@ fn bytes_at(path: &str) -> Result<&'static [u8], PathError> {
         "held" => Ok(
             b"\"\\u{61}b\" b\"ab\" c\"\\x61b\" 'a' b'a'\n\"x\\\n   ab\" r#\"ab\"# \"\xc3\xa4ab\" \"\\\\u{61}\" // \"ab\"\n\"ba\" 'b'".as_slice(),
         ),
+        "json" => Ok(JSON.as_bytes()),
         "hides" => Ok(
             b"\"a\\u{202e}b\" \"a\xe2\x80\xaeb\"\n'\xe2\x80\x8b' r\"\xc3\xa4\xef\xbb\xbf\" b\"\xe2\x80\xae\" // \"\xe2\x80\xae\"\n\"a\tb\" 1".as_slice(),
         ),

@@ -44,14 +44,14 @@ pub record BeginsRest (token : SourceToken) (text rest : List ℕ) : Type 0 wher
   pub begins : chars rest ≡ chars token.text.now ++ after
 
 -- The text was read, and this was found.
-pub record IsReadAs (text : List ℕ) (found : Option Found) : Type 0 where
+pub record IsFoundIn (text : List ℕ) (found : Option Found) : Type 0 where
   pub none : IfNone found (HasNoReading (chars text))
   pub some : IfSome found (IsFound text)
 
 -- The literal stands in the text, it was read, and its flaw was looked for.
 pub record IsLiteralOf (options : Options) (text : List ℕ) (literal : Literal) : Type 0 where
   pub begins : BeginsRest literal.token text literal.rest.now
-  pub is_read : IsReadAs literal.token.text.now literal.found
+  pub is_read : IsFoundIn literal.token.text.now literal.found
   pub flaw : IfSome literal.flaw (FindsFlaw options.judge (chars literal.token.text.now))
   pub no_flaw : IfNone literal.flaw
       (LooksForFlaws options → FindsNoFlaw options.judge (chars literal.token.text.now))

@@ -64,7 +64,7 @@ pub struct Options<'a> {
     pub explains: bool,
     /// By which grammar a literal is bad.
     pub judge: Judge,
-    /// What stands before each place: a file's path, as it is printed.
+    /// What stands before each place: a file's path as it is printed, or for the form `Json` as it is.
     pub path: Option<&'a str>,
 }
 

@@ -12,8 +12,8 @@ ghost use Rattle.rl_sources.specs.Steps.{BeginsRest};
 ghost use Rattle.rl_sources.specs.declared.options.Form.TheVariants.{Colored};
 
 use crate::color::{PAINT_END, Paint, has_colors, start_of};
-use crate::literal::Literal;
 use crate::json::{is_json, push_object_front};
+use crate::literal::Literal;
 use crate::options::{Form, Options};
 use rl_tokens::{LineColumn, Lines};
 use std::alloc::{AllocError, Allocator};

@@ -24,8 +24,10 @@ fn is_any(before: bool, lines: &[u8]) -> bool
 /// `rl_lines` prints of its text, with escapes for what turns or hides text; with `explains` the line of a literal that
 /// the judge rejects has the place and the reason of its flaw, as `rl_grammar` explains it. With `finds` only literals whose
 /// contents hold that text have a line, with the place of what gives it where it stands first. With `Hidden` a line has
-/// the place of the first character that turns or hides text. Tokens are cut by [`Sources`]; the words `true` and `false`
-/// are literals too. Lines are written as they are made, 64 KB at once. Returns whether any line was written.
+/// the place of the first character that turns or hides text. In the form `Json` a line is an object: `path`, `lo`, `hi`,
+/// `line`, `column`, and of a literal `kind`, `text`, `value` and `suffix`, of a flaw `text`, `error` and `piece`. Tokens are
+/// cut by [`Sources`]; the words `true` and `false` are literals too. Lines are written as they are made, 64 KB at once.
+/// Returns whether any line was written.
 ///
 /// # Errors
 ///

@@ -10,12 +10,12 @@ ghost use Rattle.rl_lines.specs.Lines.{Appends};
 ghost use Rattle.rl_sources.specs.Held.{IsCutAt};
 ghost use Rattle.rl_sources.specs.Scans.{IsAskedLine, IsErrorAt, IsHeldLine, IsHiddenLine, IsLineAt, IsLineEnd, IsLineIn, IsPickedLine, IsPlacedLine, IsPrintedAs, IsShownLiteral};
 ghost use Rattle.rl_sources.specs.declared.options.Spelling.TheVariants.{Value};
-ghost use Rattle.rl_sources.specs.Steps.{BeginsRest, EndsUnshown, IsAcceptedToken, IsCursorOver, IsLiteralOf, IsReadAs, IsStepOf, StopsUnshown, TakesShown};
+ghost use Rattle.rl_sources.specs.Steps.{BeginsRest, EndsUnshown, IsAcceptedToken, IsCursorOver, IsLiteralOf, IsFoundIn, IsStepOf, StopsUnshown, TakesShown};
 
 use crate::held::held_at;
 use crate::hidden::{hidden_at, is_hidden};
-use crate::judge::{flaw_of, reason_of};
 use crate::json::push_json_literal;
+use crate::judge::{flaw_of, reason_of};
 use crate::literal::{Literal, kind_of};
 use crate::options::{Form, Options, Shown, Spelling};
 use crate::place::{Place, Places, place_inside, place_of, push_front};
@@ -36,7 +36,7 @@ fn push_text_line<A: Allocator + Copy>(
     text: &str,
     found: Option<Found>,
 ) -> Result<(), AllocError>
-    requires { IsReadAs text.now found }
+    requires { IsFoundIn text.now found }
     ensures { OnOk result (Appends (IsPrintedAs Value (chars text.now))
         (chars (string_bytes out.old)) (chars (string_bytes out.new))) }
 {
@@ -62,7 +62,7 @@ fn push_printed<A: Allocator + Copy>(
     spelling: Spelling,
     literal: &Literal<'_>,
 ) -> Result<(), AllocError>
-    requires { IsReadAs literal.now.token.text.now literal.now.found }
+    requires { IsFoundIn literal.now.token.text.now literal.now.found }
     ensures { OnOk result (Appends (IsPrintedAs spelling (chars literal.now.token.text.now))
         (chars (string_bytes out.old)) (chars (string_bytes out.new))) }
 {
@@ -79,7 +79,7 @@ fn push_line_end<A: Allocator + Copy>(
     options: Options<'_>,
     literal: &Literal<'_>,
 ) -> Result<(), AllocError>
-    requires { IsReadAs literal.now.token.text.now literal.now.found }
+    requires { IsFoundIn literal.now.token.text.now literal.now.found }
     ensures { OnOk result (Appends (IsLineEnd options.entry.form options.entry.spelling
         (chars literal.now.token.text.now))
         (chars (string_bytes out.old)) (chars (string_bytes out.new))) }
@@ -98,7 +98,7 @@ fn push_line_at<A: Allocator + Copy>(
     literal: &Literal<'_>,
     place: Place,
 ) -> Result<(), AllocError>
-    requires { IsReadAs literal.now.token.text.now literal.now.found }
+    requires { IsFoundIn literal.now.token.text.now literal.now.found }
     ensures { OnOk result (Appends (IsLineAt options.entry (chars literal.now.token.text.now) place)
         (chars (string_bytes out.old)) (chars (string_bytes out.new))) }
 {
