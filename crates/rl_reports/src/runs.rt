@@ -7,8 +7,8 @@ ghost use Rattle.rl_reports.specs.Runs.{WritesReport, WritesSome, WritesWalk, Wr
 use crate::command::Command;
 use crate::report::{is_alarm, report_of};
 use rl_files::{Tree, Visit, Walk, WalkError};
-use rl_sources::Shown;
 use rl_program::{WriteError, write_bytes};
+use rl_sources::Shown;
 use std::alloc::Allocator;
 use std::io::Write;
 
