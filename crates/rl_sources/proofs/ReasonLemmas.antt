@@ -1,10 +1,9 @@
 -- The place of a flaw in the source, and its line.
 use Rattle.rl_reading.proofs.Names.{IsTail, byte_len}
-use Rattle.rl_text.proofs.Common.{IsAscii, IsCharBoundary, IsUtf8, List, [], and_parts, ap, append_assoc, arith, chars, chars-IsAscii, chars-nil, codes, drop, encode_utf8, encodes-append, encodes-chars, is_ascii, length, length-append, list_all, ltb-true, refl, subst, sym, suc, false, true, ℕ, ◌==◌, ◌++◌, ◌+◌, ◌∙◌, ◌∷◌, ◌≡◌, ◌≤◌, inl, inr, take, ◌-◌}
+use Rattle.rl_text.proofs.Common.{IsAscii, IsCharBoundary, IsUtf8, List, [], ap, append_assoc, arith, chars, chars-IsAscii, chars-nil, codes, drop, encode_utf8, encodes-append, encodes-chars, is_ascii, length, length-append, list_all, refl, subst, sym, suc, false, true, ℕ, ◌==◌, ◌++◌, ◌+◌, ◌∙◌, ◌∷◌, ◌≡◌, ◌≤◌, inl, inr, take, ◌-◌}
 use Rattle.std.specs.Prelude.{encode_utf8_all}
 use Rattle.std.proofs.Math.Seq.{drop-append_seam}
 use Rattle.std.proofs.lemmas.Str.{IsCharBoundary-from_drop, IsAscii-append}
-use Rattle.std.proofs.lemmas.Str.Ascii.{IsAscii-nil, IsAscii-cons}
 use Rattle.rl_lexer.specs.Cursors.{CursorState, IsCursorState}
 use Rattle.rl_lexer.specs.declared.sources.SourceToken.{SourceToken}
 use Rattle.rl_text.proofs.TailLemmas.{tail_step}
@@ -23,12 +22,10 @@ use Rattle.rl_files.specs.Visible.{visible}
 use Rattle.rl_lines.specs.Lines.{Appends}
 use Rattle.rl_lines.proofs.LineLemmas.{pushed}
 use Rattle.rl_grammar.specs.FileTexts.{ExplainsInFile}
-use Rattle.rl_sources.specs.declared.color.Paint.TheVariants as paint
 use Rattle.rl_sources.specs.declared.options.Judge.{Judge}
 use Rattle.rl_sources.specs.declared.options.Judge.TheVariants.{Rust, Syn}
 use Rattle.rl_sources.specs.declared.options.Options.{Options}
 use Rattle.rl_sources.specs.declared.place.Place.{Place}
-use Rattle.rl_sources.specs.Colors.{painted}
 use Rattle.rl_sources.specs.Held.{IsCutAt}
 use Rattle.rl_sources.specs.Places.{line_front, HoldsPlaces, IsPlaceIn}
 use Rattle.rl_sources.specs.Scans.{FindsFlaw, IsFlawLine, IsFlawLineAt, IsFlawPiece, IsSlice, error_reason, flaw_end}

@@ -64,7 +64,8 @@ low_text (c ∷ cs) h =
 named_on : (name rest : List ℕ) (n : ℕ) → list_all is_ascii name ≡ true → IsAscii rest
     → IsAscii (name ++ (decimal n ++ rest))
 named_on name rest n low ascii =
-    IsAscii-append name (decimal n ++ rest) (low_text name low) (IsAscii-append (decimal n) rest (decimal_ascii n) ascii)
+    IsAscii-append name (decimal n ++ rest) (low_text name low)
+    (IsAscii-append (decimal n) rest (decimal_ascii n) ascii)
 
 members_ascii : (lo hi : ℕ) (at : LineColumn) → IsAscii (place_members lo hi at)
 members_ascii lo hi at =

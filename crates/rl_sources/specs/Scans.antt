@@ -102,7 +102,8 @@ error_words form message piece = painted form paint.Error (codes "error") ++ err
 
 -- what stands after the place in the line of a flaw, and in that of a source's error
 abbrev pub flaw_end : Form → List ℕ → List ℕ → List ℕ → List ℕ
-flaw_end form text message piece = cond (is_json form) (flaw_members text message piece) (error_words form message piece)
+flaw_end form text message piece =
+    cond (is_json form) (flaw_members text message piece) (error_words form message piece)
 
 abbrev pub error_end : Form → List ℕ → List ℕ
 error_end form message = cond (is_json form) (error_members message) (error_words form message [])
