@@ -35,7 +35,7 @@ How
   -o, --bytes          LO..HI in place of LINE:COLUMN
       --lines          LINE:COLUMN in place of LO..HI
       --text           the literal as it is written, in place of KIND VALUE SUFFIX
-      --json           an object of JSON for each line: path, lo, hi, line, column; kind, text, value, suffix, or error
+      --json           an object of JSON: path, lo, hi, line, column; kind, text, value, suffix; or text, error, piece
       --color WHEN     auto (on a terminal, unless NO_COLOR is set or TERM is dumb), always or never
   -c, --count          how many lines a file has      -l, --files   its path      -q, --quiet   nothing
       --               what follows is a PATH
