@@ -22,14 +22,14 @@ Prints the literals of Rust sources, or what is wrong with them.
 
   PATH   a file, or a directory: all *.rs below it, in the order of their names, without hidden directories and
          `target`; links aren't followed. `-` is standard input, as is no PATH, unless input is a terminal (then `.`)
-What is printed (every literal, if nothing is said)
+What is printed (every literal, if nothing is said; of -b, -B and -k one, and -f with -k alone)
   -b, --bad            what Rust rejects: bad literals, quotes and comments left open, and why
       --lenient        with --bad: what `syn` rejects too
-  -B, --hidden         literals with raw characters in them that turn or hide text, such as U+202E
+  -B, --hidden         literals with raw characters in them that turn or hide text, such as U+202E; not comments
   -k, --only KIND,..   Str ByteStr CStr Byte Char Int Float Bool Verbatim, in any case
   -f, --find TEXT      what holds TEXT in its contents, however it is written, at the place where TEXT begins
       --no-stray       a character that begins no token is an error
-How
+How it is printed
                        PATH:LINE:COLUMN: KIND VALUE SUFFIX      PATH:LINE:COLUMN: error: REASON: PIECE
                        LO..HI KIND VALUE SUFFIX                 of standard input
   -o, --bytes          LO..HI in place of LINE:COLUMN
