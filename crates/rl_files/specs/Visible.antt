@@ -23,9 +23,13 @@ is_hiding c =
     || (nat_le 0x1D173 c && nat_le c 0x1D17A)
     || (nat_le 0xE0000 c && nat_le c 0xE0FFF)
 
--- a character as it is printed: a control character and one that hides text as an escape
+-- the character is printed as an escape: a control character, and one that turns or hides text
+abbrev pub needs_escape : ℕ → Bool
+needs_escape c = is_control c || is_hiding c
+
+-- a character as it is printed
 abbrev pub visible_char : ℕ → List ℕ
-visible_char c = cond (is_control c || is_hiding c) (escape_default c) (c ∷ [])
+visible_char c = cond (needs_escape c) (escape_default c) (c ∷ [])
 
 -- a text as it is printed
 abbrev pub visible : List ℕ → List ℕ

@@ -4,7 +4,7 @@ ghost use Rattle.std.specs.Prelude.{◌≡◌, ◌++◌, ◌∷◌, ◌==◌, []
 ghost use Rattle.std.specs.List.{flat_map, list_all};
 ghost use Rattle.std.specs.Str.{chars, IsCharBoundary};
 ghost use Rattle.std.specs.Char.Escape.{escape_default};
-ghost use Rattle.rl_files.specs.Visible.{is_hiding as hiding, visible_char, visible, visible_in_line, visible_lines, is_plain_byte};
+ghost use Rattle.rl_files.specs.Visible.{is_hiding as hiding, needs_escape as escaped, visible_char, visible, visible_in_line, visible_lines, is_plain_byte};
 
 use std::alloc::{AllocError, Allocator};
 
@@ -32,6 +32,13 @@ pub fn is_hiding(c: char) -> bool
     )
 }
 
+/// Whether a character is printed as an escape: a control character, and one that turns or hides text.
+pub fn needs_escape(c: char) -> bool
+    ensures { result ≡ escaped c }
+{
+    c.is_control() || is_hiding(c)
+}
+
 /// Appends an escape of a character: `\n`, `\r`, `\t`, or its number, as `\u{202e}`.
 fn push_escape<A: Allocator>(out: &mut String<A>, c: char) -> Result<(), AllocError>
     ensures { OnOk result (string_bytes out.new
@@ -48,7 +55,7 @@ fn push_visible_char<A: Allocator>(out: &mut String<A>, c: char) -> Result<(), A
     ensures { OnOk result (string_bytes out.new
         ≡ string_bytes out.old ++ encode_utf8_all (visible_char c)) }
 {
-    if c.is_control() || is_hiding(c) {
+    if needs_escape(c) {
         return push_escape(out, c);
     }
     out.push(c)?;

@@ -2,7 +2,7 @@
 use Rattle.rl_text.proofs.Common.{◌≡◌, ℕ, zero, suc, ◌||◌, ◌&&◌, Bool, true, false, not, cond, eqb, List, [], ◌∷◌, ◌++◌, replicate, Option, Some, None, refl, sym, ap, subst, ◌∙◌, inl, inr, append_assoc, list_all, AllByRecursion, list_all-append, eqb-true, and_parts, or_cases}
 use Rattle.std.proofs.lemmas.Bool.{and_left, and_right}
 use Rattle.rl_forms.specs.declared.kind.Kind.{Kind}
-use Rattle.rl_forms.specs.declared.kind.Kind.TheVariants.{Str, ByteStr, CStr, Byte, Char, Int, Float, Bool as BoolKind}
+use Rattle.rl_forms.specs.declared.kind.Kind.TheVariants.{Str, ByteStr, CStr, Byte, Char}
 use Rattle.rl_text.specs.Texts.{first_passes, is_underscore, is_blank}
 use Rattle.rl_forms.specs.Quoted.{QuotedUnit, Letter, Plain, CrLf, Named, Hex, Unicode, Continuation, LowerN, LowerR, LowerT, Backslash, Apostrophe, Quote, Zero, letter_value, letter_text, unit_text, unit_value, unicode_value, content_of, hex_value, is_hex_digit, is_line_end, is_string, is_plain, IsUnit, texts, values, EndsBefore, ContinuationsEnd, opener, raw_opener, Cooked, Raw, Single}
 use Rattle.rl_text.proofs.Basics.{hashes_all, apart}

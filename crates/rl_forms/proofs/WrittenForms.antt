@@ -1,7 +1,7 @@
 -- What is written is the written form of the value.
 use Rattle.rl_text.proofs.Common.{◌≡◌, ℕ, suc, ◌<◌, ◌&&◌, true, not, eqb, List, [], ◌∷◌, length, refl, sym, subst, get_or, arith, nat_lt, list_all, and_from, and_parts, lt-ltb}
 use Rattle.rl_forms.specs.declared.kind.Kind.{Kind}
-use Rattle.rl_forms.specs.declared.kind.Kind.TheVariants.{Str, ByteStr, CStr, Byte, Char, Int, Float, Bool as BoolKind}
+use Rattle.rl_forms.specs.declared.kind.Kind.TheVariants.{ByteStr, CStr, Byte}
 use Rattle.rl_forms.specs.Reading.{Reads, quoted_contents}
 use Rattle.rl_forms.specs.Strict.{Strict, strict_quoted_contents}
 use Rattle.rl_forms.specs.Written.{written_text, IsWrittenForm}

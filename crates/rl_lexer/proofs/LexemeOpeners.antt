@@ -1,5 +1,5 @@
 -- What the tests say of how a text begins, in the words of the lexemes.
-use Rattle.rl_text.proofs.Common.{◌≡◌, ℕ, suc, zero, ◌<◌, ◌⊎◌, inl, inr, Bool, true, false, not, ◌&&◌, ◌||◌, ◌==◌, cond, List, [], ◌∷◌, ◌++◌, drop, replicate, refl, sym, ◌∙◌, ap, arith, and_parts, codes, is_ascii_digit, and_from, or_left, or_right}
+use Rattle.rl_text.proofs.Common.{◌≡◌, ℕ, suc, zero, ◌⊎◌, inl, inr, Bool, true, false, not, ◌&&◌, ◌||◌, ◌==◌, cond, List, [], ◌∷◌, ◌++◌, drop, replicate, refl, sym, ◌∙◌, ap, and_parts, codes, is_ascii_digit, and_from, or_left, or_right}
 use Rattle.rl_text.specs.Texts.{is_underscore, first_passes, begins, is_row_part, is_start, begins_char}
 use Rattle.rl_lexer.specs.Lexemes.{BeginsHashedQuote, LiteralPrefix, NoPrefix, BytePrefix, CPrefix, prefix_text, BeginsRaw, begins_prefixed_quote, begins_raw_identifier, BeginsOtherwise, LexedSign, NoLexedSign, LexedPlus, LexedMinus, lexed_sign_text, LexedExponent, NoLexedExponent, LexedPower, lexed_exponent_text, IsLexedExponent, BeginsLexedExponent}
 use Rattle.rl_lexer.specs.Cuts.{begins_lifetime, BeginsQuote}

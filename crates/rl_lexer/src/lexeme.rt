@@ -53,7 +53,24 @@ pub(crate) fn first_lexeme(text: &str) -> Option<(Form, &str)>
             return Some((Form::Literal, after_digit(following)));
         }
     }
-    lexeme_but_number(text)
+    rebuilt_lexeme(text)
+}
+
+/// What [`lexeme_but_number`] returns, built anew. Room for what a call returns is cleared first: by a function of its own
+/// that is done only where no number begins the text.
+#[inline(always)]
+fn rebuilt_lexeme(text: &str) -> Option<(Form, &str)>
+    requires { IsFalse (first_passes is_ascii_digit (chars text.now)) }
+    ensures found { IfSome result
+        (λ p. FormBefore (chars text.now) (form_view p.0) (chars p.1.now)) }
+    ensures none { IfNone result ((after : List ℕ) → LexemeBefore (chars text.now) after → ⊥) }
+    ensures following { IfSome result (λ p. IsTail text.now p.1.now) }
+    ensures shorter { IfSome result (λ p. length p.1.now < length text.now) }
+{
+    match lexeme_but_number(text) {
+        Some((form, following)) => Some((form, following)),
+        None => None,
+    }
 }
 
 /// The lexeme that the text begins with, by its first character, which is no digit.

@@ -253,6 +253,7 @@ fn after_marked(text: &str) -> Option<&str>
 }
 
 /// What follows an identifier, which may be raw.
+#[inline(always)]
 fn after_any_name(text: &str) -> Option<&str>
     ensures rest { option_map (λ rest. chars rest.now) result ≡ after_any_name (chars text.now) }
     ensures following { IfSome result (λ rest. IsTail text.now rest.now) }

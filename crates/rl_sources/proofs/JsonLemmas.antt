@@ -151,15 +151,11 @@ truth_value text old new found same is e =
 
 -- ---- what is wrong
 
-pub flaw_words_are : (kind : FlawKind) (old new : List ℕ) → old ≡ [] → new ≡ old ++ flaw_message kind
-    → chars new ≡ flaw_message kind
-flaw_words_are kind old new none e =
-    ap chars (e ∙ ap (λ z. z ++ flaw_message kind) none) ∙ ascii_chars (flaw_message kind) (message_low kind)
+pub flaw_words_are : (kind : FlawKind) (new : List ℕ) → new ≡ flaw_message kind → chars new ≡ flaw_message kind
+flaw_words_are kind new e = ap chars e ∙ ascii_chars (flaw_message kind) (message_low kind)
 
-pub error_words_are : (kind : LexKind) (old new : List ℕ) → old ≡ [] → new ≡ old ++ lex_message kind
-    → chars new ≡ lex_message kind
-error_words_are kind old new none e =
-    ap chars (e ∙ ap (λ z. z ++ lex_message kind) none) ∙ ascii_chars (lex_message kind) (lex_low kind)
+pub error_words_are : (kind : LexKind) (new : List ℕ) → new ≡ lex_message kind → chars new ≡ lex_message kind
+error_words_are kind new e = ap chars e ∙ ascii_chars (lex_message kind) (lex_low kind)
 
 -- ---- the members of a literal
 

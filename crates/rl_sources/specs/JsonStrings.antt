@@ -1,11 +1,11 @@
 -- Strings of JSON, as RFC 8259 has them, and how a text is written as one. All are lists of characters.
-use Rattle.std.specs.Prelude.{◌≡◌, ◌≢◌, ◌⊎◌, ℕ, ◌+◌, ◌*◌, ◌/◌, ◌%◌, ◌<◌, ◌≤◌, ◌==◌, false, ◌||◌, cond, List, [], ◌∷◌, ◌++◌, IsTrue, codes}
+use Rattle.std.specs.Prelude.{◌≡◌, ◌≢◌, ◌⊎◌, ℕ, ◌+◌, ◌*◌, ◌/◌, ◌%◌, ◌<◌, ◌≤◌, ◌==◌, false, cond, List, [], ◌∷◌, ◌++◌, IsTrue, codes}
 use Prim.Native.Char.{code}
-use Rattle.std.specs.Char.{digit_char, digit_value, is_control}
+use Rattle.std.specs.Char.{digit_char, digit_value}
 use Rattle.std.specs.Char.Escape.{encode_utf16}
 use Rattle.std.specs.List.{AllByRecursion, flat_map}
 use Rattle.rl_forms.specs.Quoted.{is_hex_digit}
-use Rattle.rl_files.specs.Visible.{is_hiding}
+use Rattle.rl_files.specs.Visible.{needs_escape}
 use Rattle.rl_lines.specs.Lines.{Joins}
 
 -- ---- what RFC 8259 takes
@@ -60,7 +60,7 @@ IsJsonPiece c piece =
 
 -- the character neither turns nor hides text
 abbrev pub HidesNothing : ℕ → Type 0
-HidesNothing c = (is_control c || is_hiding c) ≡ false
+HidesNothing c = needs_escape c ≡ false
 
 -- A string of JSON that stands for the text: quotes, and between them a piece for each character; and
 -- none of its characters turns or hides text.
@@ -87,7 +87,7 @@ letter_escape letter = code "\\" ∷ letter ∷ []
 -- a character that no letter stands for: a control character, and one that turns or hides text, by the
 -- numbers of its units of UTF-16, all else as it is
 abbrev pub other_char : ℕ → List ℕ
-other_char c = cond (is_control c || is_hiding c) (flat_map unit_escape (encode_utf16 c)) (c ∷ [])
+other_char c = cond (needs_escape c) (flat_map unit_escape (encode_utf16 c)) (c ∷ [])
 
 -- a character as it is written: quotes, backslashes, LF, CR and tabs by a letter
 abbrev pub json_char : ℕ → List ℕ

@@ -277,15 +277,6 @@ pub(crate) fn push_json_literal<A: Allocator>(
     }
 }
 
-/// What a flaw says.
-fn flaw_words<A: Allocator>(alloc: A, kind: FlawKind) -> Result<String<A>, AllocError>
-    ensures { IfOk result (λ words. chars (string_bytes words) ≡ flaw_message kind) }
-{
-    let mut words = String::new(alloc);
-    write!(&mut words, "{kind}")?;
-    Ok(words)
-}
-
 /// Appends the members of a flaw: the literal's text, what is wrong, and the piece that it spoils, and the end of its
 /// object.
 pub(crate) fn push_json_flaw<A: Allocator>(
@@ -298,20 +289,11 @@ pub(crate) fn push_json_flaw<A: Allocator>(
     ensures { OnOk result (chars (string_bytes out.new) ≡ chars (string_bytes out.old)
         ++ flaw_members (chars text.now) (flaw_message kind) (chars piece.now)) }
 {
-    let words = flaw_words(alloc, kind)?;
+    let words = format!(in alloc; "{kind}")?;
     push_member(out, "text", text)?;
     push_member(out, "error", words.as_str())?;
     push_member(out, "piece", piece)?;
     push_ascii(out, "}\n")
-}
-
-/// What an error of a source says.
-fn error_words<A: Allocator>(alloc: A, kind: LexKind) -> Result<String<A>, AllocError>
-    ensures { IfOk result (λ words. chars (string_bytes words) ≡ lex_message kind) }
-{
-    let mut words = String::new(alloc);
-    write!(&mut words, "{kind}")?;
-    Ok(words)
 }
 
 /// Appends the member of a source's error, and the end of its object.
@@ -323,7 +305,7 @@ pub(crate) fn push_json_error<A: Allocator>(
     ensures { OnOk result (chars (string_bytes out.new)
         ≡ chars (string_bytes out.old) ++ error_members (lex_message kind)) }
 {
-    let words = error_words(alloc, kind)?;
+    let words = format!(in alloc; "{kind}")?;
     push_member(out, "error", words.as_str())?;
     push_ascii(out, "}\n")
 }

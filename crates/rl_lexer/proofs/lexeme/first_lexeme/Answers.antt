@@ -1,7 +1,7 @@
 use Rattle.rl_text.proofs.Common.{◌≡◌, true, Some, sym, ◌∙◌, ap, rules, is_ascii_digit, chars}
 use Rattle.rl_lexer.specs.Lexemes.{LiteralForm}
 use Rattle.rl_lexer.proofs.NumberEnds.{digit_first}
-use Rattle.rl_lexer.proofs.LexemeAnswers.{form_before, lexeme_found, lexeme_none}
+use Rattle.rl_lexer.proofs.LexemeAnswers.{form_before}
 use Rattle.rl_lexer.proofs.lexeme.first_lexeme.Goals as goal
 
 pub returns-then-is_ascii_digit-clause-found : goal.returns-then-is_ascii_digit-clause-found
@@ -11,10 +11,3 @@ returns-then-is_ascii_digit-clause-found c =
     form_before (chars c.args.text.now) (LiteralForm, chars c.after_digit.result.now)
     (digit_first (chars c.args.text.now) (chars s.following.now) s.byte s.ensures.some is
     ∙ ap (λ r. Some (LiteralForm, r)) (sym (c.after_digit.ensures.rest s.byte)))
-
-pub returns-clause-found : goal.returns-clause-found
-returns-clause-found c = lexeme_found (chars c.args.text.now) c.lexeme_but_number.result
-    c.lexeme_but_number.ensures.rest
-
-pub returns-clause-none : goal.returns-clause-none
-returns-clause-none c = lexeme_none (chars c.args.text.now) c.lexeme_but_number.result c.lexeme_but_number.ensures.rest
