@@ -1,2 +1,3 @@
 pub mod AttributeLemmas
 pub mod EntryLemmas
+pub mod NameKeys

@@ -15,7 +15,7 @@ impl Weigh for ByTrees {
     fn weigh(alloc: Global, text: &str) -> Result<u64, AllocError> {
         match lex(alloc, text, 0) {
             Ok(stream) => Ok(stream.trees().len() as u64),
-            Err(fault) => match fault.kind {
+            Err(error) => match error.kind {
                 LexKind::Memory => Err(AllocError),
                 _ => Ok(0),
             },

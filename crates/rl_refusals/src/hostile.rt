@@ -65,11 +65,11 @@ fn tell_new(made: Result<Lit, Kept<Literal>>, page: &mut Page) {
     }
 }
 
-/// Puts last what `lex` answers: how many trees, or a fault and its place.
+/// Puts last what `lex` answers: how many trees, or an error and its place.
 fn tell_trees(alloc: Global, text: &str, page: &mut Page) {
     match lex(alloc, text, 0) {
         Ok(stream) => page.put_number(stream.trees().len()),
-        Err(fault) => fault.tell(page),
+        Err(error) => error.tell(page),
     }
 }
 

@@ -44,7 +44,7 @@ fn put_run(
     page.put("  ");
     match answer {
         Ok(()) => page.put("done"),
-        Err(fault) => page.put_shown(&fault),
+        Err(error) => page.put_shown(&error),
     }
     page.put(", ");
     page.put_number(written.len());

@@ -33,21 +33,21 @@ fn tell_all(trees: &[TokenTree], out: &mut Page) {
 fn cut(alloc: Global, text: &str, out: &mut Page) {
     match lex(alloc, text, 7) {
         Ok(stream) => tell_all(stream.trees(), out),
-        Err(fault) => tell_fault(fault.kind, fault.at, out),
+        Err(error) => tell_error(error.kind, error.at, out),
     }
     out.put("\n")
 }
 
 /// Prints an error and its byte.
-fn tell_fault(kind: LexKind, at: usize, out: &mut Page) {
+fn tell_error(kind: LexKind, at: usize, out: &mut Page) {
     out.debug(&kind, " ");
     out.put_shown(&at)
 }
 
 /// Prints why the tokens stopped, where they did.
 fn tell_stop(tokens: &Tokens<'_>, out: &mut Page) {
-    if let Some(fault) = tokens.error() {
-        tell_fault(fault.kind, fault.at, out);
+    if let Some(error) = tokens.error() {
+        tell_error(error.kind, error.at, out);
         out.put("; ")
     }
 }

@@ -1,0 +1,42 @@
+-- The keys of names.
+use Rattle.std.proofs.Common.{◌≡◌, ℕ, ◌+◌, ◌*◌, ◌%◌, ◌^◌, ◌==◌, ◌&&◌, Bool, true, false, not, List, [], ◌∷◌, ◌++◌, refl, sym, ◌∙◌, ap, rules}
+use Rattle.std.specs.List.{fold}
+use Rattle.std.specs.Ordering.{nat_cmp, ordering_then, is_eq}
+use Rattle.std.specs.Cmp.{both_tied, unsigned_ties}
+use Rattle.std.specs.Cmp.Lexicographic.{slice_cmp, texts_ties}
+use Rattle.std.specs.Str.{bytes_eq}
+use Rattle.std.proofs.lemmas.Slice.Eq.{bytes_eq-Decides}
+use Rattle.rl_attributes.specs.AttributeSteps.{name_key}
+
+fold_more : (f : ℕ → ℕ → ℕ) (a : ℕ) (xs : List ℕ) (x : ℕ) → fold f a (xs ++ x ∷ []) ≡ f (fold f a xs) x
+fold_more f a [] x = refl
+fold_more f a (y ∷ xs) x = fold_more f (f a y) xs x
+
+-- one byte more
+pub key_more : (name : List ℕ) (byte : ℕ) → name_key (name ++ byte ∷ [])
+    ≡ (name_key name * 256 % 2 ^ 64 + byte) % 2 ^ 64
+key_more name byte = fold_more (λ key b. (key * 256 % 2 ^ 64 + b) % 2 ^ 64) 0 name byte
+
+same_key : (xs ys : List ℕ) (t : Bool) → bytes_eq xs ys ≡ t → t ≡ ((name_key xs == name_key ys) && t)
+same_key xs ys false e = and_false (name_key xs == name_key ys)
+  where
+    and_false : (b : Bool) → false ≡ (b && false)
+    and_false true = refl
+    and_false false = refl
+same_key xs ys true e = eq_self (name_key xs) (name_key ys) (ap name_key ((bytes_eq-Decides xs ys).0 e))
+  where
+    eq_self : (m n : ℕ) → m ≡ n → true ≡ ((m == n) && true)
+    eq_self m n h = search rules
+
+-- keys and bytes are in one order where the names are the same, and else in none
+pub keys_tie : (xs ys : List ℕ) → bytes_eq xs ys
+    ≡ is_eq (ordering_then (nat_cmp (name_key xs) (name_key ys)) (slice_cmp nat_cmp xs ys))
+keys_tie xs ys =
+    same_key xs ys (bytes_eq xs ys) refl
+    ∙ both_tied (name_key xs == name_key ys) (bytes_eq xs ys) _ _ (unsigned_ties (name_key xs) (name_key ys))
+    (texts_ties xs ys)
+
+-- what was not added was there
+pub not_absent : (added b : Bool) → added ≡ false → added ≡ not b → b ≡ true
+not_absent added true none e = refl
+not_absent added false none e = sym none ∙ e
