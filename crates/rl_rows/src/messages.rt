@@ -7,20 +7,20 @@ use std::alloc::Global;
 
 /// Every kind of the lexer's errors: as it is printed to programmers, and its message.
 pub(crate) fn lex_kinds(out: &mut Page) {
-    tell_fault(LexKind::UnclosedComment, out);
-    tell_fault(LexKind::DocComment, out);
-    tell_fault(LexKind::UnclosedQuote, out);
-    tell_fault(LexKind::UnclosedGroup, out);
-    tell_fault(LexKind::UnmatchedClose, out);
-    tell_fault(LexKind::Lifetime, out);
-    tell_fault(LexKind::RawIdentifier, out);
-    tell_fault(LexKind::StrayCharacter, out);
-    tell_fault(LexKind::TooDeep, out);
-    tell_fault(LexKind::Memory, out)
+    tell_lex_error(LexKind::UnclosedComment, out);
+    tell_lex_error(LexKind::DocComment, out);
+    tell_lex_error(LexKind::UnclosedQuote, out);
+    tell_lex_error(LexKind::UnclosedGroup, out);
+    tell_lex_error(LexKind::UnmatchedClose, out);
+    tell_lex_error(LexKind::Lifetime, out);
+    tell_lex_error(LexKind::RawIdentifier, out);
+    tell_lex_error(LexKind::StrayCharacter, out);
+    tell_lex_error(LexKind::TooDeep, out);
+    tell_lex_error(LexKind::Memory, out)
 }
 
 /// A kind of the lexer's errors: as it is printed to programmers, and its message.
-fn tell_fault(kind: LexKind, out: &mut Page) {
+fn tell_lex_error(kind: LexKind, out: &mut Page) {
     out.debug(&LexError { kind, at: 3 }, ": ");
     out.show(&kind, "\n")
 }

@@ -33,13 +33,13 @@ fn tell_all(trees: &[TokenTree], out: &mut Page) {
 fn cut(alloc: Global, text: &str, out: &mut Page) {
     match lex(alloc, text, 7) {
         Ok(stream) => tell_all(stream.trees(), out),
-        Err(error) => tell_error(error.kind, error.at, out),
+        Err(error) => tell_lex_error(error.kind, error.at, out),
     }
     out.put("\n")
 }
 
 /// Prints an error and its byte.
-fn tell_error(kind: LexKind, at: usize, out: &mut Page) {
+fn tell_lex_error(kind: LexKind, at: usize, out: &mut Page) {
     out.debug(&kind, " ");
     out.put_shown(&at)
 }
@@ -47,7 +47,7 @@ fn tell_error(kind: LexKind, at: usize, out: &mut Page) {
 /// Prints why the tokens stopped, where they did.
 fn tell_stop(tokens: &Tokens<'_>, out: &mut Page) {
     if let Some(error) = tokens.error() {
-        tell_error(error.kind, error.at, out);
+        tell_lex_error(error.kind, error.at, out);
         out.put("; ")
     }
 }
