@@ -37,7 +37,17 @@ pub(crate) fn first_lexeme(text: &str) -> Option<(Form, &str)> {
             return Some((Form::Literal, after_digit(following)));
         }
     }
-    lexeme_but_number(text)
+    rebuilt_lexeme(text)
+}
+
+/// What [`lexeme_but_number`] returns, built anew. Room for what a call returns is cleared first: by a function of its own
+/// that is done only where no number begins the text.
+#[inline(always)]
+fn rebuilt_lexeme(text: &str) -> Option<(Form, &str)> {
+    match lexeme_but_number(text) {
+        Some((form, following)) => Some((form, following)),
+        None => None,
+    }
 }
 
 /// The lexeme that the text begins with, by its first character, which is no digit.

@@ -179,6 +179,7 @@ fn after_marked(text: &str) -> Option<&str> {
 }
 
 /// What follows an identifier, which may be raw.
+#[inline(always)]
 fn after_any_name(text: &str) -> Option<&str> {
     if begins_raw_identifier(text) {
         return after_name(without_first(without_first(text)));
