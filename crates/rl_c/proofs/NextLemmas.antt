@@ -2,7 +2,7 @@
 use Rattle.rl_text.proofs.Common.{List, None, Option, Some, [], ap, arith, chars, chars-nil, false, inl, inr, length, subst, true, ℕ, ◌-◌, ◌∙◌, ◌≡◌, ◌≤◌}
 use Rattle.std.specs.Prelude.{MatchOption}
 use Rattle.rl_lexer.specs.Cursors.{CursorState, IsCursorState}
-use Rattle.rl_lexer.specs.Lexemes.{LexemeForm, LiteralForm, IdentifierForm, DelimiterForm, MarkForm}
+use Rattle.rl_lexer.specs.Lexemes.{LexemeForm, LiteralForm, IdentifierForm}
 use Rattle.rl_lexer.specs.Skipping.{Skipped}
 use Rattle.rl_text.proofs.Rests.{tail_length}
 use Rattle.rl_reading.specs.declared.found.Found.{Found}

@@ -5,7 +5,7 @@ use Rattle.std.specs.Prelude.{min, max}
 use Rattle.rl_text.specs.declared.span.Span.{Span}
 use Rattle.rl_tokens.specs.Puncts.{Mark}
 use Rattle.rl_lexer.specs.Skipping.{Skipped}
-use Rattle.rl_lexer.specs.Lexemes.{LexemeForm, LiteralForm, IdentifierForm, DelimiterForm, MarkForm, lexeme_text, form_of}
+use Rattle.rl_lexer.specs.Lexemes.{LexemeForm, LiteralForm, IdentifierForm, MarkForm, lexeme_text, form_of}
 use Rattle.rl_lexer.specs.Cuts.{LexedToken, end_of, LexesUpTo, after_form, open_groups}
 use Rattle.rl_tokens.specs.Lexing.{flat_form, flat_token}
 use Rattle.rl_tokens.specs.Trees.{Tree, IdentTree, PunctTree, LiteralTree, flat, flat_trees}

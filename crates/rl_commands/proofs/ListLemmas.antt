@@ -1,10 +1,10 @@
 -- The lines of a list, literal by literal.
-use Rattle.rl_text.proofs.Common.{IsUtf8, List, None, Option, Result, Some, [], ap, chars, chars-nil, length, length-append, refl, string_bytes, subst, sym, ℕ, ◌++◌, ◌+◌, ◌∙◌, ◌∷◌, ◌≡◌}
+use Rattle.rl_text.proofs.Common.{List, None, Option, Result, Some, [], ap, chars, chars-nil, string_bytes, subst, sym, ℕ, ◌++◌, ◌∙◌, ◌∷◌, ◌≡◌}
 use Rattle.std.proofs.Common.{IfErr, IfOk}
 use Rattle.std.specs.Prelude.{String, IfSome}
 use Rattle.std.specs.Option.{ok_or}
 use Rattle.rust_literals.specs.declared.lit.Lit.{Lit}
-use Rattle.rust_literals.specs.Parsing.{AreRead, RejectsText}
+use Rattle.rust_literals.specs.Parsing.{AreRead}
 use Rattle.rust_literals.specs.declared.literals.Literals.{Literals}
 use Rattle.rust_literals.specs.Iterating.{HasReturned}
 use Rattle.rl_lines.specs.Lines.{IsLineOfLit, AreLinesOfLits}
@@ -12,8 +12,8 @@ use Rattle.rl_lines.proofs.JoinLemmas.{joins_more}
 use Rattle.rl_lines.proofs.ListLemmas.{lines_of_text}
 use Rattle.rl_commands.specs.declared.command.Command.TheVariants.{Read}
 use Rattle.rl_program.specs.declared.fault.Fault.{Fault}
-use Rattle.rl_program.specs.declared.fault.Fault.TheVariants.{Read as ReadFault, Write, NotText, Memory, Literal}
-use Rattle.rl_commands.specs.Runs.{Shows, IsLiteralError, IsRejectionOf}
+use Rattle.rl_program.specs.declared.fault.Fault.TheVariants.{Memory}
+use Rattle.rl_commands.specs.Runs.{Shows, IsRejectionOf}
 use Rattle.rl_commands.specs.Lists.{Lengthens, HasLines}
 
 -- one line more

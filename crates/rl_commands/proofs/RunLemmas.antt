@@ -5,7 +5,7 @@ use Rattle.std.specs.Io.KnownBytes.{Appends}
 use Rattle.std.proofs.KnownBytes.{Keeps-refl}
 use Rattle.rl_commands.specs.declared.command.Command.{Command}
 use Rattle.rl_program.specs.declared.fault.Fault.{Fault}
-use Rattle.rl_program.specs.declared.fault.Fault.TheVariants.{Read, Write, NotText, Memory, Literal}
+use Rattle.rl_program.specs.declared.fault.Fault.TheVariants.{Write, NotText, Memory, Literal}
 use Rattle.rl_program.specs.Streams.{AppendsBeginning}
 use Rattle.rl_commands.specs.Runs.{Shows, Prints, PrintsBeginning, IsRejectionOf, IsErrorOf}
 

@@ -9,7 +9,7 @@ ghost use Rattle.std.specs.Prelude.{◌≡◌, ◌<◌, ◌&&◌, ◌==◌, List
 ghost use Rattle.std.specs.Char.{is_ascii, is_ascii_digit};
 ghost use Rattle.std.specs.Str.{chars};
 ghost use Rattle.rl_text.specs.Texts.{code, is_among, first_passes, IsTail, begins_char};
-ghost use Rattle.rl_lexer.specs.Lexemes.{delimiters, LexemeBefore};
+ghost use Rattle.rl_lexer.specs.Lexemes.{delimiters, LexemeBefore, LiteralForm};
 ghost use Rattle.rl_text.specs.Texts.{is_start};
 ghost use Rattle.rl_lexer.specs.Cursors.{form_view};
 ghost use Rattle.rl_lexer.specs.Mirrors.LexemeAt.{start_class, by_class, begins_hashed_quote, quoted_at, raw_at, single_at, literal_at, word_at, after_digit, lexeme_at, FormBefore, SlashHead, begins_word, is_mark_alone, is_prefix_letter, goes_on_as_word, makes_comment, mark_form};
@@ -38,8 +38,8 @@ pub enum Form {
     Mark(char),
 }
 
-/// The form of the lexeme that the text begins with, and the rest after it. `None` where there is
-/// no such lexeme. Most tokens of a list are numbers, so a digit is recognized without a call.
+/// The form of the lexeme that the text begins with, and the rest after it. `None` where there is no such lexeme. Most tokens
+/// of a list are numbers, words and marks, which are recognized without a call.
 #[inline(always)]
 pub(crate) fn first_lexeme(text: &str) -> Option<(Form, &str)>
     ensures found { IfSome result
@@ -48,16 +48,55 @@ pub(crate) fn first_lexeme(text: &str) -> Option<(Form, &str)>
     ensures following { IfSome result (λ p. IsTail text.now p.1.now) }
     ensures shorter { IfSome result (λ p. length p.1.now < length text.now) }
 {
-    if let Some((byte, following)) = split_ascii(text) {
-        if (byte as char).is_ascii_digit() {
-            return Some((Form::Literal, after_digit(following)));
+    if let Some(following) = after_number(text) {
+        return Some((Form::Literal, following));
+    }
+    if !begins_quote(text) {
+        if let Some((form, following)) = word_or_mark(text) {
+            return Some((form, following));
         }
     }
     rebuilt_lexeme(text)
 }
 
+/// What [`first_lexeme`] returns. It doesn't ask [`word_or_mark`], which its caller has asked.
+#[inline(always)]
+pub(crate) fn number_or_other(text: &str) -> Option<(Form, &str)>
+    ensures found { IfSome result
+        (λ p. FormBefore (chars text.now) (form_view p.0) (chars p.1.now)) }
+    ensures none { IfNone result ((after : List ℕ) → LexemeBefore (chars text.now) after → ⊥) }
+    ensures following { IfSome result (λ p. IsTail text.now p.1.now) }
+    ensures shorter { IfSome result (λ p. length p.1.now < length text.now) }
+{
+    if let Some(following) = after_number(text) {
+        return Some((Form::Literal, following));
+    }
+    rebuilt_lexeme(text)
+}
+
+/// What follows the number that the text begins with.
+#[inline(always)]
+fn after_number(text: &str) -> Option<&str>
+    ensures found { IfSome result
+        (λ rest. FormBefore (chars text.now) LiteralForm (chars rest.now)) }
+    ensures none { IfNone result (IsFalse (first_passes is_ascii_digit (chars text.now))) }
+    ensures following { IfSome result (λ rest. IsTail text.now rest.now) }
+    ensures shorter { IfSome result (λ rest. length rest.now < length text.now) }
+{
+    match split_ascii(text) {
+        Some((byte, following)) if (byte as char).is_ascii_digit() => Some(after_digit(following)),
+        _ => None,
+    }
+}
+
+/// Whether a quote begins the text, which begins no word and is no mark.
+#[inline(always)]
+fn begins_quote(text: &str) -> bool {
+    matches!(split_ascii(text), Some((b'"', _)))
+}
+
 /// What [`lexeme_but_number`] returns, built anew. Room for what a call returns is cleared first: by a function of its own
-/// that is done only where no number begins the text.
+/// that is done only where the call is made.
 #[inline(always)]
 fn rebuilt_lexeme(text: &str) -> Option<(Form, &str)>
     requires { IsFalse (first_passes is_ascii_digit (chars text.now)) }
@@ -84,15 +123,26 @@ fn lexeme_but_number(text: &str) -> Option<(Form, &str)>
     ensures shorter { IfSome result (λ p. length p.1.now < length text.now) }
 {
     let Some((byte, following)) = split_ascii(text) else {
-        return wide_identifier(text);
+        return rebuilt(wide_identifier(text));
     };
     match byte {
         b'"' => quoted_literal(following),
         b'\'' => character_literal(following),
-        b'/' => after_slash(following),
+        b'/' => rebuilt(after_slash(following)),
         _ if is_mark_alone(byte) => Some((mark_form(byte as char), following)),
-        _ if is_start(byte as char) => literal_or_identifier(byte as char, following),
+        _ if is_start(byte as char) => rebuilt(literal_or_identifier(byte as char, following)),
         _ => None,
+    }
+}
+
+/// What a call returned, built anew, so that what else may be returned need not stand in memory with it.
+#[inline(always)]
+fn rebuilt(found: Option<(Form, &str)>) -> Option<(Form, &str)>
+    ensures { result ≡ found.entry }
+{
+    match found {
+        Some((form, following)) => Some((form, following)),
+        None => None,
     }
 }
 

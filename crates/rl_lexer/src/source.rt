@@ -15,7 +15,7 @@ ghost use Rattle.rl_forms.specs.Reading.{truth_text};
 ghost use Rattle.rl_lexer.specs.Mirrors.LiteralsAt.{HoldsNoLiteral, past_word};
 ghost use Rattle.rl_lexer.specs.Mirrors.SourceAt.{after_doc, after_name, after_marked, after_any_name, after_lifetime, other_at, stray_at};
 
-use crate::lexeme::{Form, first_lexeme, word_or_mark};
+use crate::lexeme::{Form, number_or_other, word_or_mark};
 use crate::no_token::{begins_raw_identifier, opens};
 use crate::whitespace::{after_block, is_comment_block, is_comment_line, skip};
 use bad_quote::after_bad_quote;
@@ -135,7 +135,7 @@ fn source_by_characters(text: &str) -> Option<(SourceForm, &str)>
     if let Some((form, following)) = other_token(text) {
         return Some((form, following));
     }
-    if let Some((form, following)) = first_lexeme(text) {
+    if let Some((form, following)) = number_or_other(text) {
         return Some((SourceForm::Token(form), following));
     }
     stray(text)

@@ -1,6 +1,6 @@
 -- Texts that a string literal holds as they stand.
 use Rattle.rl_reading.proofs.Names.{Characters, Plain, Str, texts}
-use Rattle.rl_text.proofs.Common.{Bool, IsAscii, List, [], ap, append_assoc, arith, chars, chars-IsAscii, chars-nil, codes, eqb, eqb-true, false, if◌then◌else◌, length, list_all, map, nat_lt, nat_tests, not, refl, sym, true, ℕ, ◌&&◌, ◌++◌, ◌<◌, ◌==◌, ◌∙◌, ◌∷◌, ◌≡◌}
+use Rattle.rl_text.proofs.Common.{Bool, List, [], ap, append_assoc, arith, chars, chars-IsAscii, chars-nil, codes, eqb, eqb-true, false, if◌then◌else◌, length, list_all, map, nat_tests, refl, sym, true, ℕ, ◌&&◌, ◌++◌, ◌<◌, ◌==◌, ◌∙◌, ◌∷◌, ◌≡◌}
 use Rattle.std.specs.List.{All}
 use Rattle.std.proofs.lemmas.Bool.{false≢true}
 use Rattle.std.proofs.lemmas.List.Elements.{All-nil, All-cons}

@@ -1,9 +1,8 @@
 -- What is shown of a text that was found to be a literal.
-use Rattle.rl_reading.proofs.Names.{Byte, ByteStr, CStr, Char, Characters, Contents, Float, HasContents, HasSuffix, Int, Kind, ReadsAs, SpannedText, Str, is_single, quoted_contents}
-use Rattle.std.proofs.Common.{◌≡◌, ℕ, List, [], ◌∷◌, ◌++◌, Result, IfOk, true, refl, sym, ap, subst, ◌∙◌, inl}
+use Rattle.rl_reading.proofs.Names.{Characters, Contents, Float, HasContents, HasSuffix, Int, Kind, ReadsAs, SpannedText, Str, is_single, quoted_contents}
+use Rattle.std.proofs.Common.{◌≡◌, ℕ, List, [], ◌∷◌, ◌++◌, Result, IfOk, true, refl, sym, ap, subst, ◌∙◌}
 use Rattle.std.proofs.lemmas.Result.{IfOk-weaker}
 use Rattle.std.specs.Str.{chars}
-use Rattle.rl_forms.specs.declared.kind.Kind.TheVariants.{Bool}
 use Rattle.rl_forms.specs.Written.{written_text, IsWrittenForm}
 use Rattle.rl_reading.specs.declared.found.Found.{Found}
 use Rattle.rl_reading.specs.Founds.{IsFound}

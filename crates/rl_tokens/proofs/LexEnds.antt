@@ -5,7 +5,7 @@ use Rattle.rl_tokens.specs.declared.nest.TreeBuilder.{TreeBuilder}
 use Rattle.rl_lexer.specs.declared.lex_error.LexKind.{LexKind}
 use Rattle.rl_lexer.specs.declared.lex_error.LexKind.TheVariants.{UnmatchedClose, UnclosedGroup, TooDeep, Memory}
 use Rattle.rl_lexer.specs.declared.lex_error.LexError.{LexError}
-use Rattle.rl_lexer.specs.Lexemes.{LexemeBefore, Lexeme, QuotedLexeme, RawLexeme, CharacterLexeme, BasedLexeme, DecimalLexeme, IdentifierLexeme, DelimiterLexeme, MarkLexeme, lexeme_text, IsLexeme, LexemeForm, form_of}
+use Rattle.rl_lexer.specs.Lexemes.{LexemeBefore, Lexeme, DelimiterLexeme, lexeme_text, IsLexeme, LexemeForm, form_of}
 use Rattle.rl_lexer.specs.Cursors.{form_view, CursorState, TakesNext, IsFirstError}
 use Rattle.rl_lexer.specs.declared.cursor.Lexeme.{Lexeme as Borrowed}
 use Rattle.rl_tokens.specs.Trees.{Tree, stream_view, flat_trees}

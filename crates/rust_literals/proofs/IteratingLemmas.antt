@@ -5,13 +5,12 @@ use Rattle.std.specs.Option.{option_to_list, OnSome}
 use Rattle.std.specs.Vec.Iter.{into_iter_items, into_iter_len, into_iter_steps}
 use Rattle.std.specs.declared.vec.IntoIter.{IntoIter}
 use Rattle.rl_lexer.specs.Cursors.{CursorState}
-use Rattle.rl_lexer.specs.Skipping.{Skipped}
 use Rattle.rust_literals.specs.declared.lit.Lit.{Lit}
 use Rattle.rust_literals.specs.declared.literals.Literals.{Literals}
 use Rattle.rust_literals.specs.Parsing.{AreRead}
 use Rattle.rust_literals.specs.Flat.{ReadsNext, AreReadUpTo, AreFirst}
 use Rattle.rust_literals.specs.Iterating.{GoesOnAfter, HasReturned, ReturnsNext, left_with, left_of}
-use Rattle.rust_literals.proofs.FlatLemmas.{read_start, read_more, read_whole}
+use Rattle.rust_literals.proofs.FlatLemmas.{read_more, read_whole}
 
 -- the iterator at this place of its text, in place of where it was
 placed : {A : Type 0} (text : List ℕ) (file : ℕ) (taken : List (Lit A)) (new : Literals A)

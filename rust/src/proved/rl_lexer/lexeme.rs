@@ -28,20 +28,47 @@ pub enum Form {
     Mark(char),
 }
 
-/// The form of the lexeme that the text begins with, and the rest after it. `None` where there is
-/// no such lexeme. Most tokens of a list are numbers, so a digit is recognized without a call.
+/// The form of the lexeme that the text begins with, and the rest after it. `None` where there is no such lexeme. Most tokens
+/// of a list are numbers, words and marks, which are recognized without a call.
 #[inline(always)]
 pub(crate) fn first_lexeme(text: &str) -> Option<(Form, &str)> {
-    if let Some((byte, following)) = split_ascii(text) {
-        if (byte as char).is_ascii_digit() {
-            return Some((Form::Literal, after_digit(following)));
+    if let Some(following) = after_number(text) {
+        return Some((Form::Literal, following));
+    }
+    if !begins_quote(text) {
+        if let Some((form, following)) = word_or_mark(text) {
+            return Some((form, following));
         }
     }
     rebuilt_lexeme(text)
 }
 
+/// What [`first_lexeme`] returns. It doesn't ask [`word_or_mark`], which its caller has asked.
+#[inline(always)]
+pub(crate) fn number_or_other(text: &str) -> Option<(Form, &str)> {
+    if let Some(following) = after_number(text) {
+        return Some((Form::Literal, following));
+    }
+    rebuilt_lexeme(text)
+}
+
+/// What follows the number that the text begins with.
+#[inline(always)]
+fn after_number(text: &str) -> Option<&str> {
+    match split_ascii(text) {
+        Some((byte, following)) if (byte as char).is_ascii_digit() => Some(after_digit(following)),
+        _ => None,
+    }
+}
+
+/// Whether a quote begins the text, which begins no word and is no mark.
+#[inline(always)]
+fn begins_quote(text: &str) -> bool {
+    matches!(split_ascii(text), Some((b'"', _)))
+}
+
 /// What [`lexeme_but_number`] returns, built anew. Room for what a call returns is cleared first: by a function of its own
-/// that is done only where no number begins the text.
+/// that is done only where the call is made.
 #[inline(always)]
 fn rebuilt_lexeme(text: &str) -> Option<(Form, &str)> {
     match lexeme_but_number(text) {
@@ -54,15 +81,24 @@ fn rebuilt_lexeme(text: &str) -> Option<(Form, &str)> {
 #[inline(never)]
 fn lexeme_but_number(text: &str) -> Option<(Form, &str)> {
     let Some((byte, following)) = split_ascii(text) else {
-        return wide_identifier(text);
+        return rebuilt(wide_identifier(text));
     };
     match byte {
         b'"' => quoted_literal(following),
         b'\'' => character_literal(following),
-        b'/' => after_slash(following),
+        b'/' => rebuilt(after_slash(following)),
         _ if is_mark_alone(byte) => Some((mark_form(byte as char), following)),
-        _ if is_start(byte as char) => literal_or_identifier(byte as char, following),
+        _ if is_start(byte as char) => rebuilt(literal_or_identifier(byte as char, following)),
         _ => None,
+    }
+}
+
+/// What a call returned, built anew, so that what else may be returned need not stand in memory with it.
+#[inline(always)]
+fn rebuilt(found: Option<(Form, &str)>) -> Option<(Form, &str)> {
+    match found {
+        Some((form, following)) => Some((form, following)),
+        None => None,
     }
 }
 

@@ -3,7 +3,7 @@
 
 mod bad_quote;
 
-use crate::rl_lexer::lexeme::{Form, first_lexeme, word_or_mark};
+use crate::rl_lexer::lexeme::{Form, number_or_other, word_or_mark};
 use crate::rl_lexer::no_token::{begins_raw_identifier, opens};
 use crate::rl_lexer::whitespace::{after_block, is_comment_block, is_comment_line, skip};
 use bad_quote::after_bad_quote;
@@ -93,7 +93,7 @@ fn source_by_characters(text: &str) -> Option<(SourceForm, &str)> {
     if let Some((form, following)) = other_token(text) {
         return Some((form, following));
     }
-    if let Some((form, following)) = first_lexeme(text) {
+    if let Some((form, following)) = number_or_other(text) {
         return Some((SourceForm::Token(form), following));
     }
     stray(text)

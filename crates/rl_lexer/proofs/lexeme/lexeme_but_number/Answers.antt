@@ -10,9 +10,9 @@ returns-in_default-byte-clause-rest c =
     c.in-Some.ensures.some (sym c.if-is_mark_alone.ensures))
 
 pub returns-in_default-2-clause-following : goal.returns-in_default-2-clause-following
-returns-in_default-2-clause-following c = some_tail _ _ _ c.literal_or_identifier.result c.in-Some.ensures.following
-    c.literal_or_identifier.ensures.following
+returns-in_default-2-clause-following c = rw c.rebuilt-in_default-2.ensures
+    (some_tail _ _ _ c.literal_or_identifier.result c.in-Some.ensures.following c.literal_or_identifier.ensures.following)
 
 pub returns-in_default-2-clause-shorter : goal.returns-in_default-2-clause-shorter
-returns-in_default-2-clause-shorter c = some_nearer _ _ _ c.literal_or_identifier.result c.in-Some.ensures.shorter
-    c.literal_or_identifier.ensures.following
+returns-in_default-2-clause-shorter c = rw c.rebuilt-in_default-2.ensures
+    (some_nearer _ _ _ c.literal_or_identifier.result c.in-Some.ensures.shorter c.literal_or_identifier.ensures.following)

@@ -2,10 +2,10 @@ use Rattle.rl_text.proofs.Common.{◌≡◌, true, Some, sym, ◌∙◌, ap, rul
 use Rattle.rl_lexer.specs.Lexemes.{LiteralForm}
 use Rattle.rl_lexer.proofs.NumberEnds.{digit_first}
 use Rattle.rl_lexer.proofs.LexemeAnswers.{form_before}
-use Rattle.rl_lexer.proofs.lexeme.first_lexeme.Goals as goal
+use Rattle.rl_lexer.proofs.lexeme.after_number.Goals as goal
 
-pub returns-then-is_ascii_digit-clause-found : goal.returns-then-is_ascii_digit-clause-found
-returns-then-is_ascii_digit-clause-found c =
+pub returns-in-Some-clause-found : goal.returns-in-Some-clause-found
+returns-in-Some-clause-found c =
     let s = c.in-Some in
     let is : is_ascii_digit s.byte ≡ true = search rules in
     form_before (chars c.args.text.now) (LiteralForm, chars c.after_digit.result.now)
