@@ -1,5 +1,5 @@
 -- Entries, one after another, and the names that are kept beside them.
-use Rattle.std.proofs.Common.{◌≡◌, ◌≢◌, ◌⊎◌, inl, inr, ℕ, zero, suc, ◌+◌, ◌<◌, Bool, true, false, cond, get_or, take, drop, List, [], ◌∷◌, ◌++◌, refl, sym, ◌∙◌, ap, subst, Bor, string_bytes, arith}
+use Rattle.std.proofs.Common.{◌≡◌, ◌≢◌, ◌⊎◌, inl, inr, ℕ, zero, suc, ◌+◌, ◌<◌, Bool, true, false, cond, get_or, take, drop, List, [], ◌∷◌, ◌++◌, refl, sym, ◌∙◌, ap, subst, string_bytes, arith}
 use Rattle.std.specs.Prelude.{IsFalse, codes, All, Any, Result, Ok, Err, IfOk, IfErr, length}
 use Rattle.std.specs.BTreeSet.{BTreeSet, IsEmpty}
 use Rattle.std.specs.Str.{bytes_eq, chars}
@@ -30,11 +30,13 @@ use Rattle.rl_attributes.specs.declared.attributes.Attrs.{Attrs}
 use Rattle.rl_attributes.specs.Attributes.{Attribute, IsAttribute, HasNewName, AreListed, names_of, is_named, NamesDiffer, AreAttributes, AreAttributesOf, RejectsNextAttribute, RejectsAttributes, RejectsAttributeTrees, RejectsAttributeText}
 use Rattle.rl_attributes.specs.Entries.{attribute_of, attributes_of, IsReadEntry, HasName, EntriesDiffer}
 use Rattle.rl_attributes.specs.AttributeParsing.{entries_of, AreEntries, RunsAttrs, IsListOrMemory}
-use Rattle.rl_attributes.specs.AttributeSteps.{has_name, AddsName, IsNext, LacksMemoryInStep, RejectsStep, reported_at, kind_reported_at}
+use Rattle.rl_attributes.specs.declared.attributes.name.Name.{Name}
+use Rattle.rl_attributes.specs.Names.{has_name}
+use Rattle.rl_attributes.specs.AttributeSteps.{AddsName, IsNext, LacksMemoryInStep, RejectsStep, reported_at, kind_reported_at}
 use Rattle.rl_attributes.proofs.AttributeLemmas.{AreTaken, taken_none, taken_more, taken_all, taken_begins, differ_more, differ_none, named_more, refused_next, same_seen, one_listing}
 
 -- The entries that were taken of the trees, the names that are kept of them, and what is left.
-pub record IsAt {A : Type 0} (trees : List Tree) (entries : List (Entry A)) (names : BTreeSet (ℕ × Bor (List ℕ)))
+pub record IsAt {A : Type 0} (trees : List Tree) (entries : List (Entry A)) (names : BTreeSet Name)
     (rest : List Tree) : Type 0 where
   pub taken : AreTaken trees (attributes_of entries) rest
   pub differ : EntriesDiffer entries
@@ -43,7 +45,7 @@ pub record IsAt {A : Type 0} (trees : List Tree) (entries : List (Entry A)) (nam
   pub left : IsRest trees rest
 
 -- at first
-pub at_first : {A : Type 0} (trees : List Tree) (entries : List (Entry A)) (names : BTreeSet (ℕ × Bor (List ℕ))) → entries
+pub at_first : {A : Type 0} (trees : List Tree) (entries : List (Entry A)) (names : BTreeSet Name) → entries
     ≡ [] → IsEmpty names → IsAt trees entries names trees
 at_first {A = A} trees entries names e n = record {
   taken = subst (λ (es : List (Entry A)). AreTaken trees (attributes_of es) trees) (sym e) (taken_none trees);
@@ -54,7 +56,7 @@ at_first {A = A} trees entries names e n = record {
 }
 
 -- one entry more
-pub at_next : {A : Type 0} (trees : List Tree) (entries more : List (Entry A)) (old new : BTreeSet (ℕ × Bor (List ℕ)))
+pub at_next : {A : Type 0} (trees : List Tree) (entries more : List (Entry A)) (old new : BTreeSet Name)
     (rest next : List Tree) (entry : Entry A) → IsAt trees entries old rest → rest ≢ []
     → IsNext rest (attribute_of entry) next → IsFalse (has_name old (string_bytes entry.name)) → IsReadEntry entry
     → AddsName old new (string_bytes entry.name) → StaysRest rest next → more ≡ entries ++ (entry ∷ [])
@@ -77,12 +79,12 @@ at_next trees entries more old new rest next entry at some n anew read adds left
     }
 
 -- the trees end
-pub at_end : {A : Type 0} (trees : List Tree) (entries : List (Entry A)) (names : BTreeSet (ℕ × Bor (List ℕ)))
+pub at_end : {A : Type 0} (trees : List Tree) (entries : List (Entry A)) (names : BTreeSet Name)
     (rest : List Tree) → IsAt trees entries names rest → rest ≡ [] → AreEntries trees entries
 at_end trees entries names rest at e = record { are = record { listed = taken_all trees (attributes_of entries) rest at.taken e; differ = at.differ }; read = at.read }
 
 -- an allocation failure for what a name begins
-pub at_memory : {A B : Type 0} (trees : List Tree) (entries : List (Entry A)) (names : BTreeSet (ℕ × Bor (List ℕ)))
+pub at_memory : {A B : Type 0} (trees : List Tree) (entries : List (Entry A)) (names : BTreeSet Name)
     (rest : List Tree) (e : Error B) → IsAt trees entries names rest → rest ≢ [] → LacksMemoryInStep rest e
     → LacksMemoryInStep trees e
 at_memory trees entries names rest e at some w = record { begun = taken_begins trees (attributes_of entries) rest at.taken some w.begun; memory = w.memory }
@@ -92,7 +94,7 @@ pub next_memory : {B : Type 0} (rest next : List Tree) (a : Attribute) (e : Erro
 next_memory rest next a e n m = record { begun = subst (λ (ts : List Tree). begins_ident ts ≡ true) (sym n.is.named) refl; memory = m }
 
 -- what stops a step is rejected of all trees
-pub at_refusal : {A B : Type 0} (trees : List Tree) (entries : List (Entry A)) (names : BTreeSet (ℕ × Bor (List ℕ)))
+pub at_refusal : {A B : Type 0} (trees : List Tree) (entries : List (Entry A)) (names : BTreeSet Name)
     (rest : List Tree) (scope was : Span) (e : Error B) → IsAt trees entries names rest → rest ≢ [] → was ≡ scope
     → RejectsStep (has_name names) rest was e → LacksMemoryInStep trees e ⊎ RejectsAttributes trees scope e
 at_refusal trees entries names rest scope was e at some s (inl w) = inl (at_memory trees entries names rest e at some w)

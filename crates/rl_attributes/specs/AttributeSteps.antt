@@ -1,12 +1,8 @@
 -- The steps of the parser of attributes, and the names that it keeps.
-use Rattle.std.specs.Prelude.{◌≡◌, ◌⊎◌, ℕ, ◌+◌, ◌*◌, ◌%◌, ◌^◌, Bool, true, List, [], IsTrue, cond}
-use Rattle.std.specs.List.{fold}
+use Rattle.std.specs.Prelude.{◌≡◌, ◌⊎◌, ℕ, Bool, true, List, [], IsTrue, cond}
 use Prim.Native.Char.{code}
-use Rattle.std.specs.BTreeSet.{BTreeSet, contains_by}
-use Rattle.std.specs.Cmp.Lexicographic.{slice_cmp}
-use Rattle.std.specs.Ordering.{nat_cmp, ordering_then}
+use Rattle.std.specs.BTreeSet.{BTreeSet}
 use Rattle.std.specs.Str.{bytes_eq}
-use denote.Ref.{Bor}
 use Rattle.rl_text.specs.declared.span.Span.{Span}
 use Rattle.rl_tokens.specs.declared.error.ErrorKind.{ErrorKind}
 use Rattle.rl_tokens.specs.declared.error.ErrorKind.TheVariants.{Memory}
@@ -14,19 +10,12 @@ use Rattle.rl_tokens.specs.declared.error.Error.{Error}
 use Rattle.rl_tokens.specs.Errors.{memory_at}
 use Rattle.rl_tokens.specs.Trees.{Tree}
 use Rattle.rl_tokens.specs.Buffers.{begins_ident, IsAfterMark}
+use Rattle.rl_attributes.specs.declared.attributes.name.Name.{Name}
+use Rattle.rl_attributes.specs.Names.{has_name}
 use Rattle.rl_attributes.specs.Attributes.{Attribute, IsAttribute, RejectsNextAttribute}
 
--- the last eight bytes of a name, as a number
-abbrev pub name_key : List ℕ → ℕ
-name_key name = fold (λ key byte. (key * 256 % 2 ^ 64 + byte) % 2 ^ 64) 0 name
-
--- whether the set has this name: names are in the order of their keys, and by one key in that of their bytes
-abbrev pub has_name : BTreeSet (ℕ × Bor (List ℕ)) → List ℕ → Bool
-has_name names name =
-    contains_by (λ k. ordering_then (nat_cmp (name_key name) k.0) (slice_cmp nat_cmp name k.1.now)) names
-
 -- the set has this name, and else those that it had
-abbrev pub AddsName : BTreeSet (ℕ × Bor (List ℕ)) → BTreeSet (ℕ × Bor (List ℕ)) → List ℕ → Type 0
+abbrev pub AddsName : BTreeSet Name → BTreeSet Name → List ℕ → Type 0
 AddsName old new name =
     (other : List ℕ) → has_name new other ≡ cond (bytes_eq name other) true (has_name old other)
 

@@ -1,5 +1,6 @@
 pub mod Attributes
 pub mod Entries
+pub mod Names
 pub mod AttributeParsing
 pub mod AttributeSteps
 pub mod Settings

@@ -3,6 +3,7 @@
 ghost use Rattle.std.proofs.Props.{props};
 ghost use Rattle.rl_attributes.specs.Entries.{EntriesDiffer};
 
+mod name;
 mod take;
 
 use rl_tokens::Span;

@@ -104,6 +104,7 @@ impl<'a, A: Allocator> Front<'a, A> {
 
     /// Takes the literal that stands next: a literal token with any text, the word `true` or `false`, or a minus and a
     /// literal token that read together. Where none does, the buffer stays.
+    #[inline(always)]
     pub fn take(input: &mut ParseBuffer<'a, A>) -> Option<Front<'a, A>>
         ensures taken { IfSome result
             (λ f. IsFront (trees_in input.old) (front_token f) (trees_in input.new)) }

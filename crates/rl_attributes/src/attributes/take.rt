@@ -14,9 +14,8 @@ ghost use Rattle.rl_attributes.specs.Attributes.{
 };
 ghost use Rattle.rl_attributes.specs.Entries.{attribute_of, attributes_of, IsReadEntry};
 ghost use Rattle.rl_attributes.specs.AttributeParsing.{entries_of, attrs_end, AreEntries, RunsAttrs, IsListOrMemory};
+ghost use Rattle.rl_attributes.specs.Names.{has_name};
 ghost use Rattle.rl_attributes.specs.AttributeSteps.{
-  name_key,
-  has_name,
   AddsName,
   IsNext,
   LacksMemoryInStep,
@@ -24,26 +23,15 @@ ghost use Rattle.rl_attributes.specs.AttributeSteps.{
   reported_at,
 };
 
+use super::name::Name;
 use super::{Attrs, Entry};
 use rl_tokens::{Error, ErrorKind, Ident, Parse, ParseBuffer, Span, attempt, parse_all};
 use rust_literals::Lit;
 use std::alloc::Allocator;
 use std::collections::BTreeSet;
 
-/// Names that were taken, as they stand in the trees, each after its key. They are in order, so no choice of names makes one
-/// dearer than others; most are told apart by their keys alone.
-type Names<'a, A> = BTreeSet<(u64, &'a str), A>;
-
-/// The last eight bytes of a name, as a number.
-fn key_of(name: &str) -> u64
-    ensures { result ≡ name_key name.now }
-{
-    let mut key = 0_u64;
-    for byte in name.as_bytes() {
-        key = key.wrapping_mul(256).wrapping_add(u64::from(*byte));
-    }
-    key
-}
+/// Names that were taken. They are in order, so no choice of names makes one dearer than others.
+type Names<'a, A> = BTreeSet<Name<'a>, A>;
 
 /// Takes an identifier that is none of the names, and adds it to them.
 fn take_name<'a, A: Allocator + Copy>(
@@ -61,8 +49,7 @@ fn take_name<'a, A: Allocator + Copy>(
     let Some(name) = input.ident() else {
         return Err(input.error("identifier"));
     };
-    let text = name.text();
-    match names.insert((key_of(text), text)) {
+    match names.insert(Name::new(name.text())) {
         Ok(true) => Ok(name),
         Ok(false) => Err(Error::new(name.span(), ErrorKind::Repeated)),
         Err(_) => Err(Error::memory(name.span())),

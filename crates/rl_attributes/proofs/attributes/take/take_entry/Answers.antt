@@ -1,7 +1,7 @@
 use Rattle.std.proofs.Common.{string_bytes, ap, ◌∙◌}
 use Rattle.std.proofs.lemmas.Result.{err_from_is_err_and}
 use Rattle.rl_tokens.specs.Buffers.{trees_in, scope_of}
-use Rattle.rl_attributes.specs.AttributeSteps.{has_name}
+use Rattle.rl_attributes.specs.Names.{has_name}
 use Rattle.rl_attributes.proofs.EntryLemmas.{entry_taken, value_read, equals_refused, value_refused}
 use Rattle.rl_attributes.proofs.attributes.take.take_entry.Goals as goal
 

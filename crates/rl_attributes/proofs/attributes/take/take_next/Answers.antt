@@ -2,7 +2,7 @@ use Rattle.std.proofs.Common.{◌≢◌, []}
 use Rattle.std.proofs.lemmas.Result.{err_from_is_err_and}
 use Rattle.rl_tokens.specs.Buffers.{trees_in, scope_of}
 use Rattle.rl_attributes.specs.Entries.{attribute_of}
-use Rattle.rl_attributes.specs.AttributeSteps.{has_name}
+use Rattle.rl_attributes.specs.Names.{has_name}
 use Rattle.rl_attributes.proofs.EntryLemmas.{comma_refused}
 use Rattle.rl_attributes.proofs.attributes.take.take_next.Goals as goal
 

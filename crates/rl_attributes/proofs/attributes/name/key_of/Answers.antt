@@ -1,8 +1,8 @@
 use Rattle.rl_text.proofs.Common.{◌≡◌, ◌∙◌, ℕ, sym, ap, take, get_or, rules, arith, take_more, take_all}
 use Rattle.std.specs.Prelude.{◌+◌, ◌*◌, ◌%◌, ◌^◌}
-use Rattle.rl_attributes.specs.AttributeSteps.{name_key}
+use Rattle.rl_attributes.specs.Names.{name_key}
 use Rattle.rl_attributes.proofs.NameKeys.{key_more}
-use Rattle.rl_attributes.proofs.attributes.take.key_of.Goals as goal
+use Rattle.rl_attributes.proofs.attributes.name.key_of.Goals as goal
 
 pub loop-byte-preserved : goal.loop-byte-preserved
 loop-byte-preserved c =
