@@ -47,7 +47,7 @@ pub(crate) fn flaw_of<A: Allocator>(
     judged(alloc, options.judge, text)
 }
 
-/// The flaw that the line of a literal tells, where lines do so.
+/// The flaw that the line of a literal reports, where lines do so.
 pub(crate) fn reason_of(explains: bool, flaw: Option<Flaw>) -> Option<Flaw>
     ensures some { IfSome result (λ reason. IsTrue explains × (flaw ≡ Some reason)) }
     ensures none { IfNone result (IsTrue explains → flaw ≡ None) }

@@ -77,6 +77,18 @@ fn push_colored_front<A: Allocator>(
     }
 }
 
+/// Appends a place and a space.
+#[inline(always)]
+fn push_place<A: Allocator>(out: &mut String<A>, place: Place) -> Result<(), AllocError>
+    ensures { OnOk result (string_bytes out.new
+        ≡ string_bytes out.old ++ (place_text place ++ codes " ")) }
+{
+    match place {
+        Place::Bytes(lo, hi) => write!(out, "{lo}..{hi} "),
+        _ => write!(out, "{place} "),
+    }
+}
+
 /// Appends what stands before a line of words: its place, after the path where there is one.
 #[inline(always)]
 fn push_worded_front<A: Allocator>(
@@ -93,10 +105,7 @@ fn push_worded_front<A: Allocator>(
     }
     match path {
         Some(path) => push_in_file(out, path, place),
-        None => {
-            write!(out, "{place} ")?;
-            Ok(())
-        }
+        None => push_place(out, place),
     }
 }
 

@@ -97,22 +97,23 @@ fn push_flaw_at<A: Allocator>(
 }
 
 /// Appends the line that says why a literal is bad, and where.
+#[inline(never)]
 pub(crate) fn push_flaw<'t, A: Allocator>(
     alloc: A,
     out: &mut String<A>,
     options: Options<'_>,
-    literal: &Literal<'t>,
+    literal: Literal<'t>,
     places: &mut Places<'t>,
     flaw: Flaw,
 ) -> Result<(), AllocError>
-    requires rest { BeginsRest literal.now.token places.old literal.now.rest.now }
-    requires flaw { FindsFlaw options.judge (chars literal.now.token.text.now) flaw }
+    requires rest { BeginsRest literal.token places.old literal.rest.now }
+    requires flaw { FindsFlaw options.judge (chars literal.token.text.now) flaw }
     ensures shown { OnOk result (Appends
-        (IsFlawLine options.entry (chars places.old) (chars literal.now.token.text.now) literal.now.token.lo)
+        (IsFlawLine options.entry (chars places.old) (chars literal.entry.token.text.now) literal.entry.token.lo)
         (chars (string_bytes out.old)) (chars (string_bytes out.new))) }
     ensures same { places.new ≡ places.old }
 {
-    let place = place_inside(options, places, literal, flaw.lo, flaw.hi);
+    let place = place_inside(options, places, &literal, flaw.lo, flaw.hi);
     push_flaw_at(alloc, out, options, literal.token.text, flaw, place)
 }
 

@@ -22,15 +22,17 @@ use crate::place::{Place, Places, place_inside, place_of, push_front};
 use crate::reason::push_flaw;
 use rl_files::{make_visible, push_visible};
 use rl_grammar::{Found, find};
-use rl_lines::{label_of, push_found};
+use rl_lines::{bare_value, label_of, push_bare, push_found};
 use rl_tokens::{LexError, LexKind, SourceForm, SourceToken, Sources};
 use std::alloc::{AllocError, Allocator};
 
 /// How many bytes of lines are gathered before they are written.
 const FULL: usize = 65_536;
 
-/// Appends the line of a text, of what reading it found, as it is printed.
-fn push_text_line<A: Allocator + Copy>(
+/// Appends the line of a text, of what reading it found, as it is printed: made first, and then gone over for what turns or
+/// hides text.
+#[inline(never)]
+fn push_made_line<A: Allocator + Copy>(
     alloc: A,
     out: &mut String<A>,
     text: &str,
@@ -45,7 +47,26 @@ fn push_text_line<A: Allocator + Copy>(
     make_visible(alloc, out, from)
 }
 
+/// Appends the line of a text, of what reading it found, as it is printed. Most strings need no escape in it.
+#[inline(always)]
+fn push_text_line<A: Allocator + Copy>(
+    alloc: A,
+    out: &mut String<A>,
+    text: &str,
+    found: &Option<Found>,
+) -> Result<(), AllocError>
+    requires { IsFoundIn text.now found.now }
+    ensures { OnOk result (Appends (IsPrintedAs Value (chars text.now))
+        (chars (string_bytes out.old)) (chars (string_bytes out.new))) }
+{
+    match bare_value(text, found) {
+        Some(value) => push_bare(out, value),
+        None => push_made_line(alloc, out, text, *found),
+    }
+}
+
 /// Appends a literal as it is written.
+#[inline(never)]
 fn push_source<A: Allocator>(out: &mut String<A>, text: &str) -> Result<(), AllocError>
     ensures { OnOk result (chars (string_bytes out.new)
         ≡ chars (string_bytes out.old) ++ (visible (chars text.now) ++ codes "\n")) }
@@ -56,6 +77,7 @@ fn push_source<A: Allocator>(out: &mut String<A>, text: &str) -> Result<(), Allo
 }
 
 /// Appends what is printed of a literal.
+#[inline(always)]
 fn push_printed<A: Allocator + Copy>(
     alloc: A,
     out: &mut String<A>,
@@ -67,12 +89,13 @@ fn push_printed<A: Allocator + Copy>(
         (chars (string_bytes out.old)) (chars (string_bytes out.new))) }
 {
     match spelling {
-        Spelling::Value => push_text_line(alloc, out, literal.token.text, literal.found),
+        Spelling::Value => push_text_line(alloc, out, literal.token.text, &literal.found),
         Spelling::Source => push_source(out, literal.token.text),
     }
 }
 
 /// Appends what stands after the place in the line of a literal: what is printed of it, or the members of its object.
+#[inline(always)]
 fn push_line_end<A: Allocator + Copy>(
     alloc: A,
     out: &mut String<A>,
@@ -91,6 +114,7 @@ fn push_line_end<A: Allocator + Copy>(
 }
 
 /// Appends the line of a literal, after this place.
+#[inline(always)]
 fn push_line_at<A: Allocator + Copy>(
     alloc: A,
     out: &mut String<A>,
@@ -107,6 +131,7 @@ fn push_line_at<A: Allocator + Copy>(
 }
 
 /// Appends the line of a literal, after its place.
+#[inline(always)]
 fn push_placed<'t, A: Allocator + Copy>(
     alloc: A,
     out: &mut String<A>,
@@ -127,6 +152,7 @@ fn push_placed<'t, A: Allocator + Copy>(
 }
 
 /// Appends the line of a literal, after the place of these bytes of its text.
+#[inline(never)]
 fn push_inside<'t, A: Allocator + Copy>(
     alloc: A,
     out: &mut String<A>,
@@ -148,7 +174,8 @@ fn push_inside<'t, A: Allocator + Copy>(
     push_line_at(alloc, out, options, literal, place)
 }
 
-/// Appends the line of a literal: its own, or where lines tell flaws and it has one, the line that says why it is bad.
+/// Appends the line of a literal: its own, or where lines report flaws and it has one, the line that says why it is bad.
+#[inline(always)]
 fn push_line_in<'t, A: Allocator + Copy>(
     alloc: A,
     out: &mut String<A>,
@@ -164,7 +191,7 @@ fn push_line_in<'t, A: Allocator + Copy>(
     ensures same { places.new ≡ places.old }
 {
     match reason_of(options.explains, literal.flaw) {
-        Some(flaw) => push_flaw(alloc, out, options, literal, places, flaw),
+        Some(flaw) => push_flaw(alloc, out, options, *literal, places, flaw),
         None => push_placed(alloc, out, options, literal, places),
     }
 }
@@ -175,45 +202,47 @@ fn push_held_line<'t, A: Allocator + Copy>(
     alloc: A,
     out: &mut String<A>,
     options: Options<'_>,
-    literal: &Literal<'t>,
+    literal: Literal<'t>,
     places: &mut Places<'t>,
     sought: &str,
 ) -> Result<(), AllocError>
-    requires { IsLiteralOf options places.old literal.now }
+    requires { IsLiteralOf options places.old literal }
     ensures shown { OnOk result (Appends
-        (IsHeldLine sought.now options.entry (chars places.old) (chars literal.now.token.text.now)
-        literal.now.token.lo)
+        (IsHeldLine sought.now options.entry (chars places.old) (chars literal.entry.token.text.now)
+        literal.entry.token.lo)
         (chars (string_bytes out.old)) (chars (string_bytes out.new))) }
     ensures same { places.new ≡ places.old }
 {
     let Some(range) = held_at(alloc, literal.token.text, literal.found, sought)? else {
         return Ok(());
     };
-    push_inside(alloc, out, options, literal, places, range)
+    push_inside(alloc, out, options, &literal, places, range)
 }
 
 /// Appends the line of a literal whose text holds a character that turns or hides text, at the place of the first.
+#[inline(never)]
 fn push_hidden_line<'t, A: Allocator + Copy>(
     alloc: A,
     out: &mut String<A>,
     options: Options<'_>,
-    literal: &Literal<'t>,
+    literal: Literal<'t>,
     places: &mut Places<'t>,
 ) -> Result<(), AllocError>
-    requires { IsLiteralOf options places.old literal.now }
+    requires { IsLiteralOf options places.old literal }
     ensures shown { OnOk result (Appends
-        (IsHiddenLine options.entry (chars places.old) (chars literal.now.token.text.now) literal.now.token.lo)
+        (IsHiddenLine options.entry (chars places.old) (chars literal.entry.token.text.now) literal.entry.token.lo)
         (chars (string_bytes out.old)) (chars (string_bytes out.new))) }
     ensures same { places.new ≡ places.old }
 {
     let Some(range) = hidden_at(literal.token.text) else {
         return Ok(());
     };
-    push_inside(alloc, out, options, literal, places, range)
+    push_inside(alloc, out, options, &literal, places, range)
 }
 
 /// Appends what is shown of a literal where no text is looked for: its line, which stands at the first character that
 /// turns or hides text where these are asked for.
+#[inline(always)]
 fn push_asked<'t, A: Allocator + Copy>(
     alloc: A,
     out: &mut String<A>,
@@ -229,12 +258,13 @@ fn push_asked<'t, A: Allocator + Copy>(
     ensures same { places.new ≡ places.old }
 {
     match options.shown {
-        Shown::Hidden => push_hidden_line(alloc, out, options, literal, places),
+        Shown::Hidden => push_hidden_line(alloc, out, options, *literal, places),
         _ => push_line_in(alloc, out, options, literal, places),
     }
 }
 
 /// Appends what is shown of a literal that is picked: where a text is looked for, its line where its contents hold that.
+#[inline(always)]
 fn push_picked<'t, A: Allocator + Copy>(
     alloc: A,
     out: &mut String<A>,
@@ -251,7 +281,7 @@ fn push_picked<'t, A: Allocator + Copy>(
 {
     match options.finds {
         None => push_asked(alloc, out, options, literal, places),
-        Some(sought) => push_held_line(alloc, out, options, literal, places, sought),
+        Some(sought) => push_held_line(alloc, out, options, *literal, places, sought),
     }
 }
 
