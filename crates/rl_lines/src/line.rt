@@ -14,6 +14,7 @@ use rl_tokens::{Kind, push_str_literal};
 use std::alloc::{AllocError, Allocator};
 
 /// Appends a piece.
+#[inline(always)]
 pub(crate) fn push<A: Allocator>(out: &mut String<A>, piece: &str) -> Result<(), AllocError>
     ensures { OnOk result
         (chars (string_bytes out.new) ≡ chars (string_bytes out.old) ++ chars piece.now) }

@@ -216,7 +216,7 @@ impl<'t> Places<'t> {
 /// The place of the bytes from `lo` to `hi`, where the rest of the text begins at the first.
 #[inline(always)]
 pub(crate) fn place_of<'t>(
-    options: Options<'_>,
+    options: &Options<'_>,
     places: &mut Places<'t>,
     rest: &'t str,
     lo: usize,
@@ -224,7 +224,7 @@ pub(crate) fn place_of<'t>(
 ) -> Place
     requires text { IsCursorState places.old rest.now }
     requires lo { lo + length rest.now ≡ length places.old }
-    ensures place { IsPlaceIn options.entry (chars places.old) lo hi result }
+    ensures place { IsPlaceIn options.now (chars places.old) lo hi result }
     ensures same { places.new ≡ places.old }
 {
     if is_json(options.form) {
@@ -238,7 +238,7 @@ pub(crate) fn place_of<'t>(
 
 /// The place in the source of bytes of the literal's text.
 pub(crate) fn place_inside<'t>(
-    options: Options<'_>,
+    options: &Options<'_>,
     places: &mut Places<'t>,
     literal: &Literal<'t>,
     first: usize,
@@ -247,7 +247,7 @@ pub(crate) fn place_inside<'t>(
     requires rest { BeginsRest literal.now.token places.old literal.now.rest.now }
     requires cut { IsCutAt (chars literal.now.token.text.now) first }
     requires within { last ≤ byte_len (chars literal.now.token.text.now) }
-    ensures place { IsPlaceIn options.entry (chars places.old)
+    ensures place { IsPlaceIn options.now (chars places.old)
         (literal.now.token.lo + first) (literal.now.token.lo + last) result }
     ensures same { places.new ≡ places.old }
 {

@@ -77,12 +77,12 @@ fn push_flaw_end<A: Allocator>(
 fn push_flaw_at<A: Allocator>(
     alloc: A,
     out: &mut String<A>,
-    options: Options<'_>,
+    options: &Options<'_>,
     text: &str,
     flaw: Flaw,
     place: Place,
 ) -> Result<(), AllocError>
-    ensures { OnOk result (Appends (IsFlawLineAt options.entry (chars text.now) flaw place)
+    ensures { OnOk result (Appends (IsFlawLineAt options.now (chars text.now) flaw place)
         (chars (string_bytes out.old)) (chars (string_bytes out.new))) }
 {
     push_front(out, options.form, options.path, place)?;
@@ -101,19 +101,19 @@ fn push_flaw_at<A: Allocator>(
 pub(crate) fn push_flaw<'t, A: Allocator>(
     alloc: A,
     out: &mut String<A>,
-    options: Options<'_>,
-    literal: Literal<'t>,
+    options: &Options<'_>,
+    literal: &Literal<'t>,
     places: &mut Places<'t>,
     flaw: Flaw,
 ) -> Result<(), AllocError>
-    requires rest { BeginsRest literal.token places.old literal.rest.now }
-    requires flaw { FindsFlaw options.judge (chars literal.token.text.now) flaw }
+    requires rest { BeginsRest literal.now.token places.old literal.now.rest.now }
+    requires flaw { FindsFlaw options.now.judge (chars literal.now.token.text.now) flaw }
     ensures shown { OnOk result (Appends
-        (IsFlawLine options.entry (chars places.old) (chars literal.entry.token.text.now) literal.entry.token.lo)
+        (IsFlawLine options.now (chars places.old) (chars literal.now.token.text.now) literal.now.token.lo)
         (chars (string_bytes out.old)) (chars (string_bytes out.new))) }
     ensures same { places.new ≡ places.old }
 {
-    let place = place_inside(options, places, &literal, flaw.lo, flaw.hi);
+    let place = place_inside(options, places, literal, flaw.lo, flaw.hi);
     push_flaw_at(alloc, out, options, literal.token.text, flaw, place)
 }
 

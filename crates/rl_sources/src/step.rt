@@ -99,11 +99,11 @@ fn push_printed<A: Allocator + Copy>(
 fn push_line_end<A: Allocator + Copy>(
     alloc: A,
     out: &mut String<A>,
-    options: Options<'_>,
+    options: &Options<'_>,
     literal: &Literal<'_>,
 ) -> Result<(), AllocError>
     requires { IsFoundIn literal.now.token.text.now literal.now.found }
-    ensures { OnOk result (Appends (IsLineEnd options.entry.form options.entry.spelling
+    ensures { OnOk result (Appends (IsLineEnd options.now.form options.now.spelling
         (chars literal.now.token.text.now))
         (chars (string_bytes out.old)) (chars (string_bytes out.new))) }
 {
@@ -118,12 +118,12 @@ fn push_line_end<A: Allocator + Copy>(
 fn push_line_at<A: Allocator + Copy>(
     alloc: A,
     out: &mut String<A>,
-    options: Options<'_>,
+    options: &Options<'_>,
     literal: &Literal<'_>,
     place: Place,
 ) -> Result<(), AllocError>
     requires { IsFoundIn literal.now.token.text.now literal.now.found }
-    ensures { OnOk result (Appends (IsLineAt options.entry (chars literal.now.token.text.now) place)
+    ensures { OnOk result (Appends (IsLineAt options.now (chars literal.now.token.text.now) place)
         (chars (string_bytes out.old)) (chars (string_bytes out.new))) }
 {
     push_front(out, options.form, options.path, place)?;
@@ -135,13 +135,13 @@ fn push_line_at<A: Allocator + Copy>(
 fn push_placed<'t, A: Allocator + Copy>(
     alloc: A,
     out: &mut String<A>,
-    options: Options<'_>,
+    options: &Options<'_>,
     literal: &Literal<'t>,
     places: &mut Places<'t>,
 ) -> Result<(), AllocError>
-    requires { IsLiteralOf options places.old literal.now }
+    requires { IsLiteralOf options.now places.old literal.now }
     ensures shown { OnOk result (Appends
-        (IsPlacedLine options.entry (chars places.old) (chars literal.now.token.text.now)
+        (IsPlacedLine options.now (chars places.old) (chars literal.now.token.text.now)
         literal.now.token.lo literal.now.token.hi)
         (chars (string_bytes out.old)) (chars (string_bytes out.new))) }
     ensures same { places.new ≡ places.old }
@@ -156,16 +156,16 @@ fn push_placed<'t, A: Allocator + Copy>(
 fn push_inside<'t, A: Allocator + Copy>(
     alloc: A,
     out: &mut String<A>,
-    options: Options<'_>,
+    options: &Options<'_>,
     literal: &Literal<'t>,
     places: &mut Places<'t>,
     range: (usize, usize),
 ) -> Result<(), AllocError>
-    requires literal { IsLiteralOf options places.old literal.now }
+    requires literal { IsLiteralOf options.now places.old literal.now }
     requires cut { IsCutAt (chars literal.now.token.text.now) range.0 }
     requires within { range.1 ≤ byte_len (chars literal.now.token.text.now) }
     ensures shown { OnOk result (Appends
-        (IsPlacedLine options.entry (chars places.old) (chars literal.now.token.text.now)
+        (IsPlacedLine options.now (chars places.old) (chars literal.now.token.text.now)
         (literal.now.token.lo + range.0) (literal.now.token.lo + range.1))
         (chars (string_bytes out.old)) (chars (string_bytes out.new))) }
     ensures same { places.new ≡ places.old }
@@ -179,19 +179,19 @@ fn push_inside<'t, A: Allocator + Copy>(
 fn push_line_in<'t, A: Allocator + Copy>(
     alloc: A,
     out: &mut String<A>,
-    options: Options<'_>,
+    options: &Options<'_>,
     literal: &Literal<'t>,
     places: &mut Places<'t>,
 ) -> Result<(), AllocError>
-    requires { IsLiteralOf options places.old literal.now }
+    requires { IsLiteralOf options.now places.old literal.now }
     ensures shown { OnOk result (Appends
-        (IsLineIn options.entry (chars places.old) (chars literal.now.token.text.now)
+        (IsLineIn options.now (chars places.old) (chars literal.now.token.text.now)
         literal.now.token.lo literal.now.token.hi)
         (chars (string_bytes out.old)) (chars (string_bytes out.new))) }
     ensures same { places.new ≡ places.old }
 {
     match reason_of(options.explains, literal.flaw) {
-        Some(flaw) => push_flaw(alloc, out, options, *literal, places, flaw),
+        Some(flaw) => push_flaw(alloc, out, options, literal, places, flaw),
         None => push_placed(alloc, out, options, literal, places),
     }
 }
@@ -201,22 +201,22 @@ fn push_line_in<'t, A: Allocator + Copy>(
 fn push_held_line<'t, A: Allocator + Copy>(
     alloc: A,
     out: &mut String<A>,
-    options: Options<'_>,
-    literal: Literal<'t>,
+    options: &Options<'_>,
+    literal: &Literal<'t>,
     places: &mut Places<'t>,
     sought: &str,
 ) -> Result<(), AllocError>
-    requires { IsLiteralOf options places.old literal }
+    requires { IsLiteralOf options.now places.old literal.now }
     ensures shown { OnOk result (Appends
-        (IsHeldLine sought.now options.entry (chars places.old) (chars literal.entry.token.text.now)
-        literal.entry.token.lo)
+        (IsHeldLine sought.now options.now (chars places.old) (chars literal.now.token.text.now)
+        literal.now.token.lo)
         (chars (string_bytes out.old)) (chars (string_bytes out.new))) }
     ensures same { places.new ≡ places.old }
 {
     let Some(range) = held_at(alloc, literal.token.text, literal.found, sought)? else {
         return Ok(());
     };
-    push_inside(alloc, out, options, &literal, places, range)
+    push_inside(alloc, out, options, literal, places, range)
 }
 
 /// Appends the line of a literal whose text holds a character that turns or hides text, at the place of the first.
@@ -224,20 +224,20 @@ fn push_held_line<'t, A: Allocator + Copy>(
 fn push_hidden_line<'t, A: Allocator + Copy>(
     alloc: A,
     out: &mut String<A>,
-    options: Options<'_>,
-    literal: Literal<'t>,
+    options: &Options<'_>,
+    literal: &Literal<'t>,
     places: &mut Places<'t>,
 ) -> Result<(), AllocError>
-    requires { IsLiteralOf options places.old literal }
+    requires { IsLiteralOf options.now places.old literal.now }
     ensures shown { OnOk result (Appends
-        (IsHiddenLine options.entry (chars places.old) (chars literal.entry.token.text.now) literal.entry.token.lo)
+        (IsHiddenLine options.now (chars places.old) (chars literal.now.token.text.now) literal.now.token.lo)
         (chars (string_bytes out.old)) (chars (string_bytes out.new))) }
     ensures same { places.new ≡ places.old }
 {
     let Some(range) = hidden_at(literal.token.text) else {
         return Ok(());
     };
-    push_inside(alloc, out, options, &literal, places, range)
+    push_inside(alloc, out, options, literal, places, range)
 }
 
 /// Appends what is shown of a literal where no text is looked for: its line, which stands at the first character that
@@ -246,19 +246,19 @@ fn push_hidden_line<'t, A: Allocator + Copy>(
 fn push_asked<'t, A: Allocator + Copy>(
     alloc: A,
     out: &mut String<A>,
-    options: Options<'_>,
+    options: &Options<'_>,
     literal: &Literal<'t>,
     places: &mut Places<'t>,
 ) -> Result<(), AllocError>
-    requires { IsLiteralOf options places.old literal.now }
+    requires { IsLiteralOf options.now places.old literal.now }
     ensures shown { OnOk result (Appends
-        (IsAskedLine options.entry.shown options.entry (chars places.old)
+        (IsAskedLine options.now.shown options.now (chars places.old)
         (chars literal.now.token.text.now) literal.now.token.lo literal.now.token.hi)
         (chars (string_bytes out.old)) (chars (string_bytes out.new))) }
     ensures same { places.new ≡ places.old }
 {
     match options.shown {
-        Shown::Hidden => push_hidden_line(alloc, out, options, *literal, places),
+        Shown::Hidden => push_hidden_line(alloc, out, options, literal, places),
         _ => push_line_in(alloc, out, options, literal, places),
     }
 }
@@ -268,20 +268,20 @@ fn push_asked<'t, A: Allocator + Copy>(
 fn push_picked<'t, A: Allocator + Copy>(
     alloc: A,
     out: &mut String<A>,
-    options: Options<'_>,
+    options: &Options<'_>,
     literal: &Literal<'t>,
     places: &mut Places<'t>,
 ) -> Result<(), AllocError>
-    requires { IsLiteralOf options places.old literal.now }
+    requires { IsLiteralOf options.now places.old literal.now }
     ensures shown { OnOk result (Appends
-        (IsPickedLine options.entry.finds options.entry (chars places.old)
+        (IsPickedLine options.now.finds options.now (chars places.old)
         (chars literal.now.token.text.now) literal.now.token.lo literal.now.token.hi)
         (chars (string_bytes out.old)) (chars (string_bytes out.new))) }
     ensures same { places.new ≡ places.old }
 {
     match options.finds {
         None => push_asked(alloc, out, options, literal, places),
-        Some(sought) => push_held_line(alloc, out, options, *literal, places, sought),
+        Some(sought) => push_held_line(alloc, out, options, literal, places, sought),
     }
 }
 
@@ -290,14 +290,14 @@ fn push_picked<'t, A: Allocator + Copy>(
 fn push_literal_token<'t, A: Allocator + Copy>(
     alloc: A,
     out: &mut String<A>,
-    options: Options<'_>,
+    options: &Options<'_>,
     token: SourceToken<'t>,
     rest: &'t str,
     places: &mut Places<'t>,
 ) -> Result<(), AllocError>
     requires { BeginsRest token places.old rest.now }
     ensures shown { OnOk result (Appends
-        (IsShownLiteral options.entry (chars places.old) (chars token.entry.text.now)
+        (IsShownLiteral options.now (chars places.old) (chars token.entry.text.now)
         token.entry.lo token.entry.hi)
         (chars (string_bytes out.old)) (chars (string_bytes out.new))) }
     ensures same { places.new ≡ places.old }
@@ -426,12 +426,12 @@ pub(crate) fn gather<'t, A: Allocator + Copy>(
         match next_literal(options, tokens) {
             Ok(Some(token)) => {
                 let rest = places.rest_at(token.lo);
-                push_literal_token(alloc, out, options, token, rest, places)?
+                push_literal_token(alloc, out, &options, token, rest, places)?
             }
             Ok(None) => return Ok(Step::End),
             Err(error) => {
                 let rest = places.rest_at(error.at);
-                let place = place_of(options, places, rest, error.at, error.at);
+                let place = place_of(&options, places, rest, error.at, error.at);
                 return Ok(Step::Error(place, error.kind));
             }
         }
