@@ -35,10 +35,10 @@ pub enum Place {
 fn push_in_file<A: Allocator>(
     out: &mut String<A>,
     path: &str,
-    place: Place,
+    place: &Place,
 ) -> Result<(), AllocError>
     ensures { OnOk result (chars (string_bytes out.new) ≡ chars (string_bytes out.old)
-        ++ (chars path.now ++ (codes ":" ++ (place_text place ++ codes ": ")))) }
+        ++ (chars path.now ++ (codes ":" ++ (place_text place.now ++ codes ": ")))) }
 {
     write!(out, "{path}:{place}: ")?;
     Ok(())
@@ -48,10 +48,10 @@ fn push_in_file<A: Allocator>(
 fn push_colored_in_file<A: Allocator>(
     out: &mut String<A>,
     path: &str,
-    place: Place,
+    place: &Place,
 ) -> Result<(), AllocError>
     ensures { OnOk result (chars (string_bytes out.new)
-        ≡ chars (string_bytes out.old) ++ line_front Colored (Some path.entry) place) }
+        ≡ chars (string_bytes out.old) ++ line_front Colored (Some path.entry) place.now) }
 {
     let of_path = start_of(Paint::Path);
     let of_place = start_of(Paint::Place);
@@ -66,10 +66,10 @@ fn push_colored_in_file<A: Allocator>(
 fn push_colored_front<A: Allocator>(
     out: &mut String<A>,
     path: Option<&str>,
-    place: Place,
+    place: &Place,
 ) -> Result<(), AllocError>
     ensures { OnOk result (chars (string_bytes out.new)
-        ≡ chars (string_bytes out.old) ++ worded_front Colored path.entry place) }
+        ≡ chars (string_bytes out.old) ++ worded_front Colored path.entry place.now) }
 {
     match path {
         Some(path) => push_colored_in_file(out, path, place),
@@ -79,9 +79,9 @@ fn push_colored_front<A: Allocator>(
 
 /// Appends a place and a space.
 #[inline(always)]
-fn push_place<A: Allocator>(out: &mut String<A>, place: Place) -> Result<(), AllocError>
+fn push_place<A: Allocator>(out: &mut String<A>, place: &Place) -> Result<(), AllocError>
     ensures { OnOk result (string_bytes out.new
-        ≡ string_bytes out.old ++ (place_text place ++ codes " ")) }
+        ≡ string_bytes out.old ++ (place_text place.now ++ codes " ")) }
 {
     match place {
         Place::Bytes(lo, hi) => write!(out, "{lo}..{hi} "),
@@ -95,10 +95,10 @@ fn push_worded_front<A: Allocator>(
     out: &mut String<A>,
     form: Form,
     path: Option<&str>,
-    place: Place,
+    place: &Place,
 ) -> Result<(), AllocError>
     ensures { OnOk result (chars (string_bytes out.new)
-        ≡ chars (string_bytes out.old) ++ worded_front form path.entry place) }
+        ≡ chars (string_bytes out.old) ++ worded_front form path.entry place.now) }
 {
     if has_colors(form) {
         return push_colored_front(out, path, place);
@@ -114,10 +114,10 @@ fn push_worded_front<A: Allocator>(
 fn push_json_front<A: Allocator>(
     out: &mut String<A>,
     path: Option<&str>,
-    place: Place,
+    place: &Place,
 ) -> Result<(), AllocError>
     ensures { OnOk result (chars (string_bytes out.new)
-        ≡ chars (string_bytes out.old) ++ (object_front path.entry ++ place_text place)) }
+        ≡ chars (string_bytes out.old) ++ (object_front path.entry ++ place_text place.now)) }
 {
     push_object_front(out, path)?;
     write!(out, "{place}")?;
@@ -130,10 +130,10 @@ pub(crate) fn push_front<A: Allocator>(
     out: &mut String<A>,
     form: Form,
     path: Option<&str>,
-    place: Place,
+    place: &Place,
 ) -> Result<(), AllocError>
     ensures { OnOk result (chars (string_bytes out.new)
-        ≡ chars (string_bytes out.old) ++ line_front form path.entry place) }
+        ≡ chars (string_bytes out.old) ++ line_front form path.entry place.now) }
 {
     if is_json(form) {
         return push_json_front(out, path, place);

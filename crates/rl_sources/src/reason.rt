@@ -85,7 +85,7 @@ fn push_flaw_at<A: Allocator>(
     ensures { OnOk result (Appends (IsFlawLineAt options.now (chars text.now) flaw place)
         (chars (string_bytes out.old)) (chars (string_bytes out.new))) }
 {
-    push_front(out, options.form, options.path, place)?;
+    push_front(out, options.form, options.path, &place)?;
     push_flaw_end(
         alloc,
         out,
@@ -150,6 +150,6 @@ pub fn push_source_error<A: Allocator>(
     ensures { OnOk result (chars (string_bytes out.new) ≡ chars (string_bytes out.old)
         ++ (line_front form path.entry place ++ error_end form (lex_message kind))) }
 {
-    push_front(out, form, path, place)?;
+    push_front(out, form, path, &place)?;
     push_error_end(alloc, out, form, kind)
 }

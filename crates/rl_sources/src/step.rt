@@ -126,7 +126,7 @@ fn push_line_at<A: Allocator + Copy>(
     ensures { OnOk result (Appends (IsLineAt options.now (chars literal.now.token.text.now) place)
         (chars (string_bytes out.old)) (chars (string_bytes out.new))) }
 {
-    push_front(out, options.form, options.path, place)?;
+    push_front(out, options.form, options.path, &place)?;
     push_line_end(alloc, out, options, literal)
 }
 
