@@ -138,11 +138,6 @@ pub(crate) fn push_kind<A: Allocator>(
     push_line(out, word(kind), shown, suffix)
 }
 
-/// How the line of a string begins, and how it ends that has no suffix.
-const FRONT: &str = "Str \"";
-
-const END: &str = "\" -\n";
-
 /// Appends the line of a string without a suffix whose value its line holds as it stands, as [`bare_value`] finds it.
 ///
 /// [`bare_value`]: crate::bare_value
@@ -155,9 +150,7 @@ pub fn push_bare<A: Allocator>(out: &mut String<A>, value: &str) -> Result<(), A
     ensures { OnOk result (chars (string_bytes out.new)
         ≡ chars (string_bytes out.old) ++ bare_line (chars value.now)) }
 {
-    push(out, FRONT)?;
-    push(out, value)?;
-    push(out, END)
+    writeln!(out, "Str \"{value}\" -")
 }
 
 /// Appends the line of a string that stands for this text. What a string literal holds as it stands is copied at once.
