@@ -13,9 +13,8 @@ ghost use Rattle.rl_sources.specs.declared.options.Form.TheVariants.{Colored};
 
 use crate::color::{PAINT_END, Paint, has_colors, start_of};
 use crate::json::{is_json, push_object_front};
-use crate::literal::Literal;
 use crate::options::{Form, Options};
-use rl_tokens::{LineColumn, Lines};
+use rl_tokens::{LineColumn, Lines, SourceToken};
 use std::alloc::{AllocError, Allocator};
 use std::fmt;
 use std::marker::Model;
@@ -236,23 +235,24 @@ pub(crate) fn place_of<'t>(
     Place::Bytes(lo, hi)
 }
 
-/// The place in the source of bytes of the literal's text.
+/// The place in the source of bytes of a token's text, where the rest of the source begins with the token.
 pub(crate) fn place_inside<'t>(
     options: &Options<'_>,
     places: &mut Places<'t>,
-    literal: &Literal<'t>,
+    token: SourceToken<'t>,
+    rest: &'t str,
     first: usize,
     last: usize,
 ) -> Place
-    requires rest { BeginsRest literal.now.token places.old literal.now.rest.now }
-    requires cut { IsCutAt (chars literal.now.token.text.now) first }
-    requires within { last ≤ byte_len (chars literal.now.token.text.now) }
+    requires rest { BeginsRest token places.old rest.now }
+    requires cut { IsCutAt (chars token.text.now) first }
+    requires within { last ≤ byte_len (chars token.text.now) }
     ensures place { IsPlaceIn options.now (chars places.old)
-        (literal.now.token.lo + first) (literal.now.token.lo + last) result }
+        (token.entry.lo + first) (token.entry.lo + last) result }
     ensures same { places.new ≡ places.old }
 {
-    let lo = literal.token.lo + first;
-    let hi = literal.token.lo + last;
-    let inside = &literal.rest[first..];
+    let lo = token.lo + first;
+    let hi = token.lo + last;
+    let inside = &rest[first..];
     place_of(options, places, inside, lo, hi)
 }

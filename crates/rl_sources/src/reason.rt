@@ -102,18 +102,19 @@ pub(crate) fn push_flaw<'t, A: Allocator>(
     alloc: A,
     out: &mut String<A>,
     options: &Options<'_>,
-    literal: &Literal<'t>,
+    literal: &Literal<'_, 't>,
     places: &mut Places<'t>,
     flaw: Flaw,
 ) -> Result<(), AllocError>
-    requires rest { BeginsRest literal.now.token places.old literal.now.rest.now }
-    requires flaw { FindsFlaw options.now.judge (chars literal.now.token.text.now) flaw }
+    requires rest { BeginsRest literal.now.token.now places.old literal.now.rest.now }
+    requires flaw { FindsFlaw options.now.judge (chars literal.now.token.now.text.now) flaw }
     ensures shown { OnOk result (Appends
-        (IsFlawLine options.now (chars places.old) (chars literal.now.token.text.now) literal.now.token.lo)
+        (IsFlawLine options.now (chars places.old) (chars literal.now.token.now.text.now) literal.now.token.now.lo)
         (chars (string_bytes out.old)) (chars (string_bytes out.new))) }
     ensures same { places.new ≡ places.old }
 {
-    let place = place_inside(options, places, literal, flaw.lo, flaw.hi);
+    let token = *literal.token;
+    let place = place_inside(options, places, token, literal.rest, flaw.lo, flaw.hi);
     push_flaw_at(alloc, out, options, literal.token.text, flaw, place)
 }
 

@@ -82,14 +82,14 @@ fn push_printed<A: Allocator + Copy>(
     alloc: A,
     out: &mut String<A>,
     spelling: Spelling,
-    literal: &Literal<'_>,
+    literal: &Literal<'_, '_>,
 ) -> Result<(), AllocError>
-    requires { IsFoundIn literal.now.token.text.now literal.now.found }
-    ensures { OnOk result (Appends (IsPrintedAs spelling (chars literal.now.token.text.now))
+    requires { IsFoundIn literal.now.token.now.text.now literal.now.found.now }
+    ensures { OnOk result (Appends (IsPrintedAs spelling (chars literal.now.token.now.text.now))
         (chars (string_bytes out.old)) (chars (string_bytes out.new))) }
 {
     match spelling {
-        Spelling::Value => push_text_line(alloc, out, literal.token.text, &literal.found),
+        Spelling::Value => push_text_line(alloc, out, literal.token.text, literal.found),
         Spelling::Source => push_source(out, literal.token.text),
     }
 }
@@ -100,16 +100,16 @@ fn push_line_end<A: Allocator + Copy>(
     alloc: A,
     out: &mut String<A>,
     options: &Options<'_>,
-    literal: &Literal<'_>,
+    literal: &Literal<'_, '_>,
 ) -> Result<(), AllocError>
-    requires { IsFoundIn literal.now.token.text.now literal.now.found }
+    requires { IsFoundIn literal.now.token.now.text.now literal.now.found.now }
     ensures { OnOk result (Appends (IsLineEnd options.now.form options.now.spelling
-        (chars literal.now.token.text.now))
+        (chars literal.now.token.now.text.now))
         (chars (string_bytes out.old)) (chars (string_bytes out.new))) }
 {
     match options.form {
         Form::Plain | Form::Colored => push_printed(alloc, out, options.spelling, literal),
-        Form::Json => push_json_literal(alloc, out, literal.token.text, literal.found),
+        Form::Json => push_json_literal(alloc, out, literal.token.text, *literal.found),
     }
 }
 
@@ -119,11 +119,11 @@ fn push_line_at<A: Allocator + Copy>(
     alloc: A,
     out: &mut String<A>,
     options: &Options<'_>,
-    literal: &Literal<'_>,
+    literal: &Literal<'_, '_>,
     place: Place,
 ) -> Result<(), AllocError>
-    requires { IsFoundIn literal.now.token.text.now literal.now.found }
-    ensures { OnOk result (Appends (IsLineAt options.now (chars literal.now.token.text.now) place)
+    requires { IsFoundIn literal.now.token.now.text.now literal.now.found.now }
+    ensures { OnOk result (Appends (IsLineAt options.now (chars literal.now.token.now.text.now) place)
         (chars (string_bytes out.old)) (chars (string_bytes out.new))) }
 {
     push_front(out, options.form, options.path, &place)?;
@@ -136,13 +136,13 @@ fn push_placed<'t, A: Allocator + Copy>(
     alloc: A,
     out: &mut String<A>,
     options: &Options<'_>,
-    literal: &Literal<'t>,
+    literal: &Literal<'_, 't>,
     places: &mut Places<'t>,
 ) -> Result<(), AllocError>
     requires { IsLiteralOf options.now places.old literal.now }
     ensures shown { OnOk result (Appends
-        (IsPlacedLine options.now (chars places.old) (chars literal.now.token.text.now)
-        literal.now.token.lo literal.now.token.hi)
+        (IsPlacedLine options.now (chars places.old) (chars literal.now.token.now.text.now)
+        literal.now.token.now.lo literal.now.token.now.hi)
         (chars (string_bytes out.old)) (chars (string_bytes out.new))) }
     ensures same { places.new ≡ places.old }
 {
@@ -157,20 +157,21 @@ fn push_inside<'t, A: Allocator + Copy>(
     alloc: A,
     out: &mut String<A>,
     options: &Options<'_>,
-    literal: &Literal<'t>,
+    literal: &Literal<'_, 't>,
     places: &mut Places<'t>,
     range: (usize, usize),
 ) -> Result<(), AllocError>
     requires literal { IsLiteralOf options.now places.old literal.now }
-    requires cut { IsCutAt (chars literal.now.token.text.now) range.0 }
-    requires within { range.1 ≤ byte_len (chars literal.now.token.text.now) }
+    requires cut { IsCutAt (chars literal.now.token.now.text.now) range.0 }
+    requires within { range.1 ≤ byte_len (chars literal.now.token.now.text.now) }
     ensures shown { OnOk result (Appends
-        (IsPlacedLine options.now (chars places.old) (chars literal.now.token.text.now)
-        (literal.now.token.lo + range.0) (literal.now.token.lo + range.1))
+        (IsPlacedLine options.now (chars places.old) (chars literal.now.token.now.text.now)
+        (literal.now.token.now.lo + range.0) (literal.now.token.now.lo + range.1))
         (chars (string_bytes out.old)) (chars (string_bytes out.new))) }
     ensures same { places.new ≡ places.old }
 {
-    let place = place_inside(options, places, literal, range.0, range.1);
+    let token = *literal.token;
+    let place = place_inside(options, places, token, literal.rest, range.0, range.1);
     push_line_at(alloc, out, options, literal, place)
 }
 
@@ -180,13 +181,13 @@ fn push_line_in<'t, A: Allocator + Copy>(
     alloc: A,
     out: &mut String<A>,
     options: &Options<'_>,
-    literal: &Literal<'t>,
+    literal: &Literal<'_, 't>,
     places: &mut Places<'t>,
 ) -> Result<(), AllocError>
     requires { IsLiteralOf options.now places.old literal.now }
     ensures shown { OnOk result (Appends
-        (IsLineIn options.now (chars places.old) (chars literal.now.token.text.now)
-        literal.now.token.lo literal.now.token.hi)
+        (IsLineIn options.now (chars places.old) (chars literal.now.token.now.text.now)
+        literal.now.token.now.lo literal.now.token.now.hi)
         (chars (string_bytes out.old)) (chars (string_bytes out.new))) }
     ensures same { places.new ≡ places.old }
 {
@@ -202,18 +203,18 @@ fn push_held_line<'t, A: Allocator + Copy>(
     alloc: A,
     out: &mut String<A>,
     options: &Options<'_>,
-    literal: &Literal<'t>,
+    literal: &Literal<'_, 't>,
     places: &mut Places<'t>,
     sought: &str,
 ) -> Result<(), AllocError>
     requires { IsLiteralOf options.now places.old literal.now }
     ensures shown { OnOk result (Appends
-        (IsHeldLine sought.now options.now (chars places.old) (chars literal.now.token.text.now)
-        literal.now.token.lo)
+        (IsHeldLine sought.now options.now (chars places.old) (chars literal.now.token.now.text.now)
+        literal.now.token.now.lo)
         (chars (string_bytes out.old)) (chars (string_bytes out.new))) }
     ensures same { places.new ≡ places.old }
 {
-    let Some(range) = held_at(alloc, literal.token.text, literal.found, sought)? else {
+    let Some(range) = held_at(alloc, literal.token.text, *literal.found, sought)? else {
         return Ok(());
     };
     push_inside(alloc, out, options, literal, places, range)
@@ -225,12 +226,12 @@ fn push_hidden_line<'t, A: Allocator + Copy>(
     alloc: A,
     out: &mut String<A>,
     options: &Options<'_>,
-    literal: &Literal<'t>,
+    literal: &Literal<'_, 't>,
     places: &mut Places<'t>,
 ) -> Result<(), AllocError>
     requires { IsLiteralOf options.now places.old literal.now }
     ensures shown { OnOk result (Appends
-        (IsHiddenLine options.now (chars places.old) (chars literal.now.token.text.now) literal.now.token.lo)
+        (IsHiddenLine options.now (chars places.old) (chars literal.now.token.now.text.now) literal.now.token.now.lo)
         (chars (string_bytes out.old)) (chars (string_bytes out.new))) }
     ensures same { places.new ≡ places.old }
 {
@@ -247,13 +248,13 @@ fn push_asked<'t, A: Allocator + Copy>(
     alloc: A,
     out: &mut String<A>,
     options: &Options<'_>,
-    literal: &Literal<'t>,
+    literal: &Literal<'_, 't>,
     places: &mut Places<'t>,
 ) -> Result<(), AllocError>
     requires { IsLiteralOf options.now places.old literal.now }
     ensures shown { OnOk result (Appends
         (IsAskedLine options.now.shown options.now (chars places.old)
-        (chars literal.now.token.text.now) literal.now.token.lo literal.now.token.hi)
+        (chars literal.now.token.now.text.now) literal.now.token.now.lo literal.now.token.now.hi)
         (chars (string_bytes out.old)) (chars (string_bytes out.new))) }
     ensures same { places.new ≡ places.old }
 {
@@ -269,13 +270,13 @@ fn push_picked<'t, A: Allocator + Copy>(
     alloc: A,
     out: &mut String<A>,
     options: &Options<'_>,
-    literal: &Literal<'t>,
+    literal: &Literal<'_, 't>,
     places: &mut Places<'t>,
 ) -> Result<(), AllocError>
     requires { IsLiteralOf options.now places.old literal.now }
     ensures shown { OnOk result (Appends
         (IsPickedLine options.now.finds options.now (chars places.old)
-        (chars literal.now.token.text.now) literal.now.token.lo literal.now.token.hi)
+        (chars literal.now.token.now.text.now) literal.now.token.now.lo literal.now.token.now.hi)
         (chars (string_bytes out.old)) (chars (string_bytes out.new))) }
     ensures same { places.new ≡ places.old }
 {
@@ -291,14 +292,14 @@ fn push_literal_token<'t, A: Allocator + Copy>(
     alloc: A,
     out: &mut String<A>,
     options: &Options<'_>,
-    token: SourceToken<'t>,
+    token: &SourceToken<'t>,
     rest: &'t str,
     places: &mut Places<'t>,
 ) -> Result<(), AllocError>
-    requires { BeginsRest token places.old rest.now }
+    requires { BeginsRest token.now places.old rest.now }
     ensures shown { OnOk result (Appends
-        (IsShownLiteral options.now (chars places.old) (chars token.entry.text.now)
-        token.entry.lo token.entry.hi)
+        (IsShownLiteral options.now (chars places.old) (chars token.now.text.now)
+        token.now.lo token.now.hi)
         (chars (string_bytes out.old)) (chars (string_bytes out.new))) }
     ensures same { places.new ≡ places.old }
 {
@@ -314,7 +315,7 @@ fn push_literal_token<'t, A: Allocator + Copy>(
     let literal = Literal {
         token,
         rest,
-        found,
+        found: &found,
         flaw,
     };
     push_picked(alloc, out, options, &literal, places)
@@ -426,7 +427,7 @@ pub(crate) fn gather<'t, A: Allocator + Copy>(
         match next_literal(options, tokens) {
             Ok(Some(token)) => {
                 let rest = places.rest_at(token.lo);
-                push_literal_token(alloc, out, &options, token, rest, places)?
+                push_literal_token(alloc, out, &options, &token, rest, places)?
             }
             Ok(None) => return Ok(Step::End),
             Err(error) => {
