@@ -1,14 +1,12 @@
 -- Texts that a string literal holds as they stand.
 use Rattle.rl_reading.proofs.Names.{Characters, Plain, Str, texts}
-use Rattle.rl_text.proofs.Common.{Bool, IsAscii, IsUtf8, lit<, chars-append, List, [], ap, append_assoc, arith, chars, chars-IsAscii, chars-nil, codes, eqb, eqb-true, false, if◌then◌else◌, length, list_all, map, nat_tests, refl, sym, true, ℕ, ◌&&◌, ◌++◌, ◌<◌, ◌==◌, ◌∙◌, ◌∷◌, ◌≡◌}
+use Rattle.rl_text.proofs.Common.{Bool, List, [], ap, append_assoc, arith, chars, chars-IsAscii, chars-nil, codes, eqb, eqb-true, false, if◌then◌else◌, length, list_all, map, nat_tests, refl, sym, true, ℕ, ◌&&◌, ◌++◌, ◌<◌, ◌==◌, ◌∙◌, ◌∷◌, ◌≡◌}
 use Rattle.std.specs.List.{All}
 use Rattle.std.proofs.lemmas.Bool.{false≢true}
 use Rattle.std.proofs.lemmas.List.Elements.{All-nil, All-cons}
-use Rattle.std.proofs.lemmas.Str.{IsUtf8-from_ascii}
-use Rattle.std.proofs.lemmas.Str.Ascii.{IsAscii-nil, IsAscii-cons, IsAscii-from_all}
+use Rattle.std.proofs.lemmas.Str.Ascii.{IsAscii-from_all}
 use Rattle.rl_forms.specs.Written.{written_unit, is_written_as_number}
 use Rattle.rl_lines.specs.Bare.{is_bare, bare_line}
-use Rattle.rl_lines.proofs.LineLemmas.{pushed}
 use Rattle.rl_lines.specs.Lines.{literal_line}
 
 both : (a b : Bool) → (a && b) ≡ true → (a ≡ true) × (b ≡ true)
@@ -57,21 +55,14 @@ no_suffix (c ∷ cs) h = absurd (let e = eqb-true (length (c ∷ cs)) 0 h in ome
 pub bare_chars : (text : List ℕ) → list_all is_bare text ≡ true → chars text ≡ text
 bare_chars text bare = chars-IsAscii text (IsAscii-from_all text (bare_low text bare))
 
-front_ascii : IsAscii (codes "Str \"")
-front_ascii =
-    IsAscii-cons 83 (116 ∷ 114 ∷ 32 ∷ 34 ∷ []) (lit< tt) (IsAscii-cons 116 (114 ∷ 32 ∷ 34 ∷ []) (lit< tt)
-    (IsAscii-cons 114 (32 ∷ 34 ∷ []) (lit< tt) (IsAscii-cons 32 (34 ∷ []) (lit< tt)
-    (IsAscii-cons 34 [] (lit< tt) IsAscii-nil))))
-
--- the line that was written, by its characters
-pub bare_written : (old new value : List ℕ) → IsUtf8 old → IsUtf8 value → new ≡ old ++ bare_line value → chars new
-    ≡ chars old ++ bare_line (chars value)
-bare_written old new value u v e =
-    let after : List ℕ = value ++ codes "\" -\n" in
-    pushed old new (codes "Str \"" ++ after) u e
-    ∙ ap (λ z. chars old ++ z) (chars-append (codes "Str \"") after (IsUtf8-from_ascii (codes "Str \"") front_ascii)
-    ∙ ap (λ z. z ++ chars after) front
-    ∙ ap (λ z. codes "Str \"" ++ z) (chars-append value (codes "\" -\n") v ∙ ap (λ z. chars value ++ z) end))
+-- a line's three pieces
+pub bare_pieces : (a b d e text : List ℕ) → b ≡ a ++ chars (codes "Str \"") → d ≡ b ++ chars text → e ≡ d
+    ++ chars (codes "\" -\n") → e ≡ a ++ bare_line (chars text)
+bare_pieces a b d e text p q r =
+    r ∙ ap (λ z. d ++ z) end
+    ∙ ap (λ z. z ++ codes "\" -\n") (q ∙ ap (λ z. z ++ chars text) (p ∙ ap (λ z. a ++ z) front))
+    ∙ append_assoc (a ++ codes "Str \"") (chars text) (codes "\" -\n")
+    ∙ append_assoc a (codes "Str \"") (chars text ++ codes "\" -\n")
 
 -- the line of a bare text with no suffix
 pub bare_is_line : (text suffix : List ℕ) → list_all is_bare text ≡ true → eqb (length suffix) 0 ≡ true

@@ -138,6 +138,11 @@ pub(crate) fn push_kind<A: Allocator>(
     push_line(out, word(kind), shown, suffix)
 }
 
+/// How the line of a string begins, and how it ends that has no suffix.
+const FRONT: &str = "Str \"";
+
+const END: &str = "\" -\n";
+
 /// Appends the line of a string without a suffix whose value its line holds as it stands, as [`bare_value`] finds it.
 ///
 /// [`bare_value`]: crate::bare_value
@@ -145,12 +150,14 @@ pub(crate) fn push_kind<A: Allocator>(
 /// # Errors
 ///
 /// An allocation failure, as std reports it. A part of the line may have been appended then.
-#[inline(always)]
+#[inline(never)]
 pub fn push_bare<A: Allocator>(out: &mut String<A>, value: &str) -> Result<(), AllocError>
     ensures { OnOk result (chars (string_bytes out.new)
         ≡ chars (string_bytes out.old) ++ bare_line (chars value.now)) }
 {
-    writeln!(out, "Str \"{value}\" -")
+    push(out, FRONT)?;
+    push(out, value)?;
+    push(out, END)
 }
 
 /// Appends the line of a string that stands for this text. What a string literal holds as it stands is copied at once.

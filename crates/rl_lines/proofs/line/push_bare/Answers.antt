@@ -1,7 +1,7 @@
-use Rattle.rl_text.proofs.Common.{IsUtf8-string_bytes, on_ok_weaker, string_bytes}
-use Rattle.rl_lines.proofs.BareLemmas.{bare_written}
+use Rattle.rl_text.proofs.Common.{on_ok_weaker}
+use Rattle.rl_lines.proofs.BareLemmas.{bare_pieces}
 use Rattle.rl_lines.proofs.line.push_bare.Goals as goal
 
 pub returns : goal.returns
-returns g c = on_ok_weaker c.writeln.result (λ written. bare_written (string_bytes c.args.out.now) _ c.args.value.now
-    (IsUtf8-string_bytes c.args.out.now) c.utf8.value written) c.writeln.ensures.bytes
+returns g c = on_ok_weaker c.push-3.result (λ last. bare_pieces _ _ _ _ c.args.value.now c.in_ok-push.ensures
+    c.in_ok-push-2.ensures last) c.push-3.ensures
