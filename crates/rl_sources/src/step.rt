@@ -292,14 +292,14 @@ fn push_literal_token<'t, A: Allocator + Copy>(
     alloc: A,
     out: &mut String<A>,
     options: &Options<'_>,
-    token: &SourceToken<'t>,
+    token: SourceToken<'t>,
     rest: &'t str,
     places: &mut Places<'t>,
 ) -> Result<(), AllocError>
-    requires { BeginsRest token.now places.old rest.now }
+    requires { BeginsRest token places.old rest.now }
     ensures shown { OnOk result (Appends
-        (IsShownLiteral options.now (chars places.old) (chars token.now.text.now)
-        token.now.lo token.now.hi)
+        (IsShownLiteral options.now (chars places.old) (chars token.entry.text.now)
+        token.entry.lo token.entry.hi)
         (chars (string_bytes out.old)) (chars (string_bytes out.new))) }
     ensures same { places.new ≡ places.old }
 {
@@ -313,7 +313,7 @@ fn push_literal_token<'t, A: Allocator + Copy>(
         return Ok(());
     }
     let literal = Literal {
-        token,
+        token: &token,
         rest,
         found: &found,
         flaw,
@@ -427,7 +427,7 @@ pub(crate) fn gather<'t, A: Allocator + Copy>(
         match next_literal(options, tokens) {
             Ok(Some(token)) => {
                 let rest = places.rest_at(token.lo);
-                push_literal_token(alloc, out, &options, &token, rest, places)?
+                push_literal_token(alloc, out, &options, token, rest, places)?
             }
             Ok(None) => return Ok(Step::End),
             Err(error) => {
