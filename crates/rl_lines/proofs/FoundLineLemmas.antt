@@ -36,7 +36,7 @@ pub bare_found : (text value suffix : List ℕ) → HasContents Str text (Charac
     → IsLineOf text (bare_line (chars value))
 bare_found text value suffix has s bare none =
     let line : Appends (IsLineOfKind Str text) [] (literal_line Str (Characters (chars value)) (chars suffix)) =
-        string_line text value (chars suffix) [] _ has s refl in
+    string_line text value (chars suffix) [] _ has s refl in
     let (shown, (contents, x, reads, is), e) = line in
     inl (Str, contents, x, reads, bare_is_line value suffix bare none ∙ e ∙ is)
 
