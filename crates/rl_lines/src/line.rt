@@ -143,9 +143,8 @@ const FRONT: &str = "Str \"";
 
 const END: &str = "\" -\n";
 
-/// Appends the line of a string without a suffix whose value its line holds as it stands, as [`bare_value`] finds it.
-///
-/// [`bare_value`]: crate::bare_value
+/// Appends the line of a string without a suffix that holds this value as it stands, as
+/// [`bare_value`](crate::bare_value) finds it.
 ///
 /// # Errors
 ///

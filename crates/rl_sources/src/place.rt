@@ -76,8 +76,8 @@ fn push_colored_front<A: Allocator>(
     }
 }
 
-/// Appends a place and a space.
-#[inline(always)]
+/// Appends a place and a space. A place in bytes, as most are, is written in one piece.
+#[inline(never)]
 fn push_place<A: Allocator>(out: &mut String<A>, place: &Place) -> Result<(), AllocError>
     ensures { OnOk result (string_bytes out.new
         ≡ string_bytes out.old ++ (place_text place.now ++ codes " ")) }

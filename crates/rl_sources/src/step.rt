@@ -29,8 +29,8 @@ use std::alloc::{AllocError, Allocator};
 /// How many bytes of lines are gathered before they are written.
 const FULL: usize = 65_536;
 
-/// Appends the line of a text, of what reading it found, as it is printed: made first, and then gone over for what turns or
-/// hides text.
+/// Appends the line of a text, of what reading it found, as it is printed: once it is made, it is gone over for what turns
+/// or hides text.
 #[inline(never)]
 fn push_made_line<A: Allocator + Copy>(
     alloc: A,
@@ -47,7 +47,8 @@ fn push_made_line<A: Allocator + Copy>(
     make_visible(alloc, out, from)
 }
 
-/// Appends the line of a text, of what reading it found, as it is printed. Most strings need no escape in it.
+/// Appends the line of a text, of what reading it found, as it is printed. A string's line that holds its value as it stands
+/// has nothing that turns or hides text.
 #[inline(always)]
 fn push_text_line<A: Allocator + Copy>(
     alloc: A,
