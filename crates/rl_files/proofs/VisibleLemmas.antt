@@ -50,7 +50,7 @@ plain_is_ascii : (b : ℕ) → is_plain_byte b ≡ true → b < 128
 plain_is_ascii b h = grind (arith, nat_tests)
 
 -- so are plain bytes
-plain_lines : (bs : List ℕ) → list_all is_plain_byte bs ≡ true → (visible_lines bs ≡ bs) × IsAscii bs
+pub plain_lines : (bs : List ℕ) → list_all is_plain_byte bs ≡ true → (visible_lines bs ≡ bs) × IsAscii bs
 plain_lines [] h = (refl, IsAscii-nil)
 plain_lines (b ∷ bs) h =
     let parts = and_parts _ _ h in

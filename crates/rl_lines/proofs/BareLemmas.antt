@@ -6,7 +6,7 @@ use Rattle.std.proofs.lemmas.Bool.{false≢true}
 use Rattle.std.proofs.lemmas.List.Elements.{All-nil, All-cons}
 use Rattle.std.proofs.lemmas.Str.Ascii.{IsAscii-from_all}
 use Rattle.rl_forms.specs.Written.{written_unit, is_written_as_number}
-use Rattle.rl_lines.specs.Bare.{is_bare}
+use Rattle.rl_lines.specs.Bare.{is_bare, bare_line}
 use Rattle.rl_lines.specs.Lines.{literal_line}
 
 both : (a b : Bool) → (a && b) ≡ true → (a ≡ true) × (b ≡ true)
@@ -51,15 +51,23 @@ no_suffix : (suffix : List ℕ) → eqb (length suffix) 0 ≡ true → chars suf
 no_suffix [] h = chars-nil
 no_suffix (c ∷ cs) h = absurd (let e = eqb-true (length (c ∷ cs)) 0 h in omega arith)
 
--- the line of a bare text with no suffix: its front, the text, and its end
-pub bare_line : (a b d e text suffix : List ℕ) → list_all is_bare text ≡ true → eqb (length suffix) 0 ≡ true → b ≡ a
-    ++ chars (codes "Str \"") → d ≡ b ++ chars text → e ≡ d ++ chars (codes "\" -\n") → e ≡ a
-    ++ literal_line Str (Characters (chars text)) (chars suffix)
-bare_line a b d e text suffix bare none p q r =
-    let same : chars text ≡ text = chars-IsAscii text (IsAscii-from_all text (bare_low text bare)) in
-    let units : texts (map (written_unit Str) (chars text)) ≡ chars text = rw same (bare_units text bare) in
-    let pieces : e ≡ ((a ++ codes "Str \"") ++ chars text) ++ codes "\" -\n" = r ∙ ap (λ z. d ++ z) end
-    ∙ ap (λ z. z ++ codes "\" -\n") (q ∙ ap (λ z. z ++ chars text) (p ∙ ap (λ z. a ++ z) front)) in
-    rw (units, no_suffix suffix none) (pieces ∙ append_assoc (a ++ codes "Str \"") (chars text) (codes "\" -\n")
+-- bare text is its own characters
+pub bare_chars : (text : List ℕ) → list_all is_bare text ≡ true → chars text ≡ text
+bare_chars text bare = chars-IsAscii text (IsAscii-from_all text (bare_low text bare))
+
+-- a line's three pieces
+pub bare_pieces : (a b d e text : List ℕ) → b ≡ a ++ chars (codes "Str \"") → d ≡ b ++ chars text → e ≡ d
+    ++ chars (codes "\" -\n") → e ≡ a ++ bare_line (chars text)
+bare_pieces a b d e text p q r =
+    r ∙ ap (λ z. d ++ z) end
+    ∙ ap (λ z. z ++ codes "\" -\n") (q ∙ ap (λ z. z ++ chars text) (p ∙ ap (λ z. a ++ z) front))
+    ∙ append_assoc (a ++ codes "Str \"") (chars text) (codes "\" -\n")
     ∙ append_assoc a (codes "Str \"") (chars text ++ codes "\" -\n")
-    ∙ ap (λ z. a ++ (codes "Str \"" ++ z)) (sym (append_assoc (chars text) (34 ∷ []) (codes " -\n"))))
+
+-- the line of a bare text with no suffix
+pub bare_is_line : (text suffix : List ℕ) → list_all is_bare text ≡ true → eqb (length suffix) 0 ≡ true
+    → bare_line (chars text) ≡ literal_line Str (Characters (chars text)) (chars suffix)
+bare_is_line text suffix bare none =
+    let same : chars text ≡ text = bare_chars text bare in
+    let units : texts (map (written_unit Str) (chars text)) ≡ chars text = rw same (bare_units text bare) in
+    rw (units, no_suffix suffix none) (ap (λ z. codes "Str \"" ++ z) (sym (append_assoc (chars text) (34 ∷ []) (codes " -\n"))))

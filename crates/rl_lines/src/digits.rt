@@ -40,7 +40,7 @@ fn split_pair(bytes: &[u8]) -> Option<(u8, u8, &[u8])>
 ///
 /// # Errors
 ///
-/// An allocation failure, as std tells it, with no place.
+/// An allocation failure, as std reports it, with no place.
 pub fn decoded<A: Allocator>(alloc: A, digits: &[u8]) -> Result<Option<Vec<u8, A>>, AllocError>
     ensures { IfOk result (λ bytes. bytes_if_any bytes ≡ bytes_of digits.now) }
 {

@@ -6,7 +6,7 @@ ghost use Rattle.std.specs.Str.{chars};
 ghost use Rattle.rl_forms.specs.declared.kind.Kind.TheVariants.{Str};
 ghost use Rattle.rl_forms.specs.Reading.{Characters};
 ghost use Rattle.rl_forms.specs.Written.{written_text};
-ghost use Rattle.rl_lines.specs.Bare.{is_bare};
+ghost use Rattle.rl_lines.specs.Bare.{is_bare, bare_line};
 ghost use Rattle.rl_lines.specs.Lines.{line, line_end, suffix_word, kind_label, label_of, literal_line, verbatim_line, Appends};
 
 use rl_tokens::ident::xid_ok;
@@ -14,6 +14,7 @@ use rl_tokens::{Kind, push_str_literal};
 use std::alloc::{AllocError, Allocator};
 
 /// Appends a piece.
+#[inline(always)]
 pub(crate) fn push<A: Allocator>(out: &mut String<A>, piece: &str) -> Result<(), AllocError>
     ensures { OnOk result
         (chars (string_bytes out.new) ≡ chars (string_bytes out.old) ++ chars piece.now) }
@@ -142,6 +143,22 @@ const FRONT: &str = "Str \"";
 
 const END: &str = "\" -\n";
 
+/// Appends the line of a string without a suffix that holds this value as it stands, as
+/// [`bare_value`](crate::bare_value) finds it.
+///
+/// # Errors
+///
+/// An allocation failure, as std reports it. A part of the line may have been appended then.
+#[inline(never)]
+pub fn push_bare<A: Allocator>(out: &mut String<A>, value: &str) -> Result<(), AllocError>
+    ensures { OnOk result (chars (string_bytes out.new)
+        ≡ chars (string_bytes out.old) ++ bare_line (chars value.now)) }
+{
+    push(out, FRONT)?;
+    push(out, value)?;
+    push(out, END)
+}
+
 /// Appends the line of a string that stands for this text. What a string literal holds as it stands is copied at once.
 pub(crate) fn push_text<A: Allocator>(
     out: &mut String<A>,
@@ -152,9 +169,7 @@ pub(crate) fn push_text<A: Allocator>(
         ++ literal_line Str (Characters (chars value.now)) (chars suffix.now)) }
 {
     if suffix.is_empty() && are_bare(value.as_bytes()) {
-        push(out, FRONT)?;
-        push(out, value)?;
-        return push(out, END);
+        return push_bare(out, value);
     }
     push_quoted(out, word(Kind::Str), value, suffix)
 }

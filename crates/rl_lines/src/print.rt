@@ -56,7 +56,7 @@ pub fn push_literal<A: Allocator + Copy>(
 ///
 /// # Errors
 ///
-/// An allocation failure, as std tells it. Some of the lines may stand there then.
+/// An allocation failure, as std reports it. Some of the lines may stand there then.
 pub fn push_literals<A: Allocator + Copy>(
     alloc: A,
     out: &mut String<A>,
@@ -75,7 +75,7 @@ pub fn push_literals<A: Allocator + Copy>(
 ///
 /// # Errors
 ///
-/// An allocation failure, as std tells it, with no place.
+/// An allocation failure, as std reports it, with no place.
 pub fn line_of<A: Allocator + Copy>(alloc: A, literal: &Lit<A>) -> Result<String<A>, AllocError>
     ensures { IfOk result (λ line. IsLineOfLit literal.now (chars (string_bytes line))) }
 {
@@ -88,7 +88,7 @@ pub fn line_of<A: Allocator + Copy>(alloc: A, literal: &Lit<A>) -> Result<String
 ///
 /// # Errors
 ///
-/// An allocation failure, as std tells it, with no place.
+/// An allocation failure, as std reports it, with no place.
 pub fn lines_of<A: Allocator + Copy>(alloc: A, literals: &[Lit<A>]) -> Result<String<A>, AllocError>
     ensures { IfOk result (λ lines. AreLinesOfLits literals.now (chars (string_bytes lines))) }
 {

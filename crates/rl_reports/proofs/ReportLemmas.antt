@@ -40,17 +40,17 @@ message_ascii OutOfMemory = low_text (path_error_message OutOfMemory) refl
 message_ascii ReadFailed = low_text (path_error_message ReadFailed) refl
 
 -- the line of a path that can't be read
-pub error_told : (path : List ℕ) (why : PathError) (a b told : List ℕ) → IsUtf8 b → a ≡ codes "rl_scan: " → chars b
-    ≡ chars a ++ visible (chars path) → told ≡ b ++ (codes ": " ++ (path_error_message why ++ codes "\n"))
-    → chars told ≡ codes "rl_scan: " ++ (visible (chars path) ++ (codes ": " ++ (path_error_message why ++ codes "\n")))
-error_told path why a b told utf8 first shown written =
+pub error_reported : (path : List ℕ) (why : PathError) (a b errors : List ℕ) → IsUtf8 b → a ≡ codes "rl_scan: " → chars b
+    ≡ chars a ++ visible (chars path) → errors ≡ b ++ (codes ": " ++ (path_error_message why ++ codes "\n"))
+    → chars errors ≡ codes "rl_scan: " ++ (visible (chars path) ++ (codes ": " ++ (path_error_message why ++ codes "\n")))
+error_reported path why a b errors utf8 first shown written =
     let after : List ℕ = codes ": " ++ (path_error_message why ++ codes "\n") in
     let ascii : IsAscii after = IsAscii-append (codes ": ") (path_error_message why ++ codes "\n")
     (low_text (codes ": ") refl) (IsAscii-append (path_error_message why) (codes "\n") (message_ascii why)
     (low_text (codes "\n") refl)) in
     let begun : chars a ≡ codes "rl_scan: " = ap chars first ∙ chars-IsAscii (codes "rl_scan: ")
     (low_text (codes "rl_scan: ") refl) in
-    pushed b told after utf8 written ∙ ap (λ (z : List ℕ). chars b ++ z) (chars-IsAscii after ascii)
+    pushed b errors after utf8 written ∙ ap (λ (z : List ℕ). chars b ++ z) (chars-IsAscii after ascii)
     ∙ ap (λ (z : List ℕ). z ++ after) (shown ∙ ap (λ (z : List ℕ). z ++ visible (chars path)) begun)
     ∙ append_assoc (codes "rl_scan: ") (visible (chars path)) after
 
@@ -75,9 +75,9 @@ was_read command (Some w) path bytes p found (inl (utf8, is)) = inl (bytes, foun
 was_read command (Some w) path bytes p found (inr (why, no_text, is)) = inr (why, inr (inr (bytes, found, no_text)), is)
 
 -- what is no text
-pub no_text_told : {A E : Type 0} (command : Command) (path bytes : List ℕ) (why : PathError) (r : Result (Report A) E)
+pub no_text_reported : {A E : Type 0} (command : Command) (path bytes : List ℕ) (why : PathError) (r : Result (Report A) E)
     → IsNotUtf8 bytes why → IfOk r (λ p. IsErrorReport path why (in_report p))
     → IfOk r (λ p. (IsUtf8 bytes × IsTextReport command path bytes (in_report p))
     ⊎ ((other : PathError) × IsNotUtf8 bytes other × IsErrorReport path other (in_report p)))
-no_text_told command path bytes why (Ok p) no_text is = inr (why, no_text, is)
-no_text_told command path bytes why (Err e) no_text is = tt
+no_text_reported command path bytes why (Ok p) no_text is = inr (why, no_text, is)
+no_text_reported command path bytes why (Err e) no_text is = tt

@@ -62,10 +62,10 @@ reports_more command w [] visit done one are is =
     (one, nothing, is, refl, ap (λ (z : Findings). both_of z one) are ∙ sym (joined_nothing one))
   where
     joined_nothing : (p : Findings) → both_of p nothing ≡ p
-    joined_nothing p = record_is p (append-nil p.out) (append-nil p.told) (or_false p.found)
+    joined_nothing p = record_is p (append-nil p.out) (append-nil p.errors) (or_false p.found)
       where
-        record_is : (q : Findings) {a b : List ℕ} {f : Bool} → a ≡ q.out → b ≡ q.told → f ≡ q.found
-            → record { out = a; told = b; found = f } ≡ q
+        record_is : (q : Findings) {a b : List ℕ} {f : Bool} → a ≡ q.out → b ≡ q.errors → f ≡ q.found
+            → record { out = a; errors = b; found = f } ≡ q
         record_is q e g h = rw (e, g, h) refl
 reports_more command w (v ∷ vs) visit done one (first, others, is_first, are, done_is) is = (
   first,
@@ -78,7 +78,7 @@ reports_more command w (v ∷ vs) visit done one (first, others, is_first, are, 
     joined_assoc : (p q r : Findings) → both_of (both_of p q) r ≡ both_of p (both_of q r)
     joined_assoc p q r = rw (
       append_assoc p.out q.out r.out,
-      append_assoc p.told q.told r.told,
+      append_assoc p.errors q.errors r.errors,
       or_assoc p.found q.found
           r.found,
     ) refl
@@ -91,10 +91,10 @@ written_more : (o0 o1 o2 e0 e1 e2 : Option (List ℕ)) (done one : Findings) (be
     → IsWritten (record { out_old = o0; out_new = o2; err_old = e0; err_new = e2 }) (both_of done one) after
 written_more o0 o1 o2 e0 e1 e2 done one before more after first second found failed = record {
   on_out = Appends-trans o0 o1 o2 done.out one.out first.on_out second.on_out;
-  on_err = Appends-trans e0 e1 e2 done.told one.told first.on_err second.on_err;
+  on_err = Appends-trans e0 e1 e2 done.errors one.errors first.on_err second.on_err;
   found = found ∙ ap (λ (z : Bool). z || more.found) first.found ∙ ap (λ (z : Bool). done.found || z) second.found;
   failed = failed ∙ ap (λ (z : Bool). z || more.failed) first.failed
-      ∙ ap (λ (z : Bool). not (length done.told == 0) || z) second.failed ∙ any_both done.told one.told;
+      ∙ ap (λ (z : Bool). not (length done.errors == 0) || z) second.failed ∙ any_both done.errors one.errors;
 }
 
 -- one more
@@ -163,7 +163,7 @@ ran_front command (Some w) old mid streams tally ran =
       (
         all_of streams.out_old streams.out_new ran.printed.out ran.written.on_out,
         all_of streams.err_old
-            streams.err_new ran.printed.told ran.written.on_err,
+            streams.err_new ran.printed.errors ran.written.on_err,
       ),
     )
 
@@ -189,7 +189,7 @@ ran_some command (Some w) old mid new visit o0 o1 o2 e0 e1 e2 before ran visits 
       ran.reports,
       (
         kept o0 o1 o2 ran.printed.out ran.written.on_out same,
-        kept e0 e1 e2 ran.printed.told ran.written.on_err
+        kept e0 e1 e2 ran.printed.errors ran.written.on_err
             quiet,
       ),
     )
@@ -203,7 +203,7 @@ ran_some command (Some w) old mid new visit o0 o1 o2 e0 e1 e2 before ran visits 
       reports_more command w ran.visits visit ran.printed one ran.reports is,
       (
         more_of o0 o1 o2 ran.printed.out one.out ran.written.on_out begun.0,
-        more_of e0 e1 e2 ran.printed.told one.told
+        more_of e0 e1 e2 ran.printed.errors one.errors
             ran.written.on_err begun.1,
       ),
     )
@@ -218,7 +218,7 @@ out_failed command (Some w) visit one o0 o1 e0 is begun = inr (one, is, (begun, 
 -- the second write failed
 pub err_failed : (command : Command) (holds : Option World) (visit : Visited) (one : Findings)
     (o0 o1 e0 e1 : Option (List ℕ)) → IfSome holds (λ w. IsReport command w visit one) → Appends o0 o1 one.out
-    → AppendsBeginning e0 e1 one.told → IfSome holds (λ w. WritesSome command w visit
+    → AppendsBeginning e0 e1 one.errors → IfSome holds (λ w. WritesSome command w visit
     (record { out_old = o0; out_new = o1; err_old = e0; err_new = e1 }))
 err_failed command None visit one o0 o1 e0 e1 is all begun = tt
 err_failed command (Some w) visit one o0 o1 e0 e1 is all begun = inr (one, is, (all_of o0 o1 one.out all, begun))

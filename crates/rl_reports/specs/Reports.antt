@@ -98,17 +98,17 @@ worded_place by_line (Line at) = Line at
 worded_place by_line (Both lo hi at) = cond by_line (Line at) (Bytes lo hi)
 
 -- the place in that line, and the path before it, of which this is printed
-abbrev pub told_place : Options → Place → Place
-told_place options place = cond options.explains place (worded_place options.by_line place)
+abbrev pub error_line_place : Options → Place → Place
+error_line_place options place = cond options.explains place (worded_place options.by_line place)
 
-abbrev pub told_path : Options → Option (Bor (List ℕ)) → Option (Bor (List ℕ))
-told_path options shown = cond options.explains options.path shown
+abbrev pub error_path : Options → Option (Bor (List ℕ)) → Option (Bor (List ℕ))
+error_path options shown = cond options.explains options.path shown
 
 -- the line of a text's error, in characters; nothing where it has none
 abbrev pub error_text : Options → Option (Bor (List ℕ)) → Option (Place × LexKind) → List ℕ
 error_text options shown None = []
 error_text options shown (Some (place, kind)) =
-    line_front (error_form options) (told_path options shown) (told_place options place)
+    line_front (error_form options) (error_path options shown) (error_line_place options place)
     ++ error_end (error_form options) (lex_message kind)
 
 -- how many lines there are
@@ -134,27 +134,27 @@ printed_of output.Nothing form path lines = []
 -- What is written on standard output and on standard error, and whether something was found.
 pub record Findings : Type 0 where
   pub out : List ℕ
-  pub told : List ℕ
+  pub errors : List ℕ
   pub found : Bool
 
 abbrev pub in_report : {A : Type 0} → Report A → Findings
-in_report report = record { out = report.out.items; told = string_bytes report.told; found = report.found }
+in_report report = record { out = report.out.items; errors = string_bytes report.errors; found = report.found }
 
 -- what is found in a text: its lines, and its error where what is bad is asked for
 abbrev pub found_in : Bool → List ℕ → List ℕ → List ℕ
 found_in true lines error = lines ++ error
 found_in false lines error = lines
 
--- what is told of it: its error where that isn't found
-abbrev pub told_of : Bool → List ℕ → List ℕ
-told_of true error = []
-told_of false error = error
+-- what is reported of it beside that: its error where that isn't found
+abbrev pub errors_of : Bool → List ℕ → List ℕ
+errors_of true error = []
+errors_of false error = error
 
 -- What is reported of a text with these lines and this error, of whose path this is printed.
 pub record IsReportOf (output : Output) (options : Options) (path : Option (Bor (List ℕ))) (lines error : List ℕ)
     (printed : Findings) : Type 0 where
   pub out : printed.out ≡ printed_of output options.form path (found_in options.explains lines error)
-  pub told : printed.told ≡ told_of options.explains error
+  pub errors : printed.errors ≡ errors_of options.explains error
   pub found : printed.found ≡ not (length (found_in options.explains lines error) == 0)
 
 -- what is reported of a text
@@ -164,11 +164,11 @@ IsTextReport command path text printed =
     × IsOptionsFor command path options × IsShownPath path shown × IsScannedAs options text lines error
     × IsReportOf command.output options shown lines (encode_utf8_all (error_text options shown error)) printed
 
--- Of a path that can't be read one line is told.
+-- Of a path that can't be read one line is reported.
 pub record IsErrorReport (path : List ℕ) (why : PathError) (printed : Findings) : Type 0 where
   pub out : printed.out ≡ []
   pub found : printed.found ≡ false
-  pub told : chars printed.told
+  pub errors : chars printed.errors
       ≡ codes "rl_scan: " ++ (visible (chars path) ++ (codes ": " ++ (path_error_message why ++ codes "\n")))
 
 -- these bytes are no text, from the byte on that the error says
@@ -190,12 +190,12 @@ IsReport command w (ErrorAt path why) printed = IsErrorReport path why printed
 
 -- nothing, and one after another
 abbrev pub nothing : Findings
-nothing = record { out = []; told = []; found = false }
+nothing = record { out = []; errors = []; found = false }
 
 abbrev pub both_of : Findings → Findings → Findings
 both_of first second = record {
   out = first.out ++ second.out;
-  told = first.told ++ second.told;
+  errors = first.errors ++ second.errors;
   found = first.found || second.found;
 }
 

@@ -17,12 +17,12 @@ pub record Streams : Type 0 where
   pub err_old : Option (List ℕ)
   pub err_new : Option (List ℕ)
 
--- All of this was written, and it is told whether something was found, and whether an error was reported.
+-- All of this was written, and it is returned whether something was found, and whether an error was reported.
 pub record IsWritten (streams : Streams) (printed : Findings) (tally : Tally) : Type 0 where
   pub on_out : Appends streams.out_old streams.out_new printed.out
-  pub on_err : Appends streams.err_old streams.err_new printed.told
+  pub on_err : Appends streams.err_old streams.err_new printed.errors
   pub found : tally.found ≡ printed.found
-  pub failed : tally.failed ≡ not (length printed.told == 0)
+  pub failed : tally.failed ≡ not (length printed.errors == 0)
 
 -- what was written of one visit
 abbrev pub WritesReport : Command → World → Visited → Streams → Tally → Type 0
@@ -39,7 +39,7 @@ WritesWalk command w spots streams tally =
 abbrev pub WritesBeginning : Streams → Findings → Type 0
 WritesBeginning streams printed =
     AppendsBeginning streams.out_old streams.out_new printed.out
-    × AppendsBeginning streams.err_old streams.err_new printed.told
+    × AppendsBeginning streams.err_old streams.err_new printed.errors
 
 -- what was written of one visit where that failed: nothing, or a beginning of what is reported
 abbrev pub WritesSome : Command → World → Visited → Streams → Type 0

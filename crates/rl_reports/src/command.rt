@@ -60,7 +60,7 @@ pub struct Command<'a> {
     pub judge: Judge,
 }
 
-/// What a call is told of where it runs.
+/// What a call knows of where it runs.
 #[derive(Clone, Copy)]
 pub struct Console {
     /// Whether input is a terminal: where no path is named, `.` is read then.

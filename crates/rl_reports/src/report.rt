@@ -8,7 +8,7 @@ ghost use Rattle.rl_files.specs.declared.tree.PathError.{PathError};
 ghost use Rattle.rl_lexer.specs.LexErrors.{lex_message};
 ghost use Rattle.rl_sources.specs.Places.{line_front};
 ghost use Rattle.rl_sources.specs.Scans.{error_end};
-ghost use Rattle.rl_reports.specs.Reports.{is_input as input, is_by_line as by_line, is_bad as bad, is_alarm as alarm, IsShownPath, IsPathIn, IsOptionsFor, IsScannedAs, error_form as told_form, told_path, told_place, worded_place as as_words, error_text, line_count, count_line, path_line, printed_of, in_report, IsTextReport, IsErrorReport, IsNotUtf8, IsReport};
+ghost use Rattle.rl_reports.specs.Reports.{is_input as input, is_by_line as by_line, is_bad as bad, is_alarm as alarm, IsShownPath, IsPathIn, IsOptionsFor, IsScannedAs, error_form, error_path, error_line_place, worded_place as as_words, error_text, line_count, count_line, path_line, printed_of, in_report, IsTextReport, IsErrorReport, IsNotUtf8, IsReport};
 
 use crate::command::{Command, Output, PlaceForm};
 use rl_files::{PathError, Tree, Visit, push_visible};
@@ -24,7 +24,7 @@ pub struct Report<A: Allocator = Global> {
     /// On standard output.
     pub out: Vec<u8, A>,
     /// On standard error.
-    pub told: String<A>,
+    pub errors: String<A>,
     /// Whether something was found.
     pub found: bool,
 }
@@ -139,7 +139,7 @@ fn scan_text<A: Allocator + Copy>(
 /// How the line of a source's error is written: as the others, where errors are among what is found; else plain, since
 /// it goes to standard error.
 fn error_form(options: Options<'_>) -> Form
-    ensures { result ≡ told_form options.entry }
+    ensures { result ≡ error_form options.entry }
 {
     if options.explains {
         options.form
@@ -160,8 +160,8 @@ fn worded_place(by_line: bool, place: Place) -> Place
 }
 
 /// The place in the line of a source's error.
-fn told_place(options: Options<'_>, place: Place) -> Place
-    ensures { result ≡ told_place options.entry place }
+fn error_line_place(options: Options<'_>, place: Place) -> Place
+    ensures { result ≡ error_line_place options.entry place }
 {
     if options.explains {
         return place;
@@ -170,8 +170,8 @@ fn told_place(options: Options<'_>, place: Place) -> Place
 }
 
 /// The path in the line of a source's error, which is printed so.
-fn told_path<'a>(options: Options<'a>, shown: Option<&'a str>) -> Option<&'a str>
-    ensures { result ≡ told_path options.entry shown.entry }
+fn error_path<'a>(options: Options<'a>, shown: Option<&'a str>) -> Option<&'a str>
+    ensures { result ≡ error_path options.entry shown.entry }
 {
     if options.explains {
         options.path
@@ -194,8 +194,8 @@ fn error_line<A: Allocator + Copy>(
     match error {
         None => Ok(line),
         Some((place, kind)) => {
-            let path = told_path(options, shown);
-            let place = told_place(options, place);
+            let path = error_path(options, shown);
+            let place = error_line_place(options, place);
             push_source_error(alloc, &mut line, error_form(options), path, place, kind)?;
             Ok(line)
         }
@@ -276,14 +276,14 @@ fn report_text<A: Allocator + Copy>(
     let before = path_before(path, shown.as_str());
     let options = options_for(command, path, before);
     let mut scanned = scan_text(alloc, options, text)?;
-    let mut told = error_line(alloc, options, before, scanned.error)?;
+    let mut errors = error_line(alloc, options, before, scanned.error)?;
     if options.explains {
-        scanned.lines.extend_from_slice(told.as_bytes())?;
-        told.clear();
+        scanned.lines.extend_from_slice(errors.as_bytes())?;
+        errors.clear();
     }
     let found = !scanned.lines.is_empty();
     let out = written(alloc, command.output, options.form, before, scanned.lines)?;
-    Ok(Report { out, told, found })
+    Ok(Report { out, errors, found })
 }
 
 /// What is reported of a path that can't be read.
@@ -294,12 +294,12 @@ fn report_error<A: Allocator + Copy>(
 ) -> Result<Report<A>, AllocError>
     ensures { IfOk result (λ r. IsErrorReport path.now error (in_report r)) }
 {
-    let mut told = String::from_str(alloc, "rl_scan: ")?;
-    push_visible(&mut told, path)?;
-    writeln!(&mut told, ": {error}")?;
+    let mut errors = String::from_str(alloc, "rl_scan: ")?;
+    push_visible(&mut errors, path)?;
+    writeln!(&mut errors, ": {error}")?;
     Ok(Report {
         out: Vec::new(alloc),
-        told,
+        errors,
         found: false,
     })
 }

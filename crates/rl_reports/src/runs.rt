@@ -101,13 +101,13 @@ fn write_report<A: Allocator + Copy, T: Tree, W: Write, E: Write>(
         Ok(()) => {}
         Err(error) => return Err(RunStop::Write(error)),
     }
-    match write_bytes(err, report.told.as_bytes()) {
+    match write_bytes(err, report.errors.as_bytes()) {
         Ok(()) => {}
         Err(error) => return Err(RunStop::Write(error)),
     }
     Ok(Tally {
         found: report.found,
-        failed: !report.told.as_bytes().is_empty(),
+        failed: !report.errors.as_bytes().is_empty(),
     })
 }
 

@@ -26,7 +26,7 @@ fn is_dumb(rt: &HostRuntime) -> bool {
     }
 }
 
-/// What a call is told of where it runs.
+/// What a call knows of where it runs.
 fn console(rt: &HostRuntime) -> Console {
     Console {
         input_is_terminal: rt.stdin().is_terminal(),

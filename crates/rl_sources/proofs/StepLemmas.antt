@@ -1,6 +1,6 @@
 -- What is appended for one token.
 use Rattle.rl_reading.proofs.Names.{HasNoReading, Kind}
-use Rattle.rl_text.proofs.Common.{Bool, IsAscii, IsUtf8, List, None, Option, Some, [], ap, append_assoc, arith, chars, chars-IsAscii, cond, false, inl, inr, lit<, nat_tests, refl, subst, suc, sym, true, zero, ℕ, ◌%◌, ◌++◌, ◌/◌, ◌<◌, ◌==◌, ◌∙◌, ◌∷◌, ◌≡◌, ◌⊎◌, IsCharBoundary, and_parts, codes, is_ascii, list_all, ltb-true, length, take, drop, ◌+◌, chars-append, chars_from_encodes, encodes-append, encodes-chars, length-append, take-append_seam}
+use Rattle.rl_text.proofs.Common.{Bool, IsAscii, IsUtf8, List, None, Option, Some, [], ap, append_assoc, arith, chars, chars-IsAscii, cond, false, inl, inr, lit<, nat_tests, refl, subst, suc, sym, true, zero, ℕ, ◌%◌, ◌++◌, ◌/◌, ◌<◌, ◌==◌, ◌&&◌, ◌∙◌, ◌∷◌, ◌≡◌, ◌⊎◌, IsCharBoundary, and_parts, codes, is_ascii, list_all, ltb-true, length, take, drop, ◌+◌, chars-append, chars_from_encodes, encodes-append, encodes-chars, length-append, take-append_seam}
 use Rattle.std.specs.Fmt.{digits, decimal, digits_onto, digit_glyph}
 use Rattle.std.proofs.lemmas.List.{append-nil}
 use Rattle.std.proofs.lemmas.Str.{IsAscii-append, IsUtf8-past_char, IsCharBoundary-from_drop}
@@ -9,12 +9,15 @@ use Rattle.std.specs.Prelude.{◌↔◌, IfNone, IfSome, MatchOption, IsTrue, is
 use Rattle.std.proofs.lemmas.Bool.{false≢true}
 use Rattle.std.proofs.lemmas.Option.{none-some}
 use Rattle.std.proofs.Math.Seq.{drop-append_seam}
-use Rattle.rl_files.specs.Visible.{visible_lines}
+use Rattle.rl_files.specs.Visible.{visible_lines, is_plain_byte}
+use Rattle.rl_files.proofs.VisibleLemmas.{plain_lines}
 use Rattle.rl_lexer.specs.Sources.{SourceKind, SourceBefore, BeginsNoSource}
 use Rattle.rl_lexer.specs.Cursors.{CursorState}
 use Rattle.rl_reading.specs.declared.found.Found.{Found}
 use Rattle.rl_reading.specs.Founds.{IsFound, suffix_in}
+use Rattle.rl_lines.specs.Bare.{is_bare, bare_line}
 use Rattle.rl_lines.specs.Lines.{label_of, IsLabelOf, IsLineOf, Appends}
+use Rattle.rl_lines.proofs.BareLemmas.{bare_chars}
 use Rattle.rl_lines.proofs.LineLemmas.{pushed}
 use Rattle.rl_reasons.specs.declared.flaws.Flaw.{Flaw}
 use Rattle.rl_sources.specs.declared.options.Judge.{Judge}
@@ -157,6 +160,32 @@ line_printed text old now new u v (line, is_line, e) made =
           ++ visible_lines (chars (drop (length old) now)))
           ends.front_is ∙ ap (λ z. chars old ++ visible_lines z) ends.line_is,
     )
+
+-- bare bytes are printed as they are
+bare_plain : (c : ℕ) → is_bare c ≡ true → is_plain_byte c ≡ true
+bare_plain c h = grind (arith, nat_tests)
+
+both_true : (a b : Bool) → a ≡ true → b ≡ true → (a && b) ≡ true
+both_true a b h k = rw (h, k) refl
+
+plain_then : (value end : List ℕ) → list_all is_bare value ≡ true → list_all is_plain_byte end ≡ true
+    → list_all is_plain_byte (value ++ end) ≡ true
+plain_then [] end h k = k
+plain_then (c ∷ cs) end h k =
+    let each = and_parts _ _ h in
+    both_true (is_plain_byte c) _ (bare_plain c each.0) (plain_then cs end each.1 k)
+
+-- so is the line of a string whose value it holds as it stands
+bare_visible : (value : List ℕ) → list_all is_bare value ≡ true → bare_line (chars value)
+    ≡ visible_lines (bare_line (chars value))
+bare_visible value bare =
+    rw (bare_chars value bare) (sym (plain_lines (bare_line value) (plain_then value _ bare refl)).0)
+
+pub bare_printed : (text value old new : List ℕ) → IsLineOf text (bare_line (chars value))
+    → list_all is_bare value ≡ true → new ≡ old ++ bare_line (chars value)
+    → Appends (IsPrintedAs Value text) old new
+bare_printed text value old new is bare e =
+    (bare_line (chars value), (bare_line (chars value), is, bare_visible value bare), e)
 
 -- what stands before it, and the line
 pub line_at : (options : Options) (text : List ℕ) (place : Place) (old mid new : List ℕ)

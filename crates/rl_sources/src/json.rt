@@ -260,6 +260,7 @@ fn push_verbatim_members<A: Allocator>(out: &mut String<A>, text: &str) -> Resul
 }
 
 /// Appends the members of a text, of what `find` of `rl_grammar` returned for it, and the end of its object.
+#[inline(never)]
 pub(crate) fn push_json_literal<A: Allocator>(
     alloc: A,
     out: &mut String<A>,

@@ -25,8 +25,8 @@ fn judged<A: Allocator>(alloc: A, judge: Judge, text: &str) -> Result<Option<Fla
 }
 
 /// Whether flaws are looked for.
-fn looks_for_flaws(options: Options<'_>) -> bool
-    ensures { IsTrue result ↔ LooksForFlaws options.entry }
+fn looks_for_flaws(options: &Options<'_>) -> bool
+    ensures { IsTrue result ↔ LooksForFlaws options.now }
 {
     options.explains || matches!(options.shown, Shown::Bad)
 }
@@ -34,12 +34,12 @@ fn looks_for_flaws(options: Options<'_>) -> bool
 /// The flaw of a literal's text, where flaws are looked for.
 pub(crate) fn flaw_of<A: Allocator>(
     alloc: A,
-    options: Options<'_>,
+    options: &Options<'_>,
     text: &str,
 ) -> Result<Option<Flaw>, AllocError>
-    ensures some { IfOk result (λ flaw. IfSome flaw (FindsFlaw options.entry.judge (chars text.now))) }
-    ensures none { IfOk result (λ flaw. IfNone flaw (LooksForFlaws options.entry
-        → FindsNoFlaw options.entry.judge (chars text.now))) }
+    ensures some { IfOk result (λ flaw. IfSome flaw (FindsFlaw options.now.judge (chars text.now))) }
+    ensures none { IfOk result (λ flaw. IfNone flaw (LooksForFlaws options.now
+        → FindsNoFlaw options.now.judge (chars text.now))) }
 {
     if !looks_for_flaws(options) {
         return Ok(None);
@@ -47,7 +47,7 @@ pub(crate) fn flaw_of<A: Allocator>(
     judged(alloc, options.judge, text)
 }
 
-/// The flaw that the line of a literal tells, where lines do so.
+/// The flaw that the line of a literal reports, where lines do so.
 pub(crate) fn reason_of(explains: bool, flaw: Option<Flaw>) -> Option<Flaw>
     ensures some { IfSome result (λ reason. IsTrue explains × (flaw ≡ Some reason)) }
     ensures none { IfNone result (IsTrue explains → flaw ≡ None) }

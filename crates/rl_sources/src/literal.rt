@@ -7,13 +7,13 @@ use rl_tokens::SourceToken;
 
 /// A literal of a source.
 #[derive(Clone, Copy)]
-pub(crate) struct Literal<'t> {
+pub(crate) struct Literal<'a, 't> {
     /// Its token.
-    pub(crate) token: SourceToken<'t>,
+    pub(crate) token: &'a SourceToken<'t>,
     /// The rest of the source that begins with it.
     pub(crate) rest: &'t str,
     /// What reading its text found.
-    pub(crate) found: Option<Found>,
+    pub(crate) found: &'a Option<Found>,
     /// Its flaw, where flaws are looked for.
     pub(crate) flaw: Option<Flaw>,
 }

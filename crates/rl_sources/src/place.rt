@@ -13,9 +13,8 @@ ghost use Rattle.rl_sources.specs.declared.options.Form.TheVariants.{Colored};
 
 use crate::color::{PAINT_END, Paint, has_colors, start_of};
 use crate::json::{is_json, push_object_front};
-use crate::literal::Literal;
 use crate::options::{Form, Options};
-use rl_tokens::{LineColumn, Lines};
+use rl_tokens::{LineColumn, Lines, SourceToken};
 use std::alloc::{AllocError, Allocator};
 use std::fmt;
 use std::marker::Model;
@@ -35,10 +34,10 @@ pub enum Place {
 fn push_in_file<A: Allocator>(
     out: &mut String<A>,
     path: &str,
-    place: Place,
+    place: &Place,
 ) -> Result<(), AllocError>
     ensures { OnOk result (chars (string_bytes out.new) ≡ chars (string_bytes out.old)
-        ++ (chars path.now ++ (codes ":" ++ (place_text place ++ codes ": ")))) }
+        ++ (chars path.now ++ (codes ":" ++ (place_text place.now ++ codes ": ")))) }
 {
     write!(out, "{path}:{place}: ")?;
     Ok(())
@@ -48,10 +47,10 @@ fn push_in_file<A: Allocator>(
 fn push_colored_in_file<A: Allocator>(
     out: &mut String<A>,
     path: &str,
-    place: Place,
+    place: &Place,
 ) -> Result<(), AllocError>
     ensures { OnOk result (chars (string_bytes out.new)
-        ≡ chars (string_bytes out.old) ++ line_front Colored (Some path.entry) place) }
+        ≡ chars (string_bytes out.old) ++ line_front Colored (Some path.entry) place.now) }
 {
     let of_path = start_of(Paint::Path);
     let of_place = start_of(Paint::Place);
@@ -66,14 +65,26 @@ fn push_colored_in_file<A: Allocator>(
 fn push_colored_front<A: Allocator>(
     out: &mut String<A>,
     path: Option<&str>,
-    place: Place,
+    place: &Place,
 ) -> Result<(), AllocError>
     ensures { OnOk result (chars (string_bytes out.new)
-        ≡ chars (string_bytes out.old) ++ worded_front Colored path.entry place) }
+        ≡ chars (string_bytes out.old) ++ worded_front Colored path.entry place.now) }
 {
     match path {
         Some(path) => push_colored_in_file(out, path, place),
         None => write!(out, "{}{place}{PAINT_END} ", start_of(Paint::Place)),
+    }
+}
+
+/// Appends a place and a space. A place in bytes, as most are, is written in one piece.
+#[inline(never)]
+fn push_place<A: Allocator>(out: &mut String<A>, place: &Place) -> Result<(), AllocError>
+    ensures { OnOk result (string_bytes out.new
+        ≡ string_bytes out.old ++ (place_text place.now ++ codes " ")) }
+{
+    match place {
+        Place::Bytes(lo, hi) => write!(out, "{lo}..{hi} "),
+        _ => write!(out, "{place} "),
     }
 }
 
@@ -83,20 +94,17 @@ fn push_worded_front<A: Allocator>(
     out: &mut String<A>,
     form: Form,
     path: Option<&str>,
-    place: Place,
+    place: &Place,
 ) -> Result<(), AllocError>
     ensures { OnOk result (chars (string_bytes out.new)
-        ≡ chars (string_bytes out.old) ++ worded_front form path.entry place) }
+        ≡ chars (string_bytes out.old) ++ worded_front form path.entry place.now) }
 {
     if has_colors(form) {
         return push_colored_front(out, path, place);
     }
     match path {
         Some(path) => push_in_file(out, path, place),
-        None => {
-            write!(out, "{place} ")?;
-            Ok(())
-        }
+        None => push_place(out, place),
     }
 }
 
@@ -105,10 +113,10 @@ fn push_worded_front<A: Allocator>(
 fn push_json_front<A: Allocator>(
     out: &mut String<A>,
     path: Option<&str>,
-    place: Place,
+    place: &Place,
 ) -> Result<(), AllocError>
     ensures { OnOk result (chars (string_bytes out.new)
-        ≡ chars (string_bytes out.old) ++ (object_front path.entry ++ place_text place)) }
+        ≡ chars (string_bytes out.old) ++ (object_front path.entry ++ place_text place.now)) }
 {
     push_object_front(out, path)?;
     write!(out, "{place}")?;
@@ -121,10 +129,10 @@ pub(crate) fn push_front<A: Allocator>(
     out: &mut String<A>,
     form: Form,
     path: Option<&str>,
-    place: Place,
+    place: &Place,
 ) -> Result<(), AllocError>
     ensures { OnOk result (chars (string_bytes out.new)
-        ≡ chars (string_bytes out.old) ++ line_front form path.entry place) }
+        ≡ chars (string_bytes out.old) ++ line_front form path.entry place.now) }
 {
     if is_json(form) {
         return push_json_front(out, path, place);
@@ -207,7 +215,7 @@ impl<'t> Places<'t> {
 /// The place of the bytes from `lo` to `hi`, where the rest of the text begins at the first.
 #[inline(always)]
 pub(crate) fn place_of<'t>(
-    options: Options<'_>,
+    options: &Options<'_>,
     places: &mut Places<'t>,
     rest: &'t str,
     lo: usize,
@@ -215,7 +223,7 @@ pub(crate) fn place_of<'t>(
 ) -> Place
     requires text { IsCursorState places.old rest.now }
     requires lo { lo + length rest.now ≡ length places.old }
-    ensures place { IsPlaceIn options.entry (chars places.old) lo hi result }
+    ensures place { IsPlaceIn options.now (chars places.old) lo hi result }
     ensures same { places.new ≡ places.old }
 {
     if is_json(options.form) {
@@ -227,23 +235,24 @@ pub(crate) fn place_of<'t>(
     Place::Bytes(lo, hi)
 }
 
-/// The place in the source of bytes of the literal's text.
+/// The place in the source of bytes of a token's text, where the rest of the source begins with the token.
 pub(crate) fn place_inside<'t>(
-    options: Options<'_>,
+    options: &Options<'_>,
     places: &mut Places<'t>,
-    literal: &Literal<'t>,
+    token: SourceToken<'t>,
+    rest: &'t str,
     first: usize,
     last: usize,
 ) -> Place
-    requires rest { BeginsRest literal.now.token places.old literal.now.rest.now }
-    requires cut { IsCutAt (chars literal.now.token.text.now) first }
-    requires within { last ≤ byte_len (chars literal.now.token.text.now) }
-    ensures place { IsPlaceIn options.entry (chars places.old)
-        (literal.now.token.lo + first) (literal.now.token.lo + last) result }
+    requires rest { BeginsRest token places.old rest.now }
+    requires cut { IsCutAt (chars token.text.now) first }
+    requires within { last ≤ byte_len (chars token.text.now) }
+    ensures place { IsPlaceIn options.now (chars places.old)
+        (token.entry.lo + first) (token.entry.lo + last) result }
     ensures same { places.new ≡ places.old }
 {
-    let lo = literal.token.lo + first;
-    let hi = literal.token.lo + last;
-    let inside = &literal.rest[first..];
+    let lo = token.lo + first;
+    let hi = token.lo + last;
+    let inside = &rest[first..];
     place_of(options, places, inside, lo, hi)
 }

@@ -77,15 +77,15 @@ fn push_flaw_end<A: Allocator>(
 fn push_flaw_at<A: Allocator>(
     alloc: A,
     out: &mut String<A>,
-    options: Options<'_>,
+    options: &Options<'_>,
     text: &str,
     flaw: Flaw,
     place: Place,
 ) -> Result<(), AllocError>
-    ensures { OnOk result (Appends (IsFlawLineAt options.entry (chars text.now) flaw place)
+    ensures { OnOk result (Appends (IsFlawLineAt options.now (chars text.now) flaw place)
         (chars (string_bytes out.old)) (chars (string_bytes out.new))) }
 {
-    push_front(out, options.form, options.path, place)?;
+    push_front(out, options.form, options.path, &place)?;
     push_flaw_end(
         alloc,
         out,
@@ -97,22 +97,24 @@ fn push_flaw_at<A: Allocator>(
 }
 
 /// Appends the line that says why a literal is bad, and where.
+#[inline(never)]
 pub(crate) fn push_flaw<'t, A: Allocator>(
     alloc: A,
     out: &mut String<A>,
-    options: Options<'_>,
-    literal: &Literal<'t>,
+    options: &Options<'_>,
+    literal: &Literal<'_, 't>,
     places: &mut Places<'t>,
     flaw: Flaw,
 ) -> Result<(), AllocError>
-    requires rest { BeginsRest literal.now.token places.old literal.now.rest.now }
-    requires flaw { FindsFlaw options.judge (chars literal.now.token.text.now) flaw }
+    requires rest { BeginsRest literal.now.token.now places.old literal.now.rest.now }
+    requires flaw { FindsFlaw options.now.judge (chars literal.now.token.now.text.now) flaw }
     ensures shown { OnOk result (Appends
-        (IsFlawLine options.entry (chars places.old) (chars literal.now.token.text.now) literal.now.token.lo)
+        (IsFlawLine options.now (chars places.old) (chars literal.now.token.now.text.now) literal.now.token.now.lo)
         (chars (string_bytes out.old)) (chars (string_bytes out.new))) }
     ensures same { places.new ≡ places.old }
 {
-    let place = place_inside(options, places, literal, flaw.lo, flaw.hi);
+    let token = *literal.token;
+    let place = place_inside(options, places, token, literal.rest, flaw.lo, flaw.hi);
     push_flaw_at(alloc, out, options, literal.token.text, flaw, place)
 }
 
@@ -149,6 +151,6 @@ pub fn push_source_error<A: Allocator>(
     ensures { OnOk result (chars (string_bytes out.new) ≡ chars (string_bytes out.old)
         ++ (line_front form path.entry place ++ error_end form (lex_message kind))) }
 {
-    push_front(out, form, path, place)?;
+    push_front(out, form, path, &place)?;
     push_error_end(alloc, out, form, kind)
 }

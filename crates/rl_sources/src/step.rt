@@ -22,15 +22,17 @@ use crate::place::{Place, Places, place_inside, place_of, push_front};
 use crate::reason::push_flaw;
 use rl_files::{make_visible, push_visible};
 use rl_grammar::{Found, find};
-use rl_lines::{label_of, push_found};
+use rl_lines::{bare_value, label_of, push_bare, push_found};
 use rl_tokens::{LexError, LexKind, SourceForm, SourceToken, Sources};
 use std::alloc::{AllocError, Allocator};
 
 /// How many bytes of lines are gathered before they are written.
 const FULL: usize = 65_536;
 
-/// Appends the line of a text, of what reading it found, as it is printed.
-fn push_text_line<A: Allocator + Copy>(
+/// Appends the line of a text, of what reading it found, as it is printed: once it is made, it is gone over for what turns
+/// or hides text.
+#[inline(never)]
+fn push_made_line<A: Allocator + Copy>(
     alloc: A,
     out: &mut String<A>,
     text: &str,
@@ -45,7 +47,27 @@ fn push_text_line<A: Allocator + Copy>(
     make_visible(alloc, out, from)
 }
 
+/// Appends the line of a text, of what reading it found, as it is printed. A string's line that holds its value as it stands
+/// has nothing that turns or hides text.
+#[inline(always)]
+fn push_text_line<A: Allocator + Copy>(
+    alloc: A,
+    out: &mut String<A>,
+    text: &str,
+    found: &Option<Found>,
+) -> Result<(), AllocError>
+    requires { IsFoundIn text.now found.now }
+    ensures { OnOk result (Appends (IsPrintedAs Value (chars text.now))
+        (chars (string_bytes out.old)) (chars (string_bytes out.new))) }
+{
+    match bare_value(text, found) {
+        Some(value) => push_bare(out, value),
+        None => push_made_line(alloc, out, text, *found),
+    }
+}
+
 /// Appends a literal as it is written.
+#[inline(never)]
 fn push_source<A: Allocator>(out: &mut String<A>, text: &str) -> Result<(), AllocError>
     ensures { OnOk result (chars (string_bytes out.new)
         ≡ chars (string_bytes out.old) ++ (visible (chars text.now) ++ codes "\n")) }
@@ -56,14 +78,15 @@ fn push_source<A: Allocator>(out: &mut String<A>, text: &str) -> Result<(), Allo
 }
 
 /// Appends what is printed of a literal.
+#[inline(always)]
 fn push_printed<A: Allocator + Copy>(
     alloc: A,
     out: &mut String<A>,
     spelling: Spelling,
-    literal: &Literal<'_>,
+    literal: &Literal<'_, '_>,
 ) -> Result<(), AllocError>
-    requires { IsFoundIn literal.now.token.text.now literal.now.found }
-    ensures { OnOk result (Appends (IsPrintedAs spelling (chars literal.now.token.text.now))
+    requires { IsFoundIn literal.now.token.now.text.now literal.now.found.now }
+    ensures { OnOk result (Appends (IsPrintedAs spelling (chars literal.now.token.now.text.now))
         (chars (string_bytes out.old)) (chars (string_bytes out.new))) }
 {
     match spelling {
@@ -73,51 +96,54 @@ fn push_printed<A: Allocator + Copy>(
 }
 
 /// Appends what stands after the place in the line of a literal: what is printed of it, or the members of its object.
+#[inline(always)]
 fn push_line_end<A: Allocator + Copy>(
     alloc: A,
     out: &mut String<A>,
-    options: Options<'_>,
-    literal: &Literal<'_>,
+    options: &Options<'_>,
+    literal: &Literal<'_, '_>,
 ) -> Result<(), AllocError>
-    requires { IsFoundIn literal.now.token.text.now literal.now.found }
-    ensures { OnOk result (Appends (IsLineEnd options.entry.form options.entry.spelling
-        (chars literal.now.token.text.now))
+    requires { IsFoundIn literal.now.token.now.text.now literal.now.found.now }
+    ensures { OnOk result (Appends (IsLineEnd options.now.form options.now.spelling
+        (chars literal.now.token.now.text.now))
         (chars (string_bytes out.old)) (chars (string_bytes out.new))) }
 {
     match options.form {
         Form::Plain | Form::Colored => push_printed(alloc, out, options.spelling, literal),
-        Form::Json => push_json_literal(alloc, out, literal.token.text, literal.found),
+        Form::Json => push_json_literal(alloc, out, literal.token.text, *literal.found),
     }
 }
 
 /// Appends the line of a literal, after this place.
+#[inline(always)]
 fn push_line_at<A: Allocator + Copy>(
     alloc: A,
     out: &mut String<A>,
-    options: Options<'_>,
-    literal: &Literal<'_>,
+    options: &Options<'_>,
+    literal: &Literal<'_, '_>,
     place: Place,
 ) -> Result<(), AllocError>
-    requires { IsFoundIn literal.now.token.text.now literal.now.found }
-    ensures { OnOk result (Appends (IsLineAt options.entry (chars literal.now.token.text.now) place)
+    requires { IsFoundIn literal.now.token.now.text.now literal.now.found.now }
+    ensures { OnOk result (Appends (IsLineAt options.now (chars literal.now.token.now.text.now) place)
         (chars (string_bytes out.old)) (chars (string_bytes out.new))) }
 {
-    push_front(out, options.form, options.path, place)?;
+    push_front(out, options.form, options.path, &place)?;
     push_line_end(alloc, out, options, literal)
 }
 
 /// Appends the line of a literal, after its place.
+#[inline(always)]
 fn push_placed<'t, A: Allocator + Copy>(
     alloc: A,
     out: &mut String<A>,
-    options: Options<'_>,
-    literal: &Literal<'t>,
+    options: &Options<'_>,
+    literal: &Literal<'_, 't>,
     places: &mut Places<'t>,
 ) -> Result<(), AllocError>
-    requires { IsLiteralOf options places.old literal.now }
+    requires { IsLiteralOf options.now places.old literal.now }
     ensures shown { OnOk result (Appends
-        (IsPlacedLine options.entry (chars places.old) (chars literal.now.token.text.now)
-        literal.now.token.lo literal.now.token.hi)
+        (IsPlacedLine options.now (chars places.old) (chars literal.now.token.now.text.now)
+        literal.now.token.now.lo literal.now.token.now.hi)
         (chars (string_bytes out.old)) (chars (string_bytes out.new))) }
     ensures same { places.new ≡ places.old }
 {
@@ -127,39 +153,42 @@ fn push_placed<'t, A: Allocator + Copy>(
 }
 
 /// Appends the line of a literal, after the place of these bytes of its text.
+#[inline(never)]
 fn push_inside<'t, A: Allocator + Copy>(
     alloc: A,
     out: &mut String<A>,
-    options: Options<'_>,
-    literal: &Literal<'t>,
+    options: &Options<'_>,
+    literal: &Literal<'_, 't>,
     places: &mut Places<'t>,
     range: (usize, usize),
 ) -> Result<(), AllocError>
-    requires literal { IsLiteralOf options places.old literal.now }
-    requires cut { IsCutAt (chars literal.now.token.text.now) range.0 }
-    requires within { range.1 ≤ byte_len (chars literal.now.token.text.now) }
+    requires literal { IsLiteralOf options.now places.old literal.now }
+    requires cut { IsCutAt (chars literal.now.token.now.text.now) range.0 }
+    requires within { range.1 ≤ byte_len (chars literal.now.token.now.text.now) }
     ensures shown { OnOk result (Appends
-        (IsPlacedLine options.entry (chars places.old) (chars literal.now.token.text.now)
-        (literal.now.token.lo + range.0) (literal.now.token.lo + range.1))
+        (IsPlacedLine options.now (chars places.old) (chars literal.now.token.now.text.now)
+        (literal.now.token.now.lo + range.0) (literal.now.token.now.lo + range.1))
         (chars (string_bytes out.old)) (chars (string_bytes out.new))) }
     ensures same { places.new ≡ places.old }
 {
-    let place = place_inside(options, places, literal, range.0, range.1);
+    let token = *literal.token;
+    let place = place_inside(options, places, token, literal.rest, range.0, range.1);
     push_line_at(alloc, out, options, literal, place)
 }
 
-/// Appends the line of a literal: its own, or where lines tell flaws and it has one, the line that says why it is bad.
+/// Appends the line of a literal: its own, or where lines report flaws and it has one, the line that says why it is bad.
+#[inline(always)]
 fn push_line_in<'t, A: Allocator + Copy>(
     alloc: A,
     out: &mut String<A>,
-    options: Options<'_>,
-    literal: &Literal<'t>,
+    options: &Options<'_>,
+    literal: &Literal<'_, 't>,
     places: &mut Places<'t>,
 ) -> Result<(), AllocError>
-    requires { IsLiteralOf options places.old literal.now }
+    requires { IsLiteralOf options.now places.old literal.now }
     ensures shown { OnOk result (Appends
-        (IsLineIn options.entry (chars places.old) (chars literal.now.token.text.now)
-        literal.now.token.lo literal.now.token.hi)
+        (IsLineIn options.now (chars places.old) (chars literal.now.token.now.text.now)
+        literal.now.token.now.lo literal.now.token.now.hi)
         (chars (string_bytes out.old)) (chars (string_bytes out.new))) }
     ensures same { places.new ≡ places.old }
 {
@@ -174,35 +203,36 @@ fn push_line_in<'t, A: Allocator + Copy>(
 fn push_held_line<'t, A: Allocator + Copy>(
     alloc: A,
     out: &mut String<A>,
-    options: Options<'_>,
-    literal: &Literal<'t>,
+    options: &Options<'_>,
+    literal: &Literal<'_, 't>,
     places: &mut Places<'t>,
     sought: &str,
 ) -> Result<(), AllocError>
-    requires { IsLiteralOf options places.old literal.now }
+    requires { IsLiteralOf options.now places.old literal.now }
     ensures shown { OnOk result (Appends
-        (IsHeldLine sought.now options.entry (chars places.old) (chars literal.now.token.text.now)
-        literal.now.token.lo)
+        (IsHeldLine sought.now options.now (chars places.old) (chars literal.now.token.now.text.now)
+        literal.now.token.now.lo)
         (chars (string_bytes out.old)) (chars (string_bytes out.new))) }
     ensures same { places.new ≡ places.old }
 {
-    let Some(range) = held_at(alloc, literal.token.text, literal.found, sought)? else {
+    let Some(range) = held_at(alloc, literal.token.text, *literal.found, sought)? else {
         return Ok(());
     };
     push_inside(alloc, out, options, literal, places, range)
 }
 
 /// Appends the line of a literal whose text holds a character that turns or hides text, at the place of the first.
+#[inline(never)]
 fn push_hidden_line<'t, A: Allocator + Copy>(
     alloc: A,
     out: &mut String<A>,
-    options: Options<'_>,
-    literal: &Literal<'t>,
+    options: &Options<'_>,
+    literal: &Literal<'_, 't>,
     places: &mut Places<'t>,
 ) -> Result<(), AllocError>
-    requires { IsLiteralOf options places.old literal.now }
+    requires { IsLiteralOf options.now places.old literal.now }
     ensures shown { OnOk result (Appends
-        (IsHiddenLine options.entry (chars places.old) (chars literal.now.token.text.now) literal.now.token.lo)
+        (IsHiddenLine options.now (chars places.old) (chars literal.now.token.now.text.now) literal.now.token.now.lo)
         (chars (string_bytes out.old)) (chars (string_bytes out.new))) }
     ensures same { places.new ≡ places.old }
 {
@@ -214,17 +244,18 @@ fn push_hidden_line<'t, A: Allocator + Copy>(
 
 /// Appends what is shown of a literal where no text is looked for: its line, which stands at the first character that
 /// turns or hides text where these are asked for.
+#[inline(always)]
 fn push_asked<'t, A: Allocator + Copy>(
     alloc: A,
     out: &mut String<A>,
-    options: Options<'_>,
-    literal: &Literal<'t>,
+    options: &Options<'_>,
+    literal: &Literal<'_, 't>,
     places: &mut Places<'t>,
 ) -> Result<(), AllocError>
-    requires { IsLiteralOf options places.old literal.now }
+    requires { IsLiteralOf options.now places.old literal.now }
     ensures shown { OnOk result (Appends
-        (IsAskedLine options.entry.shown options.entry (chars places.old)
-        (chars literal.now.token.text.now) literal.now.token.lo literal.now.token.hi)
+        (IsAskedLine options.now.shown options.now (chars places.old)
+        (chars literal.now.token.now.text.now) literal.now.token.now.lo literal.now.token.now.hi)
         (chars (string_bytes out.old)) (chars (string_bytes out.new))) }
     ensures same { places.new ≡ places.old }
 {
@@ -235,17 +266,18 @@ fn push_asked<'t, A: Allocator + Copy>(
 }
 
 /// Appends what is shown of a literal that is picked: where a text is looked for, its line where its contents hold that.
+#[inline(always)]
 fn push_picked<'t, A: Allocator + Copy>(
     alloc: A,
     out: &mut String<A>,
-    options: Options<'_>,
-    literal: &Literal<'t>,
+    options: &Options<'_>,
+    literal: &Literal<'_, 't>,
     places: &mut Places<'t>,
 ) -> Result<(), AllocError>
-    requires { IsLiteralOf options places.old literal.now }
+    requires { IsLiteralOf options.now places.old literal.now }
     ensures shown { OnOk result (Appends
-        (IsPickedLine options.entry.finds options.entry (chars places.old)
-        (chars literal.now.token.text.now) literal.now.token.lo literal.now.token.hi)
+        (IsPickedLine options.now.finds options.now (chars places.old)
+        (chars literal.now.token.now.text.now) literal.now.token.now.lo literal.now.token.now.hi)
         (chars (string_bytes out.old)) (chars (string_bytes out.new))) }
     ensures same { places.new ≡ places.old }
 {
@@ -260,14 +292,14 @@ fn push_picked<'t, A: Allocator + Copy>(
 fn push_literal_token<'t, A: Allocator + Copy>(
     alloc: A,
     out: &mut String<A>,
-    options: Options<'_>,
+    options: &Options<'_>,
     token: SourceToken<'t>,
     rest: &'t str,
     places: &mut Places<'t>,
 ) -> Result<(), AllocError>
     requires { BeginsRest token places.old rest.now }
     ensures shown { OnOk result (Appends
-        (IsShownLiteral options.entry (chars places.old) (chars token.entry.text.now)
+        (IsShownLiteral options.now (chars places.old) (chars token.entry.text.now)
         token.entry.lo token.entry.hi)
         (chars (string_bytes out.old)) (chars (string_bytes out.new))) }
     ensures same { places.new ≡ places.old }
@@ -282,9 +314,9 @@ fn push_literal_token<'t, A: Allocator + Copy>(
         return Ok(());
     }
     let literal = Literal {
-        token,
+        token: &token,
         rest,
-        found,
+        found: &found,
         flaw,
     };
     push_picked(alloc, out, options, &literal, places)
@@ -396,12 +428,12 @@ pub(crate) fn gather<'t, A: Allocator + Copy>(
         match next_literal(options, tokens) {
             Ok(Some(token)) => {
                 let rest = places.rest_at(token.lo);
-                push_literal_token(alloc, out, options, token, rest, places)?
+                push_literal_token(alloc, out, &options, token, rest, places)?
             }
             Ok(None) => return Ok(Step::End),
             Err(error) => {
                 let rest = places.rest_at(error.at);
-                let place = place_of(options, places, rest, error.at, error.at);
+                let place = place_of(&options, places, rest, error.at, error.at);
                 return Ok(Step::Error(place, error.kind));
             }
         }

@@ -1,10 +1,10 @@
 use Rattle.std.proofs.Common.{refl}
 use Rattle.rl_files.specs.declared.tree.PathError.TheVariants.{NotUtf8}
-use Rattle.rl_reports.proofs.ReportLemmas.{no_text_told}
+use Rattle.rl_reports.proofs.ReportLemmas.{no_text_reported}
 use Rattle.rl_reports.proofs.report.report_bytes.Goals as goal
 
 pub returns-in-Err : goal.returns-in-Err
-returns-in-Err g c = no_text_told c.args.command c.args.path.now c.args.bytes.now (NotUtf8 c.valid_up_to.result)
+returns-in-Err g c = no_text_reported c.args.command c.args.path.now c.args.bytes.now (NotUtf8 c.valid_up_to.result)
     c.report_error.result (
       c.valid_up_to.result,
       refl,

@@ -1,11 +1,11 @@
 use Rattle.rl_text.proofs.Common.{IsUtf8-string_bytes, refl}
-use Rattle.rl_reports.proofs.ReportLemmas.{error_told}
+use Rattle.rl_reports.proofs.ReportLemmas.{error_reported}
 use Rattle.rl_reports.proofs.report.report_error.Goals as goal
 
 pub returns : goal.returns
 returns g c = record {
   out = c.new.ensures.items;
   found = refl;
-  told = error_told c.args.path.now c.args.error _ _ _ (IsUtf8-string_bytes c.push_visible.new.out)
-      c.in_ok-told.ensures.ok c.in_ok-push_visible.ensures c.in_ok-writeln.ensures.bytes;
+  errors = error_reported c.args.path.now c.args.error _ _ _ (IsUtf8-string_bytes c.push_visible.new.out)
+      c.in_ok-errors.ensures.ok c.in_ok-push_visible.ensures c.in_ok-writeln.ensures.bytes;
 }

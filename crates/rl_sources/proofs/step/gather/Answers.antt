@@ -4,8 +4,8 @@ use Rattle.rl_sources.specs.Steps.{Adds}
 use Rattle.rl_sources.proofs.ScanLemmas.{adds_literal, adds_none, adds_unshown, begins_rest, rest_boundary, rest_is, stands_before, stands_on, stops}
 use Rattle.rl_sources.proofs.step.gather.Goals as goal
 
-pub loop-alloc-init : goal.loop-alloc-init
-loop-alloc-init g c = record {
+pub loop-options-init : goal.loop-options-init
+loop-options-init g c = record {
   stands = c.requires.stands;
   text_is = refl;
   adds = adds_none c.args.options (chars c.args.tokens.now.text) (chars c.args.tokens.now.rest)
@@ -17,50 +17,50 @@ loop-alloc-init g c = record {
 pub rest_at-rest-requires : goal.rest_at-rest-requires
 rest_at-rest-requires g c =
     let takes = rw c.in-Ok-Some.field-0-is at c.in-Ok-Some.ensures.literal in
-    let stands = stands_before c.args.options c.loop-alloc.tokens takes.between c.loop-alloc.places
-    c.loop-alloc.invariant.stands takes.unshown in
-    rest_boundary takes.between.text c.loop-alloc.places takes.between.rest c.in-Ok-Some.token.lo stands.cursor
+    let stands = stands_before c.args.options c.loop-options.tokens takes.between c.loop-options.places
+    c.loop-options.invariant.stands takes.unshown in
+    rest_boundary takes.between.text c.loop-options.places takes.between.rest c.in-Ok-Some.token.lo stands.cursor
     stands.text_is takes.takes.place
 
 pub push_literal_token-requires : goal.push_literal_token-requires
 push_literal_token-requires g c =
     let takes = rw c.in-Ok-Some.field-0-is at c.in-Ok-Some.ensures.literal in
-    let stands = stands_before c.args.options c.loop-alloc.tokens takes.between c.loop-alloc.places
-    c.loop-alloc.invariant.stands takes.unshown in
-    begins_rest takes.between c.next_literal.new.tokens c.loop-alloc.places c.rest_at-rest.result.now c.in-Ok-Some.token
-    stands takes.takes (rest_is takes.between.text c.loop-alloc.places takes.between.rest c.rest_at-rest.result.now
+    let stands = stands_before c.args.options c.loop-options.tokens takes.between c.loop-options.places
+    c.loop-options.invariant.stands takes.unshown in
+    begins_rest takes.between c.next_literal.new.tokens c.loop-options.places c.rest_at-rest.result.now c.in-Ok-Some.token
+    stands takes.takes (rest_is takes.between.text c.loop-options.places takes.between.rest c.rest_at-rest.result.now
     c.in-Ok-Some.token.lo stands.cursor stands.text_is takes.takes.place c.rest_at-rest.ensures)
 
 pub rest_at-rest-requires-in-Err : goal.rest_at-rest-requires-in-Err
 rest_at-rest-requires-in-Err g c =
     let error = c.in-Err.ensures.error in
-    let stands = stands_before c.args.options c.loop-alloc.tokens error.stop c.loop-alloc.places
-    c.loop-alloc.invariant.stands error.unshown in
-    rest_boundary error.stop.text c.loop-alloc.places error.stop.rest c.in-Err.error.at stands.cursor stands.text_is
+    let stands = stands_before c.args.options c.loop-options.tokens error.stop c.loop-options.places
+    c.loop-options.invariant.stands error.unshown in
+    rest_boundary error.stop.text c.loop-options.places error.stop.rest c.in-Err.error.at stands.cursor stands.text_is
     error.place
 
 pub place_of-place-requires-clause-text : goal.place_of-place-requires-clause-text
 place_of-place-requires-clause-text g c =
     let error = c.in-Err.ensures.error in
-    let stands = stands_before c.args.options c.loop-alloc.tokens error.stop c.loop-alloc.places
-    c.loop-alloc.invariant.stands error.unshown in
-    let same = rest_is error.stop.text c.loop-alloc.places error.stop.rest c.rest_at-rest-in-Err.result.now
+    let stands = stands_before c.args.options c.loop-options.tokens error.stop c.loop-options.places
+    c.loop-options.invariant.stands error.unshown in
+    let same = rest_is error.stop.text c.loop-options.places error.stop.rest c.rest_at-rest-in-Err.result.now
     c.in-Err.error.at stands.cursor stands.text_is error.place c.rest_at-rest-in-Err.ensures in
-    subst (IsCursorState c.loop-alloc.places) (sym same) (subst (λ (t : List ℕ). IsCursorState t error.stop.rest)
+    subst (IsCursorState c.loop-options.places) (sym same) (subst (λ (t : List ℕ). IsCursorState t error.stop.rest)
     (sym stands.text_is) stands.cursor)
 
-pub loop-alloc-preserved : goal.loop-alloc-preserved
-loop-alloc-preserved g c =
-    let before = c.loop-alloc.invariant in
+pub loop-options-preserved : goal.loop-options-preserved
+loop-options-preserved g c =
+    let before = c.loop-options.invariant in
     let takes = rw c.in-Ok-Some.field-0-is at c.in-Ok-Some.ensures.literal in
     let shorter = rw c.in-Ok-Some.field-0-is at c.in-Ok-Some.ensures.shorter in
     record {
-      stands = stands_on takes.between c.next_literal.new.tokens c.loop-alloc.places c.push_literal_token.new.places
-          c.in-Ok-Some.token (stands_before c.args.options c.loop-alloc.tokens takes.between c.loop-alloc.places
+      stands = stands_on takes.between c.next_literal.new.tokens c.loop-options.places c.push_literal_token.new.places
+          c.in-Ok-Some.token (stands_before c.args.options c.loop-options.tokens takes.between c.loop-options.places
           before.stands takes.unshown) takes.takes c.push_literal_token.ensures.same;
       text_is = takes.takes.same ∙ takes.unshown.same ∙ before.text_is;
-      adds = adds_literal c.args.options c.args.tokens.now.text _ c.loop-alloc.tokens c.next_literal.new.tokens
-          c.loop-alloc.places c.in-Ok-Some.token _ _ before.text_is before.stands.text_is before.adds takes
+      adds = adds_literal c.args.options c.args.tokens.now.text _ c.loop-options.tokens c.next_literal.new.tokens
+          c.loop-options.places c.in-Ok-Some.token _ _ before.text_is before.stands.text_is before.adds takes
           c.in_ok-push_literal_token-in-Ok-Some.ensures.shown;
       not_longer = omega (arith, shorter, before.not_longer);
       shorter = inr (omega (arith, shorter, before.not_longer));
@@ -70,19 +70,19 @@ pub returns-in-Ok-None : goal.returns-in-Ok-None
 returns-in-Ok-None g c =
     let ends = rw c.in-Ok-None.field-0-is at c.in-Ok-None.ensures.literal in
     let adds = adds_unshown c.args.options c.args.tokens.now.text (chars c.args.tokens.now.rest)
-    (chars (string_bytes c.loop-alloc.out)) c.loop-alloc.tokens ends.0 c.loop-alloc.invariant.text_is
-    c.loop-alloc.invariant.adds ends.1 in
+    (chars (string_bytes c.loop-options.out)) c.loop-options.tokens ends.0 c.loop-options.invariant.text_is
+    c.loop-options.invariant.adds ends.1 in
     subst (λ (r : List ℕ). Adds c.args.options (chars c.args.tokens.now.text) (chars c.args.tokens.now.rest) r
-    (chars (string_bytes c.loop-alloc.out))) (ap chars ends.2 ∙ chars-nil) adds
+    (chars (string_bytes c.loop-options.out))) (ap chars ends.2 ∙ chars-nil) adds
 
 pub returns-in-Err : goal.returns-in-Err
 returns-in-Err g c =
-    let before = c.loop-alloc.invariant in
+    let before = c.loop-options.invariant in
     let error = c.in-Err.ensures.error in
-    stops c.args.options c.args.tokens.now.text error.stop c.loop-alloc.places _ _ c.in-Err.error
+    stops c.args.options c.args.tokens.now.text error.stop c.loop-options.places _ _ c.in-Err.error
     c.place_of-place.result
-    (error.unshown.same ∙ before.text_is) (stands_before c.args.options c.loop-alloc.tokens error.stop
-    c.loop-alloc.places before.stands error.unshown)
+    (error.unshown.same ∙ before.text_is) (stands_before c.args.options c.loop-options.tokens error.stop
+    c.loop-options.places before.stands error.unshown)
     (adds_unshown c.args.options c.args.tokens.now.text (chars c.args.tokens.now.rest)
-    (chars (string_bytes c.loop-alloc.out)) c.loop-alloc.tokens error.stop before.text_is before.adds error.unshown)
+    (chars (string_bytes c.loop-options.out)) c.loop-options.tokens error.stop before.text_is before.adds error.unshown)
     error.error error.place c.place_of-place.ensures.place

@@ -2,8 +2,8 @@ use Rattle.rl_text.proofs.Common.{[], chars, length, string_bytes, ◌<◌, ◌�
 use Rattle.rl_sources.specs.Steps.{IsCursorOver, Adds}
 use Rattle.rl_sources.proofs.step.gather.Given as goal
 
-abbrev pub invariant-loop-alloc : goal.invariant-loop-alloc
-invariant-loop-alloc g l = record {
+abbrev pub invariant-loop-options : goal.invariant-loop-options
+invariant-loop-options g l = record {
   stands : IsCursorOver l.tokens l.places;
   text_is : l.tokens.text ≡ l.initial.tokens.text;
   adds : Adds l.options (chars l.initial.tokens.text) (chars l.initial.tokens.rest) (chars l.tokens.rest)
@@ -12,5 +12,5 @@ invariant-loop-alloc g l = record {
   shorter : (string_bytes l.out ≡ []) ⊎ (length l.tokens.rest < length l.initial.tokens.rest);
 }
 
-abbrev pub decreases-loop-alloc : goal.decreases-loop-alloc
-decreases-loop-alloc g l = length l.tokens.rest
+abbrev pub decreases-loop-options : goal.decreases-loop-options
+decreases-loop-options g l = length l.tokens.rest

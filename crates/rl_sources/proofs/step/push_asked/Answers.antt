@@ -6,6 +6,6 @@ pub returns-in-Hidden-clause-shown : goal.returns-in-Hidden-clause-shown
 returns-in-Hidden-clause-shown g c = rw c.in-Hidden.is c.push_hidden_line.ensures.shown
 
 pub returns-in_default-clause-shown : goal.returns-in_default-clause-shown
-returns-in_default-clause-shown g c = on_ok_weaker c.push_line_in.result (asked_line c.args.options.shown
-    c.args.options (chars c.args.places.now) (chars c.args.literal.now.token.text.now) c.args.literal.now.token.lo
-    c.args.literal.now.token.hi _ _ c.in_default.not-Hidden) c.push_line_in.ensures.shown
+returns-in_default-clause-shown g c = on_ok_weaker c.push_line_in.result (asked_line c.args.options.now.shown
+    c.args.options.now (chars c.args.places.now) (chars c.args.literal.now.token.now.text.now) c.args.literal.now.token.now.lo
+    c.args.literal.now.token.now.hi _ _ c.in_default.not-Hidden) c.push_line_in.ensures.shown

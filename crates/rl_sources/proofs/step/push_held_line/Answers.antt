@@ -3,11 +3,11 @@ use Rattle.rl_sources.proofs.StepLemmas.{at_held, not_held}
 use Rattle.rl_sources.proofs.step.push_held_line.Goals as goal
 
 pub returns-in_default-clause-shown : goal.returns-in_default-clause-shown
-returns-in_default-clause-shown g c = not_held c.args.sought.now c.args.options (chars c.args.places.now)
-    (chars c.args.literal.now.token.text.now) c.args.literal.now.token.lo (chars (string_bytes c.args.out.now))
+returns-in_default-clause-shown g c = not_held c.args.sought.now c.args.options.now (chars c.args.places.now)
+    (chars c.args.literal.now.token.now.text.now) c.args.literal.now.token.now.lo (chars (string_bytes c.args.out.now))
     (rw c.in_default.is at c.in_ok-range.ensures.none)
 
 pub returns-clause-shown : goal.returns-clause-shown
-returns-clause-shown g c = on_ok_weaker c.push_inside.result (at_held c.args.sought.now c.args.options
-    (chars c.args.places.now) (chars c.args.literal.now.token.text.now) c.args.literal.now.token.lo c.in-Some.range.0
+returns-clause-shown g c = on_ok_weaker c.push_inside.result (at_held c.args.sought.now c.args.options.now
+    (chars c.args.places.now) (chars c.args.literal.now.token.now.text.now) c.args.literal.now.token.now.lo c.in-Some.range.0
     c.in-Some.range.1 _ _ (rw c.in-Some.is at c.in_ok-range.ensures.some)) c.push_inside.ensures.shown

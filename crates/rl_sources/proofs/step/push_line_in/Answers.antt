@@ -5,16 +5,16 @@ use Rattle.rl_sources.proofs.StepLemmas.{explained, passes_unasked, unexplained}
 use Rattle.rl_sources.proofs.step.push_line_in.Goals as goal
 
 pub push_flaw-requires-clause-flaw : goal.push_flaw-requires-clause-flaw
-push_flaw-requires-clause-flaw g c = subst (λ (f : Option Flaw). IfSome f (FindsFlaw c.args.options.judge
-    (chars c.args.literal.now.token.text.now))) c.in-Some.ensures.some.1 c.requires.flaw
+push_flaw-requires-clause-flaw g c = subst (λ (f : Option Flaw). IfSome f (FindsFlaw c.args.options.now.judge
+    (chars c.args.literal.now.token.now.text.now))) c.in-Some.ensures.some.1 c.requires.flaw
 
 pub returns-in-Some-clause-shown : goal.returns-in-Some-clause-shown
-returns-in-Some-clause-shown g c = on_ok_weaker c.push_flaw.result (explained c.args.options (chars c.args.places.now)
-    (chars c.args.literal.now.token.text.now) c.args.literal.now.token.lo c.args.literal.now.token.hi _ _
+returns-in-Some-clause-shown g c = on_ok_weaker c.push_flaw.result (explained c.args.options.now (chars c.args.places.now)
+    (chars c.args.literal.now.token.now.text.now) c.args.literal.now.token.now.lo c.args.literal.now.token.now.hi _ _
     c.in-Some.ensures.some.0) c.push_flaw.ensures.shown
 
 pub returns-in-None-clause-shown : goal.returns-in-None-clause-shown
-returns-in-None-clause-shown g c = on_ok_weaker c.push_placed.result (unexplained c.args.options
-    (chars c.args.places.now) (chars c.args.literal.now.token.text.now) c.args.literal.now.token.lo
-    c.args.literal.now.token.hi _ _ (passes_unasked c.args.options (chars c.args.literal.now.token.text.now) _
+returns-in-None-clause-shown g c = on_ok_weaker c.push_placed.result (unexplained c.args.options.now
+    (chars c.args.places.now) (chars c.args.literal.now.token.now.text.now) c.args.literal.now.token.now.lo
+    c.args.literal.now.token.now.hi _ _ (passes_unasked c.args.options.now (chars c.args.literal.now.token.now.text.now) _
     c.requires.no_flaw c.in-None.ensures.none)) c.push_placed.ensures.shown

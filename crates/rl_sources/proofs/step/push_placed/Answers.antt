@@ -3,6 +3,6 @@ use Rattle.rl_sources.proofs.StepLemmas.{placed}
 use Rattle.rl_sources.proofs.step.push_placed.Goals as goal
 
 pub returns-clause-shown : goal.returns-clause-shown
-returns-clause-shown g c = on_ok_weaker c.push_line_at.result (placed c.args.options (chars c.args.places.now)
-    (chars c.args.literal.now.token.text.now) c.args.literal.now.token.lo c.args.literal.now.token.hi
+returns-clause-shown g c = on_ok_weaker c.push_line_at.result (placed c.args.options.now (chars c.args.places.now)
+    (chars c.args.literal.now.token.now.text.now) c.args.literal.now.token.now.lo c.args.literal.now.token.now.hi
     c.place_of-place.result _ _ c.place_of-place.ensures.place) c.push_line_at.ensures

@@ -8,7 +8,7 @@ returns-in-Value g c = rw c.in-Value.is c.push_text_line.ensures
 
 pub returns-in-Source : goal.returns-in-Source
 returns-in-Source g c = rw c.in-Source.is (on_ok_weaker c.push_source.result (λ e. (
-  visible (chars c.args.literal.now.token.text.now)
+  visible (chars c.args.literal.now.token.now.text.now)
       ++ codes "\n",
   refl,
   e,

@@ -1,16 +1,7 @@
-use Rattle.rl_text.proofs.Common.{IsUtf8-string_bytes, chars, on_ok_weaker, string_bytes}
-use Rattle.rl_sources.proofs.StepLemmas.{ends_in_line, line_printed}
+use Rattle.rl_text.proofs.Common.{chars, on_ok_weaker}
+use Rattle.rl_sources.proofs.StepLemmas.{bare_printed}
 use Rattle.rl_sources.proofs.step.push_text_line.Goals as goal
 
-pub make_visible-requires : goal.make_visible-requires
-make_visible-requires g c =
-    let line = c.in_ok-push_found.ensures in
-    rw c.as_str-from.ensures.value (ends_in_line (string_bytes c.args.out.now) (string_bytes c.push_found.new.out)
-    line.0
-    (IsUtf8-string_bytes c.args.out.now) (IsUtf8-string_bytes c.push_found.new.out) line.2).boundary
-
-pub returns : goal.returns
-returns g c = on_ok_weaker c.make_visible.result (line_printed (chars c.args.text.now) (string_bytes c.args.out.now)
-    (string_bytes c.push_found.new.out) _ (IsUtf8-string_bytes c.args.out.now)
-    (IsUtf8-string_bytes c.push_found.new.out)
-    c.in_ok-push_found.ensures) (rw c.as_str-from.ensures.value at c.make_visible.ensures)
+pub returns-in-Some : goal.returns-in-Some
+returns-in-Some g c = on_ok_weaker c.push_bare.result (bare_printed (chars c.args.text.now) c.in-Some.value.now _ _
+    c.in-Some.ensures.line c.in-Some.ensures.bare) c.push_bare.ensures
