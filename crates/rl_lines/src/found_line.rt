@@ -92,8 +92,8 @@ fn bare_string<'t>(text: &'t str, found: &Found) -> Option<&'t str>
     None
 }
 
-/// The value of the string that was found in the text, where its line holds that as it stands: `None` where the line has
-/// an escape or a suffix, and for all but strings.
+/// The value of the string that was found in the text, where it stands between the quotes and in the string's line as it is,
+/// and no suffix does. So such a line needs no second look. `None` says nothing of the text.
 #[inline(always)]
 pub fn bare_value<'t>(text: &'t str, found: &Option<Found>) -> Option<&'t str>
     requires { IfSome found.now (IsFound text.now) }
