@@ -1,21 +1,11 @@
 -- The keys of names.
-use Rattle.std.proofs.Common.{◌≡◌, ℕ, ◌+◌, ◌*◌, ◌%◌, ◌^◌, ◌==◌, ◌&&◌, Bool, true, false, not, List, [], ◌∷◌, ◌++◌, refl, sym, ◌∙◌, ap, rules}
-use Rattle.std.specs.List.{fold}
+use Rattle.std.proofs.Common.{◌≡◌, ◌==◌, ◌&&◌, ℕ, Bool, true, false, not, List, refl, sym, ◌∙◌, ap, rules}
 use Rattle.std.specs.Ordering.{nat_cmp, ordering_then, is_eq}
 use Rattle.std.specs.Cmp.{both_tied, unsigned_ties}
 use Rattle.std.specs.Cmp.Lexicographic.{slice_cmp, texts_ties}
 use Rattle.std.specs.Str.{bytes_eq}
 use Rattle.std.proofs.lemmas.Slice.Eq.{bytes_eq-Decides}
 use Rattle.rl_attributes.specs.Names.{name_key}
-
-fold_more : (f : ℕ → ℕ → ℕ) (a : ℕ) (xs : List ℕ) (x : ℕ) → fold f a (xs ++ x ∷ []) ≡ f (fold f a xs) x
-fold_more f a [] x = refl
-fold_more f a (y ∷ xs) x = fold_more f (f a y) xs x
-
--- one byte more
-pub key_more : (name : List ℕ) (byte : ℕ) → name_key (name ++ byte ∷ [])
-    ≡ (name_key name * 256 % 2 ^ 64 + byte) % 2 ^ 64
-key_more name byte = fold_more (λ key b. (key * 256 % 2 ^ 64 + b) % 2 ^ 64) 0 name byte
 
 same_key : (xs ys : List ℕ) (t : Bool) → bytes_eq xs ys ≡ t → t ≡ ((name_key xs == name_key ys) && t)
 same_key xs ys false e = and_false (name_key xs == name_key ys)

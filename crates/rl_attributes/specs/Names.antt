@@ -1,15 +1,15 @@
 -- Names that were taken, and their order.
-use Rattle.std.specs.Prelude.{ℕ, ◌+◌, ◌*◌, ◌%◌, ◌^◌, Bool, List}
-use Rattle.std.specs.List.{fold}
+use Rattle.std.specs.Prelude.{ℕ, ◌-◌, nat_lt, if◌then◌else◌, Bool, List, length, drop}
+use Rattle.std.specs.Int.{from_be_bytes, w64}
 use Rattle.std.specs.BTreeSet.{BTreeSet, contains_by}
 use Rattle.std.specs.Cmp.Lexicographic.{slice_cmp}
 use Rattle.std.specs.declared.cmp.Ordering.{Ordering}
 use Rattle.std.specs.Ordering.{nat_cmp, ordering_then}
 use Rattle.rl_attributes.specs.declared.attributes.name.Name.{Name}
 
--- the last eight bytes of a name, as a number
+-- the last eight bytes of a name, as a number; 0 where there are fewer
 abbrev pub name_key : List ℕ → ℕ
-name_key name = fold (λ key byte. (key * 256 % 2 ^ 64 + byte) % 2 ^ 64) 0 name
+name_key name = if nat_lt (length name) 8 then 0 else from_be_bytes w64 (drop (length name - 8) name)
 
 -- by the numbers, and where these are the same by the bytes
 abbrev pub name_cmp : Name → Name → Ordering

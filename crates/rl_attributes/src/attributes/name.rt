@@ -16,15 +16,14 @@ pub(crate) struct Name<'a> {
     text: &'a str,
 }
 
-/// The last eight bytes of a name, as a number.
+/// The last eight bytes of a name, as a number; 0 where there are fewer.
 fn key_of(name: &str) -> u64
     ensures { result ≡ name_key name.now }
 {
-    let mut key = 0_u64;
-    for byte in name.as_bytes() {
-        key = key.wrapping_mul(256).wrapping_add(u64::from(*byte));
+    match name.as_bytes().last_chunk::<8>() {
+        Some(last) => u64::from_be_bytes(*last),
+        None => 0,
     }
-    key
 }
 
 impl<'a> Name<'a> {

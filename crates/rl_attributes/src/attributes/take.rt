@@ -127,12 +127,11 @@ fn take_all<A: Allocator + Copy>(
     let mut names = BTreeSet::new(alloc);
     let mut entries = Vec::new(alloc);
     while !input.is_empty() {
-        let place = input.span();
         let entry = take_next(alloc, input, &mut names)?;
         if let Err(failed) = entries.push(entry) {
             // By a call, as above.
             drop(failed);
-            return Err(Error::memory(place));
+            return Err(Error::memory(input.span()));
         }
     }
     Ok(Attrs {
