@@ -1,5 +1,5 @@
 -- The keys of names.
-use Rattle.std.proofs.Common.{◌≡◌, ◌==◌, ◌&&◌, ℕ, Bool, true, false, not, List, refl, sym, ◌∙◌, ap, rules}
+use Rattle.std.proofs.Common.{◌≡◌, ◌==◌, ◌&&◌, ℕ, Bool, true, false, List, refl, ◌∙◌, ap, rules}
 use Rattle.std.specs.Ordering.{nat_cmp, ordering_then, is_eq}
 use Rattle.std.specs.Cmp.{both_tied, unsigned_ties}
 use Rattle.std.specs.Cmp.Lexicographic.{slice_cmp, texts_ties}
@@ -25,8 +25,3 @@ keys_tie xs ys =
     same_key xs ys (bytes_eq xs ys) refl
     ∙ both_tied (name_key xs == name_key ys) (bytes_eq xs ys) _ _ (unsigned_ties (name_key xs) (name_key ys))
     (texts_ties xs ys)
-
--- what was not added was there
-pub not_absent : (added b : Bool) → added ≡ false → added ≡ not b → b ≡ true
-not_absent added true none e = refl
-not_absent added false none e = sym none ∙ e

@@ -4,7 +4,7 @@ use Rattle.std.specs.Int.{from_be_bytes, w64}
 use Rattle.std.specs.BTreeSet.{BTreeSet, contains_by}
 use Rattle.std.specs.Cmp.Lexicographic.{slice_cmp}
 use Rattle.std.specs.declared.cmp.Ordering.{Ordering}
-use Rattle.std.specs.Ordering.{nat_cmp, ordering_then}
+use Rattle.std.specs.Ordering.{nat_cmp, on, ordering_then, then_cmp}
 use Rattle.rl_attributes.specs.declared.attributes.name.Name.{Name}
 
 -- the last eight bytes of a name, as a number; 0 where there are fewer
@@ -13,7 +13,7 @@ name_key name = if nat_lt (length name) 8 then 0 else from_be_bytes w64 (drop (l
 
 -- by the numbers, and where these are the same by the bytes
 abbrev pub name_cmp : Name → Name → Ordering
-name_cmp x y = ordering_then (nat_cmp x.key y.key) (slice_cmp nat_cmp x.text.now y.text.now)
+name_cmp = then_cmp (on (λ n. n.key) nat_cmp) (on (λ n. n.text.now) (slice_cmp nat_cmp))
 
 -- whether the set has this name
 abbrev pub has_name : BTreeSet Name → List ℕ → Bool

@@ -91,7 +91,7 @@ impl<A: Allocator> From<Error<A>> for SettingError<A> {
     ghost use Rattle.std.specs.Prelude.{◌≡◌};
     ghost use Rattle.rl_attributes.specs.declared.settings.SettingError.TheVariants.{Text};
 
-    ghost from_gives = { λ error told. told ≡ Text error };
+    ghost from_gives = { λ error setting. setting ≡ Text error };
 
     fn from(error: Error<A>) -> SettingError<A> {
         SettingError::Text(error)
@@ -105,7 +105,7 @@ impl<A: Allocator> From<AllocError> for SettingError<A> {
     ghost use Rattle.rl_text.specs.Spans.{nowhere};
     ghost use Rattle.rl_attributes.specs.declared.settings.SettingError.TheVariants.{Text};
 
-    ghost from_gives = { λ failed told. told ≡ Text (memory_at nowhere) };
+    ghost from_gives = { λ failed setting. setting ≡ Text (memory_at nowhere) };
 
     fn from(_failed: AllocError) -> SettingError<A> {
         SettingError::Text(Error::memory(Span::call_site()))

@@ -302,7 +302,8 @@ pub passed_dropped : (total done : ℕ) (rest following rs fs : List ℕ) (c lef
     → (left == 0) ≡ false → is_dropped c fs ≡ true → done + length following ≡ total + file_place fs left
 passed_dropped total done rest following rs fs c left before is bytes some goes =
     passed total done rest following rs fs c left left before is bytes
-    (ap (λ b. cond b 0 (len_utf8 c + cond (is_dropped c fs) (file_place fs left) (file_place fs (left - len_utf8 c)))) some
+    (ap (λ b. cond b 0 (len_utf8 c + cond (is_dropped c fs) (file_place fs left) (file_place fs (left - len_utf8 c))))
+    some
     ∙ ap (λ b. len_utf8 c + cond b (file_place fs left) (file_place fs (left - len_utf8 c))) goes)
 
 pub passed_kept : (total done : ℕ) (rest following rs fs : List ℕ) (c left : ℕ)
@@ -311,7 +312,8 @@ pub passed_kept : (total done : ℕ) (rest following rs fs : List ℕ) (c left :
     → done + length following ≡ total + file_place fs (left - len_utf8 c)
 passed_kept total done rest following rs fs c left before is bytes some stays =
     passed total done rest following rs fs c left (left - len_utf8 c) before is bytes
-    (ap (λ b. cond b 0 (len_utf8 c + cond (is_dropped c fs) (file_place fs left) (file_place fs (left - len_utf8 c)))) some
+    (ap (λ b. cond b 0 (len_utf8 c + cond (is_dropped c fs) (file_place fs left) (file_place fs (left - len_utf8 c))))
+    some
     ∙ ap (λ b. len_utf8 c + cond b (file_place fs left) (file_place fs (left - len_utf8 c))) stays)
 
 -- nothing is left to pass

@@ -21,7 +21,7 @@ use quotes::{after_character, after_quoted, after_raw_literal};
 use rl_text::characters::is_start;
 use rl_text::classes::skip_word;
 use rl_text::lanes::has_bit;
-use rl_text::text::{begins_with, split_ascii, split_char, without_first};
+use rl_text::text::{begins_with, split_ascii, split_char, strip_byte, without_first};
 pub(crate) use suffix::after_suffix;
 
 /// What a token is to a parser: what [`Tokens`](crate::Tokens) cuts off, by its first
@@ -51,7 +51,8 @@ pub(crate) fn first_lexeme(text: &str) -> Option<(Form, &str)>
     if let Some(following) = after_number(text) {
         return Some((Form::Literal, following));
     }
-    if !begins_quote(text) {
+    // A quote begins no word and is no mark.
+    if strip_byte(text, b'"').is_none() {
         if let Some((form, following)) = word_or_mark(text) {
             return Some((form, following));
         }
@@ -89,12 +90,6 @@ fn after_number(text: &str) -> Option<&str>
     }
 }
 
-/// Whether a quote begins the text, which begins no word and is no mark.
-#[inline(always)]
-fn begins_quote(text: &str) -> bool {
-    matches!(split_ascii(text), Some((b'"', _)))
-}
-
 /// What [`lexeme_but_number`] returns, built anew. Room for what a call returns is cleared first: by a function of its own
 /// that is done only where the call is made.
 #[inline(always)]
@@ -106,10 +101,7 @@ fn rebuilt_lexeme(text: &str) -> Option<(Form, &str)>
     ensures following { IfSome result (λ p. IsTail text.now p.1.now) }
     ensures shorter { IfSome result (λ p. length p.1.now < length text.now) }
 {
-    match lexeme_but_number(text) {
-        Some((form, following)) => Some((form, following)),
-        None => None,
-    }
+    rebuilt(lexeme_but_number(text))
 }
 
 /// The lexeme that the text begins with, by its first character, which is no digit.
@@ -137,7 +129,7 @@ fn lexeme_but_number(text: &str) -> Option<(Form, &str)>
 
 /// What a call returned, built anew, so that what else may be returned need not stand in memory with it.
 #[inline(always)]
-fn rebuilt(found: Option<(Form, &str)>) -> Option<(Form, &str)>
+pub(crate) fn rebuilt<F>(found: Option<(F, &str)>) -> Option<(F, &str)>
     ensures { result ≡ found.entry }
 {
     match found {
@@ -180,7 +172,7 @@ fn literal_or_identifier(letter: char, text: &str) -> Option<(Form, &str)>
     }
 }
 
-/// The form of the lexeme that the text begins with, and the rest after it, where the first byte of ASCII tells it, or that
+/// The form of the lexeme that the text begins with, and the rest after it, where the first byte of ASCII decides it, or that
 /// and the next: an identifier that begins as no literal does, a delimiter, or a mark that begins no comment. `None` says nothing.
 #[inline(always)]
 pub(crate) fn word_or_mark(text: &str) -> Option<(Form, &str)>
@@ -201,7 +193,7 @@ pub(crate) fn word_or_mark(text: &str) -> Option<(Form, &str)>
     }
 }
 
-/// What the first byte of a text tells.
+/// What begins with the first byte of a text.
 #[derive(Clone, Copy)]
 enum Lead {
     /// An identifier, whatever follows it: `_`, and each letter but `b`, `c` and `r`.
@@ -216,7 +208,7 @@ enum Lead {
     Other,
 }
 
-/// What a character of ASCII tells as the first. Which it is of 64, a bit says.
+/// What begins with a character of ASCII. A bit for each of 64 says whether it is one of a class.
 #[inline(always)]
 fn lead_of(byte: u8) -> Lead
     requires { byte < 128 }

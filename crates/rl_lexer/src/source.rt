@@ -15,7 +15,7 @@ ghost use Rattle.rl_forms.specs.Reading.{truth_text};
 ghost use Rattle.rl_lexer.specs.Mirrors.LiteralsAt.{HoldsNoLiteral, past_word};
 ghost use Rattle.rl_lexer.specs.Mirrors.SourceAt.{after_doc, after_name, after_marked, after_any_name, after_lifetime, other_at, stray_at};
 
-use crate::lexeme::{Form, number_or_other, word_or_mark};
+use crate::lexeme::{Form, number_or_other, rebuilt, word_or_mark};
 use crate::no_token::{begins_raw_identifier, opens};
 use crate::whitespace::{after_block, is_comment_block, is_comment_line, skip};
 use bad_quote::after_bad_quote;
@@ -117,13 +117,10 @@ fn rebuilt_source(text: &str) -> Option<(SourceForm, &str)>
     ensures following { IfSome result (λ p. IsTail text.now p.1.now) }
     ensures shorter { IfSome result (λ p. length p.1.now < length text.now) }
 {
-    match source_by_characters(text) {
-        Some((form, following)) => Some((form, following)),
-        None => None,
-    }
+    rebuilt(source_by_characters(text))
 }
 
-/// The token at the front of a text, as its first characters tell it.
+/// The token at the front of a text, by its first characters.
 #[inline(never)]
 fn source_by_characters(text: &str) -> Option<(SourceForm, &str)>
     ensures found { IfSome result

@@ -1,13 +1,16 @@
 -- Texts that a string literal holds as they stand.
 use Rattle.rl_reading.proofs.Names.{Characters, Plain, Str, texts}
-use Rattle.rl_text.proofs.Common.{Bool, List, [], ap, append_assoc, arith, chars, chars-IsAscii, chars-nil, codes, eqb, eqb-true, false, if◌then◌else◌, length, list_all, map, nat_tests, refl, sym, true, ℕ, ◌&&◌, ◌++◌, ◌<◌, ◌==◌, ◌∙◌, ◌∷◌, ◌≡◌}
+use Rattle.rl_text.proofs.Common.{Bool, IsUtf8, List, [], ap, append_assoc, arith, chars, chars-IsAscii, chars-append, chars-nil, codes, encode_ascii, encode_utf8_all, encodes-append, encodes-chars, eqb, eqb-true, false, if◌then◌else◌, drop, inl, length, list_all, map, nat_tests, refl, subst, sym, true, ℕ, ◌&&◌, ◌++◌, ◌<◌, ◌==◌, ◌∙◌, ◌∷◌, ◌≡◌, ◌≢◌}
+use Rattle.std.proofs.lemmas.List.{same_from_push}
+use Rattle.rl_forms.specs.Reading.{Reads}
+use Rattle.rl_forms.proofs.WrittenLaws.{written_reads}
 use Rattle.std.specs.List.{All}
 use Rattle.std.proofs.lemmas.Bool.{false≢true}
 use Rattle.std.proofs.lemmas.List.Elements.{All-nil, All-cons}
-use Rattle.std.proofs.lemmas.Str.Ascii.{IsAscii-from_all}
+use Rattle.std.proofs.lemmas.Str.Ascii.{encodes-IsAscii, IsAscii-from_all}
 use Rattle.rl_forms.specs.Written.{written_unit, is_written_as_number}
-use Rattle.rl_lines.specs.Bare.{is_bare, bare_line}
-use Rattle.rl_lines.specs.Lines.{literal_line}
+use Rattle.rl_lines.specs.Bare.{IsBareString, is_bare, bare_line}
+use Rattle.rl_lines.specs.Lines.{IsLineOf, literal_line}
 
 both : (a b : Bool) → (a && b) ≡ true → (a ≡ true) × (b ≡ true)
 both true true h = (refl, refl)
@@ -64,10 +67,63 @@ bare_pieces a b d e text p q r =
     ∙ append_assoc (a ++ codes "Str \"") (chars text) (codes "\" -\n")
     ∙ append_assoc a (codes "Str \"") (chars text ++ codes "\" -\n")
 
+bare_shown : (value : List ℕ) → list_all is_bare value ≡ true
+    → bare_line value ≡ literal_line Str (Characters value) []
+bare_shown value bare =
+    rw (bare_units value bare) (ap (λ z. codes "Str \"" ++ z) (sym (append_assoc value (34 ∷ []) (codes " -\n"))))
+
 -- the line of a bare text with no suffix
 pub bare_is_line : (text suffix : List ℕ) → list_all is_bare text ≡ true → eqb (length suffix) 0 ≡ true
     → bare_line (chars text) ≡ literal_line Str (Characters (chars text)) (chars suffix)
 bare_is_line text suffix bare none =
     let same : chars text ≡ text = bare_chars text bare in
-    let units : texts (map (written_unit Str) (chars text)) ≡ chars text = rw same (bare_units text bare) in
-    rw (units, no_suffix suffix none) (ap (λ z. codes "Str \"" ++ z) (sym (append_assoc (chars text) (34 ∷ []) (codes " -\n"))))
+    rw (no_suffix suffix none) (bare_shown (chars text) (ap (list_all is_bare) same ∙ bare))
+
+-- ---- a string that holds its value as it stands
+
+quote : chars (codes "\"") ≡ codes "\""
+unfolding chars
+quote = refl
+
+-- what stands between two quotes
+pub between_quotes : (text rest before value : List ℕ) → chars text ≡ 34 ∷ chars rest → rest ≡ before ++ codes "\""
+    → value ≡ before → IsUtf8 value → chars text ≡ codes "\"" ++ (chars value ++ codes "\"")
+between_quotes text rest before value first last is u =
+    first
+    ∙ ap (λ z. 34 ∷ z) (ap chars (last ∙ ap (λ z. z ++ codes "\"") (sym is)) ∙ chars-append value (codes "\"") u
+    ∙ ap (λ z. chars value ++ z) quote)
+
+-- bare bytes are bare characters
+pub bare_string : (text value : List ℕ) → chars text ≡ codes "\"" ++ (chars value ++ codes "\"")
+    → list_all is_bare value ≡ true → IsBareString (chars text) (chars value)
+bare_string text value e bare = (e, ap (list_all is_bare) (bare_chars value bare) ∙ bare)
+
+-- bare characters are bare bytes
+bare_bytes : (value found : List ℕ) → IsUtf8 value → chars value ≡ found → list_all is_bare found ≡ true
+    → list_all is_bare value ≡ true
+bare_bytes value found u e bare =
+    let same : value ≡ found = sym (encodes-chars value u) ∙ ap encode_utf8_all e
+    ∙ encodes-IsAscii found (IsAscii-from_all found (bare_low found bare)) in
+    ap (list_all is_bare) same ∙ bare
+
+-- no quote stands at the end
+pub no_last_quote : (text rest : List ℕ) → chars text ≡ 34 ∷ chars rest → IsUtf8 rest
+    → ((front : List ℕ) → rest ≢ front ++ codes "\"") → (value : List ℕ) → IsBareString (chars text) value → ⊥
+no_last_quote text rest first u none value is =
+    none (encode_utf8_all value) (sym (encodes-chars rest u) ∙ ap (λ z. encode_utf8_all (drop 1 z)) (sym first ∙ is.0)
+    ∙ encodes-append value (codes "\"") ∙ ap (λ z. encode_utf8_all value ++ (z ++ [])) (encode_ascii 34 (omega arith)))
+
+-- what stands between isn't bare
+pub not_bare : (text value : List ℕ) → chars text ≡ codes "\"" ++ (chars value ++ codes "\"") → IsUtf8 value
+    → list_all is_bare value ≡ false → (other : List ℕ) → IsBareString (chars text) other → ⊥
+not_bare text value e u not other is =
+    let same : chars value ≡ other = (same_from_push (chars value) other 34 34 (ap (drop 1) (sym e ∙ is.0))).0 in
+    false≢true (sym not ∙ bare_bytes value other u same is.1)
+
+-- it reads as the value
+pub bare_reads : (text value : List ℕ) → IsBareString text value → IsLineOf text (bare_line value)
+bare_reads text value is =
+    let reads : Reads (34 ∷ (value ++ 34 ∷ [])) Str (Characters value) [] = subst
+    (λ z. Reads (34 ∷ (z ++ 34 ∷ [])) Str (Characters value) []) (bare_units value is.1)
+    (written_reads Str value tt) in
+    inl (Str, Characters value, [], rw is.0 reads, bare_shown value is.1)

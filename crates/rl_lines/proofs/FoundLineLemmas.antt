@@ -1,19 +1,16 @@
 -- What is shown of a text that was found to be a literal.
 use Rattle.rl_reading.proofs.Names.{Characters, Contents, Float, HasContents, HasSuffix, Int, Kind, ReadsAs, SpannedText, Str, is_single, quoted_contents}
-use Rattle.std.proofs.Common.{◌≡◌, ◌==◌, length, ℕ, List, [], ◌∷◌, ◌++◌, Result, IfOk, true, refl, sym, ap, subst, ◌∙◌, inl}
+use Rattle.std.proofs.Common.{◌≡◌, ℕ, List, [], ◌∷◌, ◌++◌, Result, IfOk, true, refl, sym, ap, subst, ◌∙◌}
 use Rattle.std.proofs.lemmas.Result.{IfOk-weaker}
 use Rattle.std.specs.Str.{chars}
-use Rattle.std.specs.List.{list_all}
 use Rattle.rl_forms.specs.Written.{written_text, IsWrittenForm}
 use Rattle.rl_reading.specs.declared.found.Found.{Found}
 use Rattle.rl_reading.specs.Founds.{IsFound}
 use Rattle.rl_reading.specs.NumberShapes.{AreDigits}
 use Rattle.rl_reading.proofs.FoundContents.{unit_of}
-use Rattle.rl_lines.specs.Bare.{is_bare, bare_line}
 use Rattle.rl_lines.specs.FoundLines.{IsShownOf}
-use Rattle.rl_lines.specs.Lines.{line, kind_label, payload, literal_line, IsLineOf, IsLineOfKind, Appends}
+use Rattle.rl_lines.specs.Lines.{line, kind_label, payload, literal_line, IsLineOfKind, Appends}
 use Rattle.rl_quoted.proofs.PlaceLemmas.{found_kind}
-use Rattle.rl_lines.proofs.BareLemmas.{bare_is_line}
 use Rattle.rl_lines.proofs.PrintLemmas.{prints_kind}
 
 -- the line of what is shown
@@ -29,16 +26,6 @@ pub string_line : (text value suffix old new : List ℕ) → HasContents Str tex
     → Appends (IsLineOfKind Str text) old new
 string_line text value suffix old new has s e = shows_line Str text old new (written_text Str (chars value)) suffix
     (Characters (chars value), has, refl) s e
-
--- the line of a string whose value it holds as it stands
-pub bare_found : (text value suffix : List ℕ) → HasContents Str text (Characters (chars value))
-    → HasSuffix Str text (chars suffix) → list_all is_bare value ≡ true → (length suffix == 0) ≡ true
-    → IsLineOf text (bare_line (chars value))
-bare_found text value suffix has s bare none =
-    let line : Appends (IsLineOfKind Str text) [] (literal_line Str (Characters (chars value)) (chars suffix)) =
-    string_line text value (chars suffix) [] _ has s refl in
-    let (shown, (contents, x, reads, is), e) = line in
-    inl (Str, contents, x, reads, bare_is_line value suffix bare none ∙ e ∙ is)
 
 -- the kind of what was found in a text is that of any suffix that the text has
 pub kind_of_suffix : (kind : Kind) (text same suffix : List ℕ) {found : Found} → IsFound text found → text ≡ same

@@ -1,16 +1,14 @@
 //! The line of a text, of what reading it found: no literal is made of the text, and it isn't copied.
 
-ghost use Rattle.std.specs.Prelude.{◌≡◌, ◌⊎◌, true, OnOk, IfOk, IfNone, IfSome, string_bytes};
-ghost use Rattle.std.specs.List.{list_all};
+ghost use Rattle.std.specs.Prelude.{◌≡◌, ◌⊎◌, OnOk, IfOk, IfNone, IfSome, string_bytes};
 ghost use Rattle.std.specs.Str.{chars};
 ghost use Rattle.rl_forms.specs.declared.kind.Kind.TheVariants.{Str, ByteStr, CStr, Int, Float};
 ghost use Rattle.rl_forms.specs.Reading.{HasNoReading, HasSuffix, truth_text};
 ghost use Rattle.rl_reading.specs.Founds.{IsFound};
-ghost use Rattle.rl_lines.specs.Bare.{is_bare, bare_line};
 ghost use Rattle.rl_lines.specs.FoundLines.{IsShownOf};
 ghost use Rattle.rl_lines.specs.Lines.{Appends, IsLineOf, IsLineOfKind};
 
-use crate::line::{are_bare, push_kind, push_text, push_verbatim};
+use crate::line::{push_kind, push_text, push_verbatim};
 use rl_grammar::{Found, bytes_of_body, digits_of_found, str_of_body};
 use rl_tokens::{CString, Error, Kind, Literal};
 use std::alloc::{AllocError, Allocator};
@@ -73,39 +71,6 @@ fn push_string<A: Allocator>(
     match str_of_body(alloc, body, found.body.plain) {
         Ok(value) => push_text(out, value.as_str(), suffix),
         Err(_) => Err(AllocError),
-    }
-}
-
-/// What stands between the quotes of the string that was found in the text, where its line holds that as it stands.
-#[inline(always)]
-fn bare_string<'t>(text: &'t str, found: &Found) -> Option<&'t str>
-    requires found { IsFound text.now found.now }
-    requires kind { found.now.kind ≡ Str }
-    ensures line { IfSome result (λ value. IsLineOf (chars text.now) (bare_line (chars value.now))) }
-    ensures bare { IfSome result (λ value. list_all is_bare value.now ≡ true) }
-{
-    let body = found.body_in(text);
-    let suffix = found.suffix_in(text);
-    if found.body.plain && suffix.is_empty() && are_bare(body.as_bytes()) {
-        return Some(body);
-    }
-    None
-}
-
-/// The value of the string that was found in the text, where it stands between the quotes and in the string's line as it is,
-/// and no suffix does. So such a line needs no second look. `None` says nothing of the text.
-#[inline(always)]
-pub fn bare_value<'t>(text: &'t str, found: &Option<Found>) -> Option<&'t str>
-    requires { IfSome found.now (IsFound text.now) }
-    ensures line { IfSome result (λ value. IsLineOf (chars text.now) (bare_line (chars value.now))) }
-    ensures bare { IfSome result (λ value. list_all is_bare value.now ≡ true) }
-{
-    let Some(found) = found else {
-        return None;
-    };
-    match found.kind {
-        Kind::Str => bare_string(text, found),
-        _ => None,
     }
 }
 

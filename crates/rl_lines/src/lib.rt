@@ -8,6 +8,6 @@ mod line;
 mod print;
 
 pub use crate::digits::decoded;
-pub use crate::found_line::{bare_value, push_found};
-pub use crate::line::{are_bare, label_of, push_bare};
+pub use crate::found_line::push_found;
+pub use crate::line::{are_bare, bare_value, label_of, push_bare};
 pub use crate::print::{line_of, lines_of, push_literal, push_literals};

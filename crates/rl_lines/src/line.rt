@@ -1,14 +1,15 @@
 //! The pieces of a line: a label, a payload and a suffix.
 
-ghost use Rattle.std.specs.Prelude.{◌≡◌, ◌++◌, ◌==◌, length, IsFalse, OnOk, string_bytes};
+ghost use Rattle.std.specs.Prelude.{◌≡◌, ◌++◌, ◌==◌, ℕ, List, length, IfNone, IfSome, IsFalse, OnOk, string_bytes};
 ghost use Rattle.std.specs.List.{list_all};
 ghost use Rattle.std.specs.Str.{chars};
 ghost use Rattle.rl_forms.specs.declared.kind.Kind.TheVariants.{Str};
 ghost use Rattle.rl_forms.specs.Reading.{Characters};
 ghost use Rattle.rl_forms.specs.Written.{written_text};
-ghost use Rattle.rl_lines.specs.Bare.{is_bare, bare_line};
-ghost use Rattle.rl_lines.specs.Lines.{line, line_end, suffix_word, kind_label, label_of, literal_line, verbatim_line, Appends};
+ghost use Rattle.rl_lines.specs.Bare.{IsBareString, is_bare, bare_line};
+ghost use Rattle.rl_lines.specs.Lines.{line, line_end, suffix_word, kind_label, label_of, literal_line, verbatim_line, Appends, IsLineOf};
 
+use rl_text::text::strip_byte;
 use rl_tokens::ident::xid_ok;
 use rl_tokens::{Kind, push_str_literal};
 use std::alloc::{AllocError, Allocator};
@@ -138,13 +139,28 @@ pub(crate) fn push_kind<A: Allocator>(
     push_line(out, word(kind), shown, suffix)
 }
 
+/// The value of a string literal that has no suffix, where it holds the value as it stands: bare characters between two
+/// quotes. `None` where the text is no such literal.
+#[inline(always)]
+pub fn bare_value(text: &str) -> Option<&str>
+    ensures some { IfSome result (λ value. IsBareString (chars text.now) (chars value.now)) }
+    ensures none { IfNone result ((value : List ℕ) → IsBareString (chars text.now) value → ⊥) }
+    ensures line { IfSome result (λ value. IsLineOf (chars text.now) (bare_line (chars value.now))) }
+{
+    let value = strip_byte(text, b'"')?.strip_suffix("\"")?;
+    if are_bare(value.as_bytes()) {
+        Some(value)
+    } else {
+        None
+    }
+}
+
 /// How the line of a string begins, and how it ends that has no suffix.
 const FRONT: &str = "Str \"";
 
 const END: &str = "\" -\n";
 
-/// Appends the line of a string without a suffix that holds this value as it stands, as
-/// [`bare_value`](crate::bare_value) finds it.
+/// Appends the line of a string without a suffix that holds this value as it stands, as [`bare_value`] finds it.
 ///
 /// # Errors
 ///

@@ -1,6 +1,6 @@
 //! Why a text is no literal, and where.
 
-ghost use Rattle.std.specs.Prelude.{◌≡◌, ◌≤◌, IfNone, IfSome, length, None, IsFalse};
+ghost use Rattle.std.specs.Prelude.{◌≡◌, ◌≤◌, ◌+◌, ◌-◌, IfNone, IfSome, length, None, IsFalse};
 ghost use Rattle.std.specs.Str.{chars};
 ghost use Rattle.rl_forms.specs.Reading.{HasNoReading, HasReading};
 ghost use Rattle.rl_reasons.specs.Flaws.{Explains, IsFlawOf, IsPieceOf, StopsBefore, first_len, place_in};
@@ -204,6 +204,24 @@ impl<'t> FlawAt<'t> {
             rest: self.rest,
         }
     }
+
+    /// This flaw, by its places in the whole text.
+    pub(crate) fn in_text(self, text: &str) -> Flaw
+        requires rest { length self.rest.now ≤ length text.now }
+        requires piece { length self.piece.now ≤ length text.now }
+        ensures kind { result.kind ≡ self.entry.kind }
+        ensures from { result.from ≡ length text.now - length self.entry.piece.now }
+        ensures lo { result.lo ≡ length text.now - length self.entry.rest.now }
+        ensures hi { result.hi ≡ result.lo + first_len (chars self.entry.rest.now) }
+    {
+        let lo = text.len() - self.rest.len();
+        Flaw {
+            kind: self.kind,
+            from: text.len() - self.piece.len(),
+            lo,
+            hi: lo + first_len(self.rest),
+        }
+    }
 }
 
 /// Why a text is no literal, and where.
@@ -346,7 +364,7 @@ fn flaw_at(text: &str) -> FlawAt<'_>
 }
 
 /// How many bytes the first character of the text has; 0 of an empty one.
-pub(crate) fn first_len(text: &str) -> usize
+fn first_len(text: &str) -> usize
     ensures len { result ≡ first_len (chars text.now) }
     ensures within { result ≤ length text.now }
 {
@@ -380,11 +398,5 @@ pub fn explain(text: &str) -> Option<Flaw>
         return None;
     }
     let found = flaw_at(text);
-    let lo = text.len() - found.rest.len();
-    Some(Flaw {
-        kind: found.kind,
-        from: text.len() - found.piece.len(),
-        lo,
-        hi: lo + first_len(found.rest),
-    })
+    Some(found.in_text(text))
 }

@@ -6,7 +6,7 @@ ghost use Rattle.rl_text.specs.Texts.{code};
 ghost use Rattle.rl_reasons.specs.Flaws.{StopsBefore};
 ghost use Rattle.rl_reasons.specs.SignedFlaws.{ExplainsSigned, IsMinusFlawOf, IsSignedToken};
 
-use crate::flaws::{Flaw, FlawAt, FlawKind, end_flaw, first_len};
+use crate::flaws::{Flaw, FlawAt, FlawKind, end_flaw};
 use crate::strict_flaws::{begins_minus, explain};
 use crate::strict_number_flaws::number_flaw;
 use rl_reading::digit_rows::{after_minus, begins_digit};
@@ -59,12 +59,6 @@ pub fn explain_signed(text: &str) -> Option<Flaw>
     if is_number_token(number) {
         return None;
     }
-    let found = minus_flaw(number);
-    let lo = text.len() - found.rest.len();
-    Some(Flaw {
-        kind: found.kind,
-        from: 0,
-        lo,
-        hi: lo + first_len(found.rest),
-    })
+    let found = minus_flaw(number).in_piece(text);
+    Some(found.in_text(text))
 }

@@ -11,7 +11,7 @@ ghost use Rattle.rl_reasons.specs.StrictNumberFlaws.{IsStrictWordFlaw};
 ghost use Rattle.rl_strict.specs.StrictShapes.{IsToken};
 ghost use Rattle.rl_reading.specs.Mirrors.OpenerAt.{opener_at};
 
-use crate::flaws::{Flaw, FlawAt, FlawKind, first_flaw, first_len, make_flaw};
+use crate::flaws::{Flaw, FlawAt, FlawKind, first_flaw, make_flaw};
 use crate::strict_number_flaws::number_flaw;
 use crate::strict_quoted_flaws::quoted_flaw;
 use rl_reading::digit_rows::begins_digit;
@@ -79,11 +79,5 @@ pub fn explain(text: &str) -> Option<Flaw>
         return None;
     }
     let found = flaw_at(text);
-    let lo = text.len() - found.rest.len();
-    Some(Flaw {
-        kind: found.kind,
-        from: text.len() - found.piece.len(),
-        lo,
-        hi: lo + first_len(found.rest),
-    })
+    Some(found.in_text(text))
 }

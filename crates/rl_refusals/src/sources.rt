@@ -4,7 +4,7 @@ use crate::tell::Tell;
 use crate::trial::{Scarce, Trial};
 use rl_program::Fault;
 use rl_refusing::Page;
-use rl_sources::{Form, Judge, Options, ScanError, Shown, Spelling, scan};
+use rl_sources::{Options, ScanError, scan};
 use std::alloc::Allocator;
 
 impl Tell for bool {
@@ -25,19 +25,8 @@ impl<A: Allocator> Tell for ScanError<A> {
 
 /// The scan of a source, and the bytes that it wrote.
 pub fn scanned<A: Scarce>(trial: &Trial<'_, A>, text: &str, page: &mut Page) {
-    let options = Options {
-        shown: Shown::All,
-        finds: None,
-        spelling: Spelling::Value,
-        form: Form::Plain,
-        by_line: false,
-        rejects_strays: false,
-        explains: false,
-        judge: Judge::Rust,
-        path: None,
-    };
     let mut written = Vec::new(trial.alloc);
-    let answer = scan(trial.begins(), options, text, &mut written);
+    let answer = scan(trial.begins(), Options::default(), text, &mut written);
     trial.ends(answer, page);
     page.put("; wrote ");
     page.put_number(written.len());

@@ -40,9 +40,11 @@ message_ascii OutOfMemory = low_text (path_error_message OutOfMemory) refl
 message_ascii ReadFailed = low_text (path_error_message ReadFailed) refl
 
 -- the line of a path that can't be read
-pub error_reported : (path : List ℕ) (why : PathError) (a b errors : List ℕ) → IsUtf8 b → a ≡ codes "rl_scan: " → chars b
+pub error_reported : (path : List ℕ) (why : PathError) (a b errors : List ℕ) → IsUtf8 b → a ≡ codes "rl_scan: "
+    → chars b
     ≡ chars a ++ visible (chars path) → errors ≡ b ++ (codes ": " ++ (path_error_message why ++ codes "\n"))
-    → chars errors ≡ codes "rl_scan: " ++ (visible (chars path) ++ (codes ": " ++ (path_error_message why ++ codes "\n")))
+    → chars errors ≡ codes "rl_scan: " ++ (visible (chars path)
+    ++ (codes ": " ++ (path_error_message why ++ codes "\n")))
 error_reported path why a b errors utf8 first shown written =
     let after : List ℕ = codes ": " ++ (path_error_message why ++ codes "\n") in
     let ascii : IsAscii after = IsAscii-append (codes ": ") (path_error_message why ++ codes "\n")
@@ -75,7 +77,8 @@ was_read command (Some w) path bytes p found (inl (utf8, is)) = inl (bytes, foun
 was_read command (Some w) path bytes p found (inr (why, no_text, is)) = inr (why, inr (inr (bytes, found, no_text)), is)
 
 -- what is no text
-pub no_text_reported : {A E : Type 0} (command : Command) (path bytes : List ℕ) (why : PathError) (r : Result (Report A) E)
+pub no_text_reported : {A E : Type 0} (command : Command) (path bytes : List ℕ) (why : PathError)
+    (r : Result (Report A) E)
     → IsNotUtf8 bytes why → IfOk r (λ p. IsErrorReport path why (in_report p))
     → IfOk r (λ p. (IsUtf8 bytes × IsTextReport command path bytes (in_report p))
     ⊎ ((other : PathError) × IsNotUtf8 bytes other × IsErrorReport path other (in_report p)))

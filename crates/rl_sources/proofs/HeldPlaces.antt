@@ -152,7 +152,8 @@ whole_cut : (kind : Kind) (text : List ℕ) (units : List QuotedUnit) (lo at : �
     → IsCutAt (texts units) at → IsCutAt text (lo + at)
 whole_cut kind text units lo at (inl (v, x, c, are, from)) cut =
     let inside : IsCutAt (texts c.units) at = subst (λ (us : List QuotedUnit). IsCutAt (texts us) at) are cut in
-    let whole = cut_later (opener kind) (texts c.units ++ (34 ∷ x)) at (cut_longer (texts c.units) (34 ∷ x) at inside) in
+    let whole = cut_later (opener kind) (texts c.units ++ (34 ∷ x)) at (cut_longer (texts c.units) (34 ∷ x) at inside)
+    in
     subst (IsCutAt text) (omega (arith, from, opener_long kind)) (subst
     (λ (t : List ℕ). IsCutAt t (byte_len (opener kind) + at)) (sym c.text_is) whole)
 whole_cut kind text units lo at (inr (inl (v, x, r, are, from))) cut =
@@ -169,7 +170,8 @@ whole_cut kind text units lo at (inr (inl (v, x, r, are, from))) cut =
     (λ (t : List ℕ). IsCutAt t (byte_len (raw_opener kind) + (byte_len hashes + (byte_len (34 ∷ []) + at))))
     (sym r.text_is) whole)
 whole_cut kind text units lo at (inr (inr (v, x, s, are, from))) cut =
-    let inside : IsCutAt (unit_text s.unit) at = subst (λ (t : List ℕ). IsCutAt t at) (append-nil (unit_text s.unit)) (subst
+    let inside : IsCutAt (unit_text s.unit) at = subst (λ (t : List ℕ). IsCutAt t at) (append-nil (unit_text s.unit))
+    (subst
     (λ (us : List QuotedUnit). IsCutAt (texts us) at) are cut) in
     let whole = cut_later (opener kind) (unit_text s.unit ++ (39 ∷ x)) at (cut_longer (unit_text s.unit) (39 ∷ x) at
     inside) in

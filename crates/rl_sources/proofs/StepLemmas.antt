@@ -15,9 +15,8 @@ use Rattle.rl_lexer.specs.Sources.{SourceKind, SourceBefore, BeginsNoSource}
 use Rattle.rl_lexer.specs.Cursors.{CursorState}
 use Rattle.rl_reading.specs.declared.found.Found.{Found}
 use Rattle.rl_reading.specs.Founds.{IsFound, suffix_in}
-use Rattle.rl_lines.specs.Bare.{is_bare, bare_line}
+use Rattle.rl_lines.specs.Bare.{IsBareString, is_bare, bare_line}
 use Rattle.rl_lines.specs.Lines.{label_of, IsLabelOf, IsLineOf, Appends}
-use Rattle.rl_lines.proofs.BareLemmas.{bare_chars}
 use Rattle.rl_lines.proofs.LineLemmas.{pushed}
 use Rattle.rl_reasons.specs.declared.flaws.Flaw.{Flaw}
 use Rattle.rl_sources.specs.declared.options.Judge.{Judge}
@@ -176,16 +175,13 @@ plain_then (c ∷ cs) end h k =
     both_true (is_plain_byte c) _ (bare_plain c each.0) (plain_then cs end each.1 k)
 
 -- so is the line of a string whose value it holds as it stands
-bare_visible : (value : List ℕ) → list_all is_bare value ≡ true → bare_line (chars value)
-    ≡ visible_lines (bare_line (chars value))
-bare_visible value bare =
-    rw (bare_chars value bare) (sym (plain_lines (bare_line value) (plain_then value _ bare refl)).0)
+bare_visible : (value : List ℕ) → list_all is_bare value ≡ true → bare_line value ≡ visible_lines (bare_line value)
+bare_visible value bare = sym (plain_lines (bare_line value) (plain_then value _ bare refl)).0
 
-pub bare_printed : (text value old new : List ℕ) → IsLineOf text (bare_line (chars value))
-    → list_all is_bare value ≡ true → new ≡ old ++ bare_line (chars value)
-    → Appends (IsPrintedAs Value text) old new
+pub bare_printed : (text value old new : List ℕ) → IsLineOf text (bare_line value) → IsBareString text value
+    → new ≡ old ++ bare_line value → Appends (IsPrintedAs Value text) old new
 bare_printed text value old new is bare e =
-    (bare_line (chars value), (bare_line (chars value), is, bare_visible value bare), e)
+    (bare_line value, (bare_line value, is, bare_visible value bare.1), e)
 
 -- what stands before it, and the line
 pub line_at : (options : Options) (text : List ℕ) (place : Place) (old mid new : List ℕ)
@@ -208,7 +204,8 @@ explained options whole text lo hi old new asked (shown, is, e) = (shown, inl (a
 
 -- a line that doesn't
 pub unexplained : (options : Options) (whole text : List ℕ) (lo hi : ℕ) (old new : List ℕ)
-    → (IsTrue options.explains → FindsNoFlaw options.judge text) → Appends (IsPlacedLine options whole text lo hi) old new
+    → (IsTrue options.explains → FindsNoFlaw options.judge text)
+    → Appends (IsPlacedLine options whole text lo hi) old new
     → Appends (IsLineIn options whole text lo hi) old new
 unexplained options whole text lo hi old new passes (shown, is, e) = (shown, inr (passes, is), e)
 

@@ -68,6 +68,41 @@ pub struct Options<'a> {
     pub path: Option<&'a str>,
 }
 
+impl Default for Options<'_> {
+    ghost use Rattle.std.specs.Prelude.{◌≡◌, None, false};
+    ghost use Rattle.rl_sources.specs.declared.options.Form.TheVariants.{Plain};
+    ghost use Rattle.rl_sources.specs.declared.options.Judge.TheVariants.{Rust};
+    ghost use Rattle.rl_sources.specs.declared.options.Shown.TheVariants.{All};
+    ghost use Rattle.rl_sources.specs.declared.options.Spelling.TheVariants.{Value};
+
+    ghost is_default = { λ options. options ≡ record {
+      shown = All;
+      finds = None;
+      spelling = Value;
+      form = Plain;
+      by_line = false;
+      rejects_strays = false;
+      explains = false;
+      judge = Rust;
+      path = None;
+    } };
+
+    /// All literals, each by its value after its place in bytes, without reasons; bad ones by Rust's grammar.
+    fn default() -> Self {
+        Options {
+            shown: Shown::All,
+            finds: None,
+            spelling: Spelling::Value,
+            form: Form::Plain,
+            by_line: false,
+            rejects_strays: false,
+            explains: false,
+            judge: Judge::Rust,
+            path: None,
+        }
+    }
+}
+
 /// Whether this is one of the words of a list, in any case of its letters; commas separate the words.
 pub fn names(list: &str, label: &str) -> bool
     ensures { IsTrue result ↔ Names list.now label.now }

@@ -60,7 +60,7 @@ fn push_text_line<A: Allocator + Copy>(
     ensures { OnOk result (Appends (IsPrintedAs Value (chars text.now))
         (chars (string_bytes out.old)) (chars (string_bytes out.new))) }
 {
-    match bare_value(text, found) {
+    match bare_value(text) {
         Some(value) => push_bare(out, value),
         None => push_made_line(alloc, out, text, *found),
     }

@@ -1,16 +1,17 @@
 //! Names that were taken, in an order of their own.
 
-ghost use Rattle.std.specs.Prelude.{◌≡◌, ◌&&◌, ◌==◌, Some, refl};
-ghost use Rattle.std.specs.Cmp.{and_equiv, and_per, both_tied, nat_cmp_total, nat_eq_equiv, on_equiv, on_per, on_po, on_total, partial_equiv_from_equiv, po, then_total, unsigned_ties};
-ghost use Rattle.std.specs.Cmp.Lexicographic.{nat_list_cmp_total, nat_list_eq_equiv, texts_ties};
-ghost use Rattle.std.specs.Str.{bytes_eq};
+ghost use Rattle.std.specs.Prelude.{◌≡◌};
+ghost use Rattle.std.proofs.Common.{rules};
+ghost use Rattle.std.specs.Cmp.{partial_order_from_own_ties};
+ghost use Rattle.std.specs.Cmp.Rules.{comparing};
+ghost use Rattle.std.specs.Ordering.{as_partial_cmp};
 ghost use Rattle.rl_attributes.specs.Names.{name_key, name_cmp};
 
 use std::cmp::Ordering;
 
 /// A name as it stands in the trees, and the number that its last eight bytes are. Most names are told apart by their numbers
 /// alone, so these are compared first.
-#[derive(Clone, Copy)]
+#[derive(Clone, Copy, PartialEq, Eq)]
 pub(crate) struct Name<'a> {
     key: u64,
     text: &'a str,
@@ -39,24 +40,10 @@ impl<'a> Name<'a> {
     }
 }
 
-impl PartialEq for Name<'_> {
-    ghost eq = { λ x y. (x.key == y.key) && bytes_eq x.text.now y.text.now };
-
-    ghost laws = { and_per (on_per (λ n. n.key) (partial_equiv_from_equiv nat_eq_equiv)) (on_per (λ n. n.text.now) (partial_equiv_from_equiv nat_list_eq_equiv)) };
-
-    fn eq(&self, other: &Self) -> bool {
-        self.key == other.key && self.text == other.text
-    }
-}
-
-impl Eq for Name<'_> {
-    ghost laws = { and_equiv (on_equiv (λ n. n.key) nat_eq_equiv) (on_equiv (λ n. n.text.now) nat_list_eq_equiv) };
-}
-
 impl PartialOrd for Name<'_> {
-    ghost partial_cmp = { λ x y. Some (name_cmp x y) };
+    ghost partial_cmp = { as_partial_cmp name_cmp };
 
-    ghost laws = { po (then_total (on_total (λ n. n.key) nat_cmp_total) (on_total (λ n. n.text.now) nat_list_cmp_total)) (λ x y. both_tied _ _ _ _ (unsigned_ties x.key y.key) (texts_ties x.text.now y.text.now)) };
+    ghost laws = { partial_order_from_own_ties (Prim.search (comparing, rules)) (Prim.search (comparing, rules)) };
 
     fn partial_cmp(&self, other: &Self) -> Option<Ordering> {
         Some(self.cmp(other))
@@ -67,11 +54,11 @@ impl PartialOrd for Name<'_> {
 impl Ord for Name<'_> {
     ghost cmp = { name_cmp };
 
-    ghost total = { then_total (on_total (λ n. n.key) nat_cmp_total) (on_total (λ n. n.text.now) nat_list_cmp_total) };
+    ghost total = { Prim.search (comparing, rules) };
 
-    ghost matches_partial_cmp = { λ x y. refl };
+    ghost matches_partial_cmp = { Prim.search (comparing, rules) };
 
-    ghost matches_eq = { λ x y. both_tied _ _ _ _ (unsigned_ties x.key y.key) (texts_ties x.text.now y.text.now) };
+    ghost matches_eq = { Prim.search (comparing, rules) };
 
     #[inline(always)]
     fn cmp(&self, other: &Self) -> Ordering {

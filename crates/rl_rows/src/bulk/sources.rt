@@ -1,6 +1,6 @@
 //! The literals of a whole source.
 
-use rl_sources::{Form, Judge, Options, ScanError, Shown, Spelling, scan};
+use rl_sources::{Options, ScanError, scan};
 use std::alloc::{AllocError, Global};
 use std::fmt::Write as _;
 
@@ -17,19 +17,8 @@ fn last_lines(alloc: Global, answer: Result<bool, ScanError>) -> Result<String, 
 /// The lines of the source's literals, each after its place; at an error its line; and one with a
 /// point.
 pub(crate) fn source_answer(alloc: Global, text: &str) -> Result<String, AllocError> {
-    let options = Options {
-        shown: Shown::All,
-        finds: None,
-        spelling: Spelling::Value,
-        form: Form::Plain,
-        by_line: false,
-        rejects_strays: false,
-        explains: false,
-        judge: Judge::Rust,
-        path: None,
-    };
     let mut lines = Vec::new(alloc);
-    let answer = scan(alloc, options, text, &mut lines);
+    let answer = scan(alloc, Options::default(), text, &mut lines);
     let last = last_lines(alloc, answer)?;
     lines.extend_from_slice(last.as_bytes())?;
     match String::from_utf8(lines) {

@@ -3,7 +3,7 @@
 
 mod bad_quote;
 
-use crate::rl_lexer::lexeme::{Form, number_or_other, word_or_mark};
+use crate::rl_lexer::lexeme::{Form, number_or_other, rebuilt, word_or_mark};
 use crate::rl_lexer::no_token::{begins_raw_identifier, opens};
 use crate::rl_lexer::whitespace::{after_block, is_comment_block, is_comment_line, skip};
 use bad_quote::after_bad_quote;
@@ -81,13 +81,10 @@ fn is_truth(text: &str) -> bool {
 /// joins with it.
 #[inline(always)]
 fn rebuilt_source(text: &str) -> Option<(SourceForm, &str)> {
-    match source_by_characters(text) {
-        Some((form, following)) => Some((form, following)),
-        None => None,
-    }
+    rebuilt(source_by_characters(text))
 }
 
-/// The token at the front of a text, as its first characters tell it.
+/// The token at the front of a text, by its first characters.
 #[inline(never)]
 fn source_by_characters(text: &str) -> Option<(SourceForm, &str)> {
     if let Some((form, following)) = other_token(text) {

@@ -156,6 +156,17 @@ impl<'t> FlawAt<'t> {
             rest: self.rest,
         }
     }
+
+    /// This flaw, by its places in the whole text.
+    pub(crate) fn in_text(self, text: &str) -> Flaw {
+        let lo = text.len() - self.rest.len();
+        Flaw {
+            kind: self.kind,
+            from: text.len() - self.piece.len(),
+            lo,
+            hi: lo + first_len(self.rest),
+        }
+    }
 }
 
 /// Why a text is no literal, and where.
@@ -263,7 +274,7 @@ fn flaw_at(text: &str) -> FlawAt<'_> {
 }
 
 /// How many bytes the first character of the text has; 0 of an empty one.
-pub(crate) fn first_len(text: &str) -> usize {
+fn first_len(text: &str) -> usize {
     match split_char(text) {
         Some((_, after)) => text.len() - after.len(),
         None => 0,
@@ -280,11 +291,5 @@ pub fn explain(text: &str) -> Option<Flaw> {
         return None;
     }
     let found = flaw_at(text);
-    let lo = text.len() - found.rest.len();
-    Some(Flaw {
-        kind: found.kind,
-        from: text.len() - found.piece.len(),
-        lo,
-        hi: lo + first_len(found.rest),
-    })
+    Some(found.in_text(text))
 }

@@ -1,7 +1,7 @@
 // Rendered from crates/rl_reasons/src/signed_flaws.rt by tools/render, which erases contracts: change that file, and render anew.
 //! Why a text is neither a literal token of the strict grammar nor a minus and a number, and where.
 
-use crate::rl_reasons::flaws::{Flaw, FlawAt, FlawKind, end_flaw, first_len};
+use crate::rl_reasons::flaws::{Flaw, FlawAt, FlawKind, end_flaw};
 use crate::rl_reasons::strict_flaws::{begins_minus, explain};
 use crate::rl_reasons::strict_number_flaws::number_flaw;
 use crate::rl_reading::digit_rows::{after_minus, begins_digit};
@@ -33,12 +33,6 @@ pub fn explain_signed(text: &str) -> Option<Flaw> {
     if is_number_token(number) {
         return None;
     }
-    let found = minus_flaw(number);
-    let lo = text.len() - found.rest.len();
-    Some(Flaw {
-        kind: found.kind,
-        from: 0,
-        lo,
-        hi: lo + first_len(found.rest),
-    })
+    let found = minus_flaw(number).in_piece(text);
+    Some(found.in_text(text))
 }

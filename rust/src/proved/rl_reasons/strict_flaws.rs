@@ -1,7 +1,7 @@
 // Rendered from crates/rl_reasons/src/strict_flaws.rt by tools/render, which erases contracts: change that file, and render anew.
 //! Why a text is no literal token of the strict grammar, and where.
 
-use crate::rl_reasons::flaws::{Flaw, FlawAt, FlawKind, first_flaw, first_len, make_flaw};
+use crate::rl_reasons::flaws::{Flaw, FlawAt, FlawKind, first_flaw, make_flaw};
 use crate::rl_reasons::strict_number_flaws::number_flaw;
 use crate::rl_reasons::strict_quoted_flaws::quoted_flaw;
 use crate::rl_reading::digit_rows::begins_digit;
@@ -43,11 +43,5 @@ pub fn explain(text: &str) -> Option<Flaw> {
         return None;
     }
     let found = flaw_at(text);
-    let lo = text.len() - found.rest.len();
-    Some(Flaw {
-        kind: found.kind,
-        from: text.len() - found.piece.len(),
-        lo,
-        hi: lo + first_len(found.rest),
-    })
+    Some(found.in_text(text))
 }

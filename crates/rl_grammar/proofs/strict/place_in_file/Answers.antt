@@ -24,7 +24,8 @@ loop-left-preserved c =
       utf8 = search rules;
       following = tail_step _ _ _ before.following c.in-Some.ensures.following;
       same = passed_dropped _ _ _ _ _ _ c.in-Some.c c.loop-left.left before.same c.in-Some.ensures.chars
-          c.in-Some.ensures.bytes (some_left _ (omega (arith, c.loop-left-test.true))) (sym c.if-not-is_dropped.ensures);
+          c.in-Some.ensures.bytes (some_left _ (omega (arith, c.loop-left-test.true)))
+          (sym c.if-not-is_dropped.ensures);
     }
 
 pub returns : goal.returns

@@ -11,8 +11,10 @@ returns-in_default-byte-clause-rest c =
 
 pub returns-in_default-2-clause-following : goal.returns-in_default-2-clause-following
 returns-in_default-2-clause-following c = rw c.rebuilt-in_default-2.ensures
-    (some_tail _ _ _ c.literal_or_identifier.result c.in-Some.ensures.following c.literal_or_identifier.ensures.following)
+    (some_tail _ _ _ c.literal_or_identifier.result c.in-Some.ensures.following
+    c.literal_or_identifier.ensures.following)
 
 pub returns-in_default-2-clause-shorter : goal.returns-in_default-2-clause-shorter
 returns-in_default-2-clause-shorter c = rw c.rebuilt-in_default-2.ensures
-    (some_nearer _ _ _ c.literal_or_identifier.result c.in-Some.ensures.shorter c.literal_or_identifier.ensures.following)
+    (some_nearer _ _ _ c.literal_or_identifier.result c.in-Some.ensures.shorter
+    c.literal_or_identifier.ensures.following)

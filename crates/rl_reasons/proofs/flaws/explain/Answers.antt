@@ -1,11 +1,10 @@
-use Rattle.rl_text.proofs.Common.{rules, arith, ap, ◌+◌, length, sym, ◌∙◌, IsUtf8}
-use Rattle.std.proofs.Common.{◌-◌}
+use Rattle.rl_text.proofs.Common.{rules, arith, sym, ◌∙◌, IsUtf8}
 use Rattle.std.specs.Str.{chars}
 use Rattle.rl_reasons.proofs.ExplainLemmas.{front_bytes, piece_bytes, piece_front, some_reads}
 use Rattle.rl_reasons.proofs.flaws.explain.Goals as goal
 
-pub overflow_sub-lo : goal.overflow_sub-lo
-overflow_sub-lo c =
+pub in_text-requires-clause-rest : goal.in_text-requires-clause-rest
+in_text-requires-clause-rest c =
     let rest : IsUtf8 c.flaw_at-found.result.rest.now = search rules in
     omega (
       arith,
@@ -13,8 +12,8 @@ overflow_sub-lo c =
           c.flaw_at-found.ensures.stops,
     )
 
-pub overflow_sub-result : goal.overflow_sub-result
-overflow_sub-result c =
+pub in_text-requires-clause-piece : goal.in_text-requires-clause-piece
+in_text-requires-clause-piece c =
     let piece : IsUtf8 c.flaw_at-found.result.piece.now = search rules in
     omega (
       arith,
@@ -37,15 +36,15 @@ returns-clause-some c =
       place = record {
         rest = chars c.flaw_at-found.result.rest.now;
         stops = c.flaw_at-found.ensures.stops;
-        lo_is = omega (arith, whole);
-        hi_is = ap (λ z. (length c.args.text.now - length c.flaw_at-found.result.rest.now) + z) c.first_len.ensures.len;
+        lo_is = omega (arith, whole, c.in_text.ensures.lo);
+        hi_is = c.in_text.ensures.hi;
       };
-      kind = c.flaw_at-found.ensures.kind;
+      kind = rw c.in_text.ensures.kind c.flaw_at-found.ensures.kind;
       piece = record {
         before = cut.0;
         piece = chars c.flaw_at-found.result.piece.now;
         text_is = cut.1;
-        from_is = omega (arith, spoiled);
+        from_is = omega (arith, spoiled, c.in_text.ensures.from);
         piece_is = c.flaw_at-found.ensures.piece;
       };
     }

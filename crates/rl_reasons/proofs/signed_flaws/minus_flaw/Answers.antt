@@ -3,7 +3,8 @@ use Rattle.rl_reasons.proofs.SignedFlaws.{no_digit, number_stops}
 use Rattle.rl_reasons.proofs.signed_flaws.minus_flaw.Goals as goal
 
 pub number_flaw-requires-clause-none : goal.number_flaw-requires-clause-none
-number_flaw-requires-clause-none c = λ y. c.requires.none (inr (_, refl, sym c.begins_digit.ensures ∙ c.if-begins_digit.true, y))
+number_flaw-requires-clause-none c = λ y. c.requires.none (inr
+    (_, refl, sym c.begins_digit.ensures ∙ c.if-begins_digit.true, y))
 
 pub number_flaw-requires-clause-number : goal.number_flaw-requires-clause-number
 number_flaw-requires-clause-number c = sym c.begins_digit.ensures ∙ c.if-begins_digit.true

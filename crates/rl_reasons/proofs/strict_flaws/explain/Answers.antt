@@ -1,5 +1,4 @@
-use Rattle.rl_text.proofs.Common.{rules, arith, ap, ◌+◌, length, IsUtf8}
-use Rattle.std.proofs.Common.{◌-◌}
+use Rattle.rl_text.proofs.Common.{rules, arith, IsUtf8}
 use Rattle.std.specs.Str.{chars}
 use Rattle.rl_reasons.proofs.StrictExplainLemmas.{front_bytes, piece_bytes, piece_front, never_token}
 use Rattle.rl_reasons.proofs.strict_flaws.explain.Goals as goal
@@ -7,8 +6,8 @@ use Rattle.rl_reasons.proofs.strict_flaws.explain.Goals as goal
 pub flaw_at-found-requires : goal.flaw_at-found-requires
 flaw_at-found-requires c = never_token _ _ c.is_token.ensures c.if-is_token.false
 
-pub overflow_sub-lo : goal.overflow_sub-lo
-overflow_sub-lo c =
+pub in_text-requires-clause-rest : goal.in_text-requires-clause-rest
+in_text-requires-clause-rest c =
     let rest : IsUtf8 c.flaw_at-found.result.rest.now = search rules in
     omega (
       arith,
@@ -16,8 +15,8 @@ overflow_sub-lo c =
           c.flaw_at-found.ensures.stops,
     )
 
-pub overflow_sub-result : goal.overflow_sub-result
-overflow_sub-result c =
+pub in_text-requires-clause-piece : goal.in_text-requires-clause-piece
+in_text-requires-clause-piece c =
     let piece : IsUtf8 c.flaw_at-found.result.piece.now = search rules in
     omega (
       arith,
@@ -41,14 +40,14 @@ returns-clause-some c =
       place = record {
         rest = chars c.flaw_at-found.result.rest.now;
         stops = c.flaw_at-found.ensures.stops;
-        lo_is = omega (arith, whole);
-        hi_is = ap (λ z. (length c.args.text.now - length c.flaw_at-found.result.rest.now) + z) c.first_len.ensures.len;
+        lo_is = omega (arith, whole, c.in_text.ensures.lo);
+        hi_is = c.in_text.ensures.hi;
       };
       before = cut.0;
       piece = chars c.flaw_at-found.result.piece.now;
       text_is = cut.1;
-      from_is = omega (arith, spoiled);
-      kind = c.flaw_at-found.ensures.kind;
+      from_is = omega (arith, spoiled, c.in_text.ensures.from);
+      kind = rw c.in_text.ensures.kind c.flaw_at-found.ensures.kind;
     }
 
 pub returns-then-is_token-clause-none : goal.returns-then-is_token-clause-none

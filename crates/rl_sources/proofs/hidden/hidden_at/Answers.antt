@@ -37,4 +37,5 @@ loop-c-preserved c = record {
 }
 
 pub returns-clause-none : goal.returns-clause-none
-returns-clause-none c = passed_all c.args.text.now c.loop-c.rest.now c.loop-c.invariant.passed c.in_default.ensures.chars
+returns-clause-none c = passed_all c.args.text.now c.loop-c.rest.now c.loop-c.invariant.passed
+    c.in_default.ensures.chars

@@ -12,5 +12,6 @@ place_inside-place-requires-clause-within g c = (has_place c.args.options.now.ju
 
 pub returns-clause-shown : goal.returns-clause-shown
 returns-clause-shown g c = on_ok_weaker c.push_flaw_at.result (flaw_placed c.args.options.now (chars c.args.places.now)
-    (chars c.args.literal.now.token.now.text.now) c.args.literal.now.token.now.lo c.args.flaw c.place_inside-place.result _ _
+    (chars c.args.literal.now.token.now.text.now) c.args.literal.now.token.now.lo c.args.flaw
+    c.place_inside-place.result _ _
     c.requires.flaw c.place_inside-place.ensures.place) c.push_flaw_at.ensures

@@ -27,7 +27,8 @@ push_literal_token-requires g c =
     let takes = rw c.in-Ok-Some.field-0-is at c.in-Ok-Some.ensures.literal in
     let stands = stands_before c.args.options c.loop-options.tokens takes.between c.loop-options.places
     c.loop-options.invariant.stands takes.unshown in
-    begins_rest takes.between c.next_literal.new.tokens c.loop-options.places c.rest_at-rest.result.now c.in-Ok-Some.token
+    begins_rest takes.between c.next_literal.new.tokens c.loop-options.places c.rest_at-rest.result.now
+    c.in-Ok-Some.token
     stands takes.takes (rest_is takes.between.text c.loop-options.places takes.between.rest c.rest_at-rest.result.now
     c.in-Ok-Some.token.lo stands.cursor stands.text_is takes.takes.place c.rest_at-rest.ensures)
 

@@ -9,5 +9,6 @@ returns-in_default-clause-shown g c = not_held c.args.sought.now c.args.options.
 
 pub returns-clause-shown : goal.returns-clause-shown
 returns-clause-shown g c = on_ok_weaker c.push_inside.result (at_held c.args.sought.now c.args.options.now
-    (chars c.args.places.now) (chars c.args.literal.now.token.now.text.now) c.args.literal.now.token.now.lo c.in-Some.range.0
+    (chars c.args.places.now) (chars c.args.literal.now.token.now.text.now) c.args.literal.now.token.now.lo
+    c.in-Some.range.0
     c.in-Some.range.1 _ _ (rw c.in-Some.is at c.in_ok-range.ensures.some)) c.push_inside.ensures.shown

@@ -18,5 +18,6 @@ push_inside-requires-clause-within g c = hidden_within (chars c.args.literal.now
 
 pub returns-clause-shown : goal.returns-clause-shown
 returns-clause-shown g c = on_ok_weaker c.push_inside.result (at_hidden c.args.options.now (chars c.args.places.now)
-    (chars c.args.literal.now.token.now.text.now) c.args.literal.now.token.now.lo c.in-Some.range.0 c.in-Some.range.1 _ _
+    (chars c.args.literal.now.token.now.text.now) c.args.literal.now.token.now.lo c.in-Some.range.0 c.in-Some.range.1 _
+    _
     c.in-Some.ensures.some) c.push_inside.ensures.shown

@@ -5,5 +5,6 @@ use Rattle.rl_sources.proofs.step.push_inside.Goals as goal
 pub returns-clause-shown : goal.returns-clause-shown
 returns-clause-shown g c = on_ok_weaker c.push_line_at.result (placed c.args.options.now (chars c.args.places.now)
     (chars c.args.literal.now.token.now.text.now) (c.args.literal.now.token.now.lo + c.args.range.0)
-    (c.args.literal.now.token.now.lo + c.args.range.1) c.place_inside-place.result _ _ c.place_inside-place.ensures.place)
+    (c.args.literal.now.token.now.lo + c.args.range.1) c.place_inside-place.result _ _
+    c.place_inside-place.ensures.place)
     c.push_line_at.ensures

@@ -3,5 +3,6 @@ use Rattle.rl_sources.proofs.StepLemmas.{line_at}
 use Rattle.rl_sources.proofs.step.push_line_at.Goals as goal
 
 pub returns : goal.returns
-returns g c = on_ok_weaker c.push_line_end.result (line_at c.args.options.now (chars c.args.literal.now.token.now.text.now)
+returns g c = on_ok_weaker c.push_line_end.result (line_at c.args.options.now
+    (chars c.args.literal.now.token.now.text.now)
     c.args.place _ _ _ c.in_ok-push_front.ensures) c.push_line_end.ensures
