@@ -87,7 +87,7 @@ impl Default for Options<'_> {
       path = None;
     } };
 
-    /// All literals, each by its value after its place in bytes, without reasons; bad ones by Rust's grammar.
+    /// All literals, each by its value after its place in bytes, without reasons. Rust's grammar says which are bad.
     fn default() -> Self {
         Options {
             shown: Shown::All,
