@@ -106,7 +106,7 @@ fn rebuilt_lexeme(text: &str) -> Option<(Form, &str)>
 
 /// The lexeme that the text begins with, by its first character, which is no digit.
 #[inline(never)]
-#[tactic(auto, using(crate::proofs::NumberEnds::slash_first, crate::proofs::WordsAndMarks::stray_first, rl_text::proofs::TailLemmas::tail_step, rl_text::proofs::TailLemmas::some_tail, rl_text::proofs::TailLemmas::some_nearer))]
+#[tactic(auto, using(crate::proofs::NumberEnds::quote_first, crate::proofs::NumberEnds::apostrophe_first, crate::proofs::NumberEnds::slash_first, crate::proofs::WordsAndMarks::stray_first, rl_text::proofs::TailLemmas::tail_step, rl_text::proofs::TailLemmas::some_tail, rl_text::proofs::TailLemmas::some_nearer))]
 fn lexeme_but_number(text: &str) -> Option<(Form, &str)>
     requires { IsFalse (first_passes is_ascii_digit (chars text.now)) }
     ensures rest { option_map (λ p. (form_view p.0, chars p.1.now)) result
@@ -118,8 +118,8 @@ fn lexeme_but_number(text: &str) -> Option<(Form, &str)>
         return rebuilt(wide_identifier(text));
     };
     match byte {
-        b'"' => literal_before(after_quoted(following)),
-        b'\'' => literal_before(after_character(following)),
+        b'"' => quoted_literal(following),
+        b'\'' => character_literal(following),
         b'/' => rebuilt(after_slash(following)),
         _ if is_mark_alone(byte) => Some((mark_form(byte as char), following)),
         _ if is_start(byte as char) => rebuilt(literal_or_identifier(byte as char, following)),
@@ -163,12 +163,10 @@ fn literal_or_identifier(letter: char, text: &str) -> Option<(Form, &str)>
     ensures following { IfSome result (λ p. IsTail text.now p.1.now) }
 {
     match letter {
-        'b' | 'c' if begins_with(text, '"') => literal_before(after_quoted(without_first(text))),
-        'b' if begins_with(text, '\'') => literal_before(after_character(without_first(text))),
-        'b' | 'c' if begins_raw_literal(text) => literal_before(after_raw_literal(without_first(
-            text,
-        ))),
-        'r' if begins_hashed_quote(text) => literal_before(after_raw_literal(text)),
+        'b' | 'c' if begins_with(text, '"') => quoted_literal(without_first(text)),
+        'b' if begins_with(text, '\'') => character_literal(without_first(text)),
+        'b' | 'c' if begins_raw_literal(text) => raw_literal(without_first(text)),
+        'r' if begins_hashed_quote(text) => raw_literal(text),
         'r' if begins_marked_identifier(text) => None,
         _ => Some((Form::Identifier, skip_word(text))),
     }
@@ -294,15 +292,36 @@ fn mark_form(c: char) -> Form
     }
 }
 
-/// A literal, where something follows it.
+// These three are alike, and stay apart: what a call returns has its room cleared where the function that calls begins.
+
+/// A quoted literal, after its opening quote.
 #[inline(always)]
-fn literal_before(following: Option<&str>) -> Option<(Form, &str)>
+fn quoted_literal(text: &str) -> Option<(Form, &str)>
     ensures rest { option_map (λ p. (form_view p.0, chars p.1.now)) result
-        ≡ literal_at (option_map (λ rest. chars rest.now) following.entry) }
-    ensures following { (text : List ℕ) → IfSome following.entry (λ rest. IsTail text rest.now)
-        → IfSome result (λ p. IsTail text p.1.now) }
+        ≡ literal_at (quoted_at (chars text.now)) }
+    ensures following { IfSome result (λ p. IsTail text.now p.1.now) }
 {
-    Some((Form::Literal, following?))
+    Some((Form::Literal, after_quoted(text)?))
+}
+
+/// A character or a byte, after its opening quote.
+#[inline(always)]
+fn character_literal(text: &str) -> Option<(Form, &str)>
+    ensures rest { option_map (λ p. (form_view p.0, chars p.1.now)) result
+        ≡ literal_at (single_at (chars text.now)) }
+    ensures following { IfSome result (λ p. IsTail text.now p.1.now) }
+{
+    Some((Form::Literal, after_character(text)?))
+}
+
+/// A raw literal, after its `r`.
+#[inline(always)]
+fn raw_literal(text: &str) -> Option<(Form, &str)>
+    ensures rest { option_map (λ p. (form_view p.0, chars p.1.now)) result
+        ≡ literal_at (raw_at (chars text.now)) }
+    ensures following { IfSome result (λ p. IsTail text.now p.1.now) }
+{
+    Some((Form::Literal, after_raw_literal(text)?))
 }
 
 /// After a slash, which is a mark where it begins no comment.

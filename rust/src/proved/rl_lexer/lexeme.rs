@@ -76,8 +76,8 @@ fn lexeme_but_number(text: &str) -> Option<(Form, &str)> {
         return rebuilt(wide_identifier(text));
     };
     match byte {
-        b'"' => literal_before(after_quoted(following)),
-        b'\'' => literal_before(after_character(following)),
+        b'"' => quoted_literal(following),
+        b'\'' => character_literal(following),
         b'/' => rebuilt(after_slash(following)),
         _ if is_mark_alone(byte) => Some((mark_form(byte as char), following)),
         _ if is_start(byte as char) => rebuilt(literal_or_identifier(byte as char, following)),
@@ -108,12 +108,10 @@ fn wide_identifier(text: &str) -> Option<(Form, &str)> {
 #[inline(never)]
 fn literal_or_identifier(letter: char, text: &str) -> Option<(Form, &str)> {
     match letter {
-        'b' | 'c' if begins_with(text, '"') => literal_before(after_quoted(without_first(text))),
-        'b' if begins_with(text, '\'') => literal_before(after_character(without_first(text))),
-        'b' | 'c' if begins_raw_literal(text) => literal_before(after_raw_literal(without_first(
-            text,
-        ))),
-        'r' if begins_hashed_quote(text) => literal_before(after_raw_literal(text)),
+        'b' | 'c' if begins_with(text, '"') => quoted_literal(without_first(text)),
+        'b' if begins_with(text, '\'') => character_literal(without_first(text)),
+        'b' | 'c' if begins_raw_literal(text) => raw_literal(without_first(text)),
+        'r' if begins_hashed_quote(text) => raw_literal(text),
         'r' if begins_marked_identifier(text) => None,
         _ => Some((Form::Identifier, skip_word(text))),
     }
@@ -218,10 +216,24 @@ fn mark_form(c: char) -> Form {
     }
 }
 
-/// A literal, where something follows it.
+// These three are alike, and stay apart: what a call returns has its room cleared where the function that calls begins.
+
+/// A quoted literal, after its opening quote.
 #[inline(always)]
-fn literal_before(following: Option<&str>) -> Option<(Form, &str)> {
-    Some((Form::Literal, following?))
+fn quoted_literal(text: &str) -> Option<(Form, &str)> {
+    Some((Form::Literal, after_quoted(text)?))
+}
+
+/// A character or a byte, after its opening quote.
+#[inline(always)]
+fn character_literal(text: &str) -> Option<(Form, &str)> {
+    Some((Form::Literal, after_character(text)?))
+}
+
+/// A raw literal, after its `r`.
+#[inline(always)]
+fn raw_literal(text: &str) -> Option<(Form, &str)> {
+    Some((Form::Literal, after_raw_literal(text)?))
 }
 
 /// After a slash, which is a mark where it begins no comment.
