@@ -50,6 +50,7 @@ mod parse_error;
 mod places;
 #[cfg(feature = "proc-macro")]
 mod proc_macros;
+#[cfg_attr(feature = "rendered", allow(missing_docs))]
 #[allow(dead_code, unused_imports, unused_variables)]
 #[allow(clippy::style, clippy::complexity, clippy::pedantic)]
 #[rustfmt::skip]
@@ -63,6 +64,13 @@ mod strings;
 mod unicode;
 mod words;
 mod write;
+
+/// The core as it is rendered, for the programs of this repository. Its names may change with each version.
+#[cfg(feature = "rendered")]
+#[doc(hidden)]
+pub mod rendered {
+    pub use crate::proved::{rl_forms, rl_lexer, rl_reading, rl_reasons, rl_strict, rl_text};
+}
 
 use proved::{rl_forms, rl_lexer, rl_reading, rl_reasons, rl_strict, rl_text};
 

@@ -8,12 +8,6 @@ pub use crate::rl_reasons::FlawKind;
 use core::fmt;
 use core::ops::Range;
 
-impl fmt::Display for FlawKind {
-    fn fmt(&self, f: &mut fmt::Formatter<'_>) -> fmt::Result {
-        f.pad(self.words())
-    }
-}
-
 /// The place in a text of one in the same text without the CR of each CR LF: before that CR, and after its LF.
 fn place_in_file(text: &str, place: usize) -> usize {
     let bytes = text.as_bytes();

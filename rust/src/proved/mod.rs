@@ -1,8 +1,8 @@
 //! What `tools/render` makes of the core crates: their functions without the contracts.
 
-pub(crate) mod rl_forms;
-pub(crate) mod rl_lexer;
-pub(crate) mod rl_reading;
-pub(crate) mod rl_reasons;
-pub(crate) mod rl_strict;
-pub(crate) mod rl_text;
+pub mod rl_forms;
+pub mod rl_lexer;
+pub mod rl_reading;
+pub mod rl_reasons;
+pub mod rl_strict;
+pub mod rl_text;

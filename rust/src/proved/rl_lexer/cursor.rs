@@ -82,3 +82,13 @@ impl<'t> Tokens<'t> {
         self.rest
     }
 }
+
+/// The tokens up to the first place where none begins; [`Tokens::error`] then says why.
+impl<'t> Iterator for Tokens<'t> {
+    type Item = Lexeme<'t>;
+
+    #[inline(always)]
+    fn next(&mut self) -> Option<Lexeme<'t>> {
+        Tokens::next(self)
+    }
+}

@@ -1,6 +1,7 @@
 // Rendered from crates/rl_lexer/src/lex_error.rt by tools/render, which erases contracts: change that file, and render anew.
 //! What the lexer rejects.
 
+use core::fmt;
 
 /// Why a text was not cut into trees, and where.
 #[derive(Clone, Copy, PartialEq, Eq, Debug)]
@@ -62,3 +63,11 @@ impl LexKind {
         }
     }
 }
+
+impl fmt::Display for LexKind {
+    fn fmt(&self, f: &mut fmt::Formatter<'_>) -> fmt::Result {
+        f.pad(self.words())
+    }
+}
+
+impl core::error::Error for LexKind {}

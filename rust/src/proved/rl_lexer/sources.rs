@@ -110,3 +110,13 @@ impl<'t> Sources<'t> {
         after_first_line(self.rest)
     }
 }
+
+/// The tokens up to the first place where none begins; [`Sources::error`] then says why.
+impl<'t> Iterator for Sources<'t> {
+    type Item = SourceToken<'t>;
+
+    #[inline(always)]
+    fn next(&mut self) -> Option<SourceToken<'t>> {
+        Sources::next(self)
+    }
+}

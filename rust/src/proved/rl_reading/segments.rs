@@ -192,6 +192,16 @@ impl<'t> Segments<'t> {
     }
 }
 
+/// The segments up to the closing quote.
+impl<'t> Iterator for Segments<'t> {
+    type Item = Segment<'t>;
+
+    #[inline(always)]
+    fn next(&mut self) -> Option<Segment<'t>> {
+        Segments::next(self)
+    }
+}
+
 /// Whether the kind is one of the five that have quotes.
 fn is_quoted(kind: Kind) -> bool {
     !matches!(kind, Kind::Int | Kind::Float | Kind::Bool)

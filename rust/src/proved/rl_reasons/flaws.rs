@@ -8,6 +8,7 @@ use crate::rl_reading::found::begins_number;
 use crate::rl_reading::quoted_forms::split_opener;
 use crate::rl_text::Span;
 use crate::rl_text::text::split_char;
+use core::fmt;
 
 /// Why a text is no literal.
 #[derive(Clone, Copy, PartialEq, Eq, Hash, Debug)]
@@ -128,6 +129,22 @@ impl FlawKind {
         }
     }
 }
+
+impl fmt::Display for FlawKind {
+    fn fmt(&self, f: &mut fmt::Formatter<'_>) -> fmt::Result {
+        f.write_str(self.words())
+    }
+}
+
+impl core::error::Error for FlawKind {}
+
+impl fmt::Display for Flaw {
+    fn fmt(&self, f: &mut fmt::Formatter<'_>) -> fmt::Result {
+        f.write_str(self.kind.words())
+    }
+}
+
+impl core::error::Error for Flaw {}
 
 /// A kind of flaw, and the text from its place on.
 #[derive(Clone, Copy)]

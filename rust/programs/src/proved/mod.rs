@@ -1,0 +1,15 @@
+//! What `tools/render` makes of the crates above the core: their functions without the contracts.
+
+pub mod rl_attributes;
+pub mod rl_commands;
+pub mod rl_files;
+pub mod rl_grammar;
+pub mod rl_lines;
+pub mod rl_program;
+pub mod rl_quoted;
+pub mod rl_reports;
+pub mod rl_scan;
+pub mod rl_sources;
+pub mod rl_tokens;
+pub mod rl_tool;
+pub mod rust_literals;

@@ -1,0 +1,121 @@
+// Rendered from crates/rl_attributes/src/attributes/take.rt by tools/render, which erases contracts: change that file, and render anew.
+//! The parser of attributes, part by part.
+
+use crate::rattle_std::prelude::{String, Vec};
+use super::name::Name;
+use super::{Attrs, Entry};
+use crate::rl_tokens::{Error, ErrorKind, Ident, Parse, ParseBuffer, Span, attempt, parse_all};
+use crate::rust_literals::Lit;
+use crate::rattle_std::alloc::Allocator;
+use crate::rattle_std::collections::BTreeSet;
+
+/// Names that were taken. They are in order, so no choice of names makes one dearer than others.
+type Names<'a, A> = BTreeSet<Name<'a>, A>;
+
+/// Takes an identifier that is none of the names, and adds it to them.
+fn take_name<'a, A: Allocator + Copy>(
+    input: &mut ParseBuffer<'a, A>,
+    names: &mut Names<'a, A>,
+) -> Result<&'a Ident<A>, Error<A>> {
+    let Some(name) = input.ident() else {
+        return Err(input.error("identifier"));
+    };
+    match names.insert(Name::new(name.text())) {
+        Ok(true) => Ok(name),
+        Ok(false) => Err(Error::new(name.span(), ErrorKind::Repeated)),
+        Err(_) => Err(Error::memory(name.span())),
+    }
+}
+
+/// Takes an attribute whose name is none of the names, and adds it to them.
+fn take_entry<'a, A: Allocator + Copy>(
+    alloc: A,
+    input: &mut ParseBuffer<'a, A>,
+    names: &mut Names<'a, A>,
+) -> Result<Entry<A>, Error<A>> {
+    let ident = take_name(input, names)?;
+    let name = String::from_str(alloc, ident.text())?;
+    input.take_punct('=')?;
+    let value = input.parse::<Lit<A>>(alloc)?;
+    Ok(Entry {
+        name,
+        span: ident.span(),
+        value,
+    })
+}
+
+/// Takes an attribute whose name is none of the names, and the comma after it where anything stands there.
+fn take_next<'a, A: Allocator + Copy>(
+    alloc: A,
+    input: &mut ParseBuffer<'a, A>,
+    names: &mut Names<'a, A>,
+) -> Result<Entry<A>, Error<A>> {
+    let entry = take_entry(alloc, input, names)?;
+    if !input.is_empty() {
+        if let Err(error) = input.take_punct(',') {
+            // By a call: letting go of an entry here is as many steps again to prove.
+            drop(entry);
+            return Err(error);
+        }
+    }
+    Ok(entry)
+}
+
+/// Takes attributes up to the end. An error may leave the buffer after what was taken, and
+/// reports an allocation failure wherever it was met.
+fn take_all<A: Allocator + Copy>(
+    alloc: A,
+    input: &mut ParseBuffer<'_, A>,
+) -> Result<Attrs<A>, Error<A>> {
+    let mut names = BTreeSet::new(alloc);
+    let mut entries = Vec::new(alloc);
+    while !input.is_empty() {
+        let entry = take_next(alloc, input, &mut names)?;
+        if let Err(failed) = entries.push(entry) {
+            // By a call, as above.
+            drop(failed);
+            return Err(Error::memory(input.span()));
+        }
+    }
+    Ok(Attrs {
+        entries,
+        end: input.span(),
+    })
+}
+
+/// The error, but an allocation failure at this place.
+fn told_at<A: Allocator>(error: Error<A>, place: Span) -> Error<A> {
+    match error.kind {
+        ErrorKind::Memory => Error::memory(place),
+        kind => Error::new(error.span, kind),
+    }
+}
+
+/// Takes all trees as attributes: no trees; or an attribute; or an attribute, a comma, and the attributes after it. An
+/// attribute is an identifier, `=` and a literal.
+///
+/// # Errors
+///
+/// Reading goes from left to right, and what is missed first is rejected by its word: `identifier`, `` `=` ``,
+/// `literal`, or `` `,` ``; before its `=`, a name that stood before as `Repeated`, at the name. An allocation failure
+/// is reported at the first tree. The buffer stays.
+impl<A: Allocator + Copy> Parse<A> for Attrs<A> {
+    fn parse(alloc: A, input: &mut ParseBuffer<'_, A>) -> Result<Attrs<A>, Error<A>> {
+        let place = input.span();
+        match attempt(input, |input| take_all(alloc, input)) {
+            Ok(attrs) => Ok(attrs),
+            Err(error) => Err(told_at(error, place)),
+        }
+    }
+}
+
+/// The attributes that a text is. Spans have the file and the bytes of the text.
+///
+/// # Errors
+///
+/// The lexer's error as `Lex`, with the span of no bytes at its place, and its allocation
+/// failure as `Memory` there; else what the parser of [`Attrs`] rejects, which reports the text's end
+/// by the span of no bytes there.
+pub fn read<A: Allocator + Copy>(alloc: A, text: &str, file: u32) -> Result<Attrs<A>, Error<A>> {
+    parse_all::<Attrs<A>, A>(alloc, text, file)
+}

@@ -1,0 +1,128 @@
+// Rendered from crates/rl_files/src/host.rt by tools/render, which erases contracts: change that file, and render anew.
+//! The files of the system.
+
+use crate::rattle_std::prelude::{Alloc, Drop, Input, String, Vec};
+use crate::rl_files::tree::{PathError, Tree};
+use crate::rattle_std::alloc::Allocator;
+use crate::rattle_std::fs::{DirEntry, File};
+use crate::rattle_std::io::{ErrorKind, Read};
+use crate::rattle_std::rt::Files;
+use crate::rattle_std::{fs, io};
+
+/// The most bytes that a file or standard input may hold: 1 GiB.
+pub const LONGEST: u64 = 1 << 30;
+
+/// The files of the system, and at `-` standard input. Of what it holds nothing is known.
+#[derive(Clone, Copy)]
+pub struct Host<'r, R> {
+    /// The system's handle.
+    pub rt: &'r R,
+}
+
+/// Why a call of the system failed.
+fn error_of(kind: ErrorKind) -> PathError {
+    match kind {
+        ErrorKind::NotFound => PathError::NotFound,
+        ErrorKind::PermissionDenied => PathError::PermissionDenied,
+        ErrorKind::IsADirectory => PathError::IsADirectory,
+        ErrorKind::NotADirectory => PathError::NotADirectory,
+        ErrorKind::InvalidFilename => PathError::PathTooLong,
+        ErrorKind::OutOfMemory => PathError::OutOfMemory,
+        _ => PathError::ReadFailed,
+    }
+}
+
+/// Whether this is std's own error for a name in a directory that isn't UTF-8.
+fn is_bad_name(error: &io::Error) -> bool {
+    error.kind() == ErrorKind::InvalidFilename && error.raw_os_error().is_none()
+}
+
+/// The name of a file or a directory as `Tree::names` gives it. What vanished since it was listed has none.
+fn name_of_entry<A: Allocator, R: Files, B: Allocator>(
+    alloc: A,
+    entry: &DirEntry<R, B>,
+) -> io::Result<Option<String<A>>> {
+    let kind = match entry.file_type() {
+        Ok(kind) => kind,
+        Err(e) if e.kind() == ErrorKind::NotFound => return Ok(None),
+        Err(e) => return Err(e),
+    };
+    if !kind.is_dir() && !kind.is_file() {
+        return Ok(None);
+    }
+    let mut name = String::from_str(alloc, entry.file_name())?;
+    if kind.is_dir() {
+        name.push('/')?;
+    }
+    Ok(Some(name))
+}
+
+/// The name of an entry as `Tree::names` gives it: an empty one where it isn't UTF-8.
+fn name_of<A: Allocator, R: Files + Drop, B: Allocator>(
+    alloc: A,
+    entry: io::Result<DirEntry<R, B>>,
+) -> io::Result<Option<String<A>>> {
+    match entry {
+        Ok(entry) => name_of_entry(alloc, &entry),
+        Err(e) if is_bad_name(&e) => Ok(Some(String::new(alloc))),
+        Err(e) => Err(e),
+    }
+}
+
+/// All bytes of a reader, where there are at most `LONGEST`. Of a longer one, one byte more is read.
+fn read_all<A: Allocator, R: Read + Drop>(alloc: A, reader: R) -> Result<Vec<u8, A>, PathError> {
+    let mut bytes = Vec::new(alloc);
+    let mut front = reader.take(LONGEST + 1);
+    match front.read_to_end(&mut bytes) {
+        Ok(count) if count as u64 > LONGEST => Err(PathError::TooLong),
+        Ok(_) => Ok(bytes),
+        Err(e) => Err(error_of(e.kind())),
+    }
+}
+
+/// The names in a directory.
+fn list_directory<A: Allocator + Copy, R: Files + Alloc + Clone + Drop>(
+    rt: &R,
+    alloc: A,
+    path: &str,
+) -> io::Result<Vec<String<A>, A>>
+where
+    R::A: Clone,
+{
+    let mut names = Vec::new(alloc);
+    for entry in fs::read_dir(rt, path)? {
+        if let Some(name) = name_of(alloc, entry)? {
+            names.push(name)?;
+        }
+    }
+    Ok(names)
+}
+
+impl<R: Files + Input + Alloc + Clone + Drop> Tree for Host<'_, R>
+where
+    R::A: Clone,
+{
+    fn bytes<A: Allocator>(&self, alloc: A, path: &str) -> Result<Vec<u8, A>, PathError> {
+        if path == "-" {
+            return read_all(alloc, self.rt.reader());
+        }
+        match File::open(self.rt, path) {
+            Ok(file) => read_all(alloc, file),
+            Err(e) => Err(error_of(e.kind())),
+        }
+    }
+
+    fn names<A: Allocator + Copy>(
+        &self,
+        alloc: A,
+        path: &str,
+    ) -> Result<Vec<String<A>, A>, PathError> {
+        if path == "-" {
+            return Err(PathError::NotADirectory);
+        }
+        match list_directory(self.rt, alloc, path) {
+            Ok(names) => Ok(names),
+            Err(e) => Err(error_of(e.kind())),
+        }
+    }
+}

@@ -1,0 +1,70 @@
+// Rendered from crates/rl_files/src/tree.rt by tools/render, which erases contracts: change that file, and render anew.
+//! What is read: the bytes of a file, and the names in a directory.
+
+use crate::rattle_std::prelude::{String, Vec};
+use crate::rattle_std::alloc::Allocator;
+use crate::rattle_std::fmt;
+
+/// Why a path can't be read.
+#[derive(Clone, Copy)]
+pub enum PathError {
+    /// Nothing is there.
+    NotFound,
+    /// There is no leave to read it.
+    PermissionDenied,
+    /// It is a directory, and a file was wanted.
+    IsADirectory,
+    /// It is no directory, and one was wanted.
+    NotADirectory,
+    /// The system takes no path as long.
+    PathTooLong,
+    /// A name in it isn't UTF-8.
+    NameNotUtf8,
+    /// What it holds isn't UTF-8, from this byte on.
+    NotUtf8(usize),
+    /// It holds more than `LONGEST` bytes.
+    TooLong,
+    /// An allocation failed.
+    OutOfMemory,
+    /// Another failure of the system.
+    ReadFailed,
+}
+
+impl fmt::Display for PathError {
+    fn fmt(&self, f: &mut fmt::Formatter<'_>) -> fmt::Result {
+        match self {
+            PathError::NotFound => write!(f, "no such file or directory"),
+            PathError::PermissionDenied => write!(f, "permission denied"),
+            PathError::IsADirectory => write!(f, "is a directory"),
+            PathError::NotADirectory => write!(f, "not a directory"),
+            PathError::PathTooLong => write!(f, "path too long"),
+            PathError::NameNotUtf8 => write!(f, "holds a name that is not UTF-8"),
+            PathError::NotUtf8(at) => write!(f, "not UTF-8 at byte {at}"),
+            PathError::TooLong => write!(f, "longer than 1 GiB"),
+            PathError::OutOfMemory => write!(f, "out of memory"),
+            PathError::ReadFailed => write!(f, "read failed"),
+        }
+    }
+}
+
+/// A tree of files.
+pub trait Tree {
+    /// The bytes of the file at a path.
+    ///
+    /// # Errors
+    ///
+    /// Why it can't be read; `OutOfMemory` where an allocation failed.
+    fn bytes<A: Allocator>(&self, alloc: A, path: &str) -> Result<Vec<u8, A>, PathError>;
+
+    /// The names in the directory at a path, in any order: of a file its name, of a directory its name and
+    /// a slash, and an empty one for each name that isn't UTF-8. Links and devices are left out.
+    ///
+    /// # Errors
+    ///
+    /// Why it can't be read, `NotADirectory` where it is none; `OutOfMemory` where an allocation failed.
+    fn names<A: Allocator + Copy>(
+        &self,
+        alloc: A,
+        path: &str,
+    ) -> Result<Vec<String<A>, A>, PathError>;
+}

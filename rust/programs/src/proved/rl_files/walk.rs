@@ -1,0 +1,196 @@
+// Rendered from crates/rl_files/src/walk.rt by tools/render, which erases contracts: change that file, and render anew.
+//! A walk of a tree: which files are visited, and in which order.
+
+use crate::rattle_std::prelude::{String, Vec};
+use crate::rl_files::tree::{PathError, Tree};
+use crate::rattle_std::alloc::{AllocError, Allocator, Global};
+use crate::rattle_std::fmt;
+
+/// How many directories a walk goes into at most, from one file to the next.
+const TURNS: u32 = u32::MAX;
+
+/// What a walk has still to go to.
+pub enum Pending<A: Allocator = Global> {
+    /// A directory; one that an argument names may be a file.
+    Directory(bool, String<A>),
+    /// A file.
+    File(String<A>),
+    /// A name in a directory that isn't UTF-8.
+    BadName(String<A>),
+}
+
+/// What a walk meets.
+pub enum Visit<A: Allocator = Global> {
+    /// A file to read.
+    File(String<A>),
+    /// A path that it can't go into.
+    Failed(String<A>, PathError),
+}
+
+/// Why a walk ends early.
+#[derive(Clone, Copy)]
+pub enum WalkError {
+    /// An allocation failed.
+    OutOfMemory,
+    /// There are more than 4,294,967,295 directories.
+    TooManyDirectories,
+}
+
+impl fmt::Display for WalkError {
+    fn fmt(&self, f: &mut fmt::Formatter<'_>) -> fmt::Result {
+        match self {
+            WalkError::OutOfMemory => write!(f, "out of memory"),
+            WalkError::TooManyDirectories => write!(f, "too many directories"),
+        }
+    }
+}
+
+/// A walk of a tree.
+pub struct Walk<A: Allocator = Global> {
+    // the last is the first to go to
+    pending: Vec<Pending<A>, A>,
+}
+
+/// Whether a name is a directory's.
+fn is_directory(name: &str) -> bool {
+    name.as_bytes().ends_with(b"/".as_slice())
+}
+
+/// Whether a walk goes on to a name.
+fn is_wanted(name: &str) -> bool {
+    let bytes = name.as_bytes();
+    if is_directory(name) {
+        !bytes.starts_with(b".".as_slice()) && !bytes.starts_with(b"target/".as_slice())
+    } else {
+        bytes.ends_with(b".rs".as_slice()) || bytes.len() == 0
+    }
+}
+
+/// The path of a name in a directory.
+fn path_in<A: Allocator>(alloc: A, directory: &str, name: &str) -> Result<String<A>, AllocError> {
+    let mut path = String::from_str(alloc, directory)?;
+    if !is_directory(directory) {
+        path.push_str("/")?;
+    }
+    path.push_str(name)?;
+    Ok(path)
+}
+
+/// Where a walk goes to for a wanted name in a directory.
+fn pending_of<A: Allocator>(alloc: A, directory: &str, name: &str) -> Result<Pending<A>, AllocError> {
+    if is_directory(name) {
+        return Ok(Pending::Directory(false, path_in(alloc, directory, name)?));
+    }
+    if name.len() == 0 {
+        return Ok(Pending::BadName(String::from_str(alloc, directory)?));
+    }
+    Ok(Pending::File(path_in(alloc, directory, name)?))
+}
+
+impl<A: Allocator> Walk<A> {
+    /// From nowhere.
+    fn new(alloc: A) -> Walk<A> {
+        Walk {
+            pending: Vec::new(alloc),
+        }
+    }
+
+    /// Goes to this pending before the others.
+    fn push(&mut self, pending: Pending<A>) -> Result<(), AllocError> {
+        self.pending.push(pending)?;
+        Ok(())
+    }
+
+    /// Goes to what an argument names before the other places.
+    fn push_given(&mut self, path: String<A>) -> Result<(), AllocError> {
+        self.push(Pending::Directory(true, path))
+    }
+
+    /// A walk of what these paths name, in their order.
+    ///
+    /// # Errors
+    ///
+    /// An allocation failure.
+    pub fn of_paths(alloc: A, paths: &mut Vec<String<A>, A>) -> Result<Walk<A>, AllocError>
+    where
+        A: Copy, {
+        let mut walk = Walk::new(alloc);
+        while let Some(path) = paths.pop() {
+            walk.push_given(path)?;
+        }
+        Ok(walk)
+    }
+
+    /// Takes the first pending.
+    fn take(&mut self) -> Option<Pending<A>> {
+        self.pending.pop()
+    }
+
+    /// Goes to a name in a directory before the other places, if it is wanted.
+    fn push_name(&mut self, alloc: A, directory: &str, name: &str) -> Result<(), AllocError> {
+        if !is_wanted(name) {
+            return Ok(());
+        }
+        let pending = pending_of(alloc, directory, name)?;
+        self.push(pending)
+    }
+
+    /// Goes to the names in a directory before the other places, the last of them the last.
+    fn push_names(
+        &mut self,
+        alloc: A,
+        directory: &str,
+        names: &mut Vec<String<A>, A>,
+    ) -> Result<(), AllocError>
+    where
+        A: Copy, {
+        while let Some(name) = names.pop() {
+            self.push_name(alloc, directory, name.as_str())?;
+        }
+        Ok(())
+    }
+
+    /// Goes to the names in a directory before the other places, in the order of their bytes.
+    fn enter(
+        &mut self,
+        alloc: A,
+        directory: &str,
+        names: &mut Vec<String<A>, A>,
+    ) -> Result<(), AllocError>
+    where
+        A: Copy, {
+        names.sort_unstable();
+        self.push_names(alloc, directory, names)?;
+        Ok(())
+    }
+
+    /// What is visited next.
+    ///
+    /// # Errors
+    ///
+    /// Where an allocation failed, or there was no end of directories.
+    pub fn next<T: Tree>(&mut self, alloc: A, tree: &T) -> Result<Option<Visit<A>>, WalkError>
+    where
+        A: Copy, {
+        for _ in 0..TURNS {
+            let Some(pending) = self.take() else {
+                return Ok(None);
+            };
+            match pending {
+                Pending::File(path) => return Ok(Some(Visit::File(path))),
+                Pending::BadName(directory) => {
+                    return Ok(Some(Visit::Failed(directory, PathError::NameNotUtf8)));
+                }
+                Pending::Directory(is_given, path) => match tree.names(alloc, path.as_str()) {
+                    Ok(mut names) => match self.enter(alloc, path.as_str(), &mut names) {
+                        Ok(()) => {}
+                        Err(_) => return Err(WalkError::OutOfMemory),
+                    },
+                    Err(PathError::NotADirectory) if is_given => return Ok(Some(Visit::File(path))),
+                    Err(why) => return Ok(Some(Visit::Failed(path, why))),
+                },
+            }
+        }
+        Err(WalkError::TooManyDirectories)
+    }
+}

@@ -1,0 +1,18 @@
+// Rendered from crates/rl_program/src/rejection.rt by tools/render, which erases contracts: change that file, and render anew.
+//! The line of an error.
+
+use crate::rl_tokens::Error;
+use crate::rattle_std::alloc::{Allocator, Global};
+use crate::rattle_std::fmt;
+
+/// A borrowed error, displayed as the programs report it: its place in bytes, and its message.
+pub struct Refusal<'a, A: Allocator = Global>(pub &'a Error<A>);
+
+impl<A: Allocator> fmt::Display for Refusal<'_, A> {
+    fn fmt(&self, f: &mut fmt::Formatter<'_>) -> fmt::Result {
+        let error = self.0;
+        let lo = error.span.lo;
+        let hi = error.span.hi;
+        write!(f, "error at {lo}..{hi}: {error}")
+    }
+}

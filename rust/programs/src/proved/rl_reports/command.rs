@@ -1,0 +1,71 @@
+// Rendered from crates/rl_reports/src/command.rt by tools/render, which erases contracts: change that file, and render anew.
+//! What a call of the program asks for.
+
+use crate::rl_sources::{Form, Judge, Shown, Spelling};
+
+/// What a call asks for.
+#[derive(Clone, Copy)]
+pub enum Wish {
+    /// The literals of sources, or what is wrong with them.
+    Scan,
+    /// How the program is used.
+    Help,
+    /// Which version it is.
+    Version,
+}
+
+/// How places are printed.
+#[derive(Clone, Copy)]
+pub enum PlaceForm {
+    /// In a file by lines and columns, of standard input by bytes.
+    Usual,
+    /// By bytes.
+    Bytes,
+    /// By lines and columns.
+    Lines,
+}
+
+/// What is printed of the lines of a file.
+#[derive(Clone, Copy)]
+pub enum Output {
+    /// The lines.
+    Lines,
+    /// How many there are, where there are some.
+    Count,
+    /// The file's path, where there are some.
+    Path,
+    /// Nothing.
+    Nothing,
+}
+
+/// What a call asks for, but for the paths.
+#[derive(Clone, Copy)]
+pub struct Command<'a> {
+    /// What is asked for.
+    pub wish: Wish,
+    /// Which literals are shown.
+    pub shown: Shown<'a>,
+    /// The text that their contents have to hold, where one is looked for.
+    pub finds: Option<&'a str>,
+    /// How they are printed.
+    pub spelling: Spelling,
+    /// How each line is written.
+    pub form: Form,
+    /// How their places are printed.
+    pub places: PlaceForm,
+    /// What is printed of their lines.
+    pub output: Output,
+    /// Whether a stray character is an error, as it is in Rust.
+    pub rejects_strays: bool,
+    /// By which grammar a literal is bad.
+    pub judge: Judge,
+}
+
+/// What a call knows of where it runs.
+#[derive(Clone, Copy)]
+pub struct Console {
+    /// Whether input is a terminal: where no path is named, `.` is read then.
+    pub input_is_terminal: bool,
+    /// Whether output takes colours: where nothing is said of them, lines have them then.
+    pub has_colors: bool,
+}

@@ -1,0 +1,199 @@
+// Rendered from crates/rl_reports/src/flags.rt by tools/render, which erases contracts: change that file, and render anew.
+//! The options of a command line, and what they take.
+
+use crate::rl_reports::command::{Command, Output, PlaceForm, Wish};
+use crate::rl_reports::words::WordError;
+use crate::rl_sources::{Form, Judge, Shown, Spelling};
+use crate::rattle_std::alloc::Allocator;
+
+/// An option.
+#[derive(Clone, Copy)]
+pub(crate) enum Flag {
+    Bad,
+    Hidden,
+    Lenient,
+    Only,
+    Find,
+    Text,
+    Json,
+    Color,
+    Bytes,
+    Lines,
+    NoStray,
+    Count,
+    Files,
+    Quiet,
+    Help,
+    Version,
+    Paths,
+}
+
+/// What an option takes, in the word after it, or in its own word after `=`.
+#[derive(Clone, Copy)]
+pub(crate) enum Operand {
+    /// A list of kinds.
+    Kinds,
+    /// A text that is looked for.
+    Text,
+    /// When lines have colours.
+    Color,
+}
+
+/// What the next word may be.
+#[derive(Clone, Copy)]
+pub(crate) enum Next {
+    /// An option or a path.
+    Any,
+    /// What the option before it takes.
+    Operand(Operand),
+    /// A path.
+    Path,
+}
+
+/// When lines have colours.
+#[derive(Clone, Copy)]
+pub(crate) enum When {
+    /// Where output takes them.
+    Auto,
+    Always,
+    Never,
+}
+
+/// The option that a word is.
+pub(crate) fn flag_of(word: &str) -> Option<Flag> {
+    match word {
+        "-b" | "--bad" => Some(Flag::Bad),
+        "-B" | "--hidden" => Some(Flag::Hidden),
+        "--lenient" => Some(Flag::Lenient),
+        "-k" | "--only" => Some(Flag::Only),
+        "-f" | "--find" => Some(Flag::Find),
+        "--text" => Some(Flag::Text),
+        "--json" => Some(Flag::Json),
+        "--color" => Some(Flag::Color),
+        "-o" | "--bytes" => Some(Flag::Bytes),
+        "--lines" => Some(Flag::Lines),
+        "--no-stray" => Some(Flag::NoStray),
+        "-c" | "--count" => Some(Flag::Count),
+        "-l" | "--files" => Some(Flag::Files),
+        "-q" | "--quiet" => Some(Flag::Quiet),
+        "-h" | "--help" => Some(Flag::Help),
+        "-V" | "--version" => Some(Flag::Version),
+        "--" => Some(Flag::Paths),
+        _ => None,
+    }
+}
+
+/// What stands after the front of a word, where the word begins with that.
+fn after_front<'w>(front: &str, word: &'w str) -> Option<&'w str> {
+    word.strip_prefix(front)
+}
+
+/// What a word has after an option and `=`.
+pub(crate) fn joined_of(word: &str) -> Option<(Operand, &str)> {
+    if let Some(list) = after_front("--only=", word) {
+        return Some((Operand::Kinds, list));
+    }
+    if let Some(text) = after_front("--find=", word) {
+        return Some((Operand::Text, text));
+    }
+    let when = after_front("--color=", word)?;
+    Some((Operand::Color, when))
+}
+
+/// The option that takes this.
+pub(crate) fn taken_by(operand: Operand) -> Flag {
+    match operand {
+        Operand::Kinds => Flag::Only,
+        Operand::Text => Flag::Find,
+        Operand::Color => Flag::Color,
+    }
+}
+
+/// The command with an option more; `None` where another option says already which literals are printed.
+fn with_flag(command: Command<'_>, flag: Flag) -> Option<Command<'_>> {
+    let mut next = command;
+    match (flag, command.shown) {
+        (Flag::Bad, Shown::All) => next.shown = Shown::Bad,
+        (Flag::Hidden, Shown::All) => next.shown = Shown::Hidden,
+        (Flag::Only, Shown::All) => {}
+        (Flag::Bad | Flag::Hidden | Flag::Only, _) => return None,
+        (Flag::Lenient, _) => next.judge = Judge::Syn,
+        (Flag::Find | Flag::Color | Flag::Paths, _) => {}
+        (Flag::Text, _) => next.spelling = Spelling::Source,
+        (Flag::Json, _) => next.form = Form::Json,
+        (Flag::Bytes, _) => next.places = PlaceForm::Bytes,
+        (Flag::Lines, _) => next.places = PlaceForm::Lines,
+        (Flag::NoStray, _) => next.rejects_strays = true,
+        (Flag::Count, _) => next.output = Output::Count,
+        (Flag::Files, _) => next.output = Output::Path,
+        (Flag::Quiet, _) => next.output = Output::Nothing,
+        (Flag::Help, _) => next.wish = Wish::Help,
+        (Flag::Version, _) => next.wish = Wish::Version,
+    }
+    Some(next)
+}
+
+/// Whether an option goes with what is looked for: there is one text at most, and none where what is bad or hidden is
+/// wanted.
+fn goes_with_find(command: Command<'_>, flag: Flag) -> bool {
+    match (flag, command.finds, command.shown) {
+        (Flag::Bad | Flag::Hidden | Flag::Find, Some(_), _) => false,
+        (Flag::Find, None, Shown::Bad | Shown::Hidden) => false,
+        _ => true,
+    }
+}
+
+/// The command with an option more.
+///
+/// # Errors
+///
+/// `TwoChoices` or `BadAndFind`, where the option doesn't go with what the command asks for.
+pub(crate) fn add_flag<A: Allocator>(
+    command: Command<'_>,
+    flag: Flag,
+) -> Result<Command<'_>, WordError<A>> {
+    let Some(next) = with_flag(command, flag) else {
+        return Err(WordError::TwoChoices);
+    };
+    if !goes_with_find(command, flag) {
+        return Err(WordError::BadAndFind);
+    }
+    Ok(next)
+}
+
+/// What a word after an option may be.
+pub(crate) fn next_after(flag: Flag) -> Next {
+    match flag {
+        Flag::Only => Next::Operand(Operand::Kinds),
+        Flag::Find => Next::Operand(Operand::Text),
+        Flag::Color => Next::Operand(Operand::Color),
+        Flag::Paths => Next::Path,
+        _ => Next::Any,
+    }
+}
+
+/// When lines have colours, by its word.
+pub(crate) fn when_of(word: &str) -> Option<When> {
+    match word {
+        "auto" => Some(When::Auto),
+        "always" => Some(When::Always),
+        "never" => Some(When::Never),
+        _ => None,
+    }
+}
+
+/// How lines are written that have colours then; `has_colors` says whether output takes them.
+pub(crate) fn form_when(has_colors: bool, when: When) -> Form {
+    match (when, has_colors) {
+        (When::Always, _) | (When::Auto, true) => Form::Colored,
+        (When::Never, _) | (When::Auto, false) => Form::Plain,
+    }
+}
+
+/// How lines are written by a later word; objects of JSON stay so.
+pub(crate) fn recolored(form: Form, later: Form) -> Form {
+    match form {
+        Form::Json => Form::Json,
+        Form::Plain | Form::Colored => later,
+    }
+}

@@ -1,0 +1,15 @@
+// Rendered from crates/rl_reports/src/lib.rt by tools/render, which erases contracts: change that file, and render anew.
+//! What is reported of the files that a walk visits, and the command line of the program that does so.
+
+mod command;
+mod ending;
+mod flags;
+mod report;
+mod runs;
+mod words;
+
+pub use crate::rl_reports::command::{Command, Console, Output, PlaceForm, Wish};
+pub use crate::rl_reports::ending::{CallError, HELP, VERSION, call};
+pub use crate::rl_reports::report::{Report, report_of};
+pub use crate::rl_reports::runs::{RunStop, Tally, run};
+pub use crate::rl_reports::words::WordError;

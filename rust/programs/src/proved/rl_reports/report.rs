@@ -1,0 +1,298 @@
+// Rendered from crates/rl_reports/src/report.rt by tools/render, which erases contracts: change that file, and render anew.
+//! What is reported of what a walk visits.
+
+use crate::rattle_std::prelude::{String, Vec};
+use crate::rl_reports::command::{Command, Output, PlaceForm};
+use crate::rl_files::{PathError, Tree, Visit, push_visible};
+use crate::rl_sources::{
+    Form, Options, Paint, Place, ScanError, Shown, is_json, push_painted, push_source_error, scan,
+};
+use crate::rl_tokens::LexKind;
+use crate::rattle_std::alloc::{AllocError, Allocator, Global};
+
+/// What is reported of what a walk visits.
+pub struct Report<A: Allocator = Global> {
+    /// On standard output.
+    pub out: Vec<u8, A>,
+    /// On standard error.
+    pub errors: String<A>,
+    /// Whether something was found.
+    pub found: bool,
+}
+
+/// The lines of a source, and its error where it has one.
+struct Scanned<A: Allocator = Global> {
+    lines: Vec<u8, A>,
+    error: Option<(Place, LexKind)>,
+}
+
+/// Whether a path is standard input.
+fn is_input(path: &str) -> bool {
+    path == "-"
+}
+
+/// A text as it is printed.
+pub(crate) fn visible_text<A: Allocator>(alloc: A, text: &str) -> Result<String<A>, AllocError> {
+    let mut shown = String::new(alloc);
+    push_visible(&mut shown, text)?;
+    Ok(shown)
+}
+
+/// Whether the places in a file are printed by lines and columns.
+fn is_by_line(form: PlaceForm, path: &str) -> bool {
+    match form {
+        PlaceForm::Usual => !is_input(path),
+        PlaceForm::Bytes => false,
+        PlaceForm::Lines => true,
+    }
+}
+
+/// Whether what is bad is asked for.
+pub(crate) fn is_bad(shown: Shown<'_>) -> bool {
+    matches!(shown, Shown::Bad)
+}
+
+/// Whether what is found is an alarm: where what is bad is asked for, or what turns or hides text.
+pub(crate) fn is_alarm(shown: Shown<'_>) -> bool {
+    matches!(shown, Shown::Bad | Shown::Hidden)
+}
+
+/// What stands before each place in a file, whose path is printed so; nothing before those of standard input.
+fn path_before<'a>(path: &str, shown: &'a str) -> Option<&'a str> {
+    if is_input(path) {
+        return None;
+    }
+    Some(shown)
+}
+
+/// What stands before each place in a file whose path is printed so: in an object the path itself.
+fn path_in<'a>(form: Form, path: &'a str, shown: Option<&'a str>) -> Option<&'a str> {
+    if is_json(form) && shown.is_some() {
+        return Some(path);
+    }
+    shown
+}
+
+/// How a file is scanned, whose path is printed so.
+fn options_for<'a>(command: Command<'a>, path: &'a str, shown: Option<&'a str>) -> Options<'a> {
+    Options {
+        shown: command.shown,
+        finds: command.finds,
+        spelling: command.spelling,
+        form: command.form,
+        by_line: is_by_line(command.places, path),
+        rejects_strays: command.rejects_strays,
+        explains: is_bad(command.shown),
+        judge: command.judge,
+        path: path_in(command.form, path, shown),
+    }
+}
+
+/// The lines of a source.
+fn scan_text<A: Allocator + Copy>(
+    alloc: A,
+    options: Options<'_>,
+    text: &str,
+) -> Result<Scanned<A>, AllocError> {
+    let mut lines = Vec::new(alloc);
+    match scan(alloc, options, text, &mut lines) {
+        Ok(_) => Ok(Scanned { lines, error: None }),
+        Err(ScanError::Source(place, kind)) => Ok(Scanned {
+            lines,
+            error: Some((place, kind)),
+        }),
+        Err(ScanError::Fault(_)) => Err(AllocError),
+    }
+}
+
+/// How the line of a source's error is written: as the others, where errors are among what is found; else plain, since
+/// it goes to standard error.
+fn error_form(options: Options<'_>) -> Form {
+    if options.explains {
+        options.form
+    } else {
+        Form::Plain
+    }
+}
+
+/// A place by its bytes, or by its line and column.
+fn worded_place(by_line: bool, place: Place) -> Place {
+    match place {
+        Place::Both(_, _, at) if by_line => Place::Line(at),
+        Place::Both(lo, hi, _) => Place::Bytes(lo, hi),
+        _ => place,
+    }
+}
+
+/// The place in the line of a source's error.
+fn error_line_place(options: Options<'_>, place: Place) -> Place {
+    if options.explains {
+        return place;
+    }
+    worded_place(options.by_line, place)
+}
+
+/// The path in the line of a source's error, which is printed so.
+fn error_path<'a>(options: Options<'a>, shown: Option<&'a str>) -> Option<&'a str> {
+    if options.explains {
+        options.path
+    } else {
+        shown
+    }
+}
+
+/// The line of a source's error; nothing where there is none.
+fn error_line<A: Allocator + Copy>(
+    alloc: A,
+    options: Options<'_>,
+    shown: Option<&str>,
+    error: Option<(Place, LexKind)>,
+) -> Result<String<A>, AllocError> {
+    let mut line = String::new(alloc);
+    match error {
+        None => Ok(line),
+        Some((place, kind)) => {
+            let path = error_path(options, shown);
+            let place = error_line_place(options, place);
+            push_source_error(alloc, &mut line, error_form(options), path, place, kind)?;
+            Ok(line)
+        }
+    }
+}
+
+/// How many lines there are.
+fn count_lines(lines: &[u8]) -> usize {
+    lines.iter().filter(|byte| **byte == b'\n').count()
+}
+
+/// Appends the line that says how many lines a file has.
+fn push_count_line<A: Allocator>(
+    out: &mut String<A>,
+    form: Form,
+    path: Option<&str>,
+    count: usize,
+) -> Result<(), AllocError> {
+    match path {
+        Some(path) => {
+            push_painted(out, form, Paint::Path, path)?;
+            writeln!(out, ":{count}")
+        }
+        None => writeln!(out, "{count}"),
+    }
+}
+
+/// Appends the line that names a file.
+fn push_path_line<A: Allocator>(
+    out: &mut String<A>,
+    form: Form,
+    path: Option<&str>,
+) -> Result<(), AllocError> {
+    push_painted(out, form, Paint::Path, path.unwrap_or("-"))?;
+    out.push_str("\n")?;
+    Ok(())
+}
+
+/// What is printed of the lines of a file.
+fn written<A: Allocator + Copy>(
+    alloc: A,
+    output: Output,
+    form: Form,
+    path: Option<&str>,
+    lines: Vec<u8, A>,
+) -> Result<Vec<u8, A>, AllocError> {
+    if lines.is_empty() {
+        return Ok(lines);
+    }
+    let mut line = String::new(alloc);
+    match output {
+        Output::Lines => return Ok(lines),
+        Output::Count => push_count_line(&mut line, form, path, count_lines(lines.as_slice()))?,
+        Output::Path => push_path_line(&mut line, form, path)?,
+        Output::Nothing => {}
+    }
+    Ok(line.into_bytes())
+}
+
+/// What is reported of a source.
+fn report_text<A: Allocator + Copy>(
+    alloc: A,
+    command: Command<'_>,
+    path: &str,
+    text: &str,
+) -> Result<Report<A>, AllocError> {
+    let shown = visible_text(alloc, path)?;
+    let before = path_before(path, shown.as_str());
+    let options = options_for(command, path, before);
+    let mut scanned = scan_text(alloc, options, text)?;
+    let mut errors = error_line(alloc, options, before, scanned.error)?;
+    if options.explains {
+        scanned.lines.extend_from_slice(errors.as_bytes())?;
+        errors.clear();
+    }
+    let found = !scanned.lines.is_empty();
+    let out = written(alloc, command.output, options.form, before, scanned.lines)?;
+    Ok(Report { out, errors, found })
+}
+
+/// What is reported of a path that can't be read.
+fn report_error<A: Allocator + Copy>(
+    alloc: A,
+    path: &str,
+    error: PathError,
+) -> Result<Report<A>, AllocError> {
+    let mut errors = String::from_str(alloc, "rl_scan: ")?;
+    push_visible(&mut errors, path)?;
+    writeln!(&mut errors, ": {error}")?;
+    Ok(Report {
+        out: Vec::new(alloc),
+        errors,
+        found: false,
+    })
+}
+
+/// What is reported of a file whose bytes these are.
+fn report_bytes<A: Allocator + Copy>(
+    alloc: A,
+    command: Command<'_>,
+    path: &str,
+    bytes: &[u8],
+) -> Result<Report<A>, AllocError> {
+    match crate::rattle_std::str::from_utf8(bytes) {
+        Ok(text) => report_text(alloc, command, path, text),
+        Err(error) => report_error(alloc, path, PathError::NotUtf8(error.valid_up_to())),
+    }
+}
+
+/// What is reported of a file, whose bytes are let go before the next is read.
+fn report_file<A: Allocator + Copy, T: Tree>(
+    alloc: A,
+    command: Command<'_>,
+    tree: &T,
+    path: &str,
+) -> Result<Report<A>, AllocError> {
+    let bytes = match tree.bytes(alloc, path) {
+        Ok(bytes) => bytes,
+        Err(error) => return report_error(alloc, path, error),
+    };
+    match report_bytes(alloc, command, path, bytes.as_slice()) {
+        Ok(report) => Ok(report),
+        Err(_) => report_error(alloc, path, PathError::OutOfMemory),
+    }
+}
+
+/// What is reported of what a walk visits: of a file what is printed of its text, of what can't be read one line.
+///
+/// # Errors
+///
+/// An allocation failure, where not even that line could be made.
+pub fn report_of<A: Allocator + Copy, T: Tree>(
+    alloc: A,
+    command: Command<'_>,
+    tree: &T,
+    visit: &Visit<A>,
+) -> Result<Report<A>, AllocError> {
+    match visit {
+        Visit::File(path) => report_file(alloc, command, tree, path.as_str()),
+        Visit::Failed(path, error) => report_error(alloc, path.as_str(), *error),
+    }
+}

@@ -1,0 +1,117 @@
+// Rendered from crates/rl_reports/src/runs.rt by tools/render, which erases contracts: change that file, and render anew.
+//! A run over a walk.
+
+use crate::rl_reports::command::Command;
+use crate::rl_reports::report::{is_alarm, report_of};
+use crate::rl_files::{Tree, Visit, Walk, WalkError};
+use crate::rl_program::{WriteError, write_bytes};
+use crate::rl_sources::Shown;
+use crate::rattle_std::alloc::Allocator;
+use crate::rattle_std::io::Write;
+
+/// Why a run ends early.
+#[derive(Clone, Copy)]
+pub enum RunStop {
+    /// The walk ended early, or an allocation failed.
+    Walk(WalkError),
+    /// A write failed.
+    Write(WriteError),
+}
+
+/// What a run found.
+#[derive(Clone, Copy)]
+pub struct Tally {
+    /// Whether something was found.
+    pub found: bool,
+    /// Whether an error was reported.
+    pub failed: bool,
+}
+
+impl Tally {
+    /// Both together.
+    fn and(self, other: Tally) -> Tally {
+        Tally {
+            found: self.found || other.found,
+            failed: self.failed || other.failed,
+        }
+    }
+
+    /// The status that a run ends with which found this: 2 where an error was reported; else 1 where what is bad was
+    /// asked for, or what turns or hides text, and some was found; else 0.
+    pub fn status(self, shown: Shown<'_>) -> u8 {
+        if self.failed {
+            return 2;
+        }
+        if is_alarm(shown) && self.found {
+            return 1;
+        }
+        0
+    }
+
+    /// The status that a run ends with which looked for a text and found this: 2 where an error was reported; else 0 where
+    /// the text was found, else 1.
+    pub fn find_status(self) -> u8 {
+        match (self.failed, self.found) {
+            (true, _) => 2,
+            (false, true) => 0,
+            (false, false) => 1,
+        }
+    }
+}
+
+/// Writes what is reported of what a walk visits.
+fn write_report<A: Allocator + Copy, T: Tree, W: Write, E: Write>(
+    alloc: A,
+    command: Command<'_>,
+    tree: &T,
+    visit: &Visit<A>,
+    out: &mut W,
+    err: &mut E,
+) -> Result<Tally, RunStop> {
+    let report = match report_of(alloc, command, tree, visit) {
+        Ok(report) => report,
+        Err(_) => return Err(RunStop::Walk(WalkError::OutOfMemory)),
+    };
+    match write_bytes(out, report.out.as_slice()) {
+        Ok(()) => {}
+        Err(error) => return Err(RunStop::Write(error)),
+    }
+    match write_bytes(err, report.errors.as_bytes()) {
+        Ok(()) => {}
+        Err(error) => return Err(RunStop::Write(error)),
+    }
+    Ok(Tally {
+        found: report.found,
+        failed: !report.errors.as_bytes().is_empty(),
+    })
+}
+
+/// Writes what is reported of all that a walk visits, one after another.
+///
+/// # Errors
+///
+/// Where the walk ended early, or a write failed; a beginning of what is reported was written then.
+pub fn run<A: Allocator + Copy, T: Tree, W: Write, E: Write>(
+    alloc: A,
+    command: Command<'_>,
+    tree: &T,
+    walk: &mut Walk<A>,
+    out: &mut W,
+    err: &mut E,
+) -> Result<Tally, RunStop> {
+    let mut tally = Tally {
+        found: false,
+        failed: false,
+    };
+    for _ in 0..u64::MAX {
+        match walk.next(alloc, tree) {
+            Err(error) => return Err(RunStop::Walk(error)),
+            Ok(None) => return Ok(tally),
+            Ok(Some(visit)) => match write_report(alloc, command, tree, &visit, out, err) {
+                Ok(more) => tally = tally.and(more),
+                Err(stop) => return Err(stop),
+            },
+        }
+    }
+    Err(RunStop::Walk(WalkError::TooManyDirectories))
+}

@@ -1,0 +1,258 @@
+// Rendered from crates/rl_reports/src/words.rt by tools/render, which erases contracts: change that file, and render anew.
+//! The words of the command line.
+
+use crate::rattle_std::prelude::{String, Vec};
+use crate::rl_reports::command::{Command, Output, PlaceForm, Wish};
+use crate::rl_reports::flags::{
+    Flag, Next, Operand, When, add_flag, flag_of, form_when, joined_of, next_after, recolored,
+    taken_by, when_of,
+};
+use crate::rl_reports::report::{is_bad, visible_text};
+use crate::rl_sources::{Judge, Shown, Spelling, names};
+use crate::rattle_std::alloc::{AllocError, Allocator, Global};
+use crate::rattle_std::fmt;
+
+/// What is wrong with the words of a command line.
+pub enum WordError<A: Allocator = Global> {
+    /// An allocation failed.
+    Memory,
+    /// There is no such option.
+    UnknownOption(String<A>),
+    /// There is no such kind of literal.
+    UnknownKind(String<A>),
+    /// After `--only` stands no list of kinds.
+    NoKinds,
+    /// Two options say which literals are printed.
+    TwoChoices,
+    /// `--lenient` stands without `--bad`.
+    LenientAlone,
+    /// After `--find` stands no text.
+    NoText,
+    /// After `--find` stands an empty text.
+    EmptyText,
+    /// A text is looked for twice, or in what is bad or hidden.
+    BadAndFind,
+    /// After `--color` no word stands.
+    NoColor,
+    /// After `--color` stands a word that is none of the three.
+    UnknownColor(String<A>),
+}
+
+impl<A: Allocator> From<AllocError> for WordError<A> {
+    fn from(_: AllocError) -> Self {
+        Self::Memory
+    }
+}
+
+impl<A: Allocator> fmt::Display for WordError<A> {
+    fn fmt(&self, f: &mut fmt::Formatter<'_>) -> fmt::Result {
+        match self {
+            WordError::Memory => write!(f, "out of memory"),
+            WordError::UnknownOption(word) => {
+                write!(f, "unknown option '{word}': rl_scan --help lists them")
+            }
+            WordError::UnknownKind(word) => write!(
+                f,
+                "unknown kind '{word}': one of Str, ByteStr, CStr, Byte, Char, Int, Float, Bool, Verbatim"
+            ),
+            WordError::NoKinds => write!(f, "--only: which kinds? as in --only Str,ByteStr"),
+            WordError::TwoChoices => write!(f, "--bad, --hidden and --only: one of them, once"),
+            WordError::LenientAlone => write!(f, "--lenient: only with --bad"),
+            WordError::NoText => write!(f, "--find: which text? as in --find TODO"),
+            WordError::EmptyText => write!(f, "--find: an empty text stands everywhere"),
+            WordError::BadAndFind => write!(f, "--bad, --hidden and --find: one of them, once"),
+            WordError::NoColor => write!(f, "--color: when? one of auto, always, never"),
+            WordError::UnknownColor(word) => {
+                write!(f, "unknown colour '{word}': one of auto, always, never")
+            }
+        }
+    }
+}
+
+/// The kinds of literals, and `Verbatim` for those without a reading.
+const KINDS: &str = "Str,ByteStr,CStr,Byte,Char,Int,Float,Bool,Verbatim";
+
+/// Whether this is the word of no kind of literal, in any case of its letters.
+fn is_no_kind(word: &str) -> bool {
+    !names(KINDS, word)
+}
+
+/// The first word of a list that is no kind of literal; commas separate the words.
+fn unknown_kind(list: &str) -> Option<&str> {
+    list.split(',').find(|word| is_no_kind(word))
+}
+
+/// What the words so far ask for.
+pub(crate) struct Asked<'a, A: Allocator = Global> {
+    pub command: Command<'a>,
+    pub paths: Vec<String<A>, A>,
+    next: Next,
+}
+
+/// Whether the lenient judge was asked for, and nothing of which it judges.
+fn is_lenient_alone(command: Command<'_>) -> bool {
+    matches!(command.judge, Judge::Syn) && !is_bad(command.shown)
+}
+
+/// Whether a word is a path, and no option.
+fn is_path(word: &str) -> bool {
+    word == "-" || !word.as_bytes().starts_with(b"-".as_slice())
+}
+
+/// What is wrong where the words end before what an option takes.
+fn missing<A: Allocator>(operand: Operand) -> WordError<A> {
+    match operand {
+        Operand::Kinds => WordError::NoKinds,
+        Operand::Text => WordError::NoText,
+        Operand::Color => WordError::NoColor,
+    }
+}
+
+/// What has to follow, where the option before takes something.
+fn operand_of(wanted: Next) -> Option<Operand> {
+    match wanted {
+        Next::Operand(operand) => Some(operand),
+        Next::Any | Next::Path => None,
+    }
+}
+
+impl<'a, A: Allocator + Copy> Asked<'a, A> {
+    /// Takes a path.
+    fn take_path(&mut self, alloc: A, word: &str) -> Result<(), AllocError> {
+        self.paths.push(String::from_str(alloc, word)?)?;
+        Ok(())
+    }
+
+    /// Takes a list of kinds.
+    fn take_kinds(&mut self, alloc: A, list: &'a str) -> Result<(), WordError<A>> {
+        if let Some(word) = unknown_kind(list) {
+            return Err(WordError::UnknownKind(visible_text(alloc, word)?));
+        }
+        self.command.shown = Shown::Only(list);
+        Ok(())
+    }
+
+    /// Takes a text that is looked for.
+    fn take_text(&mut self, text: &'a str) -> Result<(), WordError<A>> {
+        if text.is_empty() {
+            return Err(WordError::EmptyText);
+        }
+        self.command.finds = Some(text);
+        Ok(())
+    }
+
+    /// Takes a word that says when lines have colours.
+    fn take_color(&mut self, alloc: A, has_colors: bool, word: &str) -> Result<(), WordError<A>> {
+        let Some(when) = when_of(word) else {
+            return Err(WordError::UnknownColor(visible_text(alloc, word)?));
+        };
+        self.command.form = recolored(self.command.form, form_when(has_colors, when));
+        Ok(())
+    }
+
+    /// Takes what an option takes; any word may stand after that.
+    fn take_operand(
+        &mut self,
+        alloc: A,
+        has_colors: bool,
+        operand: Operand,
+        text: &'a str,
+    ) -> Result<(), WordError<A>> {
+        self.next = Next::Any;
+        match operand {
+            Operand::Kinds => self.take_kinds(alloc, text),
+            Operand::Text => self.take_text(text),
+            Operand::Color => self.take_color(alloc, has_colors, text),
+        }
+    }
+
+    /// Takes an option.
+    fn take_flag(&mut self, flag: Flag) -> Result<(), WordError<A>> {
+        match add_flag(self.command, flag) {
+            Ok(command) => self.command = command,
+            Err(error) => return Err(error),
+        }
+        self.next = next_after(flag);
+        Ok(())
+    }
+
+    /// Takes an option and what it takes.
+    fn take_joined(
+        &mut self,
+        alloc: A,
+        has_colors: bool,
+        operand: Operand,
+        text: &'a str,
+    ) -> Result<(), WordError<A>> {
+        match add_flag(self.command, taken_by(operand)) {
+            Ok(_) => self.take_operand(alloc, has_colors, operand, text),
+            Err(error) => Err(error),
+        }
+    }
+
+    /// Takes a word that is no path: an option, or one and what it takes.
+    fn take_option(&mut self, alloc: A, has_colors: bool, word: &'a str) -> Result<(), WordError<A>> {
+        if let Some(flag) = flag_of(word) {
+            return self.take_flag(flag);
+        }
+        match joined_of(word) {
+            Some((operand, text)) => self.take_joined(alloc, has_colors, operand, text),
+            None => Err(WordError::UnknownOption(visible_text(alloc, word)?)),
+        }
+    }
+
+    /// Takes the next word.
+    fn take_word(&mut self, alloc: A, has_colors: bool, word: &'a str) -> Result<(), WordError<A>> {
+        match self.next {
+            Next::Operand(operand) => self.take_operand(alloc, has_colors, operand, word),
+            Next::Path => Ok(self.take_path(alloc, word)?),
+            Next::Any if is_path(word) => Ok(self.take_path(alloc, word)?),
+            Next::Any => self.take_option(alloc, has_colors, word),
+        }
+    }
+}
+
+/// What is asked for where nothing is said.
+fn first_command<'a>(has_colors: bool) -> Command<'a> {
+    Command {
+        wish: Wish::Scan,
+        shown: Shown::All,
+        finds: None,
+        places: PlaceForm::Usual,
+        output: Output::Lines,
+        rejects_strays: false,
+        judge: Judge::Rust,
+        spelling: Spelling::Value,
+        form: form_when(has_colors, When::Auto),
+    }
+}
+
+/// What the words ask for; where nothing is said of colours, lines have them if `has_colors`.
+///
+/// # Errors
+///
+/// The first word that can't be asked for, or `NoKinds`, `NoText`, `NoColor` or `LenientAlone` at the end.
+pub(crate) fn asked_by<A: Allocator + Copy>(
+    alloc: A,
+    has_colors: bool,
+    words: &[String<A>],
+) -> Result<Asked<'_, A>, WordError<A>> {
+    let mut asked = Asked {
+        command: first_command(has_colors),
+        paths: Vec::new(alloc),
+        next: Next::Any,
+    };
+    for word in words {
+        match asked.take_word(alloc, has_colors, word.as_str()) {
+            Ok(()) => {}
+            Err(error) => return Err(error),
+        }
+    }
+    if let Some(operand) = operand_of(asked.next) {
+        return Err(missing(operand));
+    }
+    if is_lenient_alone(asked.command) {
+        return Err(WordError::LenientAlone);
+    }
+    Ok(asked)
+}

@@ -1,0 +1,102 @@
+// Rendered from crates/rl_sources/src/held.rt by tools/render, which erases contracts: change that file, and render anew.
+//! Where a text stands in what a literal stands for.
+
+use crate::rattle_std::prelude::{String, Vec};
+use crate::rl_grammar::{Found, Kind, bytes_of_body, str_of_body};
+use crate::rattle_std::alloc::{AllocError, Allocator};
+
+/// Where bytes that are looked for stand first among others.
+fn first_in(bytes: &[u8], sought: &[u8]) -> Option<usize> {
+    for at in 0..=bytes.len() {
+        if bytes[at..].starts_with(sought) {
+            return Some(at);
+        }
+    }
+    None
+}
+
+/// The contents of the string that was found in the text.
+fn str_contents<A: Allocator>(alloc: A, text: &str, found: &Found) -> Result<Vec<u8, A>, AllocError> {
+    match str_of_body(alloc, found.body_in(text), found.body.plain) {
+        Ok(value) => Ok(value.into_bytes()),
+        Err(_) => Err(AllocError),
+    }
+}
+
+/// The contents of the byte string or the C string that was found in the text.
+pub(crate) fn bytes_contents<A: Allocator>(
+    alloc: A,
+    text: &str,
+    found: &Found,
+) -> Result<Vec<u8, A>, AllocError> {
+    match bytes_of_body(alloc, found.kind, found.body_in(text), found.body.plain) {
+        Ok(bytes) => Ok(bytes),
+        Err(_) => Err(AllocError),
+    }
+}
+
+/// The contents of the byte that was found in the text.
+pub(crate) fn byte_contents<A: Allocator>(
+    alloc: A,
+    text: &str,
+    found: &Found,
+) -> Result<Vec<u8, A>, AllocError> {
+    let mut bytes = Vec::new(alloc);
+    bytes.push(found.unit as u8)?;
+    Ok(bytes)
+}
+
+/// The contents of the character that was found in the text.
+fn char_contents<A: Allocator>(
+    alloc: A,
+    text: &str,
+    found: &Found,
+) -> Result<Vec<u8, A>, AllocError> {
+    let mut value = String::new(alloc);
+    value.push(char::from_u32(found.unit).unwrap())?;
+    Ok(value.into_bytes())
+}
+
+/// The contents, in bytes, of what was found in the text: `None` where it has no quotes.
+fn contents_of<A: Allocator>(
+    alloc: A,
+    text: &str,
+    found: &Found,
+) -> Result<Option<Vec<u8, A>>, AllocError> {
+    match found.kind {
+        Kind::Str => Ok(Some(str_contents(alloc, text, found)?)),
+        Kind::ByteStr | Kind::CStr => Ok(Some(bytes_contents(alloc, text, found)?)),
+        Kind::Byte => Ok(Some(byte_contents(alloc, text, found)?)),
+        Kind::Char => Ok(Some(char_contents(alloc, text, found)?)),
+        Kind::Int | Kind::Float | Kind::Bool => Ok(None),
+    }
+}
+
+/// Which bytes of the text of a quoted literal that was found in it give its contents from one byte to another, that one
+/// included.
+fn range_of(text: &str, found: &Found, first: usize, last: usize) -> (usize, usize) {
+    let lo = found.body.segments_in(found.kind, text).place_of(first);
+    let hi = found.body.segments_in(found.kind, text).end_of(last);
+    (lo, hi)
+}
+
+/// Which bytes of a text, in which this was found, give the text that is looked for, where the contents hold that first:
+/// `None` where they don't hold it.
+pub(crate) fn held_at<A: Allocator>(
+    alloc: A,
+    text: &str,
+    found: Option<Found>,
+    sought: &str,
+) -> Result<Option<(usize, usize)>, AllocError> {
+    let Some(found) = found else {
+        return Ok(None);
+    };
+    let Some(contents) = contents_of(alloc, text, &found)? else {
+        return Ok(None);
+    };
+    let Some(at) = first_in(contents.as_slice(), sought.as_bytes()) else {
+        return Ok(None);
+    };
+    let last = at + sought.len().saturating_sub(1);
+    Ok(Some(range_of(text, &found, at, last)))
+}

@@ -1,0 +1,228 @@
+// Rendered from crates/rl_sources/src/json.rt by tools/render, which erases contracts: change that file, and render anew.
+//! What is printed of a source as JSON: an object a line.
+
+use crate::rattle_std::prelude::{String, format};
+use crate::rl_sources::held::{byte_contents, bytes_contents};
+use crate::rl_sources::json_string::push_json_string;
+use crate::rl_sources::options::Form;
+use crate::rl_grammar::{FlawKind, Found, Kind, digits_of_found, str_of_body};
+use crate::rl_lines::label_of;
+use crate::rl_tokens::LexKind;
+use crate::rattle_std::alloc::{AllocError, Allocator};
+
+/// Whether lines are objects.
+#[inline(always)]
+pub fn is_json(form: Form) -> bool {
+    matches!(form, Form::Json)
+}
+
+/// Appends ASCII.
+fn push_ascii<A: Allocator>(out: &mut String<A>, piece: &str) -> Result<(), AllocError> {
+    out.push_str(piece)?;
+    Ok(())
+}
+
+/// Appends numbers, each after a comma.
+fn push_more_numbers<A: Allocator>(out: &mut String<A>, numbers: &[u8]) -> Result<(), AllocError> {
+    for number in numbers {
+        write!(out, ",{number}")?;
+    }
+    Ok(())
+}
+
+/// Appends an array of numbers.
+fn push_array<A: Allocator>(out: &mut String<A>, numbers: &[u8]) -> Result<(), AllocError> {
+    let Some((first, others)) = numbers.split_first() else {
+        return push_ascii(out, "[]");
+    };
+    write!(out, "[{first}")?;
+    push_more_numbers(out, others)?;
+    push_ascii(out, "]")
+}
+
+/// Appends where an object begins.
+pub(crate) fn push_object_front<A: Allocator>(
+    out: &mut String<A>,
+    path: Option<&str>,
+) -> Result<(), AllocError> {
+    match path {
+        None => push_ascii(out, "{"),
+        Some(path) => {
+            push_ascii(out, "{\"path\":")?;
+            push_json_string(out, path)?;
+            push_ascii(out, ",")
+        }
+    }
+}
+
+/// Appends a member after others, whose value is a string.
+fn push_member<A: Allocator>(out: &mut String<A>, name: &str, text: &str) -> Result<(), AllocError> {
+    push_ascii(out, ",\"")?;
+    push_ascii(out, name)?;
+    push_ascii(out, "\":")?;
+    push_json_string(out, text)
+}
+
+/// Appends the value of the string that was found in the text, which is copied only where it isn't what stands between
+/// the quotes.
+fn push_string<A: Allocator>(
+    alloc: A,
+    out: &mut String<A>,
+    text: &str,
+    found: &Found,
+) -> Result<(), AllocError> {
+    let body = found.body_in(text);
+    if found.body.plain {
+        return push_json_string(out, body);
+    }
+    match str_of_body(alloc, body, found.body.plain) {
+        Ok(value) => push_json_string(out, value.as_str()),
+        Err(_) => Err(AllocError),
+    }
+}
+
+/// Appends the value of the byte string or the C string that was found in the text.
+fn push_bytes<A: Allocator>(
+    alloc: A,
+    out: &mut String<A>,
+    text: &str,
+    found: &Found,
+) -> Result<(), AllocError> {
+    let bytes = bytes_contents(alloc, text, found)?;
+    push_array(out, bytes.as_slice())
+}
+
+/// Appends the value of the byte that was found in the text.
+fn push_one_byte<A: Allocator>(
+    alloc: A,
+    out: &mut String<A>,
+    text: &str,
+    found: &Found,
+) -> Result<(), AllocError> {
+    let bytes = byte_contents(alloc, text, found)?;
+    push_array(out, bytes.as_slice())
+}
+
+/// Appends the value of the character that was found in the text.
+fn push_character<A: Allocator>(
+    alloc: A,
+    out: &mut String<A>,
+    text: &str,
+    found: &Found,
+) -> Result<(), AllocError> {
+    let mut value = String::new(alloc);
+    value.push(char::from_u32(found.unit).unwrap())?;
+    push_json_string(out, value.as_str())
+}
+
+/// Appends the value of the number that was found in the text: its digits, which are copied only where they aren't all
+/// that stands before the suffix.
+fn push_digits<A: Allocator>(
+    alloc: A,
+    out: &mut String<A>,
+    text: &str,
+    found: &Found,
+) -> Result<(), AllocError> {
+    if found.body.plain {
+        return push_json_string(out, found.body_in(text));
+    }
+    match digits_of_found(alloc, text, *found) {
+        Ok(digits) => push_json_string(out, digits.as_str()),
+        Err(_) => Err(AllocError),
+    }
+}
+
+/// Appends the word of a truth value.
+fn push_truth<A: Allocator>(out: &mut String<A>, value: bool) -> Result<(), AllocError> {
+    if value {
+        push_ascii(out, "true")
+    } else {
+        push_ascii(out, "false")
+    }
+}
+
+/// Appends the value of the literal that was found in the text.
+fn push_value<A: Allocator>(
+    alloc: A,
+    out: &mut String<A>,
+    text: &str,
+    found: &Found,
+) -> Result<(), AllocError> {
+    match found.kind {
+        Kind::Str => push_string(alloc, out, text, found),
+        Kind::ByteStr | Kind::CStr => push_bytes(alloc, out, text, found),
+        Kind::Byte => push_one_byte(alloc, out, text, found),
+        Kind::Char => push_character(alloc, out, text, found),
+        Kind::Int | Kind::Float => push_digits(alloc, out, text, found),
+        Kind::Bool => push_truth(out, found.truth),
+    }
+}
+
+/// Appends the end of a literal's object: its suffix.
+fn push_suffix<A: Allocator>(out: &mut String<A>, suffix: &str) -> Result<(), AllocError> {
+    push_member(out, "suffix", suffix)?;
+    push_ascii(out, "}\n")
+}
+
+/// Appends the members of the literal that was found in the text.
+fn push_found_members<A: Allocator>(
+    alloc: A,
+    out: &mut String<A>,
+    text: &str,
+    found: &Found,
+) -> Result<(), AllocError> {
+    push_member(out, "kind", label_of(Some(found.kind)))?;
+    push_member(out, "text", text)?;
+    push_ascii(out, ",\"value\":")?;
+    push_value(alloc, out, text, found)?;
+    push_suffix(out, found.suffix_in(text))
+}
+
+/// Appends the members of a text that is no literal.
+fn push_verbatim_members<A: Allocator>(out: &mut String<A>, text: &str) -> Result<(), AllocError> {
+    push_member(out, "kind", "Verbatim")?;
+    push_member(out, "text", text)?;
+    push_ascii(out, ",\"value\":null")?;
+    push_suffix(out, "")
+}
+
+/// Appends the members of a text, of what `find` of `rl_grammar` returned for it, and the end of its object.
+#[inline(never)]
+pub(crate) fn push_json_literal<A: Allocator>(
+    alloc: A,
+    out: &mut String<A>,
+    text: &str,
+    found: Option<Found>,
+) -> Result<(), AllocError> {
+    match found {
+        Some(found) => push_found_members(alloc, out, text, &found),
+        None => push_verbatim_members(out, text),
+    }
+}
+
+/// Appends the members of a flaw: the literal's text, what is wrong, and the piece that it spoils, and the end of its
+/// object.
+pub(crate) fn push_json_flaw<A: Allocator>(
+    alloc: A,
+    out: &mut String<A>,
+    text: &str,
+    kind: FlawKind,
+    piece: &str,
+) -> Result<(), AllocError> {
+    let words = format!(in alloc; "{kind}")?;
+    push_member(out, "text", text)?;
+    push_member(out, "error", words.as_str())?;
+    push_member(out, "piece", piece)?;
+    push_ascii(out, "}\n")
+}
+
+/// Appends the member of a source's error, and the end of its object.
+pub(crate) fn push_json_error<A: Allocator>(
+    alloc: A,
+    out: &mut String<A>,
+    kind: LexKind,
+) -> Result<(), AllocError> {
+    let words = format!(in alloc; "{kind}")?;
+    push_member(out, "error", words.as_str())?;
+    push_ascii(out, "}\n")
+}

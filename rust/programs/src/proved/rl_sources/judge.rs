@@ -1,0 +1,40 @@
+// Rendered from crates/rl_sources/src/judge.rt by tools/render, which erases contracts: change that file, and render anew.
+//! The flaw of a literal of a source, as its judge finds it.
+
+use crate::rl_sources::options::{Judge, Options, Shown};
+use crate::rl_grammar::strict::explain_in_file;
+use crate::rl_grammar::{Flaw, explain};
+use crate::rattle_std::alloc::{AllocError, Allocator};
+
+/// The flaw that the judge finds in the text of a literal.
+fn judged<A: Allocator>(alloc: A, judge: Judge, text: &str) -> Result<Option<Flaw>, AllocError> {
+    match judge {
+        Judge::Syn => Ok(explain(text)),
+        Judge::Rust => match explain_in_file(alloc, text)? {
+            Some(flaw) => Ok(Some(flaw)),
+            None => Ok(explain(text)),
+        },
+    }
+}
+
+/// Whether flaws are looked for.
+fn looks_for_flaws(options: &Options<'_>) -> bool {
+    options.explains || matches!(options.shown, Shown::Bad)
+}
+
+/// The flaw of a literal's text, where flaws are looked for.
+pub(crate) fn flaw_of<A: Allocator>(
+    alloc: A,
+    options: &Options<'_>,
+    text: &str,
+) -> Result<Option<Flaw>, AllocError> {
+    if !looks_for_flaws(options) {
+        return Ok(None);
+    }
+    judged(alloc, options.judge, text)
+}
+
+/// The flaw that the line of a literal reports, where lines do so.
+pub(crate) fn reason_of(explains: bool, flaw: Option<Flaw>) -> Option<Flaw> {
+    if explains { flaw } else { None }
+}

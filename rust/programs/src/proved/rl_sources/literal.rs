@@ -1,0 +1,26 @@
+// Rendered from crates/rl_sources/src/literal.rt by tools/render, which erases contracts: change that file, and render anew.
+//! A literal of a source.
+
+use crate::rl_grammar::{Flaw, Found, Kind};
+use crate::rl_tokens::SourceToken;
+
+/// A literal of a source.
+#[derive(Clone, Copy)]
+pub(crate) struct Literal<'a, 't> {
+    /// Its token.
+    pub(crate) token: &'a SourceToken<'t>,
+    /// The rest of the source that begins with it.
+    pub(crate) rest: &'t str,
+    /// What reading its text found.
+    pub(crate) found: &'a Option<Found>,
+    /// Its flaw, where flaws are looked for.
+    pub(crate) flaw: Option<Flaw>,
+}
+
+/// The kind of what was found.
+pub(crate) fn kind_of(found: &Option<Found>) -> Option<Kind> {
+    match found {
+        Some(found) => Some(found.kind),
+        None => None,
+    }
+}

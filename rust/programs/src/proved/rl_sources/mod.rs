@@ -1,0 +1,26 @@
+// Rendered from crates/rl_sources/src/lib.rt by tools/render, which erases contracts: change that file, and render anew.
+//! The literals of whole Rust sources as lines, each after its place: all of them, or those that are bad, that hide text, or
+//! whose contents hold a text.
+
+mod color;
+mod held;
+mod hidden;
+mod json;
+mod json_string;
+mod judge;
+mod literal;
+mod options;
+mod place;
+mod reason;
+mod scan_error;
+mod scanner;
+mod step;
+
+pub use crate::rl_sources::color::{Paint, push_painted};
+pub use crate::rl_sources::json::is_json;
+pub use crate::rl_sources::json_string::json_strings_stand;
+pub use crate::rl_sources::options::{Form, Judge, Options, Shown, Spelling, names};
+pub use crate::rl_sources::place::Place;
+pub use crate::rl_sources::reason::push_source_error;
+pub use crate::rl_sources::scan_error::ScanError;
+pub use crate::rl_sources::scanner::scan;

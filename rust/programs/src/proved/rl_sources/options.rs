@@ -1,0 +1,102 @@
+// Rendered from crates/rl_sources/src/options.rt by tools/render, which erases contracts: change that file, and render anew.
+//! How a source is scanned.
+
+/// By which grammar a literal is bad.
+#[derive(Clone, Copy)]
+pub enum Judge {
+    /// Rust's: the strict grammar, of which an integer has 128 bits at most. A CR LF of a file is an LF there.
+    Rust,
+    /// That of `syn`: a literal is bad where it has no reading.
+    Syn,
+}
+
+/// How a literal is printed.
+#[derive(Clone, Copy)]
+pub enum Spelling {
+    /// Its kind, its value and its suffix.
+    Value,
+    /// As it is written in the source.
+    Source,
+}
+
+/// How a line is written.
+#[derive(Clone, Copy)]
+pub enum Form {
+    /// As words after its place.
+    Plain,
+    /// As these, with colours for a terminal.
+    Colored,
+    /// As an object of JSON.
+    Json,
+}
+
+/// Which literals are shown.
+#[derive(Clone, Copy)]
+pub enum Shown<'a> {
+    /// All of them.
+    All,
+    /// Those whose lines begin with one of these words, in any case of their letters; commas separate the words.
+    Only(&'a str),
+    /// Those that are bad.
+    Bad,
+    /// Those that hold characters which turn or hide text, as they are written.
+    Hidden,
+}
+
+/// How a source is scanned.
+#[derive(Clone, Copy)]
+pub struct Options<'a> {
+    /// Which literals are shown.
+    pub shown: Shown<'a>,
+    /// A text that is looked for: only literals are shown whose contents hold it, at the place where it begins there.
+    pub finds: Option<&'a str>,
+    /// How they are printed.
+    pub spelling: Spelling,
+    /// How each line is written.
+    pub form: Form,
+    /// Whether places are printed as lines and columns, and not as bytes.
+    pub by_line: bool,
+    /// Whether a stray character is an error, as it is in Rust.
+    pub rejects_strays: bool,
+    /// Whether the line of a bad literal says why it is bad.
+    pub explains: bool,
+    /// By which grammar a literal is bad.
+    pub judge: Judge,
+    /// What stands before each place: a file's path as it is printed, or for the form `Json` as it is.
+    pub path: Option<&'a str>,
+}
+
+impl Default for Options<'_> {
+    /// All literals, each by its value after its place in bytes, without reasons. Rust's grammar says which are bad.
+    fn default() -> Self {
+        Options {
+            shown: Shown::All,
+            finds: None,
+            spelling: Spelling::Value,
+            form: Form::Plain,
+            by_line: false,
+            rejects_strays: false,
+            explains: false,
+            judge: Judge::Rust,
+            path: None,
+        }
+    }
+}
+
+/// Whether this is one of the words of a list, in any case of its letters; commas separate the words.
+pub fn names(list: &str, label: &str) -> bool {
+    list.split(',').any(|word| word.eq_ignore_ascii_case(label))
+}
+
+impl Shown<'_> {
+    /// Whether a literal is shown whose line begins with this word, which is bad or not, and which holds characters that
+    /// turn or hide text or not.
+    pub fn picks(self, label: &str, is_bad: bool, is_hidden: bool) -> bool {
+        match self {
+            Shown::All => true,
+            Shown::Only(list) => names(list, label),
+            Shown::Bad => is_bad,
+            Shown::Hidden => is_hidden,
+        }
+    }
+}

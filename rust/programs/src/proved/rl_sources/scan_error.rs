@@ -1,0 +1,37 @@
+// Rendered from crates/rl_sources/src/scan_error.rt by tools/render, which erases contracts: change that file, and render anew.
+//! Why a scan ends before the end of the source.
+
+use crate::rl_sources::place::Place;
+use crate::rl_program::{Fault, RunError};
+use crate::rl_tokens::LexKind;
+use crate::rattle_std::alloc::{Allocator, Global};
+use crate::rattle_std::fmt;
+
+/// Why a scan ended before the end of the source.
+pub enum ScanError<A: Allocator = Global> {
+    /// An allocation or a write failed; in a run also a read, or the input isn't UTF-8.
+    Fault(Fault<A>),
+    /// An error of the source, at a place: a quote or a comment that isn't closed, or a stray
+    /// character where these are rejected.
+    Source(Place, LexKind),
+}
+
+/// The status is that of the error, and 1 where it is one of the source.
+impl<A: Allocator> RunError for ScanError<A> {
+    fn status(&self) -> u8 {
+        match self {
+            ScanError::Fault(fault) => fault.status(),
+            ScanError::Source(_, _) => 1,
+        }
+    }
+}
+
+/// The line that a program reports the error by, with the place in the source.
+impl<A: Allocator> fmt::Display for ScanError<A> {
+    fn fmt(&self, f: &mut fmt::Formatter<'_>) -> fmt::Result {
+        match self {
+            ScanError::Fault(fault) => write!(f, "{fault}"),
+            ScanError::Source(place, kind) => write!(f, "error at {place}: {kind}"),
+        }
+    }
+}

@@ -1,0 +1,324 @@
+// Rendered from crates/rl_sources/src/step.rt by tools/render, which erases contracts: change that file, and render anew.
+//! What is shown of the tokens of a source, one after another.
+
+use crate::rattle_std::prelude::{String};
+use crate::rl_sources::held::held_at;
+use crate::rl_sources::hidden::{hidden_at, is_hidden};
+use crate::rl_sources::json::push_json_literal;
+use crate::rl_sources::judge::{flaw_of, reason_of};
+use crate::rl_sources::literal::{Literal, kind_of};
+use crate::rl_sources::options::{Form, Options, Shown, Spelling};
+use crate::rl_sources::place::{Place, Places, place_inside, place_of, push_front};
+use crate::rl_sources::reason::push_flaw;
+use crate::rl_files::{make_visible, push_visible};
+use crate::rl_grammar::{Found, find};
+use crate::rl_lines::{bare_value, label_of, push_bare, push_found};
+use crate::rl_tokens::{LexError, LexKind, SourceForm, SourceToken, Sources};
+use crate::rattle_std::alloc::{AllocError, Allocator};
+
+/// How many bytes of lines are gathered before they are written.
+const FULL: usize = 65_536;
+
+/// Appends the line of a text, of what reading it found, as it is printed: once it is made, it is gone over for what turns
+/// or hides text.
+#[inline(never)]
+fn push_made_line<A: Allocator + Copy>(
+    alloc: A,
+    out: &mut String<A>,
+    text: &str,
+    found: Option<Found>,
+) -> Result<(), AllocError> {
+    let from = out.as_str().len();
+    push_found(alloc, out, text, found)?;
+    make_visible(alloc, out, from)
+}
+
+/// Appends the line of a text, of what reading it found, as it is printed. A string's line that holds its value as it stands
+/// has nothing that turns or hides text.
+#[inline(always)]
+fn push_text_line<A: Allocator + Copy>(
+    alloc: A,
+    out: &mut String<A>,
+    text: &str,
+    found: &Option<Found>,
+) -> Result<(), AllocError> {
+    match bare_value(text) {
+        Some(value) => push_bare(out, value),
+        None => push_made_line(alloc, out, text, *found),
+    }
+}
+
+/// Appends a literal as it is written.
+#[inline(never)]
+fn push_source<A: Allocator>(out: &mut String<A>, text: &str) -> Result<(), AllocError> {
+    push_visible(out, text)?;
+    out.push_str("\n")?;
+    Ok(())
+}
+
+/// Appends what is printed of a literal.
+#[inline(always)]
+fn push_printed<A: Allocator + Copy>(
+    alloc: A,
+    out: &mut String<A>,
+    spelling: Spelling,
+    literal: &Literal<'_, '_>,
+) -> Result<(), AllocError> {
+    match spelling {
+        Spelling::Value => push_text_line(alloc, out, literal.token.text, literal.found),
+        Spelling::Source => push_source(out, literal.token.text),
+    }
+}
+
+/// Appends what stands after the place in the line of a literal: what is printed of it, or the members of its object.
+#[inline(always)]
+fn push_line_end<A: Allocator + Copy>(
+    alloc: A,
+    out: &mut String<A>,
+    options: &Options<'_>,
+    literal: &Literal<'_, '_>,
+) -> Result<(), AllocError> {
+    match options.form {
+        Form::Plain | Form::Colored => push_printed(alloc, out, options.spelling, literal),
+        Form::Json => push_json_literal(alloc, out, literal.token.text, *literal.found),
+    }
+}
+
+/// Appends the line of a literal, after this place.
+#[inline(always)]
+fn push_line_at<A: Allocator + Copy>(
+    alloc: A,
+    out: &mut String<A>,
+    options: &Options<'_>,
+    literal: &Literal<'_, '_>,
+    place: Place,
+) -> Result<(), AllocError> {
+    push_front(out, options.form, options.path, &place)?;
+    push_line_end(alloc, out, options, literal)
+}
+
+/// Appends the line of a literal, after its place.
+#[inline(always)]
+fn push_placed<'t, A: Allocator + Copy>(
+    alloc: A,
+    out: &mut String<A>,
+    options: &Options<'_>,
+    literal: &Literal<'_, 't>,
+    places: &mut Places<'t>,
+) -> Result<(), AllocError> {
+    let token = literal.token;
+    let place = place_of(options, places, literal.rest, token.lo, token.hi);
+    push_line_at(alloc, out, options, literal, place)
+}
+
+/// Appends the line of a literal, after the place of these bytes of its text.
+#[inline(never)]
+fn push_inside<'t, A: Allocator + Copy>(
+    alloc: A,
+    out: &mut String<A>,
+    options: &Options<'_>,
+    literal: &Literal<'_, 't>,
+    places: &mut Places<'t>,
+    range: (usize, usize),
+) -> Result<(), AllocError> {
+    let token = *literal.token;
+    let place = place_inside(options, places, token, literal.rest, range.0, range.1);
+    push_line_at(alloc, out, options, literal, place)
+}
+
+/// Appends the line of a literal: its own, or where lines report flaws and it has one, the line that says why it is bad.
+#[inline(always)]
+fn push_line_in<'t, A: Allocator + Copy>(
+    alloc: A,
+    out: &mut String<A>,
+    options: &Options<'_>,
+    literal: &Literal<'_, 't>,
+    places: &mut Places<'t>,
+) -> Result<(), AllocError> {
+    match reason_of(options.explains, literal.flaw) {
+        Some(flaw) => push_flaw(alloc, out, options, literal, places, flaw),
+        None => push_placed(alloc, out, options, literal, places),
+    }
+}
+
+/// Appends the line of a literal whose contents hold what is looked for, at the place of that.
+#[inline(never)]
+fn push_held_line<'t, A: Allocator + Copy>(
+    alloc: A,
+    out: &mut String<A>,
+    options: &Options<'_>,
+    literal: &Literal<'_, 't>,
+    places: &mut Places<'t>,
+    sought: &str,
+) -> Result<(), AllocError> {
+    let Some(range) = held_at(alloc, literal.token.text, *literal.found, sought)? else {
+        return Ok(());
+    };
+    push_inside(alloc, out, options, literal, places, range)
+}
+
+/// Appends the line of a literal whose text holds a character that turns or hides text, at the place of the first.
+#[inline(never)]
+fn push_hidden_line<'t, A: Allocator + Copy>(
+    alloc: A,
+    out: &mut String<A>,
+    options: &Options<'_>,
+    literal: &Literal<'_, 't>,
+    places: &mut Places<'t>,
+) -> Result<(), AllocError> {
+    let Some(range) = hidden_at(literal.token.text) else {
+        return Ok(());
+    };
+    push_inside(alloc, out, options, literal, places, range)
+}
+
+/// Appends what is shown of a literal where no text is looked for: its line, which stands at the first character that
+/// turns or hides text where these are asked for.
+#[inline(always)]
+fn push_asked<'t, A: Allocator + Copy>(
+    alloc: A,
+    out: &mut String<A>,
+    options: &Options<'_>,
+    literal: &Literal<'_, 't>,
+    places: &mut Places<'t>,
+) -> Result<(), AllocError> {
+    match options.shown {
+        Shown::Hidden => push_hidden_line(alloc, out, options, literal, places),
+        _ => push_line_in(alloc, out, options, literal, places),
+    }
+}
+
+/// Appends what is shown of a literal that is picked: where a text is looked for, its line where its contents hold that.
+#[inline(always)]
+fn push_picked<'t, A: Allocator + Copy>(
+    alloc: A,
+    out: &mut String<A>,
+    options: &Options<'_>,
+    literal: &Literal<'_, 't>,
+    places: &mut Places<'t>,
+) -> Result<(), AllocError> {
+    match options.finds {
+        None => push_asked(alloc, out, options, literal, places),
+        Some(sought) => push_held_line(alloc, out, options, literal, places, sought),
+    }
+}
+
+/// Appends what is shown of a literal, where it is picked.
+#[inline(never)]
+fn push_literal_token<'t, A: Allocator + Copy>(
+    alloc: A,
+    out: &mut String<A>,
+    options: &Options<'_>,
+    token: SourceToken<'t>,
+    rest: &'t str,
+    places: &mut Places<'t>,
+) -> Result<(), AllocError> {
+    let found = find(token.text);
+    let flaw = flaw_of(alloc, options, token.text)?;
+    let hides = is_hidden(options.shown, token.text);
+    if !options
+        .shown
+        .picks(label_of(kind_of(&found)), flaw.is_some(), hides)
+    {
+        return Ok(());
+    }
+    let literal = Literal {
+        token: &token,
+        rest,
+        found: &found,
+        flaw,
+    };
+    push_picked(alloc, out, options, &literal, places)
+}
+
+/// Cuts off the next token: `None` at the end of the source.
+#[inline(always)]
+fn next_token<'t>(
+    rejects_strays: bool,
+    tokens: &mut Sources<'t>,
+) -> Result<Option<SourceToken<'t>>, LexError> {
+    match tokens.next() {
+        Some(token) if rejects_strays && matches!(token.form, SourceForm::Stray) => Err(LexError {
+            kind: LexKind::StrayCharacter,
+            at: token.lo,
+        }),
+        Some(token) => Ok(Some(token)),
+        None => match tokens.error() {
+            Some(error) => Err(error),
+            None => Ok(None),
+        },
+    }
+}
+
+/// Cuts off the tokens up to the next literal and that one, where a stray character is an error: `None` where the source
+/// ends before one comes.
+fn next_strictly<'t>(
+    options: Options<'_>,
+    tokens: &mut Sources<'t>,
+) -> Result<Option<SourceToken<'t>>, LexError> {
+    loop {
+        match next_token(options.rejects_strays, tokens) {
+            Ok(Some(token)) => {
+                if token.is_literal() {
+                    return Ok(Some(token));
+                }
+            }
+            Ok(None) => return Ok(None),
+            Err(error) => return Err(error),
+        }
+    }
+}
+
+/// Cuts off the tokens up to the next literal and that one: `None` where the source ends before one comes.
+#[inline(always)]
+fn next_literal<'t>(
+    options: Options<'_>,
+    tokens: &mut Sources<'t>,
+) -> Result<Option<SourceToken<'t>>, LexError> {
+    if options.rejects_strays {
+        return next_strictly(options, tokens);
+    }
+    match tokens.next_literal() {
+        Some(token) => Ok(Some(token)),
+        None => match tokens.error() {
+            Some(error) => Err(error),
+            None => Ok(None),
+        },
+    }
+}
+
+/// What comes after the lines that were gathered.
+#[derive(Clone, Copy)]
+pub(crate) enum Step {
+    /// More tokens.
+    More,
+    /// The end of the source.
+    End,
+    /// An error, at a place.
+    Error(Place, LexKind),
+}
+
+/// Gathers the lines of literals, as many as are to be written at once.
+pub(crate) fn gather<'t, A: Allocator + Copy>(
+    alloc: A,
+    options: Options<'_>,
+    tokens: &mut Sources<'t>,
+    places: &mut Places<'t>,
+    out: &mut String<A>,
+) -> Result<Step, AllocError> {
+    while out.len() < FULL {
+        match next_literal(options, tokens) {
+            Ok(Some(token)) => {
+                let rest = places.rest_at(token.lo);
+                push_literal_token(alloc, out, &options, token, rest, places)?
+            }
+            Ok(None) => return Ok(Step::End),
+            Err(error) => {
+                let rest = places.rest_at(error.at);
+                let place = place_of(&options, places, rest, error.at, error.at);
+                return Ok(Step::Error(place, error.kind));
+            }
+        }
+    }
+    Ok(Step::More)
+}

@@ -1,0 +1,62 @@
+// Rendered from crates/rust_literals/src/lit_bool/copies.rt by tools/render, which erases contracts: change that file, and render anew.
+//! Copies of truth values, their equality and hash, and how they are printed.
+
+use crate::rust_literals::lit_bool::{LitBool, word};
+use crate::rl_tokens::{Error, ToTokens, TokenStream, append_ident};
+use crate::rattle_std::alloc::Allocator;
+use crate::rattle_std::fmt;
+use crate::rattle_std::hash::{Hash, Hasher};
+
+impl LitBool {
+    /// The truth value once more. It takes no memory, so it never fails.
+    ///
+    /// # Errors
+    ///
+    /// None: the result is always `Ok`.
+    pub fn clone<B: Allocator>(&self, _alloc: B) -> Result<LitBool, Error<B>> {
+        Ok(LitBool {
+            value: self.value,
+            span: self.span,
+        })
+    }
+}
+
+/// Equal where the truth values are; spans are ignored.
+impl PartialEq for LitBool {
+    fn eq(&self, other: &Self) -> bool {
+        self.value == other.value
+    }
+}
+
+impl Eq for LitBool {
+}
+
+/// By the truth value alone.
+impl Hash for LitBool {
+    fn hash<H: Hasher>(&self, state: &mut H) {
+        self.value.hash(state);
+    }
+}
+
+/// The word; a width pads it, as it pads a `str`.
+impl fmt::Display for LitBool {
+    fn fmt(&self, f: &mut fmt::Formatter<'_>) -> fmt::Result {
+        f.pad(word(self.value))
+    }
+}
+
+/// The truth value between the name and braces.
+impl fmt::Debug for LitBool {
+    fn fmt(&self, f: &mut fmt::Formatter<'_>) -> fmt::Result {
+        let word = word(self.value);
+        write!(f, "LitBool {{ value: {word} }}")
+    }
+}
+
+/// The word, as an identifier.
+impl ToTokens for LitBool {
+    fn to_tokens<B: Allocator>(&self, alloc: B, tokens: &mut TokenStream<B>) -> Result<(), Error<B>> {
+        append_ident(self.token(alloc)?, tokens)?;
+        Ok(())
+    }
+}

@@ -1,0 +1,25 @@
+// Rendered from crates/rust_literals/src/lit_int.rt by tools/render, which erases contracts: change that file, and render anew.
+//! Integer literals.
+
+use crate::rust_literals::number::{Number, NumberKind};
+use crate::rl_grammar::{Found, Kind, find_int};
+use crate::rl_tokens::ErrorKind;
+use crate::rattle_std::alloc::{Allocator, Global};
+
+/// The kind of integers, as a type: what distinguishes `LitInt` from `LitFloat`.
+pub struct IntKind;
+
+/// An integer literal: `1`, `-0x1F`, `1_000u16`. Its magnitude is at most 2 to the 128th, less 1.
+pub type LitInt<A = Global> = Number<IntKind, A>;
+
+impl NumberKind for IntKind {
+    const KIND: Kind = Kind::Int;
+
+    fn find<A: Allocator>(text: &str) -> Result<Found, ErrorKind<A>> {
+        match find_int(text) {
+            Some(Some(found)) => Ok(found),
+            Some(None) => Err(ErrorKind::TooLarge),
+            None => Err(ErrorKind::NotInteger),
+        }
+    }
+}

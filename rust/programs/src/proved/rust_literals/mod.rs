@@ -1,0 +1,22 @@
+// Rendered from crates/rust_literals/src/lib.rt by tools/render, which erases contracts: change that file, and render anew.
+//! Rust's literals: the type `Lit`, its nine variants, and the literal types.
+
+mod flat;
+mod lit;
+mod lit_bool;
+mod lit_float;
+mod lit_int;
+mod literals;
+mod number;
+mod read;
+
+pub use crate::rust_literals::flat::read_next;
+pub use crate::rust_literals::lit::Lit;
+pub use crate::rust_literals::lit_bool::LitBool;
+pub use crate::rust_literals::lit_float::{FloatKind, LitFloat};
+pub use crate::rust_literals::lit_int::{IntKind, LitInt};
+pub use crate::rust_literals::literals::Literals;
+pub use crate::rust_literals::number::{Number, NumberKind};
+pub use crate::rust_literals::read::read_all;
+pub use crate::rl_grammar::{Flaw, FlawKind};
+pub use crate::rl_quoted::{LitByte, LitByteStr, LitCStr, LitChar, LitStr};
