@@ -4,6 +4,10 @@
 mod stored;
 
 #[test]
+#[cfg_attr(
+    not(target_pointer_width = "64"),
+    ignore = "six stored rows parse numbers as a usize and an isize of 64 bits"
+)]
 fn rows_of_calls() {
     stored::check("rl_rows", env!("CARGO_BIN_EXE_rl_rows"));
 }
