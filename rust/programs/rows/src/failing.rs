@@ -40,7 +40,7 @@ impl<B: Allocator> Failing<B> {
         asked
     }
 
-    /// How many blocks were taken and haven't come back: those of lists, texts and sets, which Rust drops.
+    /// How many blocks were taken and haven't come back: those of lists, texts, sets and maps.
     pub fn held(&self) -> u64 {
         self.held.get()
     }

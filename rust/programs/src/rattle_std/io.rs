@@ -1,8 +1,8 @@
 //! Stands for `std::io` of Rattle: readers, writers, the standard streams, and why a call failed.
 //!
 //! Narrower: an error has a kind and the system's number, and no message; kinds that the sources don't tell apart are `Other`. A
-//! `Take` is read to its end alone. Nothing gives up after 2^64 tries. Rust's own streams, which the standard ones stand on, take
-//! a few kilobytes that can't be refused, and count a stream that isn't open as an empty or a full one.
+//! `Take` is read to its end alone. Nothing gives up after 2^64 tries. The standard streams stand on Rust's own, which take a few
+//! kilobytes that can't be refused; one that is closed reads as empty, and takes all that is written.
 
 use super::alloc::{AllocError, AllocFailed, Allocator};
 use super::rt::HostRuntime;
@@ -10,9 +10,7 @@ use super::string::String;
 use super::vec::Vec;
 use core::fmt;
 use core::fmt::Write as _;
-use std::io::{Read as _, Write as _};
-
-pub use std::io::IsTerminal as TerminalOfStd;
+use std::io::{IsTerminal as TerminalOfStd, Read as _, Write as _};
 
 pub type Result<T> = core::result::Result<T, Error>;
 
@@ -183,8 +181,8 @@ fn fill<R: Read + ?Sized, A: Allocator>(
     }
 }
 
-/// Makes the list longer than `filled`, for a read of up to `most` bytes; returns whether it could. A list at its first capacity may
-/// hold all there is, so it grows by little.
+/// Makes the list longer than `filled`, for a read of up to `most` bytes; returns whether it could. A list at its first capacity
+/// may hold all there is, so it grows by little.
 fn has_room_to_read<A: Allocator>(
     list: &mut Vec<u8, A>,
     filled: usize,

@@ -1,9 +1,9 @@
 //! What the proved sources use of Rattle's std, over Rust's. Calls that take memory return a `Result`, collections are passed an
 //! allocator, and what reaches the system is passed a handle.
 //!
-//! Each module says which of Rattle's it stands for, and where it is narrower on purpose. What the sources can see of a call
-//! is the same, and held by `tests/rattle_std.rs` with Rattle's own answers. A failed allocation is an error value here too, since
-//! room is always made by `try_reserve`. There is no `unsafe`: where Rattle leaves out a check that is proved, Rust makes it.
+//! Each module says which of Rattle's it stands for, and where it is narrower on purpose. Elsewhere a call answers what Rattle's
+//! answers; `tests/rattle_std` holds the corners with answers of Rattle's own. A failed allocation is an error value here too,
+//! since room is always made by `try_reserve`. There is no `unsafe`: where Rattle leaves out a check that is proved, Rust makes it.
 
 pub mod alloc;
 pub mod collections;
@@ -15,12 +15,12 @@ pub mod rt;
 pub mod string;
 pub mod vec;
 
-/// Rattle's modules of these names are ported from Rust's. Narrower: Rattle's `fmt::Formatter` names its writer's type, so the renderer
-/// changes the signature of each `fmt`.
+/// These stand for themselves: Rattle's are ported from Rust's. But its `fmt::Formatter` names the type of its writer, so that the
+/// renderer changes the signature of each `fmt`; and its `Debug` escapes by Unicode 18, Rust's by that of the toolchain.
 pub use core::{cell, cmp, error, fmt, marker, mem, str};
 
 pub mod hash {
-    //! Stands for `std::hash` of Rattle. Its hashes differ, so that no answer may rest on their order.
+    //! Stands for `std::hash` of Rattle. The hashes are other ones, so no answer may rest on them.
     pub use core::hash::{BuildHasherDefault, Hash, Hasher};
     pub use std::collections::hash_map::DefaultHasher;
 

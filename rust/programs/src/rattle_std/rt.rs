@@ -1,7 +1,7 @@
-//! Stands for `std::rt` of Rattle, and for `HostRuntime`, `Alloc` and `Files` of its prelude and `std::fs`: the handles that a program
-//! is given, which say what it may reach of the system.
+//! Stands for `std::rt` of Rattle, and `Alloc` of its prelude: the handles that a program is given, which say what it may reach
+//! of the system.
 //!
-//! Narrower: `Files` only marks a handle, since `fs` knows one file system; Rattle's has a method for each call.
+//! Narrower: `Files` has no methods, since `fs` knows one file system. Rattle's has one for each call.
 
 use super::alloc::{Allocator, Global};
 use super::io::{Stderr, Stdin, Stdout};

@@ -7,7 +7,7 @@ use crate::rattle_std::io::Read;
 use crate::rattle_std::rt::HostRuntime;
 use std::ffi::OsStr;
 use std::os::unix::ffi::OsStrExt;
-use std::os::unix::fs::symlink;
+use std::os::unix::fs::{symlink, PermissionsExt};
 use std::path::{Path, PathBuf};
 use std::{fs, vec};
 
@@ -200,6 +200,35 @@ fn a_directory_that_vanishes() {
     fs::remove_dir(&path).expect("the directory can be removed");
     assert!(entries.next().is_none());
     assert!(entries.next().is_none());
+}
+
+/// As another user than root, who may do all.
+#[test]
+fn what_is_denied() {
+    let here = directory("denied");
+    let deny = |name: &str, mode| {
+        fs::set_permissions(here.join(name), fs::Permissions::from_mode(mode))
+            .expect("the permissions can be set");
+    };
+    for name in ["unlistable", "unsearchable"] {
+        fs::create_dir(here.join(name)).expect("the directory can be made");
+    }
+    for name in ["unreadable", "unsearchable/a"] {
+        fs::write(here.join(name), "").expect("the file can be written");
+    }
+    deny("unreadable", 0);
+    deny("unlistable", 0);
+    deny("unsearchable", 0o444);
+    if fs::metadata(here.join("unsearchable/a")).is_err() {
+        let denied = "Err(PermissionDenied, Some(13))";
+        assert_both(&path_in(&here, "unreadable"), denied, NO_DIRECTORY);
+        assert_neither(&path_in(&here, "unlistable"), denied);
+        assert_neither(&path_in(&here, "unsearchable/a"), denied);
+        let there = listed(&path_in(&here, "unsearchable"));
+        assert_eq!(there, [format!("a {denied}")]);
+    }
+    deny("unlistable", 0o755);
+    deny("unsearchable", 0o755);
 }
 
 #[test]

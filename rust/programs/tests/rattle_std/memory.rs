@@ -27,19 +27,54 @@ fn text_of<'a>(failing: Scant<'a>, text: &str, room: usize) -> String<Scant<'a>>
     made
 }
 
+/// The calls, of so many, at which an allocation is asked for. None is refused.
+fn asking(
+    failing: Scant<'_>,
+    calls: usize,
+    mut call: impl FnMut(usize) -> bool,
+) -> std::vec::Vec<usize> {
+    let asks = |i: &usize| {
+        failing.fail(1, 0);
+        assert!(call(*i), "call {i} fails");
+        failing.succeed() > 0
+    };
+    (0..calls).filter(asks).collect()
+}
+
 #[test]
-fn pushes_that_ask() {
+fn lists_grow_at_the_same_calls() {
     let failing = scant();
     let mut list = Vec::new(&failing);
-    let mut asks = std::vec::Vec::new();
-    for i in 0..100_u32 {
-        failing.fail(1, 0);
-        assert!(list.push(i).is_ok());
-        if failing.succeed() > 0 {
-            asks.push(i);
-        }
-    }
+    let asks = asking(&failing, 100, |i| list.push(i as u32).is_ok());
     assert_eq!(asks, [0, 4, 8, 16, 32, 64]);
+
+    let mut list = Vec::new(&failing);
+    let large = asking(&failing, 20, |_| list.push([0_u8; 2000]).is_ok());
+    assert_eq!(large, [0, 1, 2, 4, 8, 16]);
+
+    let Ok(mut list) = Vec::with_capacity(&failing, 10) else {
+        panic!("no memory")
+    };
+    let past_ten = asking(&failing, 50, |i| list.push(i).is_ok());
+    assert_eq!(past_ten, [10, 20, 40]);
+
+    let mut list = Vec::new(&failing);
+    let pieces = asking(&failing, 40, |i| {
+        list.extend_from_slice(&[1_u8; 40][..i]).is_ok()
+    });
+    assert_eq!(pieces, [1, 4, 6, 8, 11, 16, 23, 32]);
+}
+
+#[test]
+fn texts_grow_at_the_same_calls() {
+    let failing = scant();
+    let mut text = String::new(&failing);
+    let asks = asking(&failing, 100, |_| text.push('x').is_ok());
+    assert_eq!(asks, [0, 8, 16, 32, 64]);
+
+    let mut text = String::new(&failing);
+    let wide = asking(&failing, 30, |_| text.push('\u{20ac}').is_ok());
+    assert_eq!(wide, [0, 2, 5, 10, 21]);
 }
 
 #[test]
@@ -172,6 +207,13 @@ fn room_stays() {
     text.clear();
     failing.fail(1, 1);
     assert_eq!(text.push_str("abcd"), Ok(()));
+    failing.succeed();
+
+    let mut list = list_of(&failing, &[0; 40]);
+    list.truncate(3);
+    failing.fail(1, 1);
+    assert_eq!(list.extend_from_slice(&[1; 37]), Ok(()));
+    assert_eq!((list.pop(), list.len()), (Some(1), 39));
 }
 
 #[test]

@@ -71,15 +71,39 @@ fn what_a_reader_is_asked_for() {
     let asked = [512, 512, 1024, 2048, 4096, 8192, 16384, 32768, 65536, 31072];
     assert_eq!(script.asked(), asked);
 
-    let mut script = Script::new(&[], &[7; 3000]);
-    let Ok(mut list) = Vec::with_capacity(Global, 3000) else {
-        panic!("no memory")
+    let mut script = Script::new(&[], &[7; 100_100]);
+    let mut list = list_of(b"");
+    assert_eq!(told(script.take(600).read_to_end(&mut list)), "Ok(600)");
+    assert_eq!(script.asked(), [512, 88]);
+}
+
+#[test]
+fn what_a_reader_is_asked_for_where_there_is_room() {
+    let with_room = |count| {
+        let made = Vec::with_capacity(Global, count);
+        made.unwrap_or_else(|_| panic!("no memory"))
     };
-    assert_eq!(
-        told(script.take(1 << 30).read_to_end(&mut list)),
-        "Ok(3000)"
-    );
+    let mut script = Script::new(&[], &[7; 3000]);
+    let read = told(script.take(1 << 30).read_to_end(&mut with_room(3000)));
+    assert_eq!(read, "Ok(3000)");
     assert_eq!(script.asked(), [3000, 512]);
+
+    let mut script = Script::new(&[], &[7; 100_100]);
+    let read = told(script.take(u64::MAX).read_to_end(&mut with_room(100_000)));
+    assert_eq!(read, "Ok(100100)");
+    assert_eq!(script.asked(), [8192, 16384, 32768, 42656, 512, 12400]);
+}
+
+#[test]
+fn a_growth_that_is_refused_at_first_reads_nothing() {
+    let failing = Failing::new(Global);
+    let mut script = Script::new(&[], DIGITS);
+    let mut list = Vec::new(&failing);
+    failing.fail(1, 1);
+    let refused = told(script.take(600).read_to_end(&mut list));
+    assert_eq!(refused, "Err(OutOfMemory, None)");
+    assert_eq!((list.len(), failing.succeed()), (0, 1));
+    assert_eq!(script.asked(), []);
 }
 
 #[test]
