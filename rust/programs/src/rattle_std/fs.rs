@@ -27,7 +27,7 @@ impl Read for File {
         Ok(self.0.read(buf)?)
     }
 
-    /// It makes room for the whole file at once, where Rattle's lets the list grow.
+    /// It makes room for the whole file at once, where Rattle's lets the list grow, so that less memory is enough.
     fn read_up_to<A: Allocator>(&mut self, list: &mut Vec<u8, A>, limit: u64) -> Result<()> {
         let expected = self.0.metadata().map_or(0, |about| about.len()).min(limit);
         let count = usize::try_from(expected).unwrap_or(usize::MAX);

@@ -31,7 +31,7 @@ impl HostRuntime {
         Global
     }
 
-    /// What reads standard input: Rattle's has it from `Input`, and reads ahead.
+    /// What reads standard input, as by `Input`.
     pub fn reader(&self) -> Stdin {
         Stdin
     }

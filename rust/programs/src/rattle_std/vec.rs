@@ -1,7 +1,7 @@
 //! Stands for `std::vec` of Rattle: lists whose growth may fail. A call that fails leaves the list as it was.
 //!
-//! A list asks for memory at the same calls, and grows to the same room, as Rattle's. Narrower: it copies items that are `Copy`
-//! alone, and isn't cloned or sorted.
+//! A list asks for memory at the same calls as Rattle's, and for as much. Narrower: items are copied only where they are `Copy`, and
+//! a list isn't cloned or sorted.
 
 use super::alloc::{asks, may_hold, AllocError, AllocFailed, Allocator, Global};
 use core::fmt;
