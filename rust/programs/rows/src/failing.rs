@@ -1,4 +1,5 @@
-//! An allocator whose chosen allocations fail. It stands for that of crates/rl_refusing, which is `unsafe`.
+//! An allocator whose chosen allocations fail, and which counts the blocks that are held. It stands for that of crates/rl_refusing,
+//! which is `unsafe`.
 
 use crate::rattle_std::alloc::Allocator;
 use core::cell::Cell;
@@ -11,6 +12,7 @@ pub struct Failing<B: Allocator> {
     first: Cell<u64>,
     last: Cell<u64>,
     asked: Cell<u64>,
+    held: Cell<u64>,
 }
 
 impl<B: Allocator> Failing<B> {
@@ -20,6 +22,7 @@ impl<B: Allocator> Failing<B> {
             first: Cell::new(1),
             last: Cell::new(0),
             asked: Cell::new(0),
+            held: Cell::new(0),
         }
     }
 
@@ -37,9 +40,9 @@ impl<B: Allocator> Failing<B> {
         asked
     }
 
-    /// What is held isn't counted here: Rust gives back what is dropped.
+    /// How many blocks were taken and haven't come back: those of lists, texts, sets and maps.
     pub fn held(&self) -> u64 {
-        0
+        self.held.get()
     }
 }
 
@@ -48,6 +51,16 @@ impl<B: Allocator> Allocator for &Failing<B> {
         let asked = self.asked.get().saturating_add(1);
         self.asked.set(asked);
         !(self.first.get() <= asked && asked <= self.last.get()) && self.inner.grants()
+    }
+
+    fn takes(&self) {
+        self.held.set(self.held.get().saturating_add(1));
+        self.inner.takes();
+    }
+
+    fn gives_back(&self) {
+        self.held.set(self.held.get().wrapping_sub(1));
+        self.inner.gives_back();
     }
 }
 

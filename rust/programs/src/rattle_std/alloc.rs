@@ -1,15 +1,27 @@
-//! Allocators. There is one, Rust's own; collections name it, and hold nothing of it.
+//! Stands for `std::alloc` of Rattle: allocators, and the errors of an allocation that failed.
+//!
+//! Narrower: there is one allocator, Rust's own, and no call here hands out a block. Lists, texts and sets take theirs by Rust's
+//! `try_reserve`, after they asked the allocator that they were passed, so that one of a test can refuse, and count blocks.
 
 use core::fmt;
 use core::hash::Hash;
+use std::collections::TryReserveError;
 
-/// What collections are passed to take memory from. All take it from Rust's own allocator; another one may refuse.
+/// What collections are passed to take memory from. All take it from Rust's own allocator; another one may refuse, and count.
 pub trait Allocator: Copy + Ord + Hash + fmt::Debug {
     /// Whether the next allocation is granted, which is then tried.
     #[inline(always)]
     fn grants(&self) -> bool {
         true
     }
+
+    /// A block was taken, where none was held before.
+    #[inline(always)]
+    fn takes(&self) {}
+
+    /// A block that was taken went back.
+    #[inline(always)]
+    fn gives_back(&self) {}
 }
 
 /// Rust's own allocator.
@@ -17,6 +29,26 @@ pub trait Allocator: Copy + Ord + Hash + fmt::Debug {
 pub struct Global;
 
 impl Allocator for Global {}
+
+/// Asks the allocator, then Rust's, for a block, in place of the one that is held if `holds` says so. Returns whether there is one.
+pub(super) fn asks<A: Allocator>(
+    alloc: &A,
+    holds: bool,
+    reserve: impl FnOnce() -> Result<(), TryReserveError>,
+) -> bool {
+    if !alloc.grants() || reserve().is_err() {
+        return false;
+    }
+    if !holds {
+        alloc.takes();
+    }
+    true
+}
+
+/// Whether a block may hold so many values. For a larger one no allocator is asked.
+pub(super) fn may_hold<T>(count: Option<usize>) -> bool {
+    count.is_some_and(|count| count <= isize::MAX as usize / size_of::<T>().max(1))
+}
 
 /// An allocation failed.
 #[derive(Clone, Copy, PartialEq, Eq, Debug)]

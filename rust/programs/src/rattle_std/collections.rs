@@ -1,6 +1,10 @@
-//! Sets, and maps.
+//! Stands for `std::collections` of Rattle: a set in order, and for the rows a map by hashes. An insertion that fails hands back
+//! what was to be inserted, and leaves the rest as it was; one of what is there already needs no memory.
+//!
+//! Narrower: a set can be inserted into alone, a map also asked for a key, and both ask for memory at other insertions than
+//! Rattle's.
 
-use super::alloc::{AllocFailed, Allocator, Global};
+use super::alloc::{asks, AllocFailed, Allocator, Global};
 use super::hash::{BuildHasherDefault, FoldHasher};
 use core::hash::Hash;
 use std::vec::Vec;
@@ -8,14 +12,22 @@ use std::vec::Vec;
 /// A map by hashes.
 pub struct HashMap<K, V, S = BuildHasherDefault<FoldHasher>, A: Allocator = Global> {
     map: std::collections::HashMap<K, V, S>,
-    _alloc: A,
+    alloc: A,
+}
+
+impl<K, V, S, A: Allocator> Drop for HashMap<K, V, S, A> {
+    fn drop(&mut self) {
+        if self.map.capacity() > 0 {
+            self.alloc.gives_back();
+        }
+    }
 }
 
 impl<K: Eq + Hash, V, A: Allocator> HashMap<K, V, BuildHasherDefault<FoldHasher>, A> {
     pub fn new(alloc: A) -> Self {
         HashMap {
             map: std::collections::HashMap::default(),
-            _alloc: alloc,
+            alloc,
         }
     }
 
@@ -27,8 +39,13 @@ impl<K: Eq + Hash, V, A: Allocator> HashMap<K, V, BuildHasherDefault<FoldHasher>
         self.map.is_empty()
     }
 
+    /// Gives the key this value; returns the one that it had.
     pub fn insert(&mut self, key: K, value: V) -> Result<Option<V>, AllocFailed<(K, V)>> {
-        if self.map.try_reserve(1).is_err() {
+        let room = self.map.capacity();
+        if self.map.len() == room
+            && !self.map.contains_key(&key)
+            && !asks(&self.alloc, room > 0, || self.map.try_reserve(1))
+        {
             return Err(AllocFailed {
                 value: (key, value),
             });
@@ -76,19 +93,15 @@ impl<T: Ord, A: Allocator> BTreeSet<T, A> {
             return Ok(false);
         };
         if row.len() < ROW {
-            if row.len() == row.capacity() && !(self.alloc.grants() && row.try_reserve(1).is_ok()) {
+            if row.len() == row.capacity() && !asks(&self.alloc, true, || row.try_reserve(1)) {
                 return Err(AllocFailed { value: item });
             }
             row.insert(place, item);
             return Ok(true);
         }
-        let mut upper = Vec::new();
-        if !self.alloc.grants()
-            || upper.try_reserve(ROW).is_err()
-            || self.rows.try_reserve(1).is_err()
-        {
+        let Some(mut upper) = self.another(ROW) else {
             return Err(AllocFailed { value: item });
-        }
+        };
         let row = &mut self.rows[at];
         upper.extend(row.drain(ROW / 2..));
         if place <= ROW / 2 {
@@ -101,13 +114,29 @@ impl<T: Ord, A: Allocator> BTreeSet<T, A> {
     }
 
     fn begin(&mut self, item: T) -> Result<bool, AllocFailed<T>> {
-        let mut row = Vec::new();
-        if !self.alloc.grants() || row.try_reserve(1).is_err() || self.rows.try_reserve(1).is_err()
-        {
+        let Some(mut row) = self.another(1) else {
             return Err(AllocFailed { value: item });
-        }
+        };
         row.push(item);
         self.rows.push(row);
         Ok(true)
+    }
+
+    /// A row with room for so many items, and room for it among the rows.
+    fn another(&mut self, count: usize) -> Option<Vec<T>> {
+        let mut row = Vec::new();
+        let reserve = || {
+            row.try_reserve(count)?;
+            self.rows.try_reserve(1)
+        };
+        asks(&self.alloc, false, reserve).then_some(row)
+    }
+}
+
+impl<T: Ord, A: Allocator> Drop for BTreeSet<T, A> {
+    fn drop(&mut self) {
+        for _ in &self.rows {
+            self.alloc.gives_back();
+        }
     }
 }

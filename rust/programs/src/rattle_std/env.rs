@@ -1,4 +1,6 @@
-//! A program's arguments, and what its environment says.
+//! Stands for `std::env` of Rattle: a program's arguments, and the variables of its environment.
+//!
+//! Narrower: arguments and variables are this process's own, and what Rust's own calls take to copy them can't be refused.
 
 use super::alloc::{AllocError, Global};
 use super::io;
@@ -7,9 +9,10 @@ use super::string::String;
 use super::vec::{IntoIter, Vec};
 use std::env;
 
+/// The arguments, one after another.
 pub type Args = IntoIter<String>;
 
-/// The arguments, the program's name the first. One that isn't UTF-8 is an error.
+/// The arguments, the program's name the first. Where one isn't UTF-8 it fails as a whole.
 pub fn args(_rt: &HostRuntime) -> io::Result<Args> {
     let mut all = Vec::new(Global);
     for arg in env::args_os() {
@@ -21,6 +24,7 @@ pub fn args(_rt: &HostRuntime) -> io::Result<Args> {
     Ok(all.into_iter())
 }
 
+/// Why a variable's value can't be had.
 pub enum VarError {
     NotPresent,
     NotUnicode,
@@ -33,6 +37,7 @@ impl From<AllocError> for VarError {
     }
 }
 
+/// The variable's value.
 pub fn var(_rt: &HostRuntime, name: &str) -> Result<String, VarError> {
     match env::var_os(name) {
         None => Err(VarError::NotPresent),

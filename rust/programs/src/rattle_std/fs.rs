@@ -1,15 +1,22 @@
-//! Files and directories. Names and paths are texts; a name that isn't UTF-8 is an error without a number of the system's.
+//! Stands for `std::fs` of Rattle: files that are read, and the entries of directories. Paths and names are texts.
+//!
+//! Narrower: nothing is written or changed, and there is one file system. What Rust's own calls take for a long path or a name
+//! can't be refused.
 
-use super::alloc::{Allocator, Global};
+use super::alloc::{AllocError, Allocator, Global};
 use super::io::{Error, ErrorKind, Read, Result};
 use super::rt::{Alloc, Files};
+use super::string::String;
+use super::vec::Vec;
 use core::marker::PhantomData;
 use std::fs::FileType;
 use std::io::Read as _;
 
+/// An open file.
 pub struct File(std::fs::File);
 
 impl File {
+    /// Opens the file to read it. A directory can be opened too; the first read fails then.
     pub fn open<R: Files>(_rt: &R, path: &str) -> Result<File> {
         Ok(File(std::fs::File::open(path)?))
     }
@@ -20,51 +27,59 @@ impl Read for File {
         Ok(self.0.read(buf)?)
     }
 
-    fn read_up_to(&mut self, bytes: &mut std::vec::Vec<u8>, limit: u64) -> Result<usize> {
+    /// It makes room for the whole file at once, where Rattle's lets the list grow, so that less memory is enough.
+    fn read_up_to<A: Allocator>(&mut self, list: &mut Vec<u8, A>, limit: u64) -> Result<()> {
         let expected = self.0.metadata().map_or(0, |about| about.len()).min(limit);
-        if bytes.try_reserve_exact(expected as usize + 1).is_err() {
+        let count = usize::try_from(expected).unwrap_or(usize::MAX);
+        if !list.grows_exactly(count.saturating_add(1)) {
             return Err(Error::of(ErrorKind::OutOfMemory));
         }
-        Ok((&mut self.0).take(limit).read_to_end(bytes)?)
+        (&mut self.0).take(limit).read_to_end(&mut list.items)?;
+        Ok(())
     }
 }
 
+/// An entry of a directory.
 pub struct DirEntry<R, A: Allocator = Global> {
-    name: std::string::String,
-    kind: std::io::Result<FileType>,
-    of: PhantomData<(R, A)>,
+    path: String<A>,
+    of: PhantomData<R>,
 }
 
 impl<R, A: Allocator> DirEntry<R, A> {
-    /// What the entry is; of a link that it is one.
+    /// What the entry is; of a link that it is one. The system is asked anew, by the entry's path, so it fails where the entry
+    /// vanished or the directory can't be searched.
     pub fn file_type(&self) -> Result<FileType> {
-        match &self.kind {
-            Ok(kind) => Ok(*kind),
-            Err(error) => Err(Error::from(copy_of(error))),
-        }
+        Ok(std::fs::symlink_metadata(self.path.as_str())?.file_type())
     }
 
+    /// The entry's name, without its directory.
     pub fn file_name(&self) -> &str {
-        &self.name
+        let path = self.path.as_str();
+        path.rsplit_once('/').map_or(path, |(_, name)| name)
     }
 }
 
-fn copy_of(error: &std::io::Error) -> std::io::Error {
-    match error.raw_os_error() {
-        Some(code) => std::io::Error::from_raw_os_error(code),
-        None => std::io::Error::from(error.kind()),
-    }
-}
-
-/// The entries of a directory.
+/// The entries of a directory but `.` and `..`. A name that isn't UTF-8 is the error `InvalidFilename`, without a number of the
+/// system's; the entries behind it follow. Of a directory that was removed no more come.
 pub struct ReadDir<R, A: Allocator = Global> {
     entries: std::fs::ReadDir,
-    of: PhantomData<(R, A)>,
+    /// The directory's path, which ends with a slash if it isn't empty.
+    path: String<A>,
+    alloc: A,
+    of: PhantomData<R>,
 }
 
-pub fn read_dir<R: Files + Alloc>(_rt: &R, path: &str) -> Result<ReadDir<R, R::A>> {
+/// Opens the directory to list it.
+pub fn read_dir<R: Files + Alloc>(rt: &R, path: &str) -> Result<ReadDir<R, R::A>> {
+    let alloc = rt.alloc();
+    let mut with_slash = String::from_str(alloc, path)?;
+    if !path.is_empty() && !path.ends_with('/') {
+        with_slash.push('/')?;
+    }
     Ok(ReadDir {
-        entries: std::fs::read_dir(path)?,
+        entries: std::fs::read_dir(with_slash.as_str())?,
+        path: with_slash,
+        alloc,
         of: PhantomData,
     })
 }
@@ -73,17 +88,26 @@ impl<R, A: Allocator> Iterator for ReadDir<R, A> {
     type Item = Result<DirEntry<R, A>>;
 
     fn next(&mut self) -> Option<Self::Item> {
-        let entry = match self.entries.next()? {
-            Ok(entry) => entry,
-            Err(error) => return Some(Err(Error::from(error))),
-        };
-        match entry.file_name().into_string() {
-            Ok(name) => Some(Ok(DirEntry {
-                name,
-                kind: entry.file_type(),
-                of: PhantomData,
-            })),
-            Err(_) => Some(Err(Error::of(ErrorKind::InvalidFilename))),
-        }
+        Some(match self.entries.next()? {
+            Ok(entry) => match entry.file_name().to_str() {
+                Some(name) => joined(self.alloc, &self.path, name).map_err(Error::from),
+                None => Err(Error::of(ErrorKind::InvalidFilename)),
+            },
+            Err(error) => Err(Error::from(error)),
+        })
     }
+}
+
+fn joined<R, A: Allocator>(
+    alloc: A,
+    directory: &str,
+    name: &str,
+) -> core::result::Result<DirEntry<R, A>, AllocError> {
+    let mut path = String::with_capacity(alloc, directory.len() + name.len())?;
+    path.push_str(directory)?;
+    path.push_str(name)?;
+    Ok(DirEntry {
+        path,
+        of: PhantomData,
+    })
 }

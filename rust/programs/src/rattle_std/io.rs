@@ -1,17 +1,20 @@
-//! Streams.
+//! Stands for `std::io` of Rattle: readers, writers, the standard streams, and why a call failed.
+//!
+//! Narrower: an error has a kind and the system's number, and no message; kinds that the sources don't tell apart are `Other`. A
+//! `Take` is read to its end alone. Nothing gives up after 2^64 tries. The standard streams stand on Rust's own, which take a few
+//! kilobytes that can't be refused; one that is closed reads as empty, and takes all that is written.
 
 use super::alloc::{AllocError, AllocFailed, Allocator};
 use super::rt::HostRuntime;
 use super::string::String;
 use super::vec::Vec;
 use core::fmt;
-use std::io::{Read as _, Write as _};
-
-pub use std::io::IsTerminal as TerminalOfStd;
+use core::fmt::Write as _;
+use std::io::{IsTerminal as TerminalOfStd, Read as _, Write as _};
 
 pub type Result<T> = core::result::Result<T, Error>;
 
-/// The kinds of errors that the sources tell apart.
+/// The kinds of errors that the sources tell apart, and `Other`.
 #[derive(Clone, Copy, PartialEq, Eq, Debug)]
 pub enum ErrorKind {
     NotFound,
@@ -20,13 +23,20 @@ pub enum ErrorKind {
     Interrupted,
     IsADirectory,
     NotADirectory,
+    /// A name or a path is too long, or, without a number of the system's, a name in a directory isn't UTF-8.
     InvalidFilename,
+    /// A path has a NUL.
+    InvalidInput,
+    /// What has to be a text isn't UTF-8.
     InvalidData,
     StorageFull,
+    /// A writer took no byte.
+    WriteZero,
     OutOfMemory,
     Other,
 }
 
+/// Why a call failed.
 #[derive(Clone, Copy, Debug)]
 pub struct Error {
     kind: ErrorKind,
@@ -42,6 +52,7 @@ impl Error {
         self.kind
     }
 
+    /// The system's number of the error, where the system gave it.
     pub fn raw_os_error(&self) -> Option<i32> {
         self.os
     }
@@ -56,22 +67,38 @@ impl From<std::io::Error> for Error {
     }
 }
 
-/// The names of some kinds are younger than Rust 1.81, which has the kinds.
+/// The kind by Rust's. The names of some are younger than Rust 1.81, which has those kinds.
 fn kind_of(kind: std::io::ErrorKind) -> ErrorKind {
     match kind {
         std::io::ErrorKind::NotFound => ErrorKind::NotFound,
         std::io::ErrorKind::PermissionDenied => ErrorKind::PermissionDenied,
         std::io::ErrorKind::BrokenPipe => ErrorKind::BrokenPipe,
         std::io::ErrorKind::Interrupted => ErrorKind::Interrupted,
+        std::io::ErrorKind::InvalidInput => ErrorKind::InvalidInput,
         std::io::ErrorKind::InvalidData => ErrorKind::InvalidData,
+        std::io::ErrorKind::WriteZero => ErrorKind::WriteZero,
         std::io::ErrorKind::OutOfMemory => ErrorKind::OutOfMemory,
-        other => match std::format!("{other:?}").as_str() {
-            "IsADirectory" => ErrorKind::IsADirectory,
-            "NotADirectory" => ErrorKind::NotADirectory,
-            "InvalidFilename" => ErrorKind::InvalidFilename,
-            _ => ErrorKind::Other,
-        },
+        younger if is_called(younger, "IsADirectory") => ErrorKind::IsADirectory,
+        younger if is_called(younger, "NotADirectory") => ErrorKind::NotADirectory,
+        younger if is_called(younger, "InvalidFilename") => ErrorKind::InvalidFilename,
+        younger if is_called(younger, "StorageFull") => ErrorKind::StorageFull,
+        _ => ErrorKind::Other,
     }
+}
+
+/// Whether Rust shows the kind by this word. It takes no memory, since memory may be what is wanting.
+fn is_called(kind: std::io::ErrorKind, word: &str) -> bool {
+    struct Rest<'a>(&'a str);
+
+    impl fmt::Write for Rest<'_> {
+        fn write_str(&mut self, text: &str) -> fmt::Result {
+            self.0 = self.0.strip_prefix(text).ok_or(fmt::Error)?;
+            Ok(())
+        }
+    }
+
+    let mut rest = Rest(word);
+    write!(rest, "{kind:?}").is_ok() && rest.0.is_empty()
 }
 
 impl From<ErrorKind> for Error {
@@ -92,33 +119,102 @@ impl<T> From<AllocFailed<T>> for Error {
     }
 }
 
+/// What bytes are read from.
 pub trait Read {
+    /// Reads some bytes into the buffer, and returns how many; none where the buffer is empty, or no byte is left.
     fn read(&mut self, buf: &mut [u8]) -> Result<usize>;
 
-    /// Puts what is left, but no more bytes than `limit`, behind those of the list.
-    fn read_up_to(&mut self, bytes: &mut std::vec::Vec<u8>, limit: u64) -> Result<usize> {
-        let mut turn = [0; 8192];
-        let mut count = 0;
-        while (count as u64) < limit {
-            let wanted = turn.len().min((limit - count as u64) as usize);
-            let got = self.read(&mut turn[..wanted])?;
-            if got == 0 {
-                break;
-            }
-            if bytes.try_reserve(got).is_err() {
-                return Err(Error::of(ErrorKind::OutOfMemory));
-            }
-            bytes.extend_from_slice(&turn[..got]);
-            count += got;
-        }
-        Ok(count)
+    /// Puts what is left, but no more bytes than `limit`, behind those of the list. After an error, what was read stays there.
+    fn read_up_to<A: Allocator>(&mut self, list: &mut Vec<u8, A>, limit: u64) -> Result<()> {
+        let mut filled = list.len();
+        let end = fill(self, list, &mut filled, limit);
+        list.truncate(filled);
+        end
     }
 
+    /// This reader, which then ends after so many bytes.
     fn take(self, limit: u64) -> Take<Self>
     where
         Self: Sized,
     {
         Take { inner: self, limit }
+    }
+}
+
+const LEAST_GROWTH: usize = 512;
+const FIRST_READ: usize = 8 * 1024;
+const LONGEST_READ: usize = 128 * 1024;
+
+/// Reads to the end, past the list's first `filled` bytes, and counts them up. Past those stands room for reading.
+///
+/// It asks the reader for as many bytes, and the allocator for as much, as Rattle's. Room is made before each read, so that a
+/// growth that is refused loses no byte.
+fn fill<R: Read + ?Sized, A: Allocator>(
+    reader: &mut R,
+    list: &mut Vec<u8, A>,
+    filled: &mut usize,
+    limit: u64,
+) -> Result<()> {
+    let mut left = limit;
+    let mut most = FIRST_READ;
+    let first_capacity = list.items.capacity();
+    loop {
+        if !has_room_to_read(list, *filled, most, first_capacity) {
+            return Err(Error::of(ErrorKind::OutOfMemory));
+        }
+        let mut room = &mut list.items[*filled..];
+        if room.len() as u64 > left {
+            room = &mut room[..left as usize];
+        }
+        if room.is_empty() {
+            return Ok(());
+        }
+        let count = read_uninterrupted(reader, room)?;
+        if count == 0 {
+            return Ok(());
+        }
+        *filled += count;
+        left -= count as u64;
+        if count >= most {
+            most = most.saturating_mul(2).min(LONGEST_READ);
+        }
+    }
+}
+
+/// Makes the list longer than `filled`, for a read of up to `most` bytes; returns whether it could. A list at its first capacity
+/// may hold all there is, so it grows by little.
+fn has_room_to_read<A: Allocator>(
+    list: &mut Vec<u8, A>,
+    filled: usize,
+    mut most: usize,
+    first_capacity: usize,
+) -> bool {
+    let capacity = list.items.capacity();
+    if filled == capacity {
+        let has_grown = if capacity == first_capacity {
+            most = LEAST_GROWTH;
+            list.grows_exactly(LEAST_GROWTH.max(capacity / 8))
+        } else {
+            list.grows(LEAST_GROWTH)
+        };
+        if !has_grown {
+            return false;
+        }
+    }
+    let end = filled + (list.items.capacity() - filled).min(most);
+    if list.len() < end {
+        list.items.resize(end, 0);
+    }
+    true
+}
+
+/// One read, tried again where a signal interrupted it.
+fn read_uninterrupted<R: Read + ?Sized>(reader: &mut R, buf: &mut [u8]) -> Result<usize> {
+    loop {
+        match reader.read(buf) {
+            Err(error) if error.kind == ErrorKind::Interrupted => {}
+            read => return read,
+        }
     }
 }
 
@@ -129,10 +225,14 @@ pub struct Take<R> {
 }
 
 impl<R: Read> Take<R> {
-    pub fn read_to_end<A: Allocator>(&mut self, bytes: &mut Vec<u8, A>) -> Result<usize> {
-        let count = self.inner.read_up_to(&mut bytes.items, self.limit)?;
+    /// Puts what is left behind the bytes of the list, and returns how many bytes that were. After an error, what was read stays
+    /// there, and counts towards the limit.
+    pub fn read_to_end<A: Allocator>(&mut self, list: &mut Vec<u8, A>) -> Result<usize> {
+        let before = list.len();
+        let end = self.inner.read_up_to(list, self.limit);
+        let count = list.len() - before;
         self.limit -= count as u64;
-        Ok(count)
+        end.map(|()| count)
     }
 }
 
@@ -145,24 +245,36 @@ impl Read for &[u8] {
     }
 }
 
+/// What bytes are written to.
 pub trait Write {
+    /// Writes some of the bytes, and returns how many.
     fn write(&mut self, bytes: &[u8]) -> Result<usize>;
 
+    /// Passes on what is held back: nothing, where a writer doesn't say otherwise.
     fn flush(&mut self) -> Result<()> {
         Ok(())
     }
 
+    /// Writes all bytes. After an error a beginning of them may be written.
     fn write_all(&mut self, bytes: &[u8]) -> Result<()> {
         let mut rest = bytes;
         while !rest.is_empty() {
-            match self.write(rest) {
-                Ok(0) => return Err(Error::of(ErrorKind::Other)),
-                Ok(count) => rest = &rest[count..],
-                Err(error) if error.kind == ErrorKind::Interrupted => {}
-                Err(error) => return Err(error),
+            match write_uninterrupted(self, rest)? {
+                0 => return Err(Error::of(ErrorKind::WriteZero)),
+                count => rest = &rest[count..],
             }
         }
         Ok(())
+    }
+}
+
+/// One write, tried again where a signal interrupted it.
+fn write_uninterrupted<W: Write + ?Sized>(writer: &mut W, bytes: &[u8]) -> Result<usize> {
+    loop {
+        match writer.write(bytes) {
+            Err(error) if error.kind == ErrorKind::Interrupted => {}
+            written => return written,
+        }
     }
 }
 
@@ -178,16 +290,13 @@ pub trait IsTerminal {
     fn is_terminal(&self) -> bool;
 }
 
+/// Standard input.
 #[derive(Clone, Copy)]
 pub struct Stdin;
 
 impl Read for Stdin {
     fn read(&mut self, buf: &mut [u8]) -> Result<usize> {
         Ok(std::io::stdin().read(buf)?)
-    }
-
-    fn read_up_to(&mut self, bytes: &mut std::vec::Vec<u8>, limit: u64) -> Result<usize> {
-        Ok(std::io::stdin().lock().take(limit).read_to_end(bytes)?)
     }
 }
 
@@ -197,7 +306,7 @@ impl IsTerminal for Stdin {
     }
 }
 
-/// Nothing is kept back: what is written is written at once.
+/// Standard output. Nothing is kept back: what is written is written at once.
 #[derive(Clone, Copy)]
 pub struct Stdout;
 
@@ -216,6 +325,7 @@ impl IsTerminal for Stdout {
     }
 }
 
+/// Standard error.
 #[derive(Clone, Copy)]
 pub struct Stderr;
 
@@ -246,11 +356,51 @@ pub trait Eprint {
 }
 
 impl Eprint for HostRuntime {
+    /// It takes no memory, since the line may say that there is none.
     fn eprintln<T: fmt::Display>(&self, line: T) -> Result<()> {
-        // In one call, so that no other program's line comes between.
-        let mut text = String::new(self.alloc());
-        text.write_fmt(format_args!("{line}\n"))?;
-        Stderr.write_all(text.as_bytes())
+        let mut ahead = Ahead {
+            bytes: [0; 1024],
+            len: 0,
+            error: None,
+        };
+        let is_formatted = writeln!(ahead, "{line}").is_ok();
+        ahead.pass_on();
+        match ahead.error {
+            Some(error) => Err(error),
+            None if is_formatted => Ok(()),
+            None => Err(Error::of(ErrorKind::Other)),
+        }
+    }
+}
+
+/// Room in front of standard error, so that a short line is written in one call, and no other program's comes between.
+struct Ahead {
+    bytes: [u8; 1024],
+    len: usize,
+    error: Option<Error>,
+}
+
+impl Ahead {
+    fn pass_on(&mut self) {
+        let written = Stderr.write_all(&self.bytes[..self.len]);
+        self.len = 0;
+        self.error = self.error.or(written.err());
+    }
+}
+
+impl fmt::Write for Ahead {
+    fn write_str(&mut self, text: &str) -> fmt::Result {
+        for byte in text.bytes() {
+            if self.len == self.bytes.len() {
+                self.pass_on();
+            }
+            if self.error.is_some() {
+                return Err(fmt::Error);
+            }
+            self.bytes[self.len] = byte;
+            self.len += 1;
+        }
+        Ok(())
     }
 }
 
@@ -262,127 +412,211 @@ pub fn writer(rt: &HostRuntime) -> Stdout {
 /// All that is left of a reader, which has to be a text.
 pub fn read_to_string<A: Allocator, R: Read>(alloc: A, mut reader: R) -> Result<String<A>> {
     let mut bytes = Vec::new(alloc);
-    reader.read_up_to(&mut bytes.items, u64::MAX)?;
+    reader.read_up_to(&mut bytes, u64::MAX)?;
+    text_of(bytes)
+}
+
+fn text_of<A: Allocator>(bytes: Vec<u8, A>) -> Result<String<A>> {
     String::from_utf8(bytes).map_err(|_| Error::of(ErrorKind::InvalidData))
 }
 
-/// A reader that is read in pieces.
+/// How many bytes stand in front of a reader or a writer.
+const AHEAD: usize = 8192;
+
+/// A reader with room in front, so that it can be read in pieces. The rows alone use it.
 pub struct BufReader<R, A: Allocator> {
-    left: std::io::Cursor<std::vec::Vec<u8>>,
-    reader: Option<R>,
-    alloc: A,
+    inner: R,
+    /// Of these, those from `start` to `end` are read and not yet consumed.
+    bytes: Vec<u8, A>,
+    start: usize,
+    end: usize,
 }
 
 impl<R: Read, A: Allocator> BufReader<R, A> {
-    pub fn new(alloc: A, reader: R) -> Result<BufReader<R, A>> {
+    pub fn new(alloc: A, inner: R) -> Result<BufReader<R, A>> {
         Ok(BufReader {
-            left: std::io::Cursor::default(),
-            reader: Some(reader),
-            alloc,
+            inner,
+            bytes: Vec::filled(alloc, 0, AHEAD)?,
+            start: 0,
+            end: 0,
         })
     }
 }
 
+/// What can be read in pieces.
 pub trait BufRead: Sized {
-    type A: Allocator;
+    /// What is read and not yet consumed. Where that is nothing, it reads once.
+    fn fill_buf(&mut self) -> Result<&[u8]>;
 
-    /// The next piece up to this byte, without it.
-    fn next_piece(&mut self, end: u8) -> Option<Result<Vec<u8, Self::A>>>;
+    fn consume(&mut self, count: usize);
 
-    fn split<B: Allocator>(self, _alloc: B, end: u8) -> Split<Self> {
-        Split { reader: self, end }
+    /// Puts the bytes up to this one, and it, behind those of the list, or all that are left. After an error, what was read stays
+    /// there.
+    fn read_until<B: Allocator>(&mut self, byte: u8, list: &mut Vec<u8, B>) -> Result<()> {
+        loop {
+            let ready = match self.fill_buf() {
+                Ok(ready) => ready,
+                Err(error) if error.kind == ErrorKind::Interrupted => continue,
+                Err(error) => return Err(error),
+            };
+            let at = ready.iter().position(|&each| each == byte);
+            let count = at.map_or(ready.len(), |at| at + 1);
+            list.extend_from_slice(&ready[..count])?;
+            self.consume(count);
+            if at.is_some() || count == 0 {
+                return Ok(());
+            }
+        }
     }
 
-    fn lines<B: Allocator>(self, _alloc: B) -> Lines<Self> {
-        Lines(self)
+    /// The pieces between these bytes.
+    fn split<B: Allocator>(self, alloc: B, byte: u8) -> Split<Self, B> {
+        Split {
+            inner: self,
+            alloc,
+            byte,
+            has_ended: false,
+        }
+    }
+
+    /// The lines, without their ends `\n` and `\r\n`.
+    fn lines<B: Allocator>(self, alloc: B) -> Lines<Self, B> {
+        Lines(self.split(alloc, b'\n'))
     }
 }
 
 impl<R: Read, A: Allocator> BufRead for BufReader<R, A> {
-    type A = A;
+    fn fill_buf(&mut self) -> Result<&[u8]> {
+        if self.start == self.end {
+            (self.start, self.end) = (0, 0);
+            self.end = self.inner.read(self.bytes.as_mut_slice())?;
+        }
+        Ok(&self.bytes[self.start..self.end])
+    }
 
-    fn next_piece(&mut self, end: u8) -> Option<Result<Vec<u8, A>>> {
-        use std::io::BufRead as _;
-        if let Some(mut reader) = self.reader.take() {
-            // All is read at once.
-            if let Err(error) = reader.read_up_to(self.left.get_mut(), u64::MAX) {
-                return Some(Err(error));
-            }
+    fn consume(&mut self, count: usize) {
+        self.start += count.min(self.end - self.start);
+    }
+}
+
+/// The pieces of a reader. An error takes the place of the piece that it came in. After one of memory none comes, since the rest of
+/// a piece would come as a whole one.
+pub struct Split<R, B: Allocator> {
+    inner: R,
+    alloc: B,
+    byte: u8,
+    has_ended: bool,
+}
+
+impl<R: BufRead, B: Allocator> Split<R, B> {
+    /// The next piece, and whether the byte stood behind it.
+    fn next_piece(&mut self) -> Option<Result<(Vec<u8, B>, bool)>> {
+        if self.has_ended {
+            return None;
         }
         let mut piece = Vec::new(self.alloc);
-        match self.left.read_until(end, &mut piece.items) {
-            Ok(0) => return None,
-            Ok(_) => {}
-            Err(error) => return Some(Err(error.into())),
+        if let Err(error) = self.inner.read_until(self.byte, &mut piece) {
+            self.has_ended = error.kind == ErrorKind::OutOfMemory;
+            return Some(Err(error));
         }
-        if piece.items.last() == Some(&end) {
-            piece.items.pop();
+        let has_end = *piece.last()? == self.byte;
+        if has_end {
+            piece.pop();
         }
-        Some(Ok(piece))
+        Some(Ok((piece, has_end)))
     }
 }
 
-pub struct Split<R> {
-    reader: R,
-    end: u8,
-}
-
-impl<R: BufRead> Iterator for Split<R> {
-    type Item = Result<Vec<u8, R::A>>;
+impl<R: BufRead, B: Allocator> Iterator for Split<R, B> {
+    type Item = Result<Vec<u8, B>>;
 
     fn next(&mut self) -> Option<Self::Item> {
-        self.reader.next_piece(self.end)
+        Some(self.next_piece()?.map(|(piece, _)| piece))
     }
 }
 
-pub struct Lines<R>(R);
+/// The lines of a reader, by the rules of `Split`.
+pub struct Lines<R, B: Allocator>(Split<R, B>);
 
-impl<R: BufRead> Iterator for Lines<R> {
-    type Item = Result<String<R::A>>;
+impl<R: BufRead, B: Allocator> Iterator for Lines<R, B> {
+    type Item = Result<String<B>>;
 
     fn next(&mut self) -> Option<Self::Item> {
-        let mut line = match self.0.next_piece(b'\n')? {
-            Ok(line) => line,
-            Err(error) => return Some(Err(error)),
-        };
-        if line.items.last() == Some(&b'\r') {
-            line.items.pop();
-        }
-        Some(String::from_utf8(line).map_err(|_| Error::of(ErrorKind::InvalidData)))
+        Some(self.0.next_piece()?.and_then(|(mut line, has_end)| {
+            if has_end && line.last() == Some(&b'\r') {
+                line.pop();
+            }
+            text_of(line)
+        }))
     }
 }
 
-/// A writer that writes much at once.
-pub struct BufWriter<W: Write> {
-    writer: W,
-    held: std::vec::Vec<u8>,
+/// A writer with room in front, so that few calls are made. The rows alone use it. What it holds is written when it is dropped.
+pub struct BufWriter<W: Write, A: Allocator> {
+    inner: W,
+    held: Vec<u8, A>,
 }
 
-impl<W: Write> BufWriter<W> {
-    pub fn new<A: Allocator>(_alloc: A, writer: W) -> Result<BufWriter<W>> {
-        let mut held = std::vec::Vec::new();
-        match held.try_reserve_exact(1 << 16) {
-            Ok(()) => Ok(BufWriter { writer, held }),
-            Err(_) => Err(Error::of(ErrorKind::OutOfMemory)),
+impl<W: Write, A: Allocator> BufWriter<W, A> {
+    pub fn new(alloc: A, inner: W) -> Result<BufWriter<W, A>> {
+        Ok(BufWriter {
+            inner,
+            held: Vec::with_capacity(alloc, AHEAD)?,
+        })
+    }
+
+    /// Writes what is held. What a failure leaves unwritten is still held.
+    fn pass_on(&mut self) -> Result<()> {
+        let mut written = 0;
+        let mut end = Ok(());
+        while end.is_ok() && written < self.held.len() {
+            match write_uninterrupted(&mut self.inner, &self.held[written..]) {
+                Ok(0) => end = Err(Error::of(ErrorKind::WriteZero)),
+                Ok(count) => written += count,
+                Err(error) => end = Err(error),
+            }
         }
+        self.held.items.drain(..written);
+        end
+    }
+
+    /// Holds the bytes, which are fewer than there is room for in all.
+    fn hold(&mut self, bytes: &[u8]) -> Result<()> {
+        if bytes.len() > AHEAD - self.held.len() {
+            self.pass_on()?;
+        }
+        self.held.items.extend_from_slice(bytes);
+        Ok(())
     }
 }
 
-impl<W: Write> Write for BufWriter<W> {
+impl<W: Write, A: Allocator> Write for BufWriter<W, A> {
     fn write(&mut self, bytes: &[u8]) -> Result<usize> {
-        if self.held.capacity() - self.held.len() < bytes.len() {
-            self.flush()?;
+        if bytes.len() >= AHEAD {
+            self.pass_on()?;
+            return self.inner.write(bytes);
         }
-        if bytes.len() > self.held.capacity() {
-            return self.writer.write(bytes);
-        }
-        self.held.extend_from_slice(bytes);
+        self.hold(bytes)?;
         Ok(bytes.len())
     }
 
     fn flush(&mut self) -> Result<()> {
-        self.writer.write_all(&self.held)?;
-        self.held.clear();
-        self.writer.flush()
+        self.pass_on()?;
+        self.inner.flush()
+    }
+
+    fn write_all(&mut self, bytes: &[u8]) -> Result<()> {
+        if bytes.len() >= AHEAD {
+            self.pass_on()?;
+            return self.inner.write_all(bytes);
+        }
+        self.hold(bytes)
+    }
+}
+
+impl<W: Write, A: Allocator> Drop for BufWriter<W, A> {
+    fn drop(&mut self) {
+        // Nobody is left to be told.
+        let _ = self.pass_on();
     }
 }

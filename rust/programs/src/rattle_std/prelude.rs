@@ -1,4 +1,5 @@
-//! The names that every file in Rattle has, and that Rust hasn't, or means otherwise.
+//! Stands for the prelude of Rattle: the names that every file has there, and that Rust hasn't, or means otherwise. Each rendered
+//! file imports those that it uses.
 
 pub use super::io::Eprint;
 pub use super::io::Input;

@@ -1,16 +1,19 @@
-//! The handles that a program is given: what it may reach of the system.
+//! Stands for `std::rt` of Rattle, and `Alloc` of its prelude: the handles that a program is given, which say what it may reach
+//! of the system.
+//!
+//! Narrower: `Files` has no methods, since `fs` knows one file system. Rattle's has one for each call.
 
 use super::alloc::{Allocator, Global};
 use super::io::{Stderr, Stdin, Stdout};
 
-/// What memory is taken from.
+/// The handle that gives an allocator.
 pub trait Alloc {
     type A: Allocator;
 
     fn alloc(&self) -> Self::A;
 }
 
-/// Files and directories.
+/// The handle of files and directories.
 pub trait Files {}
 
 /// All that a program may reach.
@@ -18,7 +21,7 @@ pub trait Files {}
 pub struct HostRuntime(());
 
 impl HostRuntime {
-    /// For the `main` that Cargo builds.
+    /// The handle for a `main` that Cargo builds. Rattle's `main` is passed it.
     #[allow(clippy::new_without_default)]
     pub fn new() -> HostRuntime {
         HostRuntime(())
@@ -28,6 +31,7 @@ impl HostRuntime {
         Global
     }
 
+    /// What reads standard input, as by `Input`.
     pub fn reader(&self) -> Stdin {
         Stdin
     }

@@ -1,18 +1,24 @@
-//! Texts.
+//! Stands for `std::string` of Rattle: texts whose growth may fail. A call that fails leaves the text as it was.
+//!
+//! A text asks for memory at the same calls as Rattle's, but where it is formatted: Rust may pass the parts of a number in fewer
+//! pieces. Narrower: a text isn't cloned, and `from_utf8` drops bytes that are no text, where Rattle's error hands them back.
 
-use super::alloc::{AllocError, Allocator, Global};
+use super::alloc::{asks, may_hold, AllocError, Allocator, Global};
 use super::vec::Vec;
 use core::cmp::Ordering;
 use core::fmt;
 use core::hash::{Hash, Hasher};
+use core::mem::take;
 use core::ops::Deref;
 
+/// A text, over Rust's.
 pub struct String<A: Allocator = Global> {
     text: std::string::String,
     alloc: A,
 }
 
 impl<A: Allocator> String<A> {
+    /// An empty text, which takes no memory yet.
     #[inline(always)]
     pub fn new(alloc: A) -> String<A> {
         String {
@@ -21,12 +27,17 @@ impl<A: Allocator> String<A> {
         }
     }
 
+    /// An empty text with room for so many bytes. For none it takes no memory.
     pub fn with_capacity(alloc: A, len: usize) -> Result<String<A>, AllocError> {
-        let mut text = std::string::String::new();
-        if len > 0 && !(alloc.grants() && text.try_reserve_exact(len).is_ok()) {
-            return Err(AllocError);
+        let mut made = String::new(alloc);
+        let reserved = len == 0
+            || may_hold::<u8>(Some(len))
+                && asks(&made.alloc, false, || made.text.try_reserve_exact(len));
+        if reserved {
+            Ok(made)
+        } else {
+            Err(AllocError)
         }
-        Ok(String { text, alloc })
     }
 
     /// Makes room for so many bytes more; returns whether there is some.
@@ -37,20 +48,28 @@ impl<A: Allocator> String<A> {
 
     #[inline(never)]
     fn grows(&mut self, count: usize) -> bool {
-        self.alloc.grants() && self.text.try_reserve(count).is_ok()
+        let holds = self.text.capacity() > 0;
+        may_hold::<u8>(self.text.len().checked_add(count))
+            && asks(&self.alloc, holds, || self.text.try_reserve(count))
     }
 
+    /// A copy of the text.
     pub fn from_str(alloc: A, text: &str) -> Result<String<A>, AllocError> {
         let mut copy = String::with_capacity(alloc, text.len())?;
         copy.text.push_str(text);
         Ok(copy)
     }
 
+    /// The text of these bytes, in their block.
     pub fn from_utf8(bytes: Vec<u8, A>) -> Result<String<A>, core::str::Utf8Error> {
         let (bytes, alloc) = bytes.into_parts();
         match std::string::String::from_utf8(bytes) {
             Ok(text) => Ok(String { text, alloc }),
-            Err(error) => Err(error.utf8_error()),
+            Err(error) => {
+                let why = error.utf8_error();
+                drop(Vec::of(error.into_bytes(), alloc));
+                Err(why)
+            }
         }
     }
 
@@ -63,6 +82,7 @@ impl<A: Allocator> String<A> {
         }
     }
 
+    /// Puts the character last.
     #[inline(always)]
     pub fn push(&mut self, c: char) -> Result<(), AllocError> {
         if !self.makes_room(c.len_utf8()) {
@@ -72,6 +92,7 @@ impl<A: Allocator> String<A> {
         Ok(())
     }
 
+    /// Puts the whole text last, or nothing of it.
     #[inline(always)]
     pub fn push_str(&mut self, text: &str) -> Result<(), AllocError> {
         if !self.makes_room(text.len()) {
@@ -81,10 +102,12 @@ impl<A: Allocator> String<A> {
         Ok(())
     }
 
+    /// Drops the bytes past the first `len`, which end a character, and keeps the room.
     pub fn truncate(&mut self, len: usize) {
         self.text.truncate(len);
     }
 
+    /// Drops all, and keeps the room.
     pub fn clear(&mut self) {
         self.text.clear();
     }
@@ -94,13 +117,30 @@ impl<A: Allocator> String<A> {
         &self.text
     }
 
-    pub fn into_bytes(self) -> Vec<u8, A> {
-        Vec::of(self.text.into_bytes(), self.alloc)
+    /// The text's bytes, in its block.
+    pub fn into_bytes(mut self) -> Vec<u8, A> {
+        Vec::of(take(&mut self.text).into_bytes(), self.alloc)
     }
 
-    /// What `write!` and `writeln!` call.
+    /// What `write!` and `writeln!` call. It writes all or nothing; an error of a value's own `fmt` counts as a failed allocation.
     pub fn write_fmt(&mut self, text: fmt::Arguments<'_>) -> Result<(), AllocError> {
-        fmt::write(&mut Pushed(self), text).map_err(|_| AllocError)
+        let len = self.text.len();
+        match fmt::write(&mut Pushed(self), text) {
+            Ok(()) => Ok(()),
+            Err(fmt::Error) => {
+                self.text.truncate(len);
+                Err(AllocError)
+            }
+        }
+    }
+}
+
+impl<A: Allocator> Drop for String<A> {
+    #[inline(always)]
+    fn drop(&mut self) {
+        if self.text.capacity() > 0 {
+            self.alloc.gives_back();
+        }
     }
 }
 

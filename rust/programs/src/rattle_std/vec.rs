@@ -1,15 +1,21 @@
-//! Lists.
+//! Stands for `std::vec` of Rattle: lists whose growth may fail. A call that fails leaves the list as it was.
+//!
+//! A list asks for memory at the same calls as Rattle's, and for as much. Narrower: items are copied only where they are `Copy`, and
+//! a list isn't cloned or sorted.
 
-use super::alloc::{AllocError, AllocFailed, Allocator, Global};
+use super::alloc::{asks, may_hold, AllocError, AllocFailed, Allocator, Global};
 use core::fmt;
+use core::mem::take;
 use core::ops::{Deref, DerefMut};
 
+/// A list, over Rust's.
 pub struct Vec<T, A: Allocator = Global> {
     pub(super) items: std::vec::Vec<T>,
     alloc: A,
 }
 
 impl<T, A: Allocator> Vec<T, A> {
+    /// An empty list, which takes no memory yet.
     #[inline(always)]
     pub fn new(alloc: A) -> Vec<T, A> {
         Vec {
@@ -18,22 +24,25 @@ impl<T, A: Allocator> Vec<T, A> {
         }
     }
 
+    /// A list of these items, whose block was taken from this allocator.
     #[inline(always)]
     pub(super) fn of(items: std::vec::Vec<T>, alloc: A) -> Vec<T, A> {
         Vec { items, alloc }
     }
 
+    /// The items, with their block, and the allocator that it was taken from.
     #[inline(always)]
-    pub(super) fn into_parts(self) -> (std::vec::Vec<T>, A) {
-        (self.items, self.alloc)
+    pub(super) fn into_parts(mut self) -> (std::vec::Vec<T>, A) {
+        (take(&mut self.items), self.alloc)
     }
 
+    /// An empty list with room for so many items. For none it takes no memory.
     pub fn with_capacity(alloc: A, count: usize) -> Result<Vec<T, A>, AllocError> {
-        let mut items = std::vec::Vec::new();
-        if count > 0 && !(alloc.grants() && items.try_reserve_exact(count).is_ok()) {
+        let mut list = Vec::new(alloc);
+        if count > 0 && !list.grows_exactly(count) {
             return Err(AllocError);
         }
-        Ok(Vec { items, alloc })
+        Ok(list)
     }
 
     /// Makes room for so many items more; returns whether there is some.
@@ -42,11 +51,26 @@ impl<T, A: Allocator> Vec<T, A> {
         self.items.capacity() - self.items.len() >= count || self.grows(count)
     }
 
+    /// Makes room for so many items more, and for as many as there are if that is more; returns whether it could.
     #[inline(never)]
-    fn grows(&mut self, count: usize) -> bool {
-        self.alloc.grants() && self.items.try_reserve(count).is_ok()
+    pub(super) fn grows(&mut self, count: usize) -> bool {
+        let holds = self.has_block();
+        may_hold::<T>(self.items.len().checked_add(count))
+            && asks(&self.alloc, holds, || self.items.try_reserve(count))
     }
 
+    /// Makes room for exactly so many items more; returns whether it could.
+    pub(super) fn grows_exactly(&mut self, count: usize) -> bool {
+        let holds = self.has_block();
+        may_hold::<T>(self.items.len().checked_add(count))
+            && asks(&self.alloc, holds, || self.items.try_reserve_exact(count))
+    }
+
+    fn has_block(&self) -> bool {
+        size_of::<T>() > 0 && self.items.capacity() > 0
+    }
+
+    /// Puts the item last, or hands it back where there is no memory.
     #[inline(always)]
     pub fn push(&mut self, item: T) -> Result<(), AllocFailed<T>> {
         if !self.makes_room(1) {
@@ -60,6 +84,7 @@ impl<T, A: Allocator> Vec<T, A> {
         &self.alloc
     }
 
+    /// Takes the last item off.
     pub fn pop(&mut self) -> Option<T> {
         self.items.pop()
     }
@@ -72,12 +97,23 @@ impl<T, A: Allocator> Vec<T, A> {
         &mut self.items
     }
 
+    /// Drops the items past the first `len`, and keeps the room.
     pub fn truncate(&mut self, len: usize) {
         self.items.truncate(len);
     }
 }
 
+impl<T, A: Allocator> Drop for Vec<T, A> {
+    #[inline(always)]
+    fn drop(&mut self) {
+        if self.has_block() {
+            self.alloc.gives_back();
+        }
+    }
+}
+
 impl<T: Copy, A: Allocator> Vec<T, A> {
+    /// A copy of the items.
     pub fn from_slice(alloc: A, items: &[T]) -> Result<Vec<T, A>, AllocError> {
         let mut list = Vec::with_capacity(alloc, items.len())?;
         list.items.extend_from_slice(items);
@@ -91,6 +127,7 @@ impl<T: Copy, A: Allocator> Vec<T, A> {
         Ok(list)
     }
 
+    /// Puts all these items last, or none.
     #[inline(always)]
     pub fn extend_from_slice(&mut self, items: &[T]) -> Result<(), AllocError> {
         if !self.makes_room(items.len()) {
@@ -136,17 +173,29 @@ impl<T, A: Allocator> IntoIterator for Vec<T, A> {
     type IntoIter = IntoIter<T, A>;
 
     fn into_iter(self) -> IntoIter<T, A> {
+        let holds = self.has_block();
+        let (items, alloc) = self.into_parts();
         IntoIter {
-            items: self.items.into_iter(),
-            _alloc: self.alloc,
+            items: items.into_iter(),
+            holds,
+            alloc,
         }
     }
 }
 
-/// The items of a list, one after another.
+/// The items of a list, one after another. It holds the list's block.
 pub struct IntoIter<T, A: Allocator = Global> {
     items: std::vec::IntoIter<T>,
-    _alloc: A,
+    holds: bool,
+    alloc: A,
+}
+
+impl<T, A: Allocator> Drop for IntoIter<T, A> {
+    fn drop(&mut self) {
+        if self.holds {
+            self.alloc.gives_back();
+        }
+    }
 }
 
 impl<T, A: Allocator> Iterator for IntoIter<T, A> {
@@ -158,10 +207,10 @@ impl<T, A: Allocator> Iterator for IntoIter<T, A> {
 }
 
 impl<T, A: Allocator> IntoIter<T, A> {
-    /// The items that are left, as a list.
-    pub fn collect<B: Allocator>(self, alloc: B) -> Result<Vec<T, B>, AllocError> {
+    /// The items that are left, as a list. Of Rattle's calls of iterators this one alone takes memory, so it stands here.
+    pub fn collect<B: Allocator>(mut self, alloc: B) -> Result<Vec<T, B>, AllocError> {
         let mut list = Vec::with_capacity(alloc, self.items.len())?;
-        list.items.extend(self.items);
+        list.items.extend(take(&mut self.items));
         Ok(list)
     }
 }

@@ -1,0 +1,241 @@
+//! Files, directories and the environment of Linux.
+
+use crate::fakes::{list_of, text, told};
+use crate::rattle_std::env::{self, VarError};
+use crate::rattle_std::fs::{read_dir, File};
+use crate::rattle_std::io::Read;
+use crate::rattle_std::rt::HostRuntime;
+use std::ffi::OsStr;
+use std::os::unix::ffi::OsStrExt;
+use std::os::unix::fs::{symlink, PermissionsExt};
+use std::path::{Path, PathBuf};
+use std::{fs, vec};
+
+/// An empty directory of this test's.
+fn directory(name: &str) -> PathBuf {
+    let path = PathBuf::from(env!("CARGO_TARGET_TMPDIR")).join("rattle_std");
+    let path = path.join(name);
+    let _ = fs::remove_dir_all(&path);
+    fs::create_dir_all(&path).expect("the directory can be made");
+    path
+}
+
+/// What opening the path as a file, and listing it as a directory, answer.
+fn both(path: &str) -> (String, String) {
+    let rt = HostRuntime::new();
+    let opened = told(File::open(&rt, path).map(|_| "opened"));
+    (opened, told(read_dir(&rt, path).map(|_| "listed")))
+}
+
+fn assert_both(path: &str, opened: &str, listed: &str) {
+    let told = both(path);
+    assert_eq!((told.0.as_str(), told.1.as_str()), (opened, listed));
+}
+
+fn assert_neither(path: &str, why: &str) {
+    assert_both(path, why, why);
+}
+
+fn path_in(directory: &Path, name: &str) -> String {
+    let path = directory.join(name);
+    path.to_str().expect("the path is a text").to_owned()
+}
+
+const NO_PATH: &str = "Err(InvalidInput, None)";
+const MISSING: &str = "Err(NotFound, Some(2))";
+const NO_DIRECTORY: &str = "Err(NotADirectory, Some(20))";
+const TOO_LONG: &str = "Err(InvalidFilename, Some(36))";
+
+#[test]
+fn paths_with_a_nul() {
+    assert_neither("a\0b", NO_PATH);
+    assert_neither("\0", NO_PATH);
+}
+
+#[test]
+fn paths_to_nothing() {
+    let here = directory("nothing");
+    fs::write(here.join("file"), "fn").expect("the file can be written");
+    symlink("nowhere", here.join("broken")).expect("the link can be made");
+    symlink("loop", here.join("loop")).expect("the link can be made");
+    assert_neither("", MISSING);
+    assert_neither(&path_in(&here, "missing"), MISSING);
+    assert_neither(&path_in(&here, "broken"), MISSING);
+    assert_neither(&path_in(&here, "file/x"), NO_DIRECTORY);
+    assert_neither(&path_in(&here, "file/"), NO_DIRECTORY);
+    // Rattle's kind is `FilesystemLoop`, which the sources don't tell apart.
+    assert_neither(&path_in(&here, "loop"), "Err(Other, Some(40))");
+}
+
+#[test]
+fn long_paths() {
+    assert_neither(&path_in(&directory("long"), &"n".repeat(256)), TOO_LONG);
+    let all = format!("/{}", "./".repeat(2048));
+    let path = &all[..4094];
+    assert_both(path, "Ok(\"opened\")", "Ok(\"listed\")");
+    // A directory's path gets a slash.
+    let path = format!("{}/.", &all[..4093]);
+    assert_both(&path, "Ok(\"opened\")", TOO_LONG);
+    assert_neither(&format!("{path}/"), TOO_LONG);
+    assert_neither(&format!("{path}/\0"), NO_PATH);
+}
+
+#[test]
+fn a_file_is_no_directory_and_a_directory_opens() {
+    let here = directory("opens");
+    fs::write(here.join("file"), "fn").expect("the file can be written");
+    let path = path_in(&here, "file");
+    assert_both(&path, "Ok(\"opened\")", NO_DIRECTORY);
+    let here = path_in(&here, ".");
+    assert_both(&here, "Ok(\"opened\")", "Ok(\"listed\")");
+
+    let Ok(file) = File::open(&HostRuntime::new(), &here) else {
+        panic!("{here} opens")
+    };
+    let mut list = list_of(b"ab");
+    let read = told(file.take(9).read_to_end(&mut list));
+    assert_eq!(read, "Err(IsADirectory, Some(21))");
+    assert_eq!(text(&list), "ab");
+}
+
+#[test]
+fn files_up_to_a_limit() {
+    let here = directory("limit");
+    fs::write(here.join("file"), "fn").expect("the file can be written");
+    let path = path_in(&here, "file");
+    for (limit, first, whole) in [(1, "Ok(1)", "abf"), (9, "Ok(2)", "abfn")] {
+        let Ok(file) = File::open(&HostRuntime::new(), &path) else {
+            panic!("{path} opens")
+        };
+        let mut list = list_of(b"ab");
+        let mut front = file.take(limit);
+        assert_eq!(told(front.read_to_end(&mut list)), first);
+        assert_eq!(told(front.read_to_end(&mut list)), "Ok(0)");
+        assert_eq!(text(&list), whole);
+    }
+}
+
+/// The entries, in the order of their lines: of each its name, and whether it is a directory, a file and a link.
+fn listed(path: &str) -> vec::Vec<String> {
+    let Ok(entries) = read_dir(&HostRuntime::new(), path) else {
+        panic!("{path} is listed")
+    };
+    let mut lines: vec::Vec<String> = entries
+        .map(|entry| {
+            let entry = match entry {
+                Ok(entry) => entry,
+                Err(error) => return told::<()>(Err(error)),
+            };
+            let kind = entry
+                .file_type()
+                .map(|kind| (kind.is_dir(), kind.is_file(), kind.is_symlink()));
+            format!("{} {}", entry.file_name(), told(kind))
+        })
+        .collect();
+    lines.sort();
+    lines
+}
+
+#[test]
+fn names_that_are_not_texts() {
+    let here = directory("odd");
+    fs::write(here.join("a"), "").expect("the file can be written");
+    fs::write(here.join(OsStr::from_bytes(b"b\xff")), "").expect("the file can be written");
+    let told = listed(&path_in(&here, ""));
+    let error = "Err(InvalidFilename, None)";
+    assert_eq!(told, [error, "a Ok((false, true, false))"]);
+}
+
+#[test]
+fn kinds_of_entries() {
+    let here = directory("kinds");
+    fs::create_dir(here.join("dir")).expect("the directory can be made");
+    fs::write(here.join("file"), "1").expect("the file can be written");
+    symlink("file", here.join("link")).expect("the link can be made");
+    symlink("nowhere", here.join("broken")).expect("the link can be made");
+    let here = path_in(&here, "");
+    for path in [&here, &format!("{here}//")] {
+        let expected = [
+            "broken Ok((false, false, true))",
+            "dir Ok((true, false, false))",
+            "file Ok((false, true, false))",
+            "link Ok((false, false, true))",
+        ];
+        assert_eq!(listed(path), expected);
+    }
+}
+
+#[test]
+fn a_directory_that_vanishes() {
+    let here = directory("vanishes");
+    let path = path_in(&here, "inner");
+    let rt = HostRuntime::new();
+    let begin = || {
+        fs::create_dir(&path).expect("the directory can be made");
+        fs::write(here.join("inner/a"), "x").expect("the file can be written");
+        let Ok(mut entries) = read_dir(&rt, &path) else {
+            panic!("{path} is listed")
+        };
+        match entries.next() {
+            Some(Ok(entry)) => (entries, entry),
+            _ => panic!("{path} has an entry"),
+        }
+    };
+
+    let (mut entries, entry) = begin();
+    fs::remove_dir_all(&path).expect("the directory can be removed");
+    assert_eq!(entry.file_name(), "a");
+    assert_eq!(told(entry.file_type()), MISSING);
+    assert!(entries.next().is_none());
+    assert_neither(&path, MISSING);
+
+    let (_, entry) = begin();
+    fs::rename(&path, here.join("moved")).expect("the directory can be moved");
+    assert_eq!(told(entry.file_type()), MISSING);
+
+    fs::create_dir(&path).expect("the directory can be made");
+    let Ok(mut entries) = read_dir(&rt, &path) else {
+        panic!("{path} is listed")
+    };
+    fs::remove_dir(&path).expect("the directory can be removed");
+    assert!(entries.next().is_none());
+    assert!(entries.next().is_none());
+}
+
+/// As another user than root, who may do all.
+#[test]
+fn what_is_denied() {
+    let here = directory("denied");
+    let deny = |name: &str, mode| {
+        fs::set_permissions(here.join(name), fs::Permissions::from_mode(mode))
+            .expect("the permissions can be set");
+    };
+    for name in ["unlistable", "unsearchable"] {
+        fs::create_dir(here.join(name)).expect("the directory can be made");
+    }
+    for name in ["unreadable", "unsearchable/a"] {
+        fs::write(here.join(name), "").expect("the file can be written");
+    }
+    deny("unreadable", 0);
+    deny("unlistable", 0);
+    deny("unsearchable", 0o444);
+    if fs::metadata(here.join("unsearchable/a")).is_err() {
+        let denied = "Err(PermissionDenied, Some(13))";
+        assert_both(&path_in(&here, "unreadable"), denied, NO_DIRECTORY);
+        assert_neither(&path_in(&here, "unlistable"), denied);
+        assert_neither(&path_in(&here, "unsearchable/a"), denied);
+        let there = listed(&path_in(&here, "unsearchable"));
+        assert_eq!(there, [format!("a {denied}")]);
+    }
+    deny("unlistable", 0o755);
+    deny("unsearchable", 0o755);
+}
+
+#[test]
+fn variables_that_are_not_there() {
+    let rt = HostRuntime::new();
+    for name in ["NAVYSPINDLE_HAS_NO_SUCH", "", "=", "A=B", "a\0b"] {
+        let value = env::var(&rt, name);
+        assert!(matches!(value, Err(VarError::NotPresent)), "{name:?}");
+    }
+}
