@@ -3,10 +3,13 @@
 alone. It decodes unit by unit, shares nothing with the programs, and knows no fast way.
 
   tools/places_model.py --count N [--seed S]   writes an answer for each of N generated texts, one a line
+  tools/places_model.py --run --count N [--seed S] [--bulk PROGRAM | --proved]   compares the answers for N generated texts with
+                                               those of `rl_rows`, as Cargo builds it: see tools/programs.py
   tools/places_model.py --rows < ANSWERS       the lines of input of `rl_rows` for these texts
   tools/places_model.py --told < ANSWERS       what `rl_rows` has to print for them
-  tools/places_model.py --compare FILE < ANSWERS   compares with answers of a program, one a line in the same order; the last
-                                               line is `N texts, M differences`, and the status is 0 where M is 0
+  tools/places_model.py --compare FILE < ANSWERS   compares with answers of a program, one a line in the same order
+
+Of a comparison the last line is `N texts, M differences`, and the status is 0 where M is 0.
 
 An answer is an object of JSON, in one line:
 
@@ -22,8 +25,10 @@ import argparse
 import json
 import random
 import re
+import subprocess
 import sys
 
+import programs
 import texts
 
 HEX = '[0-9a-fA-F]'
@@ -210,6 +215,11 @@ def generated(seed, count):
 
 # ---- the lines of `rl_rows`
 
+def row(line):
+    """The line of input that asks `rl_rows` for the segments."""
+    return 'segments %s\n' % line['text']
+
+
 def told(line):
     """What `rl_rows` prints for the row `segments`: the segments, the table, and each call up to one byte past the end."""
     if line['segments'] is None:
@@ -218,6 +228,28 @@ def told(line):
     segments = ['%d..%d %s ' % (lo, hi, forms.get(form, lambda value: form + str(value))(value)) for lo, hi, form, value in line['segments']]
     places = ['%d..%d ' % (lo, hi) for lo, hi in line['places']]
     return ''.join(segments) + '\n' + ''.join(places) + '\n' + ''.join(places) + places[-1] + '\n'
+
+
+def by_rows(program, answers):
+    """What the program prints for each answer's text: a line where it is no quoted literal, else three."""
+    asked = ''.join(map(row, answers)).encode()
+    lines = subprocess.run([program], input=asked, stdout=subprocess.PIPE, check=True).stdout.decode().splitlines(keepends=True)
+    at = 0
+    for _ in answers:
+        end = at + (1 if lines[at:at + 1] == ['None\n'] else 3)
+        yield ''.join(lines[at:end])
+        at = end
+
+
+def compare_rows(program, answers):
+    differences = 0
+    for answer, theirs in zip(answers, by_rows(program, answers)):
+        if theirs != told(answer):
+            differences += 1
+            if differences <= 20:
+                print('text %s\nmodel:\n%sother:\n%s' % (answer['text'], told(answer), theirs))
+    print('%d texts, %d differences' % (len(answers), differences))
+    return 1 if differences else 0
 
 
 def compare(path, lines):
@@ -239,10 +271,18 @@ def main():
     parser = argparse.ArgumentParser(description=__doc__, formatter_class=argparse.RawDescriptionHelpFormatter)
     parser.add_argument('--count', type=int)
     parser.add_argument('--seed', type=int, default=1)
+    parser.add_argument('--run', action='store_true')
+    parser.add_argument('--bulk')
+    parser.add_argument('--proved', action='store_true')
     parser.add_argument('--rows', action='store_true')
     parser.add_argument('--told', action='store_true')
     parser.add_argument('--compare')
     options = parser.parse_args()
+    if options.run:
+        if options.count is None:
+            parser.error('--run needs --count N')
+        program = programs.chosen('rl_rows', options.bulk, options.proved)
+        return compare_rows(program, [answer(text) for text in generated(options.seed, options.count)])
     if options.count is not None:
         for text in generated(options.seed, options.count):
             print(json.dumps(answer(text)))
@@ -251,7 +291,7 @@ def main():
     if options.compare:
         return compare(options.compare, lines)
     for line in lines:
-        sys.stdout.write('segments %s\n' % line['text'] if options.rows else told(line))
+        sys.stdout.write(row(line) if options.rows else told(line))
     return 0
 
 

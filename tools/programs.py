@@ -1,0 +1,77 @@
+#!/usr/bin/env python3
+"""Finds the programs that comparisons run: those that Cargo builds of rust/programs, or the proved ones.
+
+  tools/programs.py NAME [--proved]   prints the path of NAME, one of rl_tool, rl_scan, rl_rows, rl_scan_rows, rl_refusals
+
+Without --proved Cargo builds the whole workspace first, which a line on standard error says; with it the program is
+crates/NAME/out/NAME. The status is 2 where a program can't be had.
+"""
+import argparse
+import functools
+import os
+import shutil
+import subprocess
+import sys
+
+TOP = os.path.dirname(os.path.dirname(os.path.abspath(__file__)))
+FOLDER = os.path.join(TOP, 'rust/programs')
+BY_BUILD = ('rl_tool', 'rl_scan')
+NAMES = (*BY_BUILD, 'rl_rows', 'rl_scan_rows', 'rl_refusals')
+HELP = "run the proved programs, crates/NAME/out/NAME, in place of those that Cargo builds"
+
+
+def fail(words):
+    """Ends the run, since a program can't be had."""
+    print(f'{os.path.basename(sys.argv[0])}: {words}', file=sys.stderr)
+    sys.exit(2)
+
+
+@functools.cache
+def cargo_folder():
+    """Has Cargo build all programs, once; the folder where they are."""
+    if not shutil.which('cargo'):
+        fail("cargo, which builds the programs, isn't on the path; --proved runs those that ./build proved")
+    target = os.path.join(FOLDER, 'target')
+    print('cargo build --release --workspace, in rust/programs', file=sys.stderr, flush=True)
+    words = ['--quiet', '--release', '--workspace', '--manifest-path', os.path.join(FOLDER, 'Cargo.toml'), '--target-dir', target]
+    if subprocess.run(['cargo', 'build', *words], check=False).returncode:
+        fail("Cargo didn't build rust/programs")
+    return os.path.join(target, 'release')
+
+
+def runnable(path, hint=''):
+    """The path of a program that is there."""
+    found = shutil.which(path)
+    if not found:
+        fail(f'{path} is no program{hint}')
+    return found
+
+
+def cargos(name):
+    """The path of the program as Cargo builds it."""
+    return runnable(os.path.join(cargo_folder(), name))
+
+
+def proved(name):
+    """The path of the proved program, which is there already."""
+    how = './build' if name in BY_BUILD else f'rt run in crates/{name}'
+    return runnable(os.path.join(TOP, 'crates', name, 'out', name), f': {how} proves and builds it')
+
+
+def chosen(name, given=None, is_proved=False):
+    """The path of the program: the one that is given, or the proved one, or Cargo's."""
+    if given:
+        return runnable(given)
+    return proved(name) if is_proved else cargos(name)
+
+
+def main():
+    parser = argparse.ArgumentParser(description=__doc__, formatter_class=argparse.RawDescriptionHelpFormatter)
+    parser.add_argument('name', choices=NAMES)
+    parser.add_argument('--proved', action='store_true', help=HELP)
+    options = parser.parse_args()
+    print(chosen(options.name, is_proved=options.proved))
+
+
+if __name__ == '__main__':
+    main()
