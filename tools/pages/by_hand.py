@@ -1,19 +1,17 @@
 """What is run by hand: the commands, texts and examples that the pages show."""
-import os
 import re
 import subprocess
+
+import programs
 
 from .items import TOP, libraries, public_items, read
 from .pieces import paste
 
 
-def tried(crate, words, given):
-    """What a program of the repository writes, as `rt try` runs it: output, and error output."""
-    ran = subprocess.run(
-        ['rt', 'try', '--', *words], cwd=os.path.join(TOP, 'crates', crate), input=given,
-        capture_output=True, check=False)
-    kept = [it for it in ran.stderr.decode().split('\n') if not re.match(r'checked: |run=', it)]
-    return ran.stdout.decode(), '\n'.join(kept)
+def tried(name, words, given):
+    """What a program, as Cargo builds it, writes: output, and error output."""
+    ran = subprocess.run([programs.cargos(name), *words], input=given, capture_output=True, check=False)
+    return ran.stdout.decode(), ran.stderr.decode()
 
 
 def run_commands(tell):
