@@ -1,11 +1,9 @@
-"""Calls of rl_tool and rl_scan that are made to be odd: words, texts, and a tree of files to scan."""
+"""Calls of rl_tool and rl_scan that are made to be odd: words, inputs, and where input comes from and output goes."""
 import argparse
 import os
-import stat
-import string
 from typing import NamedTuple
 
-import source_model
+import odd_files
 import source_texts
 import texts
 
@@ -13,11 +11,11 @@ import texts
 NOTHING, A_FOLDER, A_TERMINAL = 'nothing', 'a folder', 'a terminal'
 A_PIPE, FULL, CLOSED = 'a pipe', 'a full device', 'a closed pipe'
 # What the environment says of a terminal.
-NAMES = {'TERM': ('xterm', 'xterm', 'dumb', ''), 'NO_COLOR': ('', '1')}
+NAMES = {'TERM': ['xterm', 'xterm', 'dumb', ''], 'NO_COLOR': ['', '1']}
 
 
 class Call(NamedTuple):
-    """A call of a program: its words, its folder, where input comes from and where output goes, and names of the environment."""
+    """A call of a program: its words, its folder, where input comes from and output goes, and what the environment says."""
     name: str
     words: list
     folder: str
@@ -31,121 +29,92 @@ class Call(NamedTuple):
         return f'{self.name} {self.words!r}, input {given}, output {self.output} {self.names or ""}'.rstrip()
 
 
-# ---- the tree
-
-HIDING = 'let a = "x\u202e\u2066"; // \u202e\nlet b = \'\u200b\';\nlet c\u00ad = r"\ufeff";\nlet d = "\\u{202e}"; /* \u2069 */ b"a\u200d" "\u3164"\n'
-DEEP = 300
-
-
-def some_soups(source, count):
-    """Soups one after another, lines apart, each of which is a whole source."""
-    found = []
-    while len(found) < count:
-        soup = source_texts.sound(source)
-        if not source_model.cut_source(soup).fault:
-            found.append(soup)
-    return '\n'.join(found)
-
-
-def contents(source):
-    """The files of the tree, by path."""
-    soup = some_soups(source, 40)
-    made = {
-        'a.rs': soup, 'b/c.rs': some_soups(source, 8), 'b/d/e.rs': some_soups(source, 8), 'b/target/a.rs': 'let a = "hidden by its folder";',
-        'kinds.rs': '\n'.join(texts.WORKED[3:60]), 'bad.rs': '\n'.join(source_texts.ODD[20:]), 'odd.rs': ' '.join(source_texts.ODD),
-        'crlf.rs': soup.replace('\r', '').replace('\n', '\r\n'), 'cr.rs': 'let a = "b\rc"; // d\re\n/* f\r */ "\\\r"', 'bom.rs': '\ufeff' + some_soups(source, 3),
-        'front.rs': '#!/bin/sh -x "\n1 "a"', 'attribute.rs': '#![a = "b"] 1', 'empty.rs': '', 'blank.rs': ' \n\t\r\n', 'comments.rs': '// "a"\n/* \'b /* c */ */\n/// "d"\n',
-        'not_text.rs': b'let a = "b";\n"\xff" 1 2\n', 'cut.rs': b'"a" 1 \xf0\x9f\x98', 'nul.rs': 'let a = "\0"; \0 1 b"\0" c"\0" \'\0\'\n', 'controls.rs': '"\x01\x1b[31m\x7f\x85" 1 \x1b',
-        'long.rs': 'let a = "' + 'abc\\n\u20ac' * 9_000 + '"; "b"', 'row.rs': '1, "a", \'b\', 0xFFu8, 1.5e3, ' * 1_000, 'digits.rs': '9' * 3_000 + ' 0x' + 'F' * 40 + ' 1e' + '9' * 500,
-        'nested.rs': '(["a", ' * DEEP + '1' + '])' * DEEP, 'blocks.rs': '/*' * DEEP + '*/' * DEEP + ' "a"', 'hashes.rs': 'r' + '#' * DEEP + '"a"#' + '#' * DEEP + ' 1',
-        'open.rs': 'let a = "b"; let c = "d', 'open_raw.rs': '1 r##"a"# b', 'open_block.rs': '1 /* "a" /* */', 'open_byte.rs': "b'a", 'stray.rs': '1 \u2261 "a" \\ ` 2 \u00b7 3',
-        'hiding.rs': HIDING, 'wide.rs': '\u00e9\u8a9e\U0001f600 = "\u00e9"; \u8a9e = \'\U0001f600\'; /* \u00e9 */ b"\u00e9" 1\n', 'held.rs': '"room" r"room" b"ro\\x6fm" c"r\\u{6f}om" \'r\' b\'o\' "ro\\\n om" "=" "" 114',
-        'with space.rs': '"a" 0b12', 'with\nline.rs': '1 "\\q"', 'with\ttab\x1b[31m.rs': '"a" \'ab\'', '\'q"uo\\te\'.rs': '1 0x', '\u00e9\u8a9e\U0001f600.rs': '"\u00e9" \'\\u{D800}\'', 'hid\u202ee.rs': '2 "\\u{}"',
-        b'named/not\xfftext.rs': '1 "a"', '-x.rs': '"x" 1e', '--bad.rs': '"bad" 0o8', '.hidden.rs': '"a"', '.hidden/a.rs': '"b"', 'target/a.rs': '"c"', 'no_ending': '"d" 0b3', 'a.RS': '"e"', 'a.rs.txt': '"f"', '.rs': '"g"',
-        'folder.rs/a.rs': '"h"', '/'.join('deep' for _ in range(40)) + '/a.rs': '"i"', 'last.rs': '1',
-    }
-    made.update({f'soups/{at:02}.rs': text for at, text in enumerate(source_texts.soups(source.random(), 40))})
-    return {os.fsencode(path): data.encode() if isinstance(data, str) else data for path, data in made.items()}
-
-
-LINKS = {'link.rs': 'a.rs', 'link_folder': 'b', 'broken.rs': 'nowhere.rs', 'loop': '.', 'loop.rs': 'loop.rs', 'null.rs': '/dev/null', 'soups/up.rs': '../kinds.rs'}
-FOLDERS = ['none', 'locked']
-# What is named beside the files of the tree.
-OTHER_PATHS = ['.', './', './/a.rs', 'b/../a.rs', '../tree/b', 'b//', 'a.rs/', 'a.rs/x', 'missing', 'missing.rs', 'missing/', '', '/dev/null', 'x' * 300, 'none', 'locked', 'locked.rs', 'soups', 'soups', 'deep', 'socket.rs',
-               '\ud800'.encode(errors='surrogatepass'), b'\xff', *LINKS]
-
-
-def make_tree(top, source):
-    """Makes the tree in a folder; the paths that calls name."""
-    made = contents(source)
-    for path, data in made.items():
-        path = os.path.join(os.fsencode(top), path)
-        os.makedirs(os.path.dirname(path), exist_ok=True)
-        with open(path, 'wb') as file:
-            file.write(data)
-    for name in FOLDERS:
-        os.mkdir(os.path.join(top, name))
-    for name, to in LINKS.items():
-        os.symlink(to, os.path.join(top, name))
-    os.mknod(os.path.join(top, 'socket.rs'), 0o600 | stat.S_IFSOCK)
-    with open(os.path.join(top, 'locked.rs'), 'w', encoding='utf-8') as file:
-        file.write('"a"')
-    # Whoever is no superuser can read neither.
-    for name in ('locked', 'locked.rs'):
-        os.chmod(os.path.join(top, name), 0)
-    return list(made), list(made.values())
+def with_streams(source, call):
+    """The call; of one in eight output is no pipe."""
+    output = source.choice([A_PIPE] * 28 + [FULL, CLOSED, A_TERMINAL, A_TERMINAL])
+    names = {name: source.choice(values) for name, values in NAMES.items() if source.random() < .7}
+    return call._replace(output=output, names=names if output == A_TERMINAL else {})
 
 
 # ---- calls of rl_scan
 
-KINDS = ['Str', 'ByteStr', 'CStr', 'Byte', 'Char', 'Int', 'Float', 'Bool', 'Verbatim', 'str', 'INT', 'str,int', 'Float,Verbatim', 'cstr,Byte,CHAR']
-WHENS = ['always', 'always', 'never', 'auto']
-SOUGHT = ['a', 'room', 'o', 'b', '\n', '\u00e9', '\\', '"', ' ', '=', '-', '1', '\u202e', '\U0001f600', '114', 'a=b']
+# Which literals are printed, in which form, whether lines are counted, and more; a word without hyphens takes something.
 WHICH = [[], [], [], ['--bad'], ['-b'], ['--bad', '--lenient'], ['--hidden'], ['-B'], ['only'], ['find'], ['find'], ['find', 'only']]
 FORMS = [[], [], [], ['--lines'], ['--bytes'], ['-o'], ['--text'], ['--json'], ['--json', '--lines'], ['--text', '-o']]
 COUNTS = [[]] * 20 + [['-c'], ['--count'], ['-l'], ['--files'], ['-q'], ['--quiet']]
 MORE = [[]] * 5 + [['--no-stray'], ['color'], ['color'], ['color', '--no-stray']]
-WRONG = ['--nope', '-x', '-bl', '--only', '-k', '--find', '-f', '--color', '--color=x', '--color=', '--only=', '--only=Str,', '--only=x', '--find=', '--bad=x', '--json=1', '---', '-bb', '--BAD', '-\u00e9', b'-\xff', b'--find=\xff',
-         '--col', '--lines=', '-kStr', '-fa', '--only:Str', '--lenient', '--bad', '-B', '-k', '--find', '-h', '--help', '-V', '--version', '--', '-']
+TAKEN = {
+    'only': ['Str', 'ByteStr', 'CStr', 'Byte', 'Char', 'Int', 'Float', 'Bool', 'Verbatim', 'str', 'INT', 'str,int', 'cstr,Byte,CHAR'],
+    'find': ['a', 'room', 'o', 'b', '\n', '\u00e9', '\\', '"', ' ', '=', '-', '1', '\u202e', '\U0001f600', '114', 'a=b'],
+    'color': ['always', 'always', 'never', 'auto'],
+}
+SHORT = {'only': '-k', 'find': '-f', 'color': '--color'}
+# Words that can't be asked for, and words that can, where others stand that rule them out.
+WRONG = [
+    '--nope', '-x', '-bl', '-bb', '-kStr', '-fa', '-\u00e9', b'-\xff', '---', '--BAD', '--col', '--bad=x', '--json=1', '--lines=',
+    '--only', '-k', '--only=', '--only=Str,', '--only=x', '--only:Str', '--find', '-f', '--find=', b'--find=\xff',
+    '--color', '--color=x', '--color=', '--lenient', '--bad', '-B', '-h', '--help', '-V', '--version', '--', '-',
+]
 
 
 def spelled(source, word):
-    """An option as words: of one that takes something, that too, in its own word or in the next."""
-    short, values = {'only': ('-k', KINDS), 'find': ('-f', SOUGHT), 'color': ('--color', WHENS)}.get(word, (word, None))
-    if values is None:
+    """An option as words: with what it takes in its own word or in the next, where it takes something."""
+    if word not in TAKEN:
         return [word]
-    value = source.choice(values)
-    return source.choice(([f'--{word}={value}'], [f'--{word}', value], [short, value]))
+    value = source.choice(TAKEN[word])
+    return source.choice(([f'--{word}={value}'], [f'--{word}', value], [SHORT[word], value]))
+
+
+def path_word(source, paths):
+    near = source.random()
+    return source.choice(paths) if near < .65 else source.choice(odd_files.OTHER_PATHS) if near < .8 else '-' if near < .9 else '.'
 
 
 def scan_words(source, paths):
     """The words of a call of rl_scan: options that go together, wrong ones among some, and paths."""
-    names = [word for group in (WHICH, FORMS, COUNTS, MORE) for word in source.choice(group)]
-    pieces = [spelled(source, name) for name in names]
+    asked = [word for group in (WHICH, FORMS, COUNTS, MORE) for word in source.choice(group)]
+    pieces = [spelled(source, word) for word in asked]
     pieces += [[source.choice(WRONG)] for _ in range(source.choice([0] * 15 + [1, 2]))]
-    for _ in range(source.choice((0, 1, 1, 1, 1, 2, 3))):
-        near = source.random()
-        pieces.append([source.choice(paths) if near < .65 else source.choice(OTHER_PATHS) if near < .8 else '-' if near < .9 else '.'])
+    pieces += [[path_word(source, paths)] for _ in range(source.choice((0, 1, 1, 1, 1, 2, 3)))]
     source.shuffle(pieces)
     return [word for piece in pieces for word in piece]
 
 
-def scan_call(source, folder, paths, datas):
-    words = scan_words(source, paths)
+def scan_input(source, words, files):
+    """A soup, one of the files, or no text."""
     near = source.random()
-    given = next(source_texts.soups(source.random(), 1)).encode() if near < .5 else source.choice(datas) if near < .85 else NOTHING
-    if near > .97:
-        given = A_FOLDER
-    elif near > .93 and '-' not in words:
-        given = A_TERMINAL
-    return with_streams(source, Call('rl_scan', words, folder, given))
+    if near < .5:
+        return next(source_texts.soups(source.random(), 1)).encode()
+    if near < .85:
+        return source.choice(list(files.values()))
+    # Nobody writes to the terminal, so that none may read from it.
+    return NOTHING if near < .93 or near < .97 and '-' in words else A_TERMINAL if near < .97 else A_FOLDER
+
+
+def scan_call(source, folder, files):
+    words = scan_words(source, list(files))
+    return with_streams(source, Call('rl_scan', words, folder, scan_input(source, words, files)))
 
 
 # ---- calls of rl_tool
 
 COMMANDS = ['text', 'read', 'attr']
-NO_COMMANDS = [[], [''], ['TEXT'], ['texts'], ['text', 'read'], ['text', 'text'], ['text', ''], ['text '], ['text\n'], ['--help'], ['-'], ['strict'], [b'\xff'], ['read', b'\xff'], ['--', 'text'], ['text'] * 50, ['a' * 5_000]]
-MANY = 500
+NO_COMMANDS = [
+    [], [''], ['TEXT'], ['texts'], ['text '], ['text\n'], ['strict'], ['--help'], ['-'], [b'\xff'], ['a' * 5_000], ['text', ''],
+    ['text', 'read'], ['text', 'text'], ['read', b'\xff'], ['--', 'text'], ['text'] * 50,
+]
+LONG = [
+    '"' + 'abc\\n\u20ac' * 9_000 + '"', 'b"' + '\\xFF' * 20_000 + '"q', '1' + '_0' * 30_000, 'r' + '#' * 9_000 + '""' + '#' * 9_000,
+    '0xFF_u8 -1.5 ' * 4_000, '1 ' * 20_000 + "'a", '/*' * 9_000 + '*/' * 9_000 + '1', '(' * 128 + '1' + ')' * 128,
+    '(' * 129 + '1' + ')' * 129, ', '.join(f'a{at} = "b"' for at in range(3_000)),
+]
+# Which texts each command gets, but for some.
+SUITED = {
+    'text': ['random', 'random', 'random', 'worked', 'framed', 'framed', 'characters'],
+    'read': ['lists', 'lists', 'printed', 'trivia', 'soups'],
+    'attr': ['attributes'],
+}
+ENDLESS = 1 << 30
 
 
 def framed(source):
@@ -159,66 +128,45 @@ def trivia(source):
 
 
 def character(source):
-    """Any character after a digit, or in a character literal and its suffix."""
-    code = source.choice((source.randrange(0x80), source.randrange(0x3000), source.randrange(0x110000)))
+    """Any character but a surrogate, after a digit, or as a literal and in its suffix."""
+    code = source.randrange(source.choice((0x80, 0x3000, 0x110000)))
     c = chr(code if not 0xD800 <= code < 0xE000 else code - 0x800)
     return source.choice(('1' + c, f"'{c}'a{c}"))
 
 
-def long_text(source):
-    """A text of some ten thousand bytes, or groups in groups."""
-    return source.choice((
-        '"' + 'abc\\n\u20ac' * 9_000 + '"', 'b"' + '\\xFF' * 20_000 + '"q', '1' + '_0' * 30_000, '0xFF_u8 -1.5 ' * 4_000, 'r' + '#' * 9_000 + '""' + '#' * 9_000,
-        '(' * 128 + '1' + ')' * 128, '(' * 129 + '1' + ')' * 129, '/*' * 9_000 + '*/' * 9_000 + '1', ', '.join(f'a{at} = "b"' for at in range(3_000)), '1 ' * 20_000 + "'a"))
-
-
-def kinds_of_texts(source):
-    """The makers of texts, by name; those of the families go on as they are asked."""
-    asked = argparse.Namespace(seed=source.randrange(1 << 30), texts=1 << 30)
+def makers_of_texts(source):
+    """Calls that give a text of each family; those of tools/texts.py go on from text to text."""
+    asked = argparse.Namespace(seed=source.randrange(ENDLESS), texts=ENDLESS)
     made = {name: texts.families(asked)[name]() for name in ('random', 'lists', 'printed', 'attributes')}
-    soups = source_texts.soups(source.random(), 1 << 30)
-    makers = {name: made[name].__next__ for name in made}
+    made['soups'] = source_texts.soups(source.random(), ENDLESS)
+    makers = {name: family.__next__ for name, family in made.items()}
     return makers | {
-        'worked': lambda: source.choice(texts.WORKED), 'framed': lambda: framed(source), 'trivia': lambda: trivia(source), 'character': lambda: character(source),
-        'soup': soups.__next__, 'long': lambda: long_text(source)}
+        'worked': lambda: source.choice(texts.WORKED), 'long': lambda: source.choice(LONG), 'framed': lambda: framed(source),
+        'trivia': lambda: trivia(source), 'characters': lambda: character(source)}
 
 
-# Which texts a command gets, one of five aside.
-SUITED = {'text': ['random', 'random', 'random', 'worked', 'framed', 'framed', 'character'], 'read': ['lists', 'lists', 'printed', 'trivia', 'soup'], 'attr': ['attributes']}
-
-
-def text_for(source, makers, command):
-    """The input of a call of rl_tool; of some it is no text."""
+def tool_input(source, makers, command):
+    """A text for the command, or any text, some of them cut; few bytes that are mostly no text; or nothing to read from."""
     near = source.random()
-    if near < .03:
-        return bytes(source.randrange(256) for _ in range(source.randint(1, 8)))
-    kind = 'long' if near < .05 else source.choice(SUITED[command] if near < .8 else list(makers))
-    data = makers[kind]().encode()
+    if near < .06:
+        return NOTHING if near < .015 else A_FOLDER if near < .03 else source.randbytes(source.randint(1, 8))
+    family = source.choice(SUITED[command]) if near < .8 else 'long' if near < .82 else source.choice(list(makers))
+    data = makers[family]().encode()
     return data[:source.randint(0, len(data))] if near > .97 else data
 
 
 def tool_call(source, folder, makers):
     command = source.choice(COMMANDS)
     words = [command] if source.random() < .94 else source.choice(NO_COMMANDS)
-    near = source.random()
-    given = text_for(source, makers, command) if near < .97 else A_FOLDER if near < .985 else NOTHING
-    return with_streams(source, Call('rl_tool', words, folder, given))
+    return with_streams(source, Call('rl_tool', words, folder, tool_input(source, makers, command)))
 
 
 # ---- both
 
-def with_streams(source, call):
-    """The call; of one in eight output is no pipe."""
-    output = source.choice([A_PIPE] * 28 + [FULL, CLOSED, A_TERMINAL, A_TERMINAL])
-    names = {name: source.choice(values) for name, values in NAMES.items() if source.random() < .7} if output == A_TERMINAL else {}
-    return call._replace(output=output, names=names)
-
-
 def generated(source, folder, count):
-    """So many calls, of three two of rl_scan, in a folder in which the tree is made for them."""
+    """So many calls, of three two of rl_scan, in a tree that is made in the folder."""
     tree = os.path.join(folder, 'tree')
     os.mkdir(tree)
-    paths, datas = make_tree(tree, source)
-    makers = kinds_of_texts(source)
+    files, makers = odd_files.make_tree(tree, source), makers_of_texts(source)
     for at in range(count):
-        yield tool_call(source, tree, makers) if at % 3 == 0 else scan_call(source, tree, paths, datas)
+        yield tool_call(source, tree, makers) if at % 3 == 0 else scan_call(source, tree, files)

@@ -1,0 +1,100 @@
+"""A tree of odd files for rl_scan: odd names, links, texts that are none, and sources of every kind."""
+import os
+import stat
+
+import source_model
+import source_texts
+import texts
+
+DEEP = 300
+HIDING = '''let a = "x\u202e\u2066"; // \u202e
+let b = '\u200b';
+let c\u00ad = r"\ufeff";
+let d = "\\u{202e}"; /* \u2069 */ b"a\u200d" "\u3164"
+'''
+# By name, without the ending.
+SOURCES = {
+    'kinds': '\n'.join(texts.WORKED[3:60]),
+    'bad': '\n'.join(source_texts.ODD[20:]),
+    'odd': ' '.join(source_texts.ODD),
+    'held': '"room" r"room" b"ro\\x6fm" c"r\\u{6f}om" \'r\' b\'o\' "ro\\\n om" "=" "" 114',
+    'hiding': HIDING,
+    'wide': '\u00e9\u8a9e\U0001f600 = "\u00e9"; \u8a9e = \'\U0001f600\'; /* \u00e9 */ b"\u00e9" 1\n',
+    'stray': '1 \u2261 "a" \\ ` 2 \u00b7 3',
+    'cr': 'let a = "b\rc"; // d\re\n/* f\r */ "\\\r"',
+    'nul': 'let a = "\0"; \0 1 b"\0" c"\0" \'\0\'\n',
+    'controls': '"\x01\x1b[31m\x7f\x85" 1 \x1b',
+    'front': '#!/bin/sh -x "\n1 "a"',
+    'attribute': '#![a = "b"] 1',
+    'empty': '',
+    'blank': ' \n\t\r\n',
+    'comments': '// "a"\n/* \'b /* c */ */\n/// "d"\n',
+    'not_text': b'let a = "b";\n"\xff" 1 2\n',
+    'cut': b'"a" 1 \xf0\x9f\x98',
+    'open': 'let a = "b"; let c = "d',
+    'open_raw': '1 r##"a"# b',
+    'open_block': '1 /* "a" /* */',
+    'open_byte': "b'a",
+    'long': 'let a = "' + 'abc\\n\u20ac' * 9_000 + '"; "b"',
+    'row': '1, "a", \'b\', 0xFFu8, 1.5e3, ' * 1_000,
+    'digits': '9' * 3_000 + ' 0x' + 'F' * 40 + ' 1e' + '9' * 500,
+    'nested': '(["a", ' * DEEP + '1' + '])' * DEEP,
+    'blocks': '/*' * DEEP + '*/' * DEEP + ' "a"',
+    'hashes': 'r' + '#' * DEEP + '"a"#' + '#' * DEEP + ' 1',
+    'last': '1',
+}
+# Paths that are odd themselves, or that no walk takes.
+NAMED = [
+    'with space.rs', 'with\nline.rs', 'with\ttab\x1b[31m.rs', '\'q"uo\\te\'.rs', '\u00e9\u8a9e\U0001f600.rs', 'hid\u202ee.rs',
+    b'named/not\xfftext.rs', '-x.rs', '--bad.rs', '.hidden.rs', '.hidden/a.rs', 'target/a.rs', 'b/target/a.rs', 'no_ending',
+    'a.RS', 'a.rs.txt', '.rs', 'folder.rs/a.rs', 'deep/' * 40 + 'a.rs',
+]
+LINKS = {
+    'link.rs': 'a.rs', 'link_folder': 'b', 'broken.rs': 'nowhere.rs', 'loop': '.', 'loop.rs': 'loop.rs', 'null.rs': '/dev/null',
+    'soups/up.rs': '../kinds.rs',
+}
+EMPTY, LOCKED, LOCKED_FILE, SOCKET = 'none', 'locked', 'locked.rs', 'socket.rs'
+# What calls name beside the files.
+OTHER_PATHS = [
+    '.', './', './/a.rs', 'b/../a.rs', '../tree/b', 'b//', 'a.rs/', 'a.rs/x', 'missing', 'missing.rs', 'missing/', '', '/dev/null',
+    'x' * 300, 'soups', 'soups', 'deep', b'\xff', b'\xed\xa0\x80', EMPTY, LOCKED, LOCKED_FILE, SOCKET, *LINKS,
+]
+
+
+def whole_soups(source, count):
+    """Soups one after another, lines apart, each of which is a whole source."""
+    found = []
+    while len(found) < count:
+        soup = source_texts.sound(source)
+        if not source_model.cut_source(soup).fault:
+            found.append(soup)
+    return '\n'.join(found)
+
+
+def contents(source):
+    """The files of the tree, by path, in bytes."""
+    soup = whole_soups(source, 40)
+    made = {'a.rs': soup, 'b/c.rs': whole_soups(source, 8), 'b/d/e.rs': whole_soups(source, 8)}
+    made |= {'crlf.rs': soup.replace('\r', '').replace('\n', '\r\n'), 'bom.rs': '\ufeff' + whole_soups(source, 3)}
+    made |= {f'{name}.rs': text for name, text in SOURCES.items()}
+    made |= {path: f'{at} "named" \'{at}\' 0b{at} "\\q"' for at, path in enumerate(NAMED)}
+    made |= {f'soups/{at:02}.rs': text for at, text in enumerate(source_texts.soups(source.random(), 40))}
+    return {os.fsencode(path): data.encode() if isinstance(data, str) else data for path, data in made.items()}
+
+
+def make_tree(top, source):
+    """Makes the tree in a folder; its files, by path."""
+    made = contents(source)
+    for path, data in made.items():
+        whole = os.path.join(os.fsencode(top), path)
+        os.makedirs(os.path.dirname(whole), exist_ok=True)
+        with open(whole, 'wb') as file:
+            file.write(data)
+    for name, to in LINKS.items():
+        os.symlink(to, os.path.join(top, name))
+    os.mkdir(os.path.join(top, EMPTY))
+    os.mknod(os.path.join(top, SOCKET), 0o600 | stat.S_IFSOCK)
+    # Who is no superuser can read neither.
+    os.mkdir(os.path.join(top, LOCKED), 0)
+    os.mknod(os.path.join(top, LOCKED_FILE), 0)
+    return made
