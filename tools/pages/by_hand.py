@@ -1,4 +1,5 @@
 """What is run by hand: the commands, texts and examples that the pages show."""
+import os
 import re
 import subprocess
 
@@ -16,12 +17,13 @@ def tried(name, words, given):
 
 def run_commands(tell):
     """The calls of the programs that pages show: each line after `$`, and what is written."""
+    found_first = dict(os.environ, PATH=f'{programs.cargo_folder()}:{os.environ["PATH"]}')
     shown = read('README.md') + read('docs/PROGRAMS.md')
     for block in re.findall(r'```sh\n(\$.*?)```', shown, re.S):
         for call in re.split(r'^\$ ', block, flags=re.M)[1:]:
             command, wanted = call.split('\n', 1)
             ran = subprocess.run(
-                ['bash', '-c', command], cwd=TOP, capture_output=True, check=False)
+                ['bash', '-c', command], cwd=TOP, env=found_first, capture_output=True, check=False)
             told = re.sub(r'^rl_\w+: .*\n', '', ran.stderr.decode(), flags=re.M)
             found = ran.stdout.decode() + told
             print(f'{"as shown" if found == wanted else "OTHER"}: {command}', flush=True)
