@@ -28,6 +28,8 @@ WRONG = [Wrong(*row) for row in [
      'a text that is handed over needs no literal of Rust, but one of `syn`'),
     ('lit.rs', "Lit::Char(literal) => Some(literal.places()),", "Lit::Char(_) => None,",
      'a character has no places'),
+    ('lit.rs', "f.pad(self.text())", "f.write_str(self.text())",
+     'a literal is printed without width and fill'),
     # strings.rs
     ('strings.rs', "self.suffix_at - self.hi - 1", "self.suffix_at - self.hi",
      'a string has one hash too many'),
@@ -81,6 +83,10 @@ WRONG = [Wrong(*row) for row in [
      'the kind that was asked for and that of the text change places'),
     ('common.rs', "        &text[suffix_at..]\n", "        text[suffix_at..].trim_start_matches('_')\n",
      'a suffix has no underscore before it'),
+    ('common.rs', "self.text == other.text", "(self.text.len(), self.suffix()) == (other.text.len(), other.suffix())",
+     'literals are equal whose texts are of one length'),
+    ('common.rs', "f.pad(&self.text)", "f.write_str(&self.text)",
+     'a literal of a kind is printed without width and fill'),
     # contents.rs
     ('contents.rs', "Piece::Nothing => {}", "Piece::Nothing => out.push('\\n'),",
      'a line end after a backslash stays in the string'),
@@ -129,8 +135,8 @@ WRONG = [Wrong(*row) for row in [
     # write.rs
     ('write.rs', "write_bytes_into(Kind::CStr, c_str.to_bytes(), &mut out)", "write_bytes_into(Kind::ByteStr, c_str.to_bytes(), &mut out)",
      'a C string is written as a byte string'),
-    ('write.rs', "Value::Str(text) => text.len(),", "Value::Str(text) => text.chars().count(),",
-     'the room of a string is that of as many bytes as it has characters'),
+    ('write.rs', "len.checked_mul(4)", "len.checked_mul(3)",
+     'the room of a literal is too small for bytes that are all escaped'),
     # list.rs
     ('list.rs', "let lo = next.minus_at.unwrap_or(token.lo);", "let lo = next.minus_at.map_or(token.lo, |at| at.max(token.lo - 1));",
      'a minus that stands apart is none of the range'),

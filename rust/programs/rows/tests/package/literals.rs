@@ -3,7 +3,10 @@
 use crate::{flaws, numbers, quoted};
 use navyspindle::{write_byte, write_byte_str, write_char, write_str, Lit, LitBool};
 use navyspindle_programs::rattle_std::alloc::Global;
-use navyspindle_programs::{rl_grammar, rl_lines, rl_tokens, rust_literals};
+use navyspindle_programs::rl_grammar::{self, Kind};
+use navyspindle_programs::{rl_lines, rl_tokens, rust_literals};
+use std::collections::hash_map::DefaultHasher;
+use std::hash::{BuildHasher, BuildHasherDefault};
 
 pub type Proved = rust_literals::Lit;
 
@@ -62,15 +65,16 @@ pub fn check_same(ours: &Lit, proved: &Proved) {
 pub fn check_closely(ours: &Lit, proved: &Proved) {
     check_same(ours, proved);
     let text = proved.text();
-    let word = proved
-        .kind()
-        .map_or("text without a reading", |kind| kind.word());
+    let word = proved.kind().map_or("text without a reading", Kind::word);
     assert_eq!(ours.kind().to_string(), word, "{text:?}");
     assert_eq!(
         (&*ours.to_string(), &*ours.clone().into_text()),
         (text, text)
     );
     assert_eq!(ours.clone().into_suffix(), proved.suffix(), "{text:?}");
+    assert_eq!(format!("{ours:*>9}"), format!("{text:*>9}"));
+    let name = proved.kind().map_or("LitVerbatim", Kind::struct_name);
+    assert_eq!(format!("{ours:?}"), format!("{name}({text:?})"));
     let Some(found) = rl_grammar::find(text) else {
         assert!(matches!(ours, Lit::Verbatim(_)), "{text:?}");
         flaws::check_verbatim(ours, proved);
@@ -102,4 +106,12 @@ pub fn check_text(text: &str) {
     flaws::check_closely(text, &proved);
     flaws::check_file(text);
     quoted::check_written(text);
+}
+
+/// Literals are equal where their texts are, however these are held.
+pub fn check_equal(a: &str, b: &str) {
+    let hash_of = |literal: &Lit| BuildHasherDefault::<DefaultHasher>::default().hash_one(literal);
+    let (ours, other) = (Lit::new(a), Lit::new(b.to_owned()));
+    assert_eq!(ours == other, a == b, "{a:?} {b:?}");
+    assert_eq!(hash_of(&ours) == hash_of(&other), a == b, "{a:?} {b:?}");
 }

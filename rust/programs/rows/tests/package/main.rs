@@ -12,7 +12,7 @@ mod quoted;
 
 use asked::check_settings;
 use lists::{check_list, check_source};
-use literals::{check_literal, check_text};
+use literals::{check_equal, check_literal, check_text};
 use std::fs;
 use std::path::Path;
 
@@ -187,6 +187,17 @@ fn quotes() {
         ] {
             check_all(&format!("{text}{suffix}"));
         }
+    }
+}
+
+#[test]
+fn equal_by_text() {
+    let texts = [
+        "\"a\"", "\"b\"", "\"b\"x", "r\"a\"", "b\"a\"", "b\"b\"", "c\"a\"", "c\"b\"", "'a'", "'b'",
+        "b'a'", "b'b'", "1", "2", "01", "0x1", "1.5", "1.6", "true", "false", "word", "worm",
+    ];
+    for text in texts {
+        texts.iter().for_each(|other| check_equal(text, other));
     }
 }
 

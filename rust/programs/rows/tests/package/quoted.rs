@@ -95,6 +95,7 @@ macro_rules! check_quoted {
         let segments: Vec<_> = ours.segments().map(|it| shown(&it)).collect();
         let expected: Vec<_> = proved.segments().map(|it| shown_proved(&it)).collect();
         assert_eq!(segments, expected, "{text:?}");
+        assert_eq!(format!("{ours:*<9}"), format!("{text:*<9}"));
         let of_any: Vec<_> = literal.segments().unwrap().map(|it| shown(&it)).collect();
         assert_eq!(of_any, expected, "{text:?}");
         assert_eq!(
