@@ -76,6 +76,31 @@ fn generated_settings() {
 }
 
 #[test]
+fn telling_settings() {
+    for text in [
+        "max_size = 1, max_size_of = 2",
+        "maximum_size_of_a = 1, maximum_size_of_b = 2",
+        "max_size_of = 1, max_size_of = 2",
+        "port = 1, Port = 2, ports = 3",
+        "a = -0",
+        "a = - 0, b = -0.0",
+        "a = -0x0, b = -0",
+        "a {) = 1",
+        "a = 1, {)",
+        "a = (}",
+        "a = [1}",
+        "a = \"a\"x",
+        "a = \"long enough for all\"x",
+        "a = 1,",
+        "a = 1, \n",
+        "a = \n",
+        "a = \"a\r\n\\q\"",
+    ] {
+        let _ = check_settings(text);
+    }
+}
+
+#[test]
 fn numbers_with_suffixes() {
     let suffixes = "u8 u16 u32 u64 u128 usize i8 i16 i32 i64 i128 isize f16 f32 f64 f128 u1 i7 u256 f6 f3 f320 F32 U8 usiz usizes _ _u8 _f64 e E x";
     for numeral in [
