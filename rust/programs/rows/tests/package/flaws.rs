@@ -1,0 +1,147 @@
+//! What Rust takes of texts, and why it doesn't take others, and where.
+
+use crate::literals::{check_closely as check_literal_closely, check_same, Proved};
+use navyspindle::{
+    is_token, Kind, Lit, LitBool, LitByte, LitByteStr, LitCStr, LitChar, LitFloat, LitInt, LitStr,
+    ParseError, ParseErrorKind,
+};
+use navyspindle_programs::rattle_std::alloc::Global;
+use navyspindle_programs::rl_grammar::{explain, strict, Flaw};
+
+/// Why Rust doesn't take the text: it is no token after an optional minus, or an integer past 128 bits.
+fn proved_flaw(text: &str) -> Option<Flaw> {
+    strict::explain_signed(text).or_else(|| explain(text))
+}
+
+/// The same of a text in a file.
+pub fn proved_flaw_in_file(text: &str) -> Option<Flaw> {
+    if !text.starts_with('-') {
+        let flaw = strict::explain_in_file(Global, text).unwrap();
+        return flaw.or_else(|| explain(text));
+    }
+    // Where the text without the CR of each CR LF has a byte, this one has it there: at an LF, where its CR stands.
+    let (mut read, mut places) = (String::new(), Vec::new());
+    let mut chars = text.char_indices().peekable();
+    while let Some((at, c)) = chars.next() {
+        let end = chars.next_if(|&(_, next)| c == '\r' && next == '\n');
+        read.push(end.map_or(c, |(_, lf)| lf));
+        places.resize(read.len(), at);
+    }
+    places.push(text.len());
+    let flaw = proved_flaw(&read)?;
+    // Of characters of several bytes the places are those of their first ones, and flaws stand nowhere else.
+    Some(Flaw {
+        kind: flaw.kind,
+        from: places[flaw.from],
+        lo: places[flaw.lo],
+        hi: places[flaw.hi],
+    })
+}
+
+#[track_caller]
+fn check_flaw(text: &str, error: ParseError, flaw: Flaw) {
+    assert_eq!(error.range(), flaw.lo..flaw.hi, "{text:?}");
+    assert_eq!(error.piece(), flaw.from..flaw.hi, "{text:?}");
+    let words = flaw.kind.words();
+    assert_eq!(error.kind().to_string(), words, "{text:?}");
+    let line = format!("{words} at byte {}", flaw.lo);
+    assert_eq!(error.to_string(), line, "{text:?}");
+}
+
+/// Why a text has no reading.
+pub fn check_verbatim(ours: &Lit, proved: &Proved) {
+    let Lit::Verbatim(literal) = ours else {
+        panic!()
+    };
+    check_flaw(ours.text(), literal.explain(), proved.explain().unwrap());
+}
+
+/// What `Lit::parse` takes, and why it doesn't take others.
+pub fn check_parse(text: &str, proved: &Proved) {
+    match (Lit::parse(text), proved_flaw(text)) {
+        (Ok(ours), None) => check_same(&ours, proved),
+        (Err(error), Some(flaw)) => check_flaw(text, error, flaw),
+        (ours, flaw) => panic!("{text:?}: {ours:?}, {:?}", flaw.map(|it| it.kind)),
+    }
+}
+
+/// The same in all ways of reading a text.
+pub fn check_closely(text: &str, proved: &Proved) {
+    let read = [
+        Lit::parse(text),
+        Lit::try_from(text.to_owned()),
+        text.parse::<Lit>(),
+    ];
+    for ours in read {
+        match (ours, proved_flaw(text)) {
+            (Ok(ours), None) => check_literal_closely(&ours, proved),
+            (Err(error), Some(flaw)) => check_flaw(text, error, flaw),
+            (ours, flaw) => panic!("{text:?}: {ours:?}, {:?}", flaw.map(|it| it.kind)),
+        }
+    }
+    assert_eq!(is_token(text), strict::is_token(text), "{text:?}");
+    check_kinds(text, proved);
+}
+
+/// A literal of one kind is taken where the text is of that kind, and else both kinds are said.
+fn check_kinds(text: &str, proved: &Proved) {
+    macro_rules! check {
+        ($($name:ident $kind:ident)*) => {
+            $(check_kind(
+                text,
+                proved,
+                Kind::$kind,
+                [
+                    $name::parse(text).map(Lit::from),
+                    $name::try_from(text.to_owned()).map(Lit::from),
+                    text.parse::<$name>().map(Lit::from),
+                    Lit::parse(text).and_then(|it| match $name::try_from(it) {
+                        Ok(it) => Ok(Lit::from(it)),
+                        Err(it) => {
+                            // What is of another kind comes back as it was.
+                            check_same(&it, proved);
+                            $name::parse(text).map(Lit::from)
+                        }
+                    }),
+                ],
+            );)*
+        };
+    }
+    check!(LitStr Str LitByteStr ByteStr LitCStr CStr LitByte Byte LitChar Char LitInt Int LitFloat Float LitBool Bool);
+}
+
+fn check_kind(text: &str, proved: &Proved, expected: Kind, read: [Result<Lit, ParseError>; 4]) {
+    for ours in read {
+        match (ours, proved_flaw(text)) {
+            (Ok(ours), None) => {
+                assert_eq!(ours.kind(), expected, "{text:?}");
+                check_same(&ours, proved);
+            }
+            (Err(error), Some(flaw)) => check_flaw(text, error, flaw),
+            (Err(error), None) => {
+                let found = proved.kind().unwrap().word();
+                let words = format!("expected {expected}, found {found}");
+                assert_eq!(error.kind().to_string(), words, "{text:?}");
+                assert_ne!(expected.to_string(), found, "{text:?}");
+                assert_eq!(
+                    (error.range(), error.piece()),
+                    (0..text.len(), 0..text.len())
+                );
+                assert!(
+                    matches!(error.kind(), ParseErrorKind::Kind { expected: it, .. } if it == expected),
+                    "{text:?}"
+                );
+            }
+            (ours, flaw) => panic!("{text:?}: {ours:?}, {:?}", flaw.map(|it| it.kind)),
+        }
+    }
+}
+
+/// What Rust takes in a file, where a CR LF is an LF.
+pub fn check_file(text: &str) {
+    match (Lit::new(text).check(), proved_flaw_in_file(text)) {
+        (Ok(()), None) => {}
+        (Err(error), Some(flaw)) => check_flaw(text, error, flaw),
+        (ours, flaw) => panic!("{text:?}: {ours:?}, {:?}", flaw.map(|it| it.kind)),
+    }
+}

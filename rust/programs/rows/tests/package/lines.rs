@@ -1,0 +1,65 @@
+//! Lines and columns of bytes, and back.
+
+use navyspindle::{LineColumn, LineIndex};
+use navyspindle_programs::rl_tokens::Lines;
+
+/// The place of each character and of the end, in characters as the proved code has it, and in bytes of the line. A byte order mark
+/// at the front has no column: the text after it is asked.
+pub fn check(text: &str) {
+    let index = LineIndex::new(text);
+    let read = text.strip_prefix('\u{feff}').unwrap_or(text);
+    let front = text.len() - read.len();
+    let mut lines = Lines::new(read);
+    let mut line_start = 0;
+    assert_eq!(index.lines(), read.matches('\n').count() + 1, "{text:?}");
+    let places = read.char_indices().map(|(at, c)| (at, Some(c)));
+    for (at, c) in places.chain([(read.len(), None)]) {
+        let place = lines.at(&read[at..]);
+        let (line, column) = (place.line, place.column);
+        let place = LineColumn { line, column };
+        let column = at - line_start + 1;
+        let in_bytes = LineColumn { line, column };
+        let len = c.map_or(2, char::len_utf8);
+        for byte in front + at..front + at + len {
+            assert_eq!(index.line_column(byte), place, "{text:?} {byte}");
+            assert_eq!(index.line_column_bytes(byte), in_bytes, "{text:?} {byte}");
+        }
+        assert_eq!(index.byte(place), Some(front + at), "{text:?} {place}");
+        assert_eq!(
+            index.byte_of_bytes(in_bytes),
+            Some(front + at),
+            "{text:?} {place}"
+        );
+        for inside in 1..len {
+            let column = in_bytes.column + inside;
+            let place = LineColumn { line, column };
+            assert_eq!(index.byte_of_bytes(place), None, "{text:?} {place}");
+        }
+        if matches!(c, None | Some('\n')) {
+            // Past the line's last place there is none.
+            for past in 1..4 {
+                let place = LineColumn {
+                    line,
+                    column: place.column + past,
+                };
+                assert_eq!(index.byte(place), None, "{text:?} {place}");
+                let place = LineColumn {
+                    line,
+                    column: in_bytes.column + past,
+                };
+                assert_eq!(index.byte_of_bytes(place), None, "{text:?} {place}");
+            }
+            line_start = at + 1;
+        }
+    }
+    for byte in 0..front {
+        assert_eq!(index.line_column(byte), LineColumn { line: 1, column: 1 });
+    }
+    for (line, column) in [(0, 1), (1, 0), (index.lines() + 1, 1)] {
+        let place = LineColumn { line, column };
+        assert_eq!(
+            (index.byte(place), index.byte_of_bytes(place)),
+            (None, None)
+        );
+    }
+}

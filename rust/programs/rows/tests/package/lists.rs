@@ -1,0 +1,138 @@
+//! Lists of literals, and the literals of sources: each with its bytes, and what ends them.
+
+use crate::literals::{check_closely, check_same, proved_of, Proved};
+use navyspindle::{literals, source, ListError, Lit, Literals, Source};
+use navyspindle_programs::rattle_std::alloc::Global;
+use navyspindle_programs::{rl_grammar, rl_tokens, rust_literals};
+use std::ops::Range;
+
+type Item<'t> = Result<(Range<usize>, Lit<'t>), ListError>;
+
+/// The next item, which a copy that is made before gives too; after an error, and at the end, there is none.
+macro_rules! next_of {
+    ($name:ident, $iterator:ty) => {
+        fn $name<'t>(items: &mut $iterator, copy: $iterator) -> Option<Item<'t>> {
+            let (item, mut copy) = (items.next(), copy);
+            assert_eq!(copy.next(), item);
+            if !matches!(item, Some(Ok(_))) {
+                assert!(items.next().is_none() && copy.next().is_none());
+            }
+            item
+        }
+    };
+}
+next_of!(next_of_list, Literals<'t>);
+next_of!(next_of_source, Source<'t>);
+
+/// A literal of a text, that of it closely which isn't as it stands there.
+fn check_item(text: &str, range: Range<usize>, ours: &Lit, proved: &Proved, span: Range<usize>) {
+    assert_eq!(range, span, "{text:?}");
+    if text[range] == *ours.text() {
+        check_same(ours, proved);
+    } else {
+        check_closely(ours, proved);
+    }
+}
+
+/// Where the proved list stops, up to the end of the token there, and the name of why.
+fn rejection_in(text: &str) -> (Range<usize>, String) {
+    let mut tokens = rl_tokens::Tokens::new(text);
+    let rejection = loop {
+        match rl_grammar::list_step(&mut tokens) {
+            rl_grammar::ListStep::Literal(_) => {}
+            rl_grammar::ListStep::End => panic!("{text:?}"),
+            rl_grammar::ListStep::Rejected(rejection) => break rejection,
+        }
+    };
+    let name = match rejection.kind {
+        rl_grammar::RejectionKind::Lex(kind) => format!("{kind:?}"),
+        rl_grammar::RejectionKind::Group => "Group".to_owned(),
+        rl_grammar::RejectionKind::UnmatchedClose => "UnmatchedClose".to_owned(),
+        rl_grammar::RejectionKind::NoLiteral => "NoLiteral".to_owned(),
+    };
+    let rest = &text[rejection.at..];
+    let len = match rl_tokens::Tokens::new(rest).next() {
+        Some(token) => Some(token.hi),
+        None if name == "StrayCharacter" => rest.chars().next().map(char::len_utf8),
+        // A source has tokens of which a list has none.
+        None => rl_tokens::Sources::new(rest).next().map(|it| it.hi),
+    };
+    let end = rejection.at + len.unwrap_or(rest.len());
+    (rejection.at..end, name)
+}
+
+/// The package's own words for why a list or a source ends.
+fn words_of(name: &str) -> &'static str {
+    match name {
+        "NoLiteral" => "not a literal, or an integer past 128 bits",
+        "DocComment" => "doc comment",
+        "UnclosedComment" => "block comment isn't closed",
+        "UnclosedQuote" => "quoted literal isn't closed",
+        "Lifetime" => "lifetime",
+        "RawIdentifier" => "raw identifier",
+        "StrayCharacter" => "character that begins no token",
+        "UnmatchedClose" => "unmatched closing delimiter",
+        "Group" => "opening delimiter, and a group is no literal",
+        _ => panic!("{name}"),
+    }
+}
+
+fn check_error(error: &ListError, range: Range<usize>, name: &str, text: &str) {
+    let words = words_of(name);
+    assert_eq!(error.range(), range, "{text:?}");
+    assert_eq!(error.at(), range.start, "{text:?}");
+    assert_eq!(format!("{:?}", error.kind()), name, "{text:?}");
+    assert_eq!(error.kind().to_string(), words, "{text:?}");
+    let line = format!("{words} at byte {}", range.start);
+    assert_eq!(error.to_string(), line, "{text:?}");
+}
+
+pub fn check_list(text: &str) {
+    let mut proved = rust_literals::Literals::new(Global, text, 0);
+    let mut ours = literals(text);
+    loop {
+        let copy = ours.clone();
+        match (next_of_list(&mut ours, copy), proved.next()) {
+            (Some(Ok((range, ours))), Ok(Some(literal))) => {
+                let span = literal.span();
+                check_item(text, range, &ours, &literal, span.lo..span.hi);
+            }
+            (Some(Err(error)), Err(_)) => {
+                let (range, name) = rejection_in(text);
+                return check_error(&error, range, &name, text);
+            }
+            (None, Ok(None)) => return,
+            // The proved list asks for all groups to be closed before it goes on.
+            (Some(Ok(_)), Err(_)) if rl_tokens::lex(Global, text, 0).is_err() => return,
+            (ours, proved) => panic!("{text:?}: {ours:?}, {:?}", proved.map(|it| it.is_some())),
+        }
+    }
+}
+
+pub fn check_source(text: &str) {
+    let mut proved = rl_tokens::Sources::new(text);
+    let mut ours = source(text);
+    loop {
+        let copy = ours.clone();
+        match (next_of_source(&mut ours, copy), proved.next_literal()) {
+            (Some(Ok((range, ours))), Some(token)) => {
+                let literal = proved_of(token.text);
+                check_item(text, range, &ours, &literal, token.lo..token.hi);
+            }
+            (Some(Err(error)), None) => {
+                let cause = proved.error().unwrap();
+                let name = format!("{:?}", cause.kind);
+                // A quote or a comment isn't closed.
+                check_error(&error, cause.at..text.len(), &name, text);
+                break;
+            }
+            (None, None) => {
+                assert!(proved.error().is_none(), "{text:?}");
+                break;
+            }
+            (ours, token) => panic!("{text:?}: {ours:?}, {}", token.is_some()),
+        }
+        assert_eq!(ours.following_lines(), proved.following_lines(), "{text:?}");
+    }
+    assert_eq!(ours.following_lines(), proved.following_lines(), "{text:?}");
+}

@@ -1,0 +1,117 @@
+//! One literal: its kind, contents, suffix and texts, and what those of each kind say besides.
+
+use crate::{flaws, numbers, quoted};
+use navyspindle::{write_byte, write_byte_str, write_char, write_str, Lit, LitBool};
+use navyspindle_programs::rattle_std::alloc::Global;
+use navyspindle_programs::rl_grammar::{self, Kind};
+use navyspindle_programs::{rl_lines, rl_tokens, rust_literals};
+use std::collections::hash_map::DefaultHasher;
+use std::hash::{BuildHasher, BuildHasherDefault};
+
+pub type Proved = rust_literals::Lit;
+
+/// The line of a literal, as the package has it.
+fn line_of(literal: &Lit) -> String {
+    let contents = match literal {
+        Lit::Str(string) => write_str(&string.value()),
+        Lit::ByteStr(string) => write_byte_str(&string.value()),
+        Lit::CStr(string) => write_byte_str(&string.value()).replacen('b', "c", 1),
+        Lit::Byte(byte) => write_byte(byte.value()),
+        Lit::Char(character) => write_char(character.value()),
+        Lit::Int(number) => number.base10_digits().into_owned(),
+        Lit::Float(number) => number.base10_digits().into_owned(),
+        Lit::Bool(truth) => truth.value().to_string(),
+        other => write_str(other.text()),
+    };
+    let suffix = match literal.suffix() {
+        "" => "-".to_owned(),
+        suffix if rl_tokens::ident::xid_ok(suffix) => suffix.to_owned(),
+        suffix => write_str(suffix),
+    };
+    format!("{:?} {contents} {suffix}\n", literal.kind())
+}
+
+/// The same of the proved literal.
+fn proved_line(literal: &Proved) -> String {
+    rl_lines::line_of(Global, literal)
+        .unwrap()
+        .as_str()
+        .to_owned()
+}
+
+pub fn proved_of(text: &str) -> Proved {
+    let span = rl_tokens::Span::new(0, 0, text.len());
+    let token = rl_tokens::Literal::from_text(Global, text, span).unwrap();
+    let Ok(literal) = rust_literals::Lit::new(Global, token) else {
+        panic!()
+    };
+    literal
+}
+
+/// What all kinds have.
+#[track_caller]
+pub fn check_same(ours: &Lit, proved: &Proved) {
+    let text = proved.text();
+    assert_eq!(line_of(ours), proved_line(proved), "{text:?}");
+    assert_eq!(
+        (ours.text(), ours.suffix()),
+        (text, proved.suffix()),
+        "{text:?}"
+    );
+}
+
+/// All that a literal says.
+#[track_caller]
+pub fn check_closely(ours: &Lit, proved: &Proved) {
+    check_same(ours, proved);
+    let text = proved.text();
+    let word = proved.kind().map_or("text without a reading", Kind::word);
+    assert_eq!(ours.kind().to_string(), word, "{text:?}");
+    assert_eq!(
+        (&*ours.to_string(), &*ours.clone().into_text()),
+        (text, text)
+    );
+    assert_eq!(ours.clone().into_suffix(), proved.suffix(), "{text:?}");
+    assert_eq!(format!("{ours:*>9}"), format!("{text:*>9}"));
+    let name = proved.kind().map_or("LitVerbatim", Kind::struct_name);
+    assert_eq!(format!("{ours:?}"), format!("{name}({text:?})"));
+    let Some(found) = rl_grammar::find(text) else {
+        assert!(matches!(ours, Lit::Verbatim(_)), "{text:?}");
+        flaws::check_verbatim(ours, proved);
+        return;
+    };
+    quoted::check(ours, proved, &found);
+    numbers::check(ours, proved, &found);
+    if let Lit::Bool(truth) = ours {
+        assert_eq!(truth.value(), found.truth, "{text:?}");
+        assert_eq!(truth.suffix_range(), text.len()..text.len(), "{text:?}");
+        assert_eq!(LitBool::parse(text).map(|it| it.value()), Ok(found.truth));
+    }
+}
+
+/// A text alone: as it is read, and as what Rust takes of it.
+pub fn check_literal(text: &str) {
+    let (ours, proved) = (Lit::new(text), proved_of(text));
+    check_same(&ours, &proved);
+    flaws::check_parse(text, &proved);
+    flaws::check_file(text);
+}
+
+/// The same closely, borrowed and owned.
+pub fn check_text(text: &str) {
+    let proved = proved_of(text);
+    check_closely(&Lit::new(text), &proved);
+    check_closely(&Lit::new(text.to_owned()), &proved);
+    check_closely(&Lit::new(text).into_owned(), &proved);
+    flaws::check_closely(text, &proved);
+    flaws::check_file(text);
+    quoted::check_written(text);
+}
+
+/// Literals are equal where their texts are, however these are held.
+pub fn check_equal(a: &str, b: &str) {
+    let hash_of = |literal: &Lit| BuildHasherDefault::<DefaultHasher>::default().hash_one(literal);
+    let (ours, other) = (Lit::new(a), Lit::new(b.to_owned()));
+    assert_eq!(ours == other, a == b, "{a:?} {b:?}");
+    assert_eq!(hash_of(&ours) == hash_of(&other), a == b, "{a:?} {b:?}");
+}

@@ -1,0 +1,319 @@
+//! Holds the types of the package `navyspindle`, which are written by hand, against the proved ones as they are rendered. What is
+//! expected comes of the rendered libraries, or is written here; `tools/package_edits` tries whether wrong edits are caught.
+
+mod asked;
+mod flaws;
+mod lines;
+mod lists;
+mod literals;
+mod made;
+mod numbers;
+mod quoted;
+
+use asked::check_settings;
+use lists::{check_list, check_source};
+use literals::{check_equal, check_literal, check_text};
+use std::fs;
+use std::path::Path;
+
+#[allow(dead_code)]
+#[path = "../../../../compare/src/texts.rs"]
+mod texts;
+
+fn check_all(text: &str) {
+    check_text(text);
+    check_list(text);
+    let _ = check_settings(text);
+    check_source(text);
+}
+
+/// As `check_all`, of many texts.
+fn check_most(text: &str) {
+    check_literal(text);
+    check_list(text);
+    let _ = check_settings(text);
+    check_source(text);
+}
+
+#[test]
+fn generated_texts() {
+    let mut r = texts::Random::new(5);
+    let mut joined = String::new();
+    for n in 0..60_000 {
+        let text = texts::nth(&mut r, n);
+        if n % 4 == 0 || text.len() < 12 {
+            check_all(&text);
+        } else {
+            check_most(&text);
+        }
+        if n % 100 < 40 {
+            joined += &text;
+        } else if n % 100 == 50 {
+            lines::check(&joined);
+            lines::check(&format!("\u{feff}{joined}"));
+            joined.clear();
+        }
+    }
+}
+
+#[test]
+fn generated_settings() {
+    let (mut entries, mut rejected) = (0, 0);
+    let (mut picks, mut r) = (made::Picks(5), texts::Random::new(6));
+    for _ in 0..30_000 {
+        let text = made::settings(&mut picks);
+        for text in [&text, &texts::broken(&mut r, &text)] {
+            match check_settings(text) {
+                Some(count) => entries += count,
+                None => rejected += 1,
+            }
+        }
+    }
+    assert!(
+        entries > 10_000 && rejected > 10_000,
+        "{entries} {rejected}"
+    );
+}
+
+#[test]
+fn telling_settings() {
+    for text in [
+        "max_size = 1, max_size_of = 2",
+        "maximum_size_of_a = 1, maximum_size_of_b = 2",
+        "max_size_of = 1, max_size_of = 2",
+        "port = 1, Port = 2, ports = 3",
+        "a = -0",
+        "a = - 0, b = -0.0",
+        "a = -0x0, b = -0",
+        "a {) = 1",
+        "a = 1, {)",
+        "a = (}",
+        "a = [1}",
+        "a = \"a\"x",
+        "a = \"long enough for all\"x",
+        "a = 1,",
+        "a = 1, \n",
+        "a = \n",
+        "a = \"a\r\n\\q\"",
+    ] {
+        let _ = check_settings(text);
+    }
+}
+
+#[test]
+fn numbers_with_suffixes() {
+    let suffixes = "u8 u16 u32 u64 u128 usize i8 i16 i32 i64 i128 isize f16 f32 f64 f128 u1 i7 u256 f6 f3 f320 F32 U8 usiz usizes _ _u8 _f64 e E x";
+    for numeral in [
+        "1",
+        "0",
+        "00",
+        "1_0",
+        "1.5",
+        "1.",
+        "1._5",
+        "1.e5",
+        "1.f",
+        "1e5",
+        "1E+5",
+        "1E5",
+        "1.5E-3",
+        "1e_5",
+        "1.0e_5",
+        "1e_+5",
+        "1.5e_-3",
+        "1.5e__+1",
+        "1_.5",
+        "1_0.5_0",
+        "0x1",
+        "0xe",
+        "0b1",
+        "0b2",
+        "0o17",
+        "0o8",
+        "0x_F",
+        "1.5_",
+        "12345678.5",
+        "123456789.5E1",
+        "79228162514264337593543950336",
+        "0xFFFF_FFFF_FFFF_FFFF_FFFF_FFFF_FFFF_FFFF",
+    ] {
+        for suffix in suffixes.split(' ').chain([""]) {
+            for sign in ["", "-", "--", "- "] {
+                check_all(&format!("{sign}{numeral}{suffix}"));
+            }
+        }
+    }
+}
+
+#[test]
+fn quotes() {
+    let pieces = [
+        "a",
+        "é",
+        "語",
+        "\\n",
+        "\\\\",
+        "\\'",
+        "\\\"",
+        "\\0",
+        "\\x41",
+        "\\xfF",
+        "\\u{e9}",
+        "\\u{1_F600}",
+        "\\u{D800}",
+        "\\\n \t",
+        "\\\r\n",
+        "\r\n",
+        "\r",
+        "\n",
+        "\t",
+        "'",
+        "\"",
+        "\\q",
+        "\\",
+        "\0",
+    ];
+    let mut bodies = vec![
+        "a".repeat(70),
+        format!("{}\\n{}", "é".repeat(40), "b".repeat(70)),
+        format!("\\\n{}\r\n", "c".repeat(65)),
+        "\\x41".repeat(20),
+    ];
+    made::each(&pieces, 2, &mut |body| bodies.push(body.to_owned()));
+    for body in &bodies {
+        for (opener, closer) in [
+            ("\"", "\""),
+            ("b\"", "\""),
+            ("c\"", "\""),
+            ("'", "'"),
+            ("b'", "'"),
+            ("r\"", "\""),
+            ("br#\"", "\"#"),
+            ("cr##\"", "\"##"),
+        ] {
+            let text = format!("{opener}{body}{closer}");
+            check_text(&text);
+            check_source(&text);
+            for suffix in ["x", "_s", "u8"] {
+                check_literal(&format!("{text}{suffix}"));
+            }
+        }
+    }
+    for suffix in ["x", "_s", "_", "__a", "é", "1", "r#x", " "] {
+        for text in [
+            "\"a\"",
+            "r#\"a\"#",
+            "b\"a\\n\"",
+            "c\"é\"",
+            "'\\''",
+            "b'\\xFf'",
+            "true",
+            "-1",
+        ] {
+            check_all(&format!("{text}{suffix}"));
+        }
+    }
+}
+
+#[test]
+fn equal_by_text() {
+    let texts = [
+        "\"a\"", "\"b\"", "\"b\"x", "r\"a\"", "b\"a\"", "b\"b\"", "c\"a\"", "c\"b\"", "'a'", "'b'",
+        "b'a'", "b'b'", "1", "2", "01", "0x1", "1.5", "1.6", "true", "false", "word", "worm",
+    ];
+    for text in texts {
+        texts.iter().for_each(|other| check_equal(text, other));
+    }
+}
+
+#[test]
+fn hashes_of_raw_strings() {
+    for count in 253..259 {
+        let hashes = "#".repeat(count);
+        for opener in ["r", "br", "cr"] {
+            for inside in ["", "a", "\"", "\r", "\r\n"] {
+                check_all(&format!("{opener}{hashes}\"{inside}\"{hashes}"));
+            }
+        }
+    }
+}
+
+#[test]
+fn groups_nested_deep() {
+    for depth in 125..132 {
+        let (open, close) = ("([{".repeat(44), ")]}".repeat(44));
+        let (open, close) = (&open[..depth], &close[..depth]);
+        for text in [
+            format!("a = {open}"),
+            format!("{open}1"),
+            format!("a = 1, b {open}{}", close.chars().rev().collect::<String>()),
+        ] {
+            check_most(&text);
+        }
+        let inside = format!("a = {}1{}", "(".repeat(depth), ")".repeat(depth));
+        check_most(&inside);
+        check_most(&format!("{inside}]"));
+    }
+}
+
+#[test]
+fn delimiters() {
+    made::each(
+        &["(", ")", "[", "]", "{", "}", "1, ", " "],
+        4,
+        &mut |group| {
+            let _ = check_settings(&format!("a = 1, {group}"));
+            let _ = check_settings(&format!("a {group} = 1"));
+            check_list(&format!("1 {group} "));
+        },
+    );
+}
+
+#[test]
+fn lines_and_columns() {
+    made::each(
+        &["a", "é", "\n", "\r\n", "語", "\u{feff}", "😀"],
+        4,
+        &mut lines::check,
+    );
+}
+
+#[test]
+fn each_character() {
+    for c in '\0'..=char::MAX {
+        let number = c as u32;
+        if number >= 0x3000 && number % 7 != 0 {
+            continue;
+        }
+        quoted::check_written_character(c);
+        if number < 0x250 {
+            texts::alone(c).iter().for_each(|text| check_text(text));
+            texts::among(c).iter().for_each(|text| check_all(text));
+            continue;
+        }
+        texts::alone(c).iter().for_each(|text| check_literal(text));
+        if number < 0x3000 || number % 3 == 0 {
+            texts::among(c).iter().for_each(|text| check_most(text));
+        }
+    }
+}
+
+#[test]
+fn sources_of_the_repository() {
+    let mut pending = vec![Path::new(env!("CARGO_MANIFEST_DIR")).join("..")];
+    let mut count = 0;
+    while let Some(folder) = pending.pop() {
+        for entry in fs::read_dir(folder).unwrap() {
+            let path = entry.unwrap().path();
+            if path.is_dir() && !path.ends_with("target") {
+                pending.push(path);
+            } else if path.extension().is_some_and(|it| it == "rs") {
+                let text = fs::read_to_string(&path).unwrap();
+                check_source(&text);
+                check_list(&text);
+                count += 1;
+            }
+        }
+    }
+    assert!(count > 100, "{count}");
+}

@@ -1,0 +1,202 @@
+//! What stands between quotes: contents, borrowed where the proved ones can be, parts, and where each byte comes from; and values as
+//! they are written.
+
+use crate::literals::Proved;
+use navyspindle::{
+    write_byte, write_byte_str, write_c_str, write_char, write_str, Lit, Segment, SegmentValue,
+};
+use navyspindle_programs::rattle_std::alloc::Global;
+use navyspindle_programs::rattle_std::vec::Vec as ProvedVec;
+use navyspindle_programs::rl_grammar::{self, Found};
+use navyspindle_programs::rl_quoted::{Quoted, QuotedKind};
+use navyspindle_programs::rl_tokens;
+use std::borrow::Cow;
+use std::ffi::CString;
+use std::fmt::Debug;
+use std::ops::Range;
+
+/// The contents, and whether they are borrowed exactly where they can be.
+#[track_caller]
+fn check_value<T: ?Sized + ToOwned + PartialEq + Debug>(
+    ours: Cow<T>,
+    proved: &T,
+    is_borrowed: bool,
+    text: &str,
+) {
+    assert_eq!(&*ours, proved, "{text:?}");
+    assert_eq!(matches!(ours, Cow::Borrowed(_)), is_borrowed, "{text:?}");
+}
+
+/// A segment as the package has it.
+fn shown(segment: &Segment) -> String {
+    let range = &segment.range;
+    match segment.value {
+        SegmentValue::Text(text) => format!("{range:?} {text:?}"),
+        SegmentValue::Char(c) => format!("{range:?} {c:?}"),
+        SegmentValue::Byte(byte) => format!("{range:?} {byte}"),
+        SegmentValue::Nothing => format!("{range:?}"),
+        _ => panic!(),
+    }
+}
+
+/// The same of the proved one.
+fn shown_proved(segment: &rl_grammar::Segment) -> String {
+    let range = segment.lo..segment.hi;
+    match segment.value {
+        rl_grammar::SegmentValue::Text(text) => format!("{range:?} {text:?}"),
+        rl_grammar::SegmentValue::Char(c) => format!("{range:?} {c:?}"),
+        rl_grammar::SegmentValue::Byte(byte) => format!("{range:?} {byte}"),
+        rl_grammar::SegmentValue::Nothing => format!("{range:?}"),
+    }
+}
+
+/// The places of a quoted literal's contents, as the package tells them.
+struct Places<'p> {
+    place_of: &'p dyn Fn(usize) -> usize,
+    range_of: &'p dyn Fn(Range<usize>) -> Range<usize>,
+    places: navyspindle::Places,
+}
+
+/// Of many places those of the first, of some in the middle, and of the last.
+fn some_of(len: usize) -> impl Iterator<Item = usize> {
+    (0..=len + 1).filter(move |at| *at < 4 || (60..68).contains(at) || *at + 4 > len)
+}
+
+#[track_caller]
+fn check_places<K: QuotedKind>(ours: &Places, proved: &Quoted<K>) {
+    let text = proved.text();
+    let base = rl_tokens::Span::new(0, 0, text.len());
+    let spans = rl_grammar::spans_of(Global, proved.segments(), base).unwrap();
+    let spans = spans.as_slice();
+    for (at, span) in spans.iter().enumerate() {
+        assert_eq!(ours.places.byte(at), span.lo..span.hi, "{text:?} {at}");
+    }
+    for lo in some_of(spans.len()) {
+        assert_eq!((ours.place_of)(lo), proved.place_of(lo), "{text:?} {lo}");
+        for hi in some_of(spans.len()) {
+            // Of no bytes, where the next one comes from.
+            let last = if lo < hi {
+                proved.end_of(hi - 1)
+            } else {
+                proved.place_of(lo)
+            };
+            let range = proved.place_of(lo)..last;
+            assert_eq!((ours.range_of)(lo..hi), range, "{text:?} {lo}..{hi}");
+            assert_eq!(ours.places.range(lo..hi), range, "{text:?} {lo}..{hi}");
+        }
+    }
+}
+
+/// What the five kinds have.
+macro_rules! check_quoted {
+    ($literal:expr, $ours:expr, $proved:expr, $found:expr) => {{
+        let (literal, ours, proved) = ($literal, $ours, $proved);
+        let text = proved.text();
+        let segments: Vec<_> = ours.segments().map(|it| shown(&it)).collect();
+        let expected: Vec<_> = proved.segments().map(|it| shown_proved(&it)).collect();
+        assert_eq!(segments, expected, "{text:?}");
+        assert_eq!(format!("{ours:*<9}"), format!("{text:*<9}"));
+        let of_any: Vec<_> = literal.segments().unwrap().map(|it| shown(&it)).collect();
+        assert_eq!(of_any, expected, "{text:?}");
+        assert_eq!(
+            ours.suffix_range(),
+            $found.body.suffix_at..text.len(),
+            "{text:?}"
+        );
+        for places in [Some(ours.places()), literal.places()] {
+            let places = Places {
+                place_of: &|at| ours.place_of(at),
+                range_of: &|range| ours.range_of(range),
+                places: places.unwrap(),
+            };
+            check_places(&places, proved);
+        }
+    }};
+}
+
+/// What the three kinds of strings have besides.
+macro_rules! check_string {
+    ($ours:expr, $found:expr, $text:expr, $value:expr, $is_borrowed:expr) => {{
+        let (ours, text, body) = ($ours, $text, $found.body);
+        assert_eq!(ours.body_range(), body.lo..body.hi, "{text:?}");
+        assert_eq!(ours.body(), $found.body_in(text), "{text:?}");
+        let (opener, _) = text.split_once('"').unwrap();
+        assert_eq!(ours.is_raw(), opener.contains('r'), "{text:?}");
+        assert_eq!(ours.hashes(), opener.matches('#').count(), "{text:?}");
+        check_value(ours.value(), $value, $is_borrowed, text);
+        // Of a text of its own, it is the text's room.
+        let is_owned = matches!(ours.clone().into_text(), Cow::Owned(_));
+        check_value(
+            ours.clone().into_value(),
+            $value,
+            $is_borrowed && !is_owned,
+            text,
+        );
+    }};
+}
+
+pub fn check(ours: &Lit, proved: &Proved, found: &Found) {
+    let text = proved.text();
+    match (ours, proved) {
+        (Lit::Str(a), Proved::Str(b)) => {
+            check_quoted!(ours, a, b, found);
+            let value = b.value(Global).unwrap();
+            check_string!(a, found, text, value.as_str(), b.value_ref().is_some());
+        }
+        (Lit::ByteStr(a), Proved::ByteStr(b)) => {
+            check_quoted!(ours, a, b, found);
+            let value = b.value(Global).unwrap();
+            check_string!(a, found, text, value.as_slice(), b.value_ref().is_some());
+        }
+        (Lit::CStr(a), Proved::CStr(b)) => {
+            check_quoted!(ours, a, b, found);
+            let value = b.value(Global).unwrap();
+            check_string!(a, found, text, value.as_bytes(), b.value_ref().is_some());
+            assert_eq!(a.c_string().as_bytes(), value.as_bytes(), "{text:?}");
+        }
+        (Lit::Byte(a), Proved::Byte(b)) => {
+            check_quoted!(ours, a, b, found);
+            assert_eq!(a.value(), b.value(), "{text:?}");
+        }
+        (Lit::Char(a), Proved::Char(b)) => {
+            check_quoted!(ours, a, b, found);
+            assert_eq!(a.value(), b.value(), "{text:?}");
+        }
+        _ => assert!(
+            ours.segments().is_none() && ours.places().is_none(),
+            "{text:?}"
+        ),
+    }
+}
+
+/// The text and its bytes, written as literals.
+pub fn check_written(text: &str) {
+    let string = rl_tokens::Literal::string(Global, text).unwrap();
+    assert_eq!(write_str(text), string.text());
+    let bytes = text.as_bytes();
+    let string = rl_tokens::Literal::byte_string(Global, bytes).unwrap();
+    assert_eq!(write_byte_str(bytes), string.text());
+    if let Ok(value) = CString::new(bytes) {
+        let mut copied = ProvedVec::new(Global);
+        for byte in bytes {
+            assert!(copied.push(*byte).is_ok());
+        }
+        let Ok(proved) = rl_tokens::CString::new(copied) else {
+            panic!("{text:?}")
+        };
+        let string = rl_tokens::Literal::c_string(Global, &proved).unwrap();
+        assert_eq!(write_c_str(&value), string.text());
+    }
+}
+
+/// A character, and of the first ones the byte of its number.
+pub fn check_written_character(c: char) {
+    let character = rl_tokens::Literal::character(Global, c).unwrap();
+    assert_eq!(write_char(c), character.text());
+    if let Ok(byte) = u8::try_from(c as u32) {
+        let character = rl_tokens::Literal::byte_character(Global, byte).unwrap();
+        assert_eq!(write_byte(byte), character.text());
+        let string = rl_tokens::Literal::byte_string(Global, &[byte; 9]).unwrap();
+        assert_eq!(write_byte_str(&[byte; 9]), string.text());
+    }
+}
