@@ -59,6 +59,7 @@ mod reading;
 mod setting;
 mod settings;
 mod simd;
+mod slices;
 mod source;
 mod strings;
 mod unicode;

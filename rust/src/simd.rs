@@ -1,19 +1,30 @@
-//! The part of `core::simd`, which stable Rust doesn't have, that the proved code uses: lanes of bytes, eight in a number.
+//! The part of `core::simd`, which stable Rust doesn't have, that the proved code uses: lanes of bytes.
 //!
-//! Of sixty-four lanes the compiler makes vector instructions, where the target has some; of fewer it makes instructions on
-//! 64 bits, the same everywhere.
+//! There are two of it, with the same names and answers. In `words` eight lanes are a number. Of the arrays in `vectors` the
+//! compiler makes vector instructions; but where nothing is optimized, as in procedural macros, they cost many times as much. So
+//! the programs have these, where the target has vectors, and all else has numbers.
 
-use core::marker::PhantomData;
-use core::ops::{BitAnd, BitOr, Sub};
+#[allow(dead_code)]
+mod vectors;
+#[allow(dead_code)]
+mod words;
+
+#[cfg(all(
+    feature = "rendered",
+    any(target_feature = "sse2", target_feature = "neon")
+))]
+pub(crate) use vectors::{u8x16, Simd};
+#[cfg(not(all(
+    feature = "rendered",
+    any(target_feature = "sse2", target_feature = "neon")
+)))]
+pub(crate) use words::{u8x16, Simd};
 
 /// The lowest bit of each of eight bytes.
 const LOWEST: u64 = 0x0101_0101_0101_0101;
 
 /// The highest one.
 const HIGHEST: u64 = LOWEST << 7;
-
-/// What moves the highest bits into the highest byte, in their order.
-const GATHER: u64 = 0x0002_0408_1020_4081;
 
 /// The place of the first of eight bytes that is this one.
 #[inline(always)]
@@ -28,240 +39,151 @@ pub(crate) fn place_of(eight: [u8; 8], byte: u8) -> Option<usize> {
     Some(found.trailing_zeros() as usize / 8)
 }
 
-/// The numbers that hold N lanes, each made of its index. The loop counts by itself, which costs least where nothing is optimized.
-macro_rules! eights {
-    ($lanes:ident, $at:ident => $eight:expr) => {{
-        let mut eights = [0; 8];
-        let mut $at = 0;
-        while $at < $lanes / 8 {
-            eights[$at] = $eight;
-            $at += 1;
-        }
-        eights
-    }};
-}
-
-/// N lanes of bytes, the first of these; N is 8, 16 or more by eights, up to 64.
-#[derive(Clone, Copy)]
-pub(crate) struct Simd<T, const N: usize>([u64; 8], PhantomData<T>);
-
-/// Sixteen lanes.
-#[allow(non_camel_case_types)]
-pub(crate) type u8x16 = Simd<u8, 16>;
-
-/// The highest bit of each lane says whether it is set; the other bits say nothing.
-#[derive(Clone, Copy)]
-pub(crate) struct Mask<const N: usize>([u64; 8]);
-
-impl<const N: usize> Simd<u8, N> {
-    /// The first N bytes of the slice, which has to have as many.
-    #[inline(always)]
-    pub(crate) fn from_slice(bytes: &[u8]) -> Self {
-        const { assert!(N % 8 == 0 && N <= 64) };
-        let bytes = &bytes[..N];
-        let lanes = eights!(N, at => {
-            let mut eight = [0; 8];
-            eight.copy_from_slice(&bytes[8 * at..8 * at + 8]);
-            u64::from_le_bytes(eight)
-        });
-        Simd(lanes, PhantomData)
-    }
-
-    /// The byte in each lane.
-    #[inline(always)]
-    pub(crate) fn splat(byte: u8) -> Self {
-        Simd([byte as u64 * LOWEST; 8], PhantomData)
-    }
-
-    /// Where the lanes of both are equal: where nothing is left of their difference, so that no carry reaches the highest bit.
-    #[inline(always)]
-    pub(crate) fn simd_eq(self, other: Self) -> Mask<N> {
-        Mask(eights!(N, at => {
-            let left = self.0[at] ^ other.0[at];
-            !(((left & !HIGHEST) + !HIGHEST) | left)
-        }))
-    }
-
-    /// Where the lanes of both differ.
-    #[inline(always)]
-    pub(crate) fn simd_ne(self, other: Self) -> Mask<N> {
-        let equal = self.simd_eq(other).0;
-        Mask(eights!(N, at => !equal[at]))
-    }
-
-    /// Where this side's lane is the greater one, or equal: by the highest bits, and where these are one by the others.
-    #[inline(always)]
-    pub(crate) fn simd_ge(self, other: Self) -> Mask<N> {
-        Mask(eights!(N, at => {
-            let (a, b) = (self.0[at], other.0[at]);
-            let rest = (a | HIGHEST) - (b & !HIGHEST);
-            (a & !b) | (!(a ^ b) & rest)
-        }))
-    }
-}
-
-impl<const N: usize> BitOr for Simd<u8, N> {
-    type Output = Self;
-
-    #[inline(always)]
-    fn bitor(self, other: Self) -> Self {
-        Simd(eights!(N, at => self.0[at] | other.0[at]), PhantomData)
-    }
-}
-
-/// Each lane wraps around by itself.
-impl<const N: usize> Sub for Simd<u8, N> {
-    type Output = Self;
-
-    #[inline(always)]
-    fn sub(self, other: Self) -> Self {
-        let lanes = eights!(N, at => {
-            let (a, b) = (self.0[at], other.0[at]);
-            // The highest bits are left out, so that no borrow passes from lane to lane, and then put right.
-            let rest = (a | HIGHEST) - (b & !HIGHEST);
-            rest ^ ((a ^ !b) & HIGHEST)
-        });
-        Simd(lanes, PhantomData)
-    }
-}
-
-impl<const N: usize> BitAnd for Mask<N> {
-    type Output = Self;
-
-    #[inline(always)]
-    fn bitand(self, other: Self) -> Self {
-        Mask(eights!(N, at => self.0[at] & other.0[at]))
-    }
-}
-
-impl<const N: usize> BitOr for Mask<N> {
-    type Output = Self;
-
-    #[inline(always)]
-    fn bitor(self, other: Self) -> Self {
-        Mask(eights!(N, at => self.0[at] | other.0[at]))
-    }
-}
-
-impl<const N: usize> Mask<N> {
-    /// A bit for each lane, the first lowest. That none is set is asked first.
-    #[inline(always)]
-    pub(crate) fn to_bitmask(self) -> u64 {
-        let mut all = 0;
-        let mut at = 0;
-        while at < N / 8 {
-            all |= self.0[at];
-            at += 1;
-        }
-        if all & HIGHEST == 0 {
-            return 0;
-        }
-        if N > 16 {
-            self.gathered_elsewhere()
-        } else {
-            self.gathered()
-        }
-    }
-
-    #[inline(always)]
-    fn gathered(&self) -> u64 {
-        let mut bits = 0;
-        let mut at = 0;
-        while at < N / 8 {
-            let set = self.0[at] & HIGHEST;
-            bits |= (set.wrapping_mul(GATHER) >> 56) << (8 * at);
-            at += 1;
-        }
-        bits
-    }
-
-    /// Of many lanes, so that what is inlined stays short.
-    #[inline(never)]
-    fn gathered_elsewhere(&self) -> u64 {
-        self.gathered()
-    }
-}
-
 #[cfg(test)]
 mod tests {
-    use super::*;
+    use super::place_of;
     use std::vec::Vec;
 
-    fn lanes_agree<const N: usize>(seed: u64) {
-        let mut state = seed;
-        let mut next = || {
-            state = state
+    /// Numbers without an order, from a seed on.
+    struct Numbers(u64);
+
+    impl Numbers {
+        fn next(&mut self) -> u8 {
+            self.0 = self
+                .0
                 .wrapping_mul(6364136223846793005)
                 .wrapping_add(1442695040888963407);
-            (state >> 56) as u8
-        };
-        for _ in 0..2000 {
-            let bytes: Vec<u8> = (0..N + 3)
-                .map(|_| {
-                    if next() % 3 == 0 {
-                        next()
-                    } else {
-                        next() % 7 + 124
-                    }
-                })
-                .collect();
-            let other: Vec<u8> = (0..N)
-                .map(|_| {
-                    if next() % 3 == 0 {
-                        next()
-                    } else {
-                        next() % 7 + 124
-                    }
-                })
-                .collect();
-            let (a, b) = (
-                Simd::<u8, N>::from_slice(&bytes),
-                Simd::<u8, N>::from_slice(&other),
-            );
-            let bits = |holds: &dyn Fn(usize) -> bool| {
-                (0..N)
-                    .filter(|&at| holds(at))
-                    .fold(0_u64, |bits, at| bits | 1 << at)
-            };
-            assert_eq!(
-                a.simd_eq(b).to_bitmask(),
-                bits(&|at| bytes[at] == other[at])
-            );
-            assert_eq!(
-                a.simd_ge(b).to_bitmask(),
-                bits(&|at| bytes[at] >= other[at])
-            );
-            assert_eq!(
-                a.simd_ne(b).to_bitmask(),
-                bits(&|at| bytes[at] != other[at])
-            );
-            let neither = a.simd_ne(b) & a.simd_ge(Simd::splat(100));
-            assert_eq!(
-                neither.to_bitmask(),
-                bits(&|at| bytes[at] != other[at] && bytes[at] >= 100)
-            );
-            for byte in [0, 5, 127, 128, 255] {
-                let (sum, difference) = (
-                    (a | b).simd_eq(Simd::splat(byte)),
-                    (a - b).simd_eq(Simd::splat(byte)),
-                );
-                assert_eq!(sum.to_bitmask(), bits(&|at| bytes[at] | other[at] == byte));
-                let wrapped = |at: usize| bytes[at].wrapping_sub(other[at]) == byte;
-                assert_eq!(difference.to_bitmask(), bits(&wrapped));
-            }
-            let both = a.simd_eq(b) | a.simd_ge(Simd::splat(128));
-            assert_eq!(
-                both.to_bitmask(),
-                bits(&|at| bytes[at] == other[at] || bytes[at] >= 128)
-            );
+            (self.0 >> 56) as u8
         }
-        for at in 0..N {
-            let mut bytes = [0; N];
-            bytes[at] = 9;
-            let alone = Simd::<u8, N>::from_slice(&bytes).simd_eq(Simd::splat(9));
-            assert_eq!(alone.to_bitmask(), 1 << at);
+
+        /// Bytes that are often equal, and often near the one whose highest bit is the first set.
+        fn bytes(&mut self, count: usize) -> Vec<u8> {
+            let byte = |_| match self.next() % 3 {
+                0 => self.next(),
+                _ => self.next() % 7 + 124,
+            };
+            (0..count).map(byte).collect()
         }
     }
+
+    /// A bit for each of the lanes where this holds.
+    fn bits<const N: usize>(holds: impl Fn(usize) -> bool) -> u64 {
+        (0..N)
+            .filter(|at| holds(*at))
+            .fold(0, |bits, at| bits | 1 << at)
+    }
+
+    /// The tests of one of the two, of N lanes.
+    macro_rules! tests_of {
+        ($lanes:ident) => {
+            mod $lanes {
+                use super::super::$lanes::{u8x16, Simd};
+                use super::{bits, Numbers};
+
+                fn compares<const N: usize>(x: &[u8], y: &[u8]) {
+                    let (a, b) = (Simd::<u8, N>::from_slice(x), Simd::<u8, N>::from_slice(y));
+                    let equal = bits::<N>(|at| x[at] == y[at]);
+                    assert_eq!(a.simd_eq(b).to_bitmask(), equal);
+                    assert_eq!(a.simd_ne(b).to_bitmask(), !equal & bits::<N>(|_| true));
+                    let at_least = bits::<N>(|at| x[at] >= y[at]);
+                    assert_eq!(a.simd_ge(b).to_bitmask(), at_least);
+                    assert_eq!((a.simd_eq(b) | a.simd_ge(b)).to_bitmask(), at_least);
+                    assert_eq!((a.simd_eq(b) & a.simd_ge(b)).to_bitmask(), equal);
+                    let (sum, difference) = (a | b, a - b);
+                    let or: [u8; N] = core::array::from_fn(|at| x[at] | y[at]);
+                    let minus: [u8; N] = core::array::from_fn(|at| x[at].wrapping_sub(y[at]));
+                    let all = bits::<N>(|_| true);
+                    assert_eq!(sum.simd_eq(Simd::from_slice(&or)).to_bitmask(), all);
+                    assert_eq!(
+                        difference.simd_eq(Simd::from_slice(&minus)).to_bitmask(),
+                        all
+                    );
+                }
+
+                fn masks_agree<const N: usize>(x: &[u8], y: &[u8], byte: u8) {
+                    let (a, b) = (Simd::<u8, N>::from_slice(x), Simd::<u8, N>::from_slice(y));
+                    let neither = a.simd_ne(b) & a.simd_ge(Simd::splat(byte));
+                    let wanted = bits::<N>(|at| x[at] != y[at] && x[at] >= byte);
+                    assert_eq!(neither.to_bitmask(), wanted);
+                    let either = a.simd_eq(b) | b.simd_ge(Simd::splat(byte));
+                    let wanted = bits::<N>(|at| x[at] == y[at] || y[at] >= byte);
+                    assert_eq!(either.to_bitmask(), wanted);
+                    let wanted = bits::<N>(|at| x[at].wrapping_sub(y[at]) == byte);
+                    assert_eq!((a - b).simd_eq(Simd::splat(byte)).to_bitmask(), wanted);
+                    let wanted = bits::<N>(|at| x[at] | y[at] == byte);
+                    assert_eq!((a | b).simd_eq(Simd::splat(byte)).to_bitmask(), wanted);
+                }
+
+                /// Each byte beside each, in every lane some.
+                fn every_pair<const N: usize>() {
+                    for first in 0..=255_u8 {
+                        for from in (0..256).step_by(N) {
+                            let second: [u8; N] = core::array::from_fn(|at| (from + at) as u8);
+                            compares::<N>(&[first; N], &second);
+                            compares::<N>(&second, &[first; N]);
+                        }
+                    }
+                }
+
+                /// A lane by itself, each lane but one, and each set of eight neighbours.
+                fn every_lane<const N: usize>() {
+                    for at in 0..N {
+                        let mut row = [0; N];
+                        row[at] = 9;
+                        let lanes = Simd::<u8, N>::from_slice(&row);
+                        assert_eq!(lanes.simd_eq(Simd::splat(9)).to_bitmask(), 1 << at);
+                        let others = !(1 << at) & bits::<N>(|_| true);
+                        assert_eq!(lanes.simd_ne(Simd::splat(9)).to_bitmask(), others);
+                    }
+                    for from in (0..N).step_by(8) {
+                        for set in 0..256_u64 {
+                            let mut row = [0; N];
+                            (0..8).for_each(|at| row[from + at] = (set >> at) as u8 & 1);
+                            let lanes = Simd::<u8, N>::from_slice(&row);
+                            assert_eq!(lanes.simd_eq(Simd::splat(1)).to_bitmask(), set << from);
+                        }
+                    }
+                }
+
+                fn lanes_agree<const N: usize>(seed: u64) {
+                    every_pair::<N>();
+                    every_lane::<N>();
+                    let mut numbers = Numbers(seed);
+                    for _ in 0..2000 {
+                        // What stands behind the lanes isn't looked at.
+                        let (x, y) = (numbers.bytes(N + 3), numbers.bytes(N));
+                        compares::<N>(&x, &y);
+                        for byte in [0, 5, 100, 127, 128, 255] {
+                            masks_agree::<N>(&x, &y, byte);
+                        }
+                    }
+                }
+
+                #[test]
+                fn bits_are_those_of_the_lanes() {
+                    lanes_agree::<8>(1);
+                    lanes_agree::<16>(2);
+                    lanes_agree::<32>(3);
+                    lanes_agree::<64>(4);
+                }
+
+                #[test]
+                fn sixteen_have_a_name() {
+                    let lanes = u8x16::from_slice(b"0123456789abcdef");
+                    assert_eq!(lanes.simd_ge(u8x16::splat(b'a')).to_bitmask(), 0xFC00);
+                }
+
+                #[test]
+                #[should_panic]
+                fn too_few_bytes_are_no_lanes() {
+                    u8x16::from_slice(&[0; 15]);
+                }
+            }
+        };
+    }
+
+    tests_of!(vectors);
+    tests_of!(words);
 
     #[test]
     fn the_first_of_eight_bytes() {
@@ -277,13 +199,5 @@ mod tests {
                 }
             }
         }
-    }
-
-    #[test]
-    fn bits_are_those_of_the_lanes() {
-        lanes_agree::<8>(1);
-        lanes_agree::<16>(2);
-        lanes_agree::<32>(3);
-        lanes_agree::<64>(4);
     }
 }

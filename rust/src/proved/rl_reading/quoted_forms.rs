@@ -207,5 +207,5 @@ pub(crate) fn find_bare_character(text: &str) -> Option<Found> {
 /// The reading of a text that begins with a `'`.
 #[inline(never)]
 pub(crate) fn find_character(text: &str) -> Option<Found> {
-    find_single(Kind::Char, text, &text[1..])
+    find_single(Kind::Char, text, crate::slices::after_first!(text))
 }

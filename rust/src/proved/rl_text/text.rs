@@ -15,7 +15,7 @@ pub fn split_ascii(text: &str) -> Option<(u8, &str)> {
     if bytes.is_empty() || bytes[0] >= 128 {
         return None;
     }
-    Some((bytes[0], &text[1..]))
+    Some((bytes[0], crate::slices::after_first!(text)))
 }
 
 /// Whether the text begins with a character.
