@@ -30,7 +30,7 @@ def write(path, text):
 
 
 def block(lines, pattern):
-    """The last line that fits and whose block isn't closed behind it, and its number; else None, 0."""
+    """The last line that fits and whose block isn't closed after it, and its number; else None, 0."""
     for at in range(len(lines) - 1, -1, -1):
         found = pattern.match(lines[at])
         indent = len(lines[at]) - len(lines[at].lstrip())
@@ -118,9 +118,9 @@ class Edit:
             was = read(f'{folder}/{file}')
             start = len(os.path.commonprefix([was, text]))
             left = min(len(was), len(text)) - start
-            behind = len(os.path.commonprefix([was[::-1][:left], text[::-1][:left]]))
+            after = len(os.path.commonprefix([was[::-1][:left], text[::-1][:left]]))
             if was != text:
-                found.append(Region(file, start, len(was) - behind, text[start:len(text) - behind]))
+                found.append(Region(file, start, len(was) - after, text[start:len(text) - after]))
         return found
 
     def functions(self, crate, folder):

@@ -28,8 +28,8 @@ class Kept:
         """The name of the entry of an edit, of a crate with these sums."""
         return hashlib.sha256(repr((sums, edit.name, edit.pairs)).encode()).hexdigest()
 
-    def told(self, key):
-        """What was said as the edit was refused; None where no earlier run saw that."""
+    def refusal(self, key):
+        """What was reported of the edit as it was refused; None where no earlier run saw that."""
         if not self.folder or self.is_anew:
             return None
         try:
@@ -40,12 +40,12 @@ class Kept:
         except (OSError, ValueError, KeyError, TypeError):
             return None
 
-    def keep(self, key, told):
+    def keep(self, key, refusal):
         if not self.folder:
             return
         with contextlib.suppress(OSError):
             with tempfile.NamedTemporaryFile('w', prefix='new-', dir=self.folder, delete=False, encoding='utf-8') as it:
-                json.dump({'edit': key, 'refused': told}, it)
+                json.dump({'edit': key, 'refused': refusal}, it)
             os.replace(it.name, f'{self.folder}/{key}')
 
     def shrink(self):

@@ -55,8 +55,8 @@ class Trials:
         self.faults += 1
         self.say(edit, f'FAULT: {what}')
 
-    def tell(self, edit, is_refused, what):
-        """Says what came of an edit: refused, and at which goals; else why not."""
+    def report(self, edit, is_refused, what):
+        """Reports what came of an edit: refused, and at which goals; else why not."""
         names = ', '.join(' or '.join(it.names) for it in self.changed[edit])
         if edit is self.control:
             self.is_controlled = True
@@ -107,7 +107,7 @@ class Trials:
         self.checks += 1
         verdicts = self.check(paths)
         if verdicts.status == NO_SUCH and paths:
-            # A name that it gives for itself, as that of a method of a type's alias: the whole crate tells it.
+            # It has a name of its own for one, as for a method of a type's alias, which the whole crate shows.
             self.checks += 1
             verdicts = self.check([])
         for file, text in was.items():
@@ -115,24 +115,25 @@ class Trials:
         return verdicts
 
     def is_judged(self, edit, chosen, verdicts):
-        """Tells what came of the edit; false where it has to be tried again, with others left out."""
+        """Reports what came of the edit; false where it has to be tried again, with others left out."""
         if self.is_outside(edit):
             refused = [it for it in verdicts.of if verdicts.is_refused(it)]
-            self.tell(edit, bool(refused), ', '.join(refused) or NOT_REFUSED)
+            self.report(edit, bool(refused), ', '.join(refused) or NOT_REFUSED)
             return True
         names = [verdicts.name(it) for it in self.changed[edit]]
         if None in names:
-            self.tell(edit, False, 'the prover names no such function')
+            self.report(edit, False, 'the prover names no such function')
             return True
-        own = [it for it in self.changed[edit] if verdicts.is_refused(verdicts.name(it))]
-        goals = {verdicts.name(it): verdicts.goals(it) for it in own}
-        told = '; '.join(f"{name}: {', '.join(found)}" for name, found in goals.items())
-        if any(not REQUIRES.search(it) for found in goals.values() for it in found):
-            self.tell(edit, True, told)
-        elif any(goals.values()):
-            self.tell(edit, False, f'only what a call asks: {told}')
+        goals = {name: verdicts.goals(it) for name, it in zip(names, self.changed[edit])}
+        is_clause = any(not REQUIRES.search(it) for found in goals.values() for it in found)
+        own = [it for it in names if is_clause and goals[it] or verdicts.is_refused(it)]
+        shown = '; '.join(f"{name}: {', '.join(goals[name])}" for name in own)
+        if is_clause:
+            self.report(edit, True, shown)
+        elif any(goals[name] for name in own):
+            self.report(edit, False, f'only what a call asks: {shown}')
         elif own:
-            self.tell(edit, False, f'only answers that name what is gone: {told}')
+            self.report(edit, False, f'only answers that name what is gone: {shown}')
         causes = {it for name in names for it in verdicts.causes(name)}
         others = [
             it for it in chosen
@@ -140,7 +141,7 @@ class Trials:
             and not causes.isdisjoint(verdicts.name(function) for function in self.changed[it])]
         self.apart.update((edit, it) for it in others)
         if not own and not others:
-            self.tell(edit, False, NOT_REFUSED)
+            self.report(edit, False, NOT_REFUSED)
         return not others
 
     def tried(self, chosen):
@@ -153,7 +154,7 @@ class Trials:
         if verdicts.is_whole():
             return [it for it in chosen if self.is_judged(it, chosen, verdicts)]
         if len(chosen) == 1:
-            self.tell(chosen[0], False, verdicts.why())
+            self.report(chosen[0], False, verdicts.why())
             return chosen
         half = len(chosen) // 2
         return [*self.tried(chosen[:half]), *self.tried(chosen[half:])]

@@ -23,8 +23,8 @@ class Verdicts:
         """What a check that came to no end said."""
         if self.status < 0:
             return f'its check was stopped by signal {-self.status}'
-        told = [it for it in self.said.split('\n') if re.search(r'\berror\b', it)] or self.said.strip().split('\n')[-3:]
-        return f"the prover gave no verdict (status {self.status}): {' | '.join(told[:3])[:600]}"
+        errors = [it for it in self.said.split('\n') if re.search(r'\berror\b', it)] or self.said.strip().split('\n')[-3:]
+        return f"the prover gave no verdict (status {self.status}): {' | '.join(errors[:3])[:600]}"
 
     def name(self, function):
         """What the prover calls the function; None where it has none of that name, or several."""
@@ -34,16 +34,18 @@ class Verdicts:
 
     def is_refused(self, name):
         """Whether the function is refused by itself, and not only since it calls one that is."""
-        told = self.of[name]
-        return told != 'proved' and ('it calls' not in told or 'did not prove' in told)
+        verdict = self.of[name]
+        return verdict != 'proved' and ('it calls' not in verdict or 'did not prove' in verdict)
 
     def goals(self, function):
-        """The function's goals that weren't proved, but for those whose answer names what is gone."""
-        name = self.name(function)
-        told = self.of[name].partition('did not prove')[2].partition(';')[0]
-        found = [it for it in re.findall('`([^`]+)`', told) if it not in self.of]
-        noted = rf'(?m)^note: {re.escape(function.file)}:(\d+):\d+: .*?\(`([^`]+)`\)'
-        found += [goal for line, goal in re.findall(noted, self.said) if int(line) in function.lines]
+        """The function's goals that weren't proved, except those whose answer names what is gone. Of a function that calls one that isn't
+        proved only those that have an answer, since the search waits for the other's proof."""
+        name, found = self.name(function), []
+        if self.is_refused(name):
+            listed = self.of[name].partition('did not prove')[2].partition(';')[0]
+            found += [it for it in re.findall('`([^`]+)`', listed) if it not in self.of]
+            noted = rf'(?m)^note: {re.escape(function.file)}:(\d+):\d+: .*?\(`([^`]+)`\)'
+            found += [goal for line, goal in re.findall(noted, self.said) if int(line) in function.lines]
         answers = rf"\./proofs/{re.escape('/'.join(name.split('::')[1:]))}/\w+\.antt:\d+:\d+"
         for goal, why in re.findall(rf'(?m)^{answers}: error: `([^`]+)`: (.*)$', self.said):
             found += [] if LOST.search(why) else [goal]
