@@ -1,0 +1,1 @@
+"""How tools/edits tries wrong bodies, many in one check."""

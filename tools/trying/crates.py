@@ -1,0 +1,145 @@
+"""The crates of the repository, copies of them, and the checks of the kit's prover over these."""
+import hashlib
+import os
+import re
+import shutil
+import signal
+import subprocess
+import threading
+
+from .edits import files_below, read
+from .verdicts import Verdicts
+
+PARTS = ('src', 'specs', 'proofs')
+# The seconds after which a check is stopped, and the memory that is planned for one, in bytes.
+LONGEST, MEMORY = 3600, 4_000_000_000
+
+
+class Crates:
+    """The crates that crates.txt lists, lowest first where each stands below those that name it."""
+
+    def __init__(self, top):
+        self.top, self.lines = top, {}
+        for line in read(f'{top}/crates.txt').split('\n'):
+            line = line.partition('#')[0].strip()
+            if line:
+                self.lines[line.split(':')[0].split()[0]] = line
+
+    def __contains__(self, name):
+        return name in self.lines
+
+    def right_below(self, name):
+        """The libraries that the crate names, of the repository and of the kit."""
+        return self.lines[name].partition(':')[2].split()
+
+    def below(self, name):
+        """The crates below it, each after those that it names."""
+        found = []
+        for it in self.right_below(name):
+            if it in self:
+                found += [lower for lower in [*self.below(it), it] if lower not in found]
+        return found
+
+    def copy_parts(self, names, to):
+        """Copies to a folder what the prover reads of these crates and of those below them."""
+        for name in dict.fromkeys(it for name in names for it in [*self.below(name), name]):
+            for part in PARTS:
+                if os.path.isdir(f'{self.top}/crates/{name}/{part}'):
+                    shutil.copytree(f'{self.top}/crates/{name}/{part}', f'{to}/{name}/{part}')
+
+    def size_of(self, folder):
+        """About how much there is to prove in a crate's folder."""
+        return sum(os.path.getsize(f'{folder}/{it}') for it in files_below(folder))
+
+    def sum_of(self, name, folder):
+        """A sum of a crate's line, and of what the prover reads of it in its folder or a copy of that."""
+        found = hashlib.sha256(' '.join(self.lines[name].split()).encode())
+        for part in PARTS:
+            for it in files_below(f'{folder}/{part}'):
+                with open(f'{folder}/{part}/{it}', 'rb') as file:
+                    found.update(repr((part, it, file.read())).encode())
+        return found.hexdigest()
+
+
+class Prover:
+    """Rattle's prover, over libraries as `rt ci` builds them: with their statements alone, which other commands of rt don't take."""
+
+    def __init__(self, crates, libraries):
+        self.crates, self.libraries = crates, libraries
+        self.kit = os.path.dirname(said_by('rt', 'doc'))
+        self.version = said_by('rt', 'version')
+        self.running, self.lock, self.is_stopped = set(), threading.Lock(), False
+
+    def build_below(self, names, copies):
+        """Has `rt ci` build the libraries below these crates, of which it keeps on this machine what it proved, from copies of them;
+        returns why it couldn't."""
+        libraries = list(dict.fromkeys(it for name in names for it in self.crates.below(name)))
+        if not libraries:
+            return None
+        # (what makes it the top of a repository)
+        os.makedirs(f'{self.libraries}/.git')
+        shutil.copy(f'{self.crates.top}/HANDLES', self.libraries)
+        with open(f'{self.libraries}/crates.txt', 'w', encoding='utf-8') as it:
+            it.writelines(f'{self.crates.lines[name]}\n' for name in libraries)
+        for it in libraries:
+            shutil.copytree(f'{copies}/{it}', f'{self.libraries}/crates/{it}')
+        ended = self.run(['rt', 'ci'], self.libraries, 4 * LONGEST)
+        return None if ended.status == 0 else '\n'.join(ended.said.rstrip().split('\n')[-5:])
+
+    def words(self, name, kept):
+        """The command that checks a crate in its folder, and keeps what it proved."""
+        words = [f'{self.kit}/bin/rattle', 'check', '--crate-name', name, 'src/lib.rt', '--extern', f'std={self.kit}/rlibs/std.rlib']
+        words += ['-L', f'dependency={self.kit}/rlibs']
+        for it in self.crates.right_below(name):
+            rlib = f'{self.libraries}/crates/{it}/out/rlib' if it in self.crates else f'{self.kit}/rlibs'
+            words += ['--extern', f'{it}={rlib}/{it}.rlib']
+        for it in self.crates.below(name):
+            words += ['-L', f'dependency={self.libraries}/crates/{it}/out/rlib']
+        words += ['--antt-project', f'{self.kit}/rattle/logic/antt-project.json', '--logic-built', f'{self.kit}/logic_built']
+        words += ['--jobs', '1', '--links', f'{name}=', '--incremental', kept]
+        is_static = 'staticlib' in self.crates.lines[name].partition(':')[0].split()
+        return [*words, '--crate-type', 'staticlib'] if is_static else words
+
+    def check(self, name, folder, kept, paths):
+        """What the prover says of these functions and of those that they call, or else of the whole crate, as it stands in the folder,
+        over what it kept there."""
+        return self.run([*self.words(name, kept), *[word for it in paths for word in ('--only', it)]], folder, LONGEST)
+
+    def run(self, words, folder, longest):
+        """What a command said, and how it ended."""
+        how = {'stdin': subprocess.DEVNULL, 'stdout': subprocess.PIPE, 'stderr': subprocess.STDOUT, 'errors': 'replace'}
+        with self.lock:
+            if self.is_stopped:
+                raise InterruptedError
+            ran = subprocess.Popen(words, cwd=folder, start_new_session=True, **how)
+            self.running.add(ran)
+        try:
+            said, _ = ran.communicate(timeout=longest)
+        except subprocess.TimeoutExpired:
+            os.killpg(ran.pid, signal.SIGKILL)
+            said, _ = ran.communicate()
+        finally:
+            with self.lock:
+                self.running.discard(ran)
+        return Verdicts(said, ran.returncode)
+
+    def stop(self):
+        """Ends what runs, and lets nothing more begin."""
+        with self.lock:
+            self.is_stopped = True
+            for it in self.running:
+                if it.poll() is None:
+                    os.killpg(it.pid, signal.SIGKILL)
+
+
+def said_by(*words):
+    return subprocess.run(words, capture_output=True, text=True, check=True).stdout.strip()
+
+
+def lanes():
+    """How many checks run side by side."""
+    jobs = os.environ.get('RT_JOBS', '')
+    if jobs.isdigit() and int(jobs):
+        return int(jobs)
+    free = 1024 * int(re.search(r'MemAvailable: *(\d+)', read('/proc/meminfo'))[1])
+    return max(1, min(len(os.sched_getaffinity(0)), free // MEMORY))

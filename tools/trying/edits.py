@@ -1,0 +1,185 @@
+"""Edits: what each changes of a crate's files, and in which functions."""
+import os
+import re
+from typing import NamedTuple
+
+FN = re.compile(r'( *)(?:pub(?:\([^)]*\))? )?(?:const )?(?:unsafe )?(?:extern "C" )?fn (\w+)')
+IMPL = re.compile(
+    r"(?:unsafe )?impl(?:<.*?>)? (?:(?:\w+::)*(?P<trait>\w+)(?:<(?P<of>\w+).*?>)? for )?"
+    r"(?:&(?:'\w+ )?(?:mut )?)?(?:\w+::)*(?P<type>\w+)")
+# What a control writes in front of a body, and the most lines of that body.
+NEEDLESS, SHORT = 'let _needless = true; ', 8
+
+
+class Function(NamedTuple):
+    """A function that an edit changes: how the names end by which the prover may call it, its file,
+    and its lines. What is outside of all functions has no name."""
+    names: tuple
+    file: str
+    lines: range
+
+
+def read(path):
+    with open(path, encoding='utf-8') as it:
+        return it.read()
+
+
+def write(path, text):
+    with open(path, 'w', encoding='utf-8') as it:
+        it.write(text)
+
+
+def block(lines, pattern):
+    """The last line that fits and whose block isn't closed after it, and its number; else None, 0."""
+    for at in range(len(lines) - 1, -1, -1):
+        found = pattern.match(lines[at])
+        indent = len(lines[at]) - len(lines[at].lstrip())
+        if found and ' ' * indent + '}' not in lines[at + 1:]:
+            return found, at + 1
+    return None, 0
+
+
+def function_at(crate, file, text, place):
+    """The function of the file's text in which the place is."""
+    lines = (text[:place] + text[place:].partition('\n')[0]).split('\n')
+    function, first = block(lines, FN)
+    if not function:
+        return Function((), file, range(0))
+    while first > 1 and lines[first - 2].lstrip().startswith('#['):
+        first -= 1
+    every = text.split('\n')
+    last = next((it for it in range(len(lines), len(every)) if every[it] == function[1] + '}'), len(every)) + 1
+    within = range(first, last + 1)
+    owner, _ = block(lines, IMPL) if function[1] else (None, 0)
+    if owner:
+        # A method stands where its type does. A trait for several types has those in its name.
+        trait = owner['trait'] or ''
+        owners = dict.fromkeys([owner['type'] + trait, owner['type'] + trait + (owner['of'] or '')])
+        return Function(tuple(f'::{it}::{function[2]}' for it in owners), file, within)
+    return Function(('::'.join([crate, *modules_of(file), function[2]]),), file, within)
+
+
+def modules_of(file):
+    """The path of a file's module below its crate."""
+    return [it for it in file[len('src/'):-len('.rt')].split('/') if it not in ('lib', 'main')]
+
+
+class Region(NamedTuple):
+    """What an edit writes in place of a part of a file."""
+    file: str
+    start: int
+    end: int
+    text: str
+
+    def is_apart(self, other):
+        return self.file != other.file or self.end <= other.start or other.end <= self.start
+
+
+def with_regions(folder, regions):
+    """The texts of the files that these regions change, none of which overlap."""
+    texts = {it.file: read(f'{folder}/{it.file}') for it in regions}
+    for it in sorted(regions, key=lambda it: it.start, reverse=True):
+        texts[it.file] = texts[it.file][:it.start] + it.text + texts[it.file][it.end:]
+    return texts
+
+
+class Edit:
+    """An edit: in which file what is put in place of what, in turn."""
+
+    def __init__(self, name, pairs):
+        self.name, self.pairs = name, pairs
+
+    def applied(self, folder):
+        """The texts of the files that it changes; None where it doesn't apply."""
+        texts = {}
+        for file, old, new in self.pairs:
+            text = texts[file] if file in texts else read(f'{folder}/{file}')
+            if text.count(old) != 1:
+                return None
+            texts[file] = text.replace(old, new)
+        return texts
+
+    def why_bad(self, folder):
+        """Why it can't be tried on the crate as it stands, if it can't."""
+        files = {file for file, _, _ in self.pairs}
+        beyond = sorted(it for it in files if not re.fullmatch(r'src/[\w/]+\.rt', it) or not os.path.isfile(f'{folder}/{it}'))
+        if not files or not all(old for _, old, _ in self.pairs):
+            return "it has no lines 'file:', 'old:' and 'new:'"
+        if beyond:
+            return f'there is no file of code {beyond[0]}'
+        if self.applied(folder) is None:
+            return "an 'old:' text of it doesn't stand in its file exactly once"
+        return None if self.regions(folder) else 'it changes nothing'
+
+    def regions(self, folder):
+        """What it changes: of each file, from the first changed character to the last."""
+        found = []
+        for file, text in self.applied(folder).items():
+            was = read(f'{folder}/{file}')
+            start = len(os.path.commonprefix([was, text]))
+            left = min(len(was), len(text)) - start
+            after = len(os.path.commonprefix([was[::-1][:left], text[::-1][:left]]))
+            if was != text:
+                found.append(Region(file, start, len(was) - after, text[start:len(text) - after]))
+        return found
+
+    def functions(self, crate, folder):
+        """What it changes, but for imports."""
+        found, texts = [], {}
+        for file, old, new in self.pairs:
+            text = texts[file] if file in texts else read(f'{folder}/{file}')
+            if not old.startswith('use '):
+                place = text.index(old) + len(old) - len(old.lstrip())
+                found.append(function_at(crate, file, text, place))
+            texts[file] = text.replace(old, new)
+        return list(dict.fromkeys(found))
+
+
+def edit_of(path):
+    """The edit that a file has."""
+    pairs, file, old = [], '', ''
+    for line in read(path).split('\n'):
+        word, _, text = line.partition(':')
+        text = text.removeprefix(' ')
+        if word == 'file':
+            file = text.strip()
+        elif word == 'old':
+            old = text
+        elif word == 'new':
+            pairs.append((file, old, text))
+            old = ''
+    return Edit(os.path.basename(path)[:-len('.edit')], pairs)
+
+
+def files_below(folder):
+    """The files of a folder, and of those in it, by their paths from it."""
+    found = [os.path.join(at, it) for at, _, names in os.walk(folder) for it in names]
+    return sorted(os.path.relpath(it, folder) for it in found)
+
+
+def short_bodies(folder):
+    """The short functions of a crate's modules that have no proof by hand and no loop: of each the file, the line that its body
+    begins with, and the number of that body's lines."""
+    for file in (f'src/{it}' for it in files_below(f'{folder}/src') if it != 'laws.rt'):
+        lines = read(f'{folder}/{file}').split('\n')
+        for at, line in enumerate(lines):
+            function = FN.match(line)
+            if not function or function[1] or ' const ' in f' {line}':
+                continue
+            last = lines.index('}', at) if '}' in lines[at:] else at
+            first = next((it + 1 for it in range(at, last) if re.fullmatch(r'(\S.*)?\{', lines[it])), last)
+            by_hand = '/'.join([folder, 'proofs', *modules_of(file), function[2]])
+            body = lines[first:last]
+            is_plain = not os.path.isdir(by_hand) and not re.search(r'\b(for|while|loop)\b', '\n'.join(body))
+            if 0 < len(body) <= SHORT and is_plain and not any(FN.match(it) for it in lines[at + 1:first]):
+                yield file, body[0].strip(), len(body)
+
+
+def control_of(crate, folder, taken):
+    """An edit that changes nothing of what the crate means, in a function that isn't among those taken: the check that refuses it
+    refuses anything. None where no function is short enough."""
+    for file, first, _ in sorted(short_bodies(folder), key=lambda it: it[2]):
+        control = Edit('control', [(file, first, NEEDLESS + first)])
+        if not first.startswith('//') and control.why_bad(folder) is None and set(control.functions(crate, folder)).isdisjoint(taken):
+            return control
+    return None

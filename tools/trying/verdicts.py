@@ -1,0 +1,62 @@
+"""What a check of the prover said of each function."""
+import re
+
+# What the prover says of answers that name what an edit took away.
+LOST = re.compile(r'has no field|is not in scope|has no `|was not admitted')
+
+
+class Verdicts:
+    """What a check said of each function, and how it ended."""
+
+    def __init__(self, said, status):
+        self.said, self.status = said, status
+        self.of = dict(re.findall(r'(?m)^fn (\S+): (.*)$', said))
+
+    def is_whole(self):
+        """Whether the check came to its end: another may have said nothing of some functions."""
+        last = self.said.rstrip('\n').rpartition('\n')[2]
+        # (the second of some functions, and those that they call)
+        wanted = {0: ('logic=proved ', 'only='), 1: ('logic=not-proved', 'only=')}.get(self.status)
+        return bool(self.of and wanted and last.startswith(wanted))
+
+    def why(self):
+        """What a check that came to no end said."""
+        if self.status < 0:
+            return f'its check was stopped by signal {-self.status}'
+        errors = [it for it in self.said.split('\n') if re.search(r'\berror\b', it)] or self.said.strip().split('\n')[-3:]
+        return f"the prover gave no verdict (status {self.status}): {' | '.join(errors[:3])[:600]}"
+
+    def name(self, function):
+        """What the prover calls the function; None where it has none of that name, or several."""
+        # (the name of a method of a type's alias has the alias's parameters too)
+        found = [it for it in self.of if re.sub(r'\+\w+::', '::', it).endswith(function.names)]
+        return found[0] if len(found) == 1 else None
+
+    def is_refused(self, name):
+        """Whether the function is refused by itself, and not only since it calls one that is."""
+        verdict = self.of[name]
+        return verdict != 'proved' and ('it calls' not in verdict or 'did not prove' in verdict)
+
+    def goals(self, function):
+        """The function's goals that weren't proved, except those whose answer names what is gone. Of a function that calls one that isn't
+        proved only those that have an answer, since the search waits for the other's proof."""
+        name, found = self.name(function), []
+        if self.is_refused(name):
+            listed = self.of[name].partition('did not prove')[2].partition(';')[0]
+            found += [it for it in re.findall('`([^`]+)`', listed) if it not in self.of]
+            noted = rf'(?m)^note: {re.escape(function.file)}:(\d+):\d+: .*?\(`([^`]+)`\)'
+            found += [goal for line, goal in re.findall(noted, self.said) if int(line) in function.lines]
+        answers = rf"\./proofs/{re.escape('/'.join(name.split('::')[1:]))}/\w+\.antt:\d+:\d+"
+        for goal, why in re.findall(rf'(?m)^{answers}: error: `([^`]+)`: (.*)$', self.said):
+            found += [] if LOST.search(why) else [goal]
+        return list(dict.fromkeys(found))
+
+    def causes(self, name):
+        """The functions refused by themselves that this one calls, or one that it calls, and so on."""
+        found, seen, left = set(), set(), [name]
+        while left:
+            for it in re.findall('`([^`]+)`', self.of[left.pop()].partition('it calls')[2]):
+                if it in self.of and it not in seen:
+                    seen.add(it)
+                    (found.add if self.is_refused(it) else left.append)(it)
+        return found
