@@ -2,7 +2,7 @@
 
 use navyspindle::{
     literals, settings, source, write_byte, write_byte_str, write_char, write_str, Lit,
-    ParseErrorKind, Settings,
+    Settings,
 };
 use navyspindle_programs::rattle_std::alloc::Global;
 use navyspindle_programs::{rl_attributes, rl_grammar, rl_lines, rl_tokens, rust_literals};
@@ -104,9 +104,9 @@ fn check_flaw(text: &str) {
         }
         return;
     }
-    let proved = rl_grammar::strict::explain_in_file(Global, text)
+    let proved = rl_grammar::explain_in_file(Global, text)
         .unwrap()
-        .or_else(|| rl_grammar::explain(text));
+        .or_else(|| rl_grammar::explain_limit(text));
     match (Lit::new(text).check(), proved) {
         (Ok(()), None) => {}
         (Err(error), Some(flaw)) => {
@@ -114,7 +114,6 @@ fn check_flaw(text: &str) {
             assert_eq!(error.piece(), flaw.from..flaw.hi, "{text:?}");
             assert_eq!(error.kind().to_string(), flaw.kind.to_string(), "{text:?}");
         }
-        (Err(error), None) if error.kind() == ParseErrorKind::NotRust => {}
         (ours, proved) => panic!("{text:?}: {ours:?}, {:?}", proved.map(|flaw| flaw.kind)),
     }
 }
