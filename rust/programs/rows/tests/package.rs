@@ -1,8 +1,7 @@
 //! Holds the types of the package `navyspindle`, which are written by hand, against the proved ones as they are rendered.
 
 use navyspindle::{
-    literals, settings, source, write_byte, write_byte_str, write_char, write_str, Lit,
-    Settings,
+    literals, settings, source, write_byte, write_byte_str, write_char, write_str, Lit, Settings,
 };
 use navyspindle_programs::rattle_std::alloc::Global;
 use navyspindle_programs::{rl_attributes, rl_grammar, rl_lines, rl_tokens, rust_literals};
