@@ -1,10 +1,11 @@
 -- Integers past the limit: their place, and that a token which is none has a reading.
-use Rattle.rl_text.proofs.Common.{◌≡◌, ℕ, ◌+◌, ◌-◌, ◌<◌, ◌≤◌, ◌⊎◌, List, ◌∷◌, ◌++◌, length, take, Option, Some, None, refl, sym, ap, subst, ◌∙◌, inl, inr, arith, cases_Bool, cases_lt, is_ascii_digit, IsUtf8, IsUtf8-take, chars, true}
+use Rattle.rl_text.proofs.Common.{◌≡◌, ℕ, ◌+◌, ◌-◌, ◌<◌, ◌≤◌, ◌⊎◌, List, [], ◌∷◌, ◌++◌, length, take, IfNone, Option, Some, None, refl, sym, ap, subst, ◌∙◌, inl, inr, arith, cases_Bool, cases_lt, is_ascii_digit, IsUtf8, IsUtf8-take, chars, true}
 use Rattle.rl_reading.proofs.Names.{Int, Float, Contents, Minus, NoSign, first_passes, limit, HasNoReading, HasReading, IsPast, byte_len}
 use Rattle.rl_text.specs.Texts.{IsTail}
 use Rattle.rl_forms.specs.Strict.{StrictFloat, StrictInt}
 use Rattle.rl_forms.proofs.OneNumber.{int_once}
 use Rattle.rl_forms.proofs.StrictNumbers.{float_strict_reads, minus_int, signed_float, strict_float, strict_int}
+use Rattle.rl_reasons.specs.declared.flaws.Flaw.{Flaw}
 use Rattle.rl_reasons.specs.SignedFlaws.{IsSignedToken}
 use Rattle.rl_strict.specs.StrictShapes.{IsToken}
 use Rattle.rl_reading.specs.Mirrors.NumberAt.{capped, capped_int, int_at}
@@ -27,14 +28,16 @@ within_past t x m k h e p =
     let w = is_within_at t x x m k h e refl in
     not_both limit m p.magnitude (int_once t x p.suffix w.sign p.sign m p.magnitude w.reads p.reads).1 w.within p.past
 
+-- the suffix of what is read
+abbrev suffix_in : Option (Option ℕ × List ℕ) → List ℕ
+suffix_in None = []
+suffix_in (Some p) = p.1
+
 pub past_suffix : (t x : List ℕ) (k : Option ℕ) → Some (k, x) ≡ capped_int (int_at t) → k ≡ None
     → (past : IsPast t) × (past.suffix ≡ x)
 past_suffix t x k h e =
     let p = is_past_at t x k h e in
-    let both : Some (k, x) ≡ Some (capped p.magnitude, p.suffix) = h
-    ∙ ap capped_int (int_past t p.sign p.magnitude p.suffix p.reads) in
-    let parts : ◌≡◌ {A = Option ℕ × List ℕ} (k, x) (capped p.magnitude, p.suffix) = cc in
-    (p, sym (ap (λ q. q.1) parts))
+    (p, sym (ap suffix_in (h ∙ ap capped_int (int_past t p.sign p.magnitude p.suffix p.reads))))
 
 -- ---- the place
 
@@ -104,8 +107,9 @@ unread_past t none y = elim (either t y) [
   | inr p ↦ p
 ]
 
-pub value_reads : (t : List ℕ) → IsSignedToken t → (IsPast t → ⊥) → HasReading t
-value_reads t y none = elim (either t y) [
+pub value_reads : (t : List ℕ) (o : Option Flaw) → IsSignedToken t → IfNone o (IsPast t → ⊥) → IfNone o (HasReading t)
+value_reads t None y none = elim (either t y) [
   | inl r ↦ r
   | inr p ↦ absurd (none p)
 ]
+value_reads t (Some f) y none = tt

@@ -18,15 +18,15 @@ in_text-requires-clause-piece c = omega (arith, ap length c.in_piece-found.ensur
 
 pub returns-clause-some : goal.returns-clause-some
 returns-clause-some c =
-    let (past, suffix) = c.in_ok-suffix.ensures.some in
+    let p = c.in_ok-suffix.ensures.some in
     let cut = front_of c.args.text.now c.in_ok-suffix.suffix.now c.utf8.text c.in_ok-suffix.ensures.following in
     let rest = c.in_piece-found.ensures.1 ∙ c.make_flaw.ensures.1 in
     record {
-      past = past;
+      past = p.0;
       number = cut.0;
-      text_is = cut.1 ∙ ap (λ z. cut.0 ++ z) (sym suffix);
+      text_is = cut.1 ∙ ap (λ z. cut.0 ++ z) (sym p.1);
       kind_is = c.in_text.ensures.kind ∙ c.in_piece-found.ensures.0 ∙ c.make_flaw.ensures.0;
       from_is = omega (arith, ap length c.in_piece-found.ensures.2, c.in_text.ensures.from);
       lo_is = omega (arith, cut.2, ap length rest, c.in_text.ensures.lo);
-      hi_is = c.in_text.ensures.hi ∙ ap (λ z. c.in_text.result.lo + first_len z) (ap chars rest ∙ sym suffix);
+      hi_is = c.in_text.ensures.hi ∙ ap (λ z. c.in_text.result.lo + first_len z) (ap chars rest ∙ sym p.1);
     }
