@@ -1,6 +1,7 @@
 -- Which texts rustc rejects: what it reads in a file is a token that has a reading, or an integer past the limit.
 use Rattle.rl_text.proofs.Common.{◌≡◌, ℕ, ◌⊎◌, ◌==◌, true, false, IfNone, None, Option, Some, List, [], ◌∷◌, ◌++◌, refl, sym, ap, subst, ◌∙◌, inl, inr, arith, and_parts, cases_Bool, eqb, eqb-true, not, or_cases, or_left, or_right, list_all, is_ascii_digit}
-use Rattle.rl_reading.proofs.Names.{Base, Binary, Octal, Decimal, Hexadecimal, HasReading, IsPast, first_passes, is_digit, is_row_part, prefix}
+use Rattle.rl_reading.proofs.Names.{Base, Binary, Octal, Decimal, Hexadecimal, HasReading, IsPast, first_passes, is_row_part, prefix}
+use Rattle.rl_forms.specs.Numbers.{is_digit}
 use Rattle.rl_forms.proofs.StrictNumbers.{IsForeign, none_around}
 use Rattle.rl_forms.proofs.StrictReturns.{strict_holds_no_return}
 use Rattle.rl_forms.proofs.OneNumber.{begins_number, int_front}
@@ -11,7 +12,7 @@ use Rattle.rl_reasons.specs.declared.flaws.Flaw.{Flaw}
 use Rattle.rl_reasons.specs.SignedFlaws.{IsSignedToken}
 use Rattle.rl_reasons.proofs.LimitLemmas.{either as any_reads}
 use Rattle.rl_reasons.proofs.StrictTokens.{token_reads}
-use Rattle.rl_strict.specs.StrictShapes.{IsToken}
+use Rattle.rl_grammar.specs.StrictShapes.{IsToken}
 use Rattle.rl_grammar.specs.FileTexts.{is_dropped, lacks_cr, lf_text}
 use Rattle.rl_sources.specs.Scans.{FindsNoFlaw}
 use Rattle.rl_grammar.proofs.FileTextLemmas.{same_text, when_dropped, when_kept}
@@ -95,7 +96,8 @@ passed_reads text y none = elim (cases_Bool (first_passes is_ascii_digit (lf_tex
 ]
 
 -- where no flaw is found
-pub passed : (text : List ℕ) (flaw : Option Flaw) → IsToken (lf_text text)
-    → IfNone flaw (IsSignedToken text → IsPast text → ⊥) → IfNone flaw (FindsNoFlaw text)
-passed text None y none = (y, passed_reads text y none)
-passed text (Some f) y none = tt
+pub passed : (text : List ℕ) (found limit : Option Flaw) → found ≡ None → IfNone found (IsToken (lf_text text))
+    → IfNone limit (IsSignedToken text → IsPast text → ⊥) → IfNone limit (FindsNoFlaw text)
+passed text (Some f) limit is y none = absurd (cc)
+passed text None None is y none = (y, passed_reads text y none)
+passed text None (Some f) is y none = tt
