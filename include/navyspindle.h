@@ -17,7 +17,7 @@ extern "C" {
 #endif
 
 /* The version of the exports and structs below. */
-#define RL_VERSION 7
+#define RL_VERSION 8
 
 /* What a literal is: RlReading.kind. */
 enum {
@@ -48,7 +48,7 @@ enum {
     RL_GROUP = 13           /* rl_next: an opening delimiter */
 };
 
-/* Why a text is no literal: RlExplanation.kind. */
+/* Why a text has no value: RlExplanation.kind. */
 enum {
     RL_FLAW_EMPTY = 1,
     RL_FLAW_NO_LITERAL = 2,
@@ -67,25 +67,22 @@ enum {
     RL_FLAW_SURROGATE = 15,
     RL_FLAW_NUL = 16,
     RL_FLAW_NOT_ASCII = 17,
-    RL_FLAW_LATE_QUOTE = 18,
-    RL_FLAW_LONE_CR = 19,
-    RL_FLAW_MUST_ESCAPE = 20,
-    RL_FLAW_NO_CHARACTER = 21,
-    RL_FLAW_TWO_CHARACTERS = 22,
-    RL_FLAW_NO_EXPONENT_DIGIT = 23,
-    RL_FLAW_BAD_SUFFIX = 24,
-    RL_FLAW_TOO_LARGE = 25,
-    /* Of the strict grammar, which no call here asks. */
-    RL_FLAW_MINUS = 26,
-    RL_FLAW_TOO_MANY_HASHES = 27,
-    RL_FLAW_CARRIAGE_RETURN = 28,
-    RL_FLAW_EARLY_QUOTE = 29,
-    RL_FLAW_EXTRA_HASH = 30,
-    RL_FLAW_UNDERSCORE_SUFFIX = 31,
-    RL_FLAW_NO_DIGITS = 32,
-    RL_FLAW_DIGIT_OF_BASE = 33,
-    RL_FLAW_BASED_FLOAT = 34,
-    RL_FLAW_NO_FRACTION_DIGIT = 35
+    RL_FLAW_MUST_ESCAPE = 18,
+    RL_FLAW_NO_CHARACTER = 19,
+    RL_FLAW_TWO_CHARACTERS = 20,
+    RL_FLAW_NO_EXPONENT_DIGIT = 21,
+    RL_FLAW_BAD_SUFFIX = 22,
+    RL_FLAW_TOO_LARGE = 23,
+    RL_FLAW_MINUS = 24, /* no call here returns it */
+    RL_FLAW_TOO_MANY_HASHES = 25,
+    RL_FLAW_CARRIAGE_RETURN = 26,
+    RL_FLAW_EARLY_QUOTE = 27,
+    RL_FLAW_EXTRA_HASH = 28,
+    RL_FLAW_UNDERSCORE_SUFFIX = 29,
+    RL_FLAW_NO_DIGITS = 30,
+    RL_FLAW_DIGIT_OF_BASE = 31,
+    RL_FLAW_BASED_FLOAT = 32,
+    RL_FLAW_NO_FRACTION_DIGIT = 33
 };
 
 /* What reading a text finds. */
@@ -110,12 +107,13 @@ typedef struct {
     bool negative;     /* a minus stands before the number */
 } RlNext;
 
-/* Why a text is no literal, and where. */
+/* Why a text has no value, and where. */
 typedef struct {
     size_t from;  /* the place of the first byte of the piece that the flaw spoils */
-    size_t lo;    /* the place of the character that no literal goes on with; the text's end where it is too short */
+    size_t lo;    /* the place of the character that no literal goes on with; the text's end where it is too short; of an
+                     integer past 128 bits where its digits end */
     size_t hi;    /* the place after that character */
-    uint8_t kind; /* RL_FLAW_EMPTY to RL_FLAW_TOO_LARGE */
+    uint8_t kind; /* RL_FLAW_EMPTY to RL_FLAW_NO_FRACTION_DIGIT */
 } RlExplanation;
 
 /* Where in a literal's text a byte of what it stands for is written. */
@@ -149,11 +147,12 @@ void rl_probe(RlNext *next, RlExplanation *explanation);
 /* Whether the text reads as a literal; what was found goes into `reading`, which stays else. */
 bool rl_find(const uint8_t *text, size_t len, RlReading *reading);
 
-/* Whether the text has no reading; why, and where, goes into `explanation`, which stays else. */
+/* Whether the text has no value: it is neither a literal token of Rust nor a minus and a number, or it is an integer past
+ * 128 bits. Why, and where, goes into `explanation`, which stays else. */
 bool rl_explain(const uint8_t *text, size_t len, RlExplanation *explanation);
 
-/* Whether the text is neither a literal token of Rust nor a minus and a number; why, and where, goes into `explanation`,
- * which stays else. */
+/* Whether the text is neither a literal token of Rust nor a minus and a number, of any size; why, and where, goes into
+ * `explanation`, which stays else. */
 bool rl_explain_signed(const uint8_t *text, size_t len, RlExplanation *explanation);
 
 /* Whether the text is a literal token of the Rust Reference. */

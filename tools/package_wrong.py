@@ -71,8 +71,8 @@ WRONG = [Wrong(*row) for row in [
     # words.rs
     ('words.rs', "let suffix_at = text.len();", "let suffix_at = text.len() - 1;",
      'the last letter of a truth value is its suffix'),
-    ('words.rs', "ParseError::lenient(&self.text).expect(\"the text has no reading\")", "ParseError::of(&self.text)",
-     'a text without a reading is explained as Rust reads it, and not as `syn` does'),
+    ('words.rs', "ParseError::of(&self.text)", "ParseError::of(self.text.trim_end())",
+     'of a text without a reading the blanks at its end are no flaw'),
     # common.rs
     ('common.rs', "self.suffix_at..self.text.len()", "self.suffix_at..self.suffix_at",
      'the range of a suffix is empty'),
@@ -116,8 +116,8 @@ WRONG = [Wrong(*row) for row in [
      'a CR alone has no place in a file'),
     ('parse_error.rs', "self.from..self.hi", "self.lo..self.hi",
      'the piece of an error is its last character'),
-    ('parse_error.rs', "match explain_signed(text).or_else(|| explain(text)) {", "match explain(text).or_else(|| explain_signed(text)) {",
-     'why `syn` has no literal is said before why Rust has none'),
+    ('parse_error.rs', "explain_value(text).expect", "crate::rl_reasons::explain(text).or_else(|| explain_value(text)).expect",
+     'a minus before a number is what is wrong with it'),
     ('parse_error.rs', "from: place_in_file(text, self.from),", "from: self.from,",
      'the piece of an error begins where it stands without the CR of each CR LF'),
     # places.rs

@@ -1,9 +1,7 @@
 //! Why a text is no literal, and where.
 
 use crate::kind::Kind;
-use crate::rl_reasons::explain;
-use crate::rl_reasons::signed_flaws::explain_signed;
-use crate::rl_reasons::Flaw;
+use crate::rl_reasons::explain_value;
 pub use crate::rl_reasons::FlawKind;
 use core::fmt;
 use core::ops::Range;
@@ -35,9 +33,6 @@ fn place_in_file(text: &str, place: usize) -> usize {
 pub enum ParseErrorKind {
     /// It is no literal of Rust, for this reason.
     Flaw(FlawKind),
-    /// `syn` reads it as a literal, and Rust rejects it for a reason that has no kind. None is known: each text that Rust rejects has a
-    /// flaw.
-    NotRust,
     /// It is a literal of another kind than the one that was asked for.
     Kind {
         /// The kind that was asked for.
@@ -58,7 +53,6 @@ impl fmt::Display for ParseErrorKind {
     fn fmt(&self, f: &mut fmt::Formatter<'_>) -> fmt::Result {
         match self {
             ParseErrorKind::Flaw(kind) => kind.fmt(f),
-            ParseErrorKind::NotRust => f.pad("not a literal of Rust"),
             ParseErrorKind::Kind { expected, found } => {
                 write!(f, "expected {expected}, found {found}")
             }
@@ -86,21 +80,10 @@ pub struct ParseError {
 }
 
 impl ParseError {
-    /// Why a text isn't one of Rust's own literals with a value, which it isn't: an integer past 128 bits is a token of Rust.
+    /// Why a text has no value in Rust, which it hasn't.
     #[cold]
     pub(crate) fn of(text: &str) -> ParseError {
-        match explain_signed(text).or_else(|| explain(text)) {
-            Some(flaw) => ParseError::of_flaw(flaw),
-            None => ParseError::whole(text, ParseErrorKind::NotRust),
-        }
-    }
-
-    /// Why a text has no reading.
-    pub(crate) fn lenient(text: &str) -> Option<ParseError> {
-        explain(text).map(ParseError::of_flaw)
-    }
-
-    fn of_flaw(flaw: Flaw) -> ParseError {
+        let flaw = explain_value(text).expect("the text has no value");
         ParseError {
             kind: ParseErrorKind::Flaw(flaw.kind),
             from: flaw.from,
@@ -148,7 +131,8 @@ impl ParseError {
     }
 
     /// The bytes of the first character that no literal goes on with; none, at the text's end, where the text is too
-    /// short. What stands before it begins some literal. Of `NotRust` and of another kind it is the whole text.
+    /// short. What stands before it begins some literal. Of an integer past 128 bits it is where its digits end, of a literal of
+    /// another kind the whole text.
     ///
     /// ```
     /// use navyspindle::Lit;

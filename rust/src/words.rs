@@ -127,7 +127,7 @@ impl<'t> LitVerbatim<'t> {
         }
     }
 
-    /// Why it is no literal, and where.
+    /// Why it is no literal of Rust with a value, and where.
     ///
     /// ```
     /// use navyspindle::{literals, FlawKind, Lit};
@@ -142,7 +142,7 @@ impl<'t> LitVerbatim<'t> {
     /// ```
     #[must_use]
     pub fn explain(&self) -> ParseError {
-        ParseError::lenient(&self.text).expect("the text has no reading")
+        ParseError::of(&self.text)
     }
 }
 

@@ -10,7 +10,7 @@ const PAST: &str = "340282366920938463463374607431768211456";
 /// A text, its kind of flaw, the byte where the piece begins, that of the character, and the one after it.
 type Row<'t> = (&'t str, FlawKind, usize, usize, usize);
 
-/// A row for each kind of a text that `syn` has no literal for.
+/// Texts that `syn` has no literal for, each with another kind of flaw.
 const ROWS: &[Row] = &[
     ("", FlawKind::Empty, 0, 0, 0),
     ("truex", FlawKind::NoLiteral, 0, 4, 5),
@@ -29,10 +29,10 @@ const ROWS: &[Row] = &[
     (r#""\u{D800}""#, FlawKind::Surrogate, 1, 8, 9),
     (r#"c"\0""#, FlawKind::Nul, 2, 3, 4),
     ("b\"é\"", FlawKind::NotAscii, 2, 2, 4),
-    (r#"br"a"é""#, FlawKind::LateQuote, 7, 7, 8),
-    ("\"a\rb\"", FlawKind::LoneCr, 2, 3, 4),
+    (r#"br"a"é""#, FlawKind::EarlyQuote, 4, 7, 8),
+    ("\"a\rb\"", FlawKind::CarriageReturn, 2, 2, 3),
     ("b'\t'", FlawKind::MustEscape, 2, 2, 3),
-    ("''x", FlawKind::NoCharacter, 1, 2, 3),
+    ("''x", FlawKind::NoCharacter, 1, 1, 2),
     ("'ab'", FlawKind::TwoCharacters, 1, 2, 3),
     ("1e+x", FlawKind::NoExponentDigit, 0, 3, 4),
     ("1.5.", FlawKind::BadSuffix, 0, 3, 4),
@@ -85,7 +85,7 @@ fn kinds(rows: &[Row], explain: impl Fn(&str) -> ParseError) -> HashSet<FlawKind
     rows.iter().map(|row| row.1).collect()
 }
 
-/// Why `syn` has no literal for the text.
+/// Why a text that `syn` has no literal for has no value.
 fn of_syn(text: &str) -> ParseError {
     let Lit::Verbatim(literal) = Lit::new(text) else {
         panic!("{text} reads")
@@ -114,7 +114,7 @@ fn other_places() {
         ("#", FlawKind::NoLiteral, 0, 0, 1),
         ("bx", FlawKind::NoLiteral, 0, 1, 2),
         ("b", FlawKind::Unfinished, 0, 1, 1),
-        ("1e+", FlawKind::Unfinished, 0, 3, 3),
+        ("1e+", FlawKind::NoExponentDigit, 0, 3, 3),
         (r#""a\x4"#, FlawKind::Unclosed, 2, 5, 5),
         (r##"r#"a""##, FlawKind::Unclosed, 5, 5, 5),
         (r#""\u{00D800}""#, FlawKind::Surrogate, 1, 9, 10),
@@ -122,7 +122,7 @@ fn other_places() {
         ("b''", FlawKind::NoCharacter, 2, 2, 3),
         ("é", FlawKind::NoLiteral, 0, 0, 2),
         ("1 ", FlawKind::BadSuffix, 0, 1, 2),
-        ("0x1.5", FlawKind::BadSuffix, 0, 3, 4),
+        ("0x1.5", FlawKind::BasedFloat, 0, 3, 4),
         (&format!("{PAST}u8"), FlawKind::TooLarge, 0, 39, 40),
     ];
     kinds(rows, of_syn);

@@ -1,4 +1,4 @@
-//! Why a text is no literal, for callers in other languages.
+//! Why a text has no value, for callers in other languages.
 
 ghost use Rattle.std.specs.Prelude.{◌≡◌, IsTrue, IsFalse};
 ghost use Rattle.std.specs.Str.{chars, IsUtf8};
@@ -6,8 +6,7 @@ ghost use Rattle.rl_forms.specs.Reading.{HasReading};
 ghost use Rattle.rl_reasons.specs.SignedFlaws.{IsSignedToken};
 ghost use Rattle.rl_c.specs.Explanations.{ReportsFlaw, ReportsSignedFlaw, flaw_number};
 
-use rl_grammar::strict::explain_signed;
-use rl_grammar::{Flaw, FlawKind, explain};
+use rl_grammar::{Flaw, FlawKind, explain_signed, explain_value};
 
 /// Why a text is no literal, and where, with the kind of flaw as a number.
 #[derive(Clone, Copy)]
@@ -16,11 +15,12 @@ pub struct Explanation {
     /// The place of the first byte of the piece that the flaw spoils: an escape's backslash, a character, what follows
     /// the quote of a character or byte literal, a number or word as a whole.
     pub from: usize,
-    /// The place of the character that no literal goes on with; the text's end where the text is too short.
+    /// The place of the character that no literal goes on with; the text's end where the text is too short. Of an integer
+    /// past 128 bits it is where the digits end.
     pub lo: usize,
     /// The place after that character.
     pub hi: usize,
-    /// What is wrong: 1 to 35, in the order of `FlawKind`.
+    /// What is wrong: 1 to 33, in the order of `FlawKind`.
     pub kind: u8,
 }
 
@@ -46,24 +46,22 @@ fn flaw_number(kind: FlawKind) -> u8
         FlawKind::Surrogate => 15,
         FlawKind::Nul => 16,
         FlawKind::NotAscii => 17,
-        FlawKind::LateQuote => 18,
-        FlawKind::LoneCr => 19,
-        FlawKind::MustEscape => 20,
-        FlawKind::NoCharacter => 21,
-        FlawKind::TwoCharacters => 22,
-        FlawKind::NoExponentDigit => 23,
-        FlawKind::BadSuffix => 24,
-        FlawKind::TooLarge => 25,
-        FlawKind::Minus => 26,
-        FlawKind::TooManyHashes => 27,
-        FlawKind::CarriageReturn => 28,
-        FlawKind::EarlyQuote => 29,
-        FlawKind::ExtraHash => 30,
-        FlawKind::UnderscoreSuffix => 31,
-        FlawKind::NoDigits => 32,
-        FlawKind::DigitOfBase => 33,
-        FlawKind::BasedFloat => 34,
-        FlawKind::NoFractionDigit => 35,
+        FlawKind::MustEscape => 18,
+        FlawKind::NoCharacter => 19,
+        FlawKind::TwoCharacters => 20,
+        FlawKind::NoExponentDigit => 21,
+        FlawKind::BadSuffix => 22,
+        FlawKind::TooLarge => 23,
+        FlawKind::Minus => 24,
+        FlawKind::TooManyHashes => 25,
+        FlawKind::CarriageReturn => 26,
+        FlawKind::EarlyQuote => 27,
+        FlawKind::ExtraHash => 28,
+        FlawKind::UnderscoreSuffix => 29,
+        FlawKind::NoDigits => 30,
+        FlawKind::DigitOfBase => 31,
+        FlawKind::BasedFloat => 32,
+        FlawKind::NoFractionDigit => 33,
         _ => unreachable!(),
     }
 }
@@ -83,16 +81,18 @@ fn explanation_of(flaw: Flaw) -> Explanation
     }
 }
 
-/// Whether the text has no reading; why, and where, goes into `explanation`, which stays else.
+/// Whether the text has no value: it is neither a literal token of Rust nor a minus and a number, or it is an integer past
+/// 128 bits. Why, and where, goes into `explanation`, which stays else.
 #[unsafe(no_mangle)]
 pub extern "C" fn rl_explain(text: &[u8], explanation: &mut Explanation) -> bool
     requires utf8 { IsUtf8 text.now }
     ensures flaw { IsTrue result → ReportsFlaw text.now explanation.new }
+    ensures token { IsFalse result → IsSignedToken (chars text.now) }
     ensures none { IsFalse result → HasReading (chars text.now) }
     ensures stays { IsFalse result → explanation.new ≡ explanation.old }
 {
     // SAFETY: the bytes are UTF-8, as the export requires.
-    match explain(unsafe { std::str::from_utf8_unchecked(text) }) {
+    match explain_value(unsafe { std::str::from_utf8_unchecked(text) }) {
         Some(flaw) => {
             *explanation = explanation_of(flaw);
             true

@@ -46,10 +46,10 @@ empty_place : (text : List ℕ) → IsPlaceInFile text 0 0
 empty_place text = record { front = []; rest = text; text_is = refl; whole = refl; read_is = refl; at_is = refl }
 
 -- what `lf_text` does with a character in front
-when_dropped : (c : ℕ) (cs : List ℕ) → is_dropped c cs ≡ true → lf_text (c ∷ cs) ≡ lf_text cs
+pub when_dropped : (c : ℕ) (cs : List ℕ) → is_dropped c cs ≡ true → lf_text (c ∷ cs) ≡ lf_text cs
 when_dropped c cs is = ap (λ b. cond b (lf_text cs) (c ∷ lf_text cs)) is
 
-when_kept : (c : ℕ) (cs : List ℕ) → is_dropped c cs ≡ false → lf_text (c ∷ cs) ≡ c ∷ lf_text cs
+pub when_kept : (c : ℕ) (cs : List ℕ) → is_dropped c cs ≡ false → lf_text (c ∷ cs) ≡ c ∷ lf_text cs
 when_kept c cs is = ap (λ b. cond b (lf_text cs) (c ∷ lf_text cs)) is
 
 -- before a CR that goes stands nothing

@@ -7,7 +7,6 @@ pub use Rattle.rl_reasons.specs.FlawKinds
 pub use Rattle.rl_reasons.specs.FlawWords
 pub use Rattle.rl_reasons.specs.Flaws
 pub use Rattle.rl_reasons.specs.OneFlaw
-pub use Rattle.rl_reasons.specs.NumberFlaws
 pub use Rattle.rl_reading.specs.NumberShapes
 pub use Rattle.rl_reading.specs.NumbersRead
 pub use Rattle.rl_reading.specs.Rows
@@ -20,8 +19,8 @@ pub use Rattle.rl_reading.specs.StrictBytes
 pub use Rattle.rl_reasons.specs.StrictFlawKinds
 pub use Rattle.rl_reasons.specs.StrictNumberFlaws
 pub use Rattle.rl_reasons.specs.StrictFlaws
-pub use Rattle.rl_reasons.specs.OneStrictFlaw
 pub use Rattle.rl_reasons.specs.SignedFlaws
+pub use Rattle.rl_reasons.specs.Limits
 pub use Rattle.rl_reading.specs.Bodies
 pub use Rattle.rl_reading.specs.Founds
 pub use Rattle.rl_reading.specs.Segments

@@ -108,7 +108,7 @@ pub(crate) fn integer_of(head: Head<'_>) -> Option<Integer<'_>>
 }
 
 /// The integer that the text is.
-pub(crate) fn read_integer(text: &str) -> Option<Integer<'_>>
+pub fn read_integer(text: &str) -> Option<Integer<'_>>
     ensures value { option_map {U = Option ℕ × List ℕ}
         (λ i. (i.magnitude, chars i.suffix.now)) result
         ≡ capped_int (int_at (chars text.now)) }

@@ -1,12 +1,12 @@
 -- What the readers of the units of quoted literals give at each character, and how a text is completed.
 use Rattle.rl_text.proofs.Common.{◌≡◌, ℕ, suc, ◌+◌, ◌*◌, ◌^◌, ◌<◌, ◌≤◌, ◌||◌, ◌&&◌, Bool, true, false, not, cond, eqb, ltb, List, [], ◌∷◌, ◌++◌, Option, Some, None, refl, sym, ap, subst, ◌∙◌, ◌⊎◌, inl, inr, arith, option_and_then, AllByRecursion, digit_value, scalar, and_from, and_parts, both_ways, cases_Bool, eqb-true, ltb-true, ltb-false, lt-ltb, eq-eqb, ne_eqb, or_right}
-use Rattle.rl_reading.proofs.Names.{IsScalar, pow-suc, and_right, le-ltb, Kind, Str, ByteStr, CStr, Byte, Char, first_passes, content_of, is_blank, is_hex_digit, holds_characters, is_string, is_single, is_plain, is_line_end, allows_code, may_be_hex, has_unicode}
+use Rattle.rl_reading.proofs.Names.{IsScalar, pow-suc, and_right, le-ltb, Kind, CStr, first_passes, content_of, is_blank, is_hex_digit, holds_characters, is_string, is_single, is_line_end, allows_code, may_be_hex, has_unicode}
 use Rattle.std.proofs.Common.{leb}
 use Rattle.std.proofs.Math.Nat.{pow-le-pow_right}
 use Rattle.std.proofs.lemmas.Bool.{le-leb, leb-false}
-use Rattle.rl_reading.specs.Mirrors.UnitAt.{found, number_if, digit_at, hex_at, unicode_at, after_blanks, named_in, named_at, escape_at, line_feed_at, unit_at}
+use Rattle.rl_reading.specs.Mirrors.UnitAt.{found, number_if, digit_at, hex_at, unicode_at, after_blanks, named_in, named_at, escape_at, unit_at}
 use Rattle.rl_reasons.specs.Mirrors.UnitFlawAt.{is_code}
-use Rattle.rl_reading.proofs.UnitLemmas.{holds_more, unicode_sound, plain_complete, quote_and_return}
+use Rattle.rl_reading.proofs.UnitLemmas.{holds_more, unicode_sound}
 use Rattle.rl_reading.proofs.CodeDigitLemmas.{below_six, digit_apart, unicode_digits_at, unicode_is}
 
 -- ---- readers of the front of a text
@@ -131,26 +131,12 @@ allowed kind p = number_if (has_unicode kind && allows_code kind p.0) p.0 p.1
 abbrev pub coded : Kind → ℕ → ℕ → Reader ℕ
 coded kind v n t = option_and_then (allowed kind) (unicode_digits_at v n t)
 
-closed : (kind : Kind) (v n : ℕ) (r : List ℕ) → coded kind v n (125 ∷ r)
-    ≡ option_and_then (allowed kind) (number_if (scalar v) v r)
-unfolding unicode_digits_at
-closed kind v n r = refl
-
 pub closed_code : (kind : Kind) (v n : ℕ) (r : List ℕ) → has_unicode kind ≡ true → is_code kind v ≡ true
     → coded kind v n (125 ∷ r) ≡ given v r
 unfolding unicode_digits_at
 closed_code kind v n r u h =
     let parts = and_parts (scalar v) (allows_code kind v) h in
     rw (parts.0, u, parts.1) refl
-
-closed_none : (kind : Kind) (v n : ℕ) (r s : List ℕ) → coded kind v n (125 ∷ r) ≡ None → coded kind v n (125 ∷ s) ≡ None
-unfolding unicode_digits_at
-closed_none kind v n r s h = go (scalar v) h
-  where
-    go : (a : Bool) → option_and_then (allowed kind) (number_if a v r) ≡ None
-        → option_and_then (allowed kind) (number_if a v s) ≡ None
-    go true h = never (has_unicode kind && allows_code kind v) v r s h
-    go false h = refl
 
 pub closed_bad : (kind : Kind) (v n : ℕ) (r : List ℕ) → is_code kind v ≡ false → coded kind v n (125 ∷ r) ≡ None
 unfolding unicode_digits_at
@@ -375,46 +361,3 @@ by_escape kind r = refl
 -- the kind is one of quoted literals
 abbrev pub IsQuotedKind : Kind → Type 0
 IsQuotedKind kind = (is_string kind ≡ true) ⊎ (is_single kind ≡ true)
-
-plain_a : (kind : Kind) → IsQuotedKind kind → is_plain kind 97 ≡ true
-plain_a Str h = refl
-plain_a ByteStr h = refl
-plain_a CStr h = refl
-plain_a Byte h = refl
-plain_a Char h = refl
-plain_a kind (inl h) = absurd (cc)
-plain_a kind (inr h) = absurd (cc)
-
-pub unit_one : (kind : Kind) → IsQuotedKind kind → Completes (unit_at kind) []
-unit_one kind q = ends_by (unit_at kind) [] (content_of kind (97 ∷ [])) 97 refl refl
-    (λ r. plain_complete kind 97 r (plain_a kind q))
-
--- after a CR of a string
-pub line_feed : (kind : Kind) (r : List ℕ) → is_string kind ≡ true → unit_at kind (13 ∷ r) ≡ line_feed_at kind r
-unfolding unit_at
-line_feed kind r s = rw (quote_and_return kind s).1 refl
-
-pub no_line_feed : (kind : Kind) (c : ℕ) (cs r : List ℕ) → line_feed_at kind (c ∷ cs) ≡ None → line_feed_at kind (c ∷ r)
-    ≡ None
-no_line_feed kind c cs r h = go (is_string kind && eqb c 10) h
-  where
-    go : (b : Bool) → cond b (found (10 ∷ []) cs) None ≡ None → cond b (found (10 ∷ []) r) None ≡ None
-    go true h = absurd (cc)
-    go false h = refl
-
--- a character that isn't taken as it is, and begins nothing else
-pub same_character : (kind : Kind) (c : ℕ) (r s : List ℕ) → eqb c 92 ≡ false → (eqb c 13 && is_string kind) ≡ false
-    → unit_at kind (c ∷ r) ≡ None → unit_at kind (c ∷ s) ≡ None
-unfolding unit_at
-same_character kind c r s a b h =
-    rw a (go (is_plain kind c) (eqb c 13) refl (rw a at h))
-  where
-    feed : (t : List ℕ) → is_string kind ≡ false → line_feed_at kind t ≡ None
-    feed [] off = refl
-    feed (d ∷ ds) off = rw off refl
-
-    go : (p k : Bool) → eqb c 13 ≡ k → cond p (found (content_of kind (c ∷ [])) r) (cond k (line_feed_at kind r) None)
-        ≡ None → cond p (found (content_of kind (c ∷ [])) s) (cond k (line_feed_at kind s) None) ≡ None
-    go true k e h = absurd (cc)
-    go false true e h = feed s (sym (ap (λ x. x && is_string kind) e) ∙ b)
-    go false false e h = refl

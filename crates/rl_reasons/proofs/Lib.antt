@@ -1,12 +1,5 @@
-pub mod NumberReads
-pub mod NumberTailFlaws
-pub mod NumberFlawLemmas
-pub mod ExplainLemmas
 pub mod EscapeLemmas
 pub mod UnitFlawLemmas
-pub mod RawFlawLemmas
-pub mod QuotedFlawLemmas
-pub mod QuotedStopLemmas
 pub mod WordFlawLemmas
 pub mod StrictSuffixFlaws
 pub mod StrictUnitFlaws
@@ -22,7 +15,5 @@ pub mod OneStrictRaw
 pub mod OneStrictFlaw
 pub mod SignedFlaws
 pub mod OneUnitFlaw
-pub mod OneRawFlaw
-pub mod OneNumberFlaw
-pub mod OneFlawLemmas
 pub mod CodeDigitFlaws
+pub mod LimitLemmas

@@ -1,30 +1,135 @@
 -- A text has one flaw at most in the strict grammar.
-use Rattle.rl_text.proofs.Common.{◌≡◌, ℕ, ◌+◌, ◌||◌, true, false, ◌==◌, cond, List, [], ◌∷◌, ◌++◌, None, refl, sym, ap, subst, ◌∙◌, inl, inr, append_assoc, append_cancel_right, and_from, both_ways, or_parts, is_ascii_digit}
+use Rattle.rl_text.proofs.Common.{◌≡◌, ℕ, ◌+◌, ◌||◌, true, false, ◌==◌, cond, List, [], ◌∷◌, ◌++◌, None, refl, sym, ap, subst, ◌∙◌, inl, inr, append_assoc, append_cancel_right, and_from, both_ways, or_parts, is_ascii_digit, Bool, Some}
 use Rattle.rl_reading.proofs.Names.{Kind, byte_len, first_passes, truth_text}
 use Rattle.rl_text.proofs.Basics.{digit_is_ten}
 use Rattle.rl_reasons.specs.declared.flaws.FlawKind.{FlawKind}
 use Rattle.rl_reasons.specs.declared.flaws.FlawKind.TheVariants.{BadSuffix, Empty, Minus, NoLiteral, Unfinished}
 use Rattle.rl_reading.specs.declared.quoted_forms.QuotedForm.{QuotedForm}
 use Rattle.rl_reading.specs.declared.quoted_forms.QuotedForm.TheVariants.{Cooked as CookedForm, Raw as RawForm, Single as SingleForm}
-use Rattle.rl_reasons.specs.Flaws.{StopsBefore, first_len}
+use Rattle.rl_reasons.specs.Flaws.{StopsBefore, first_len, HasKind}
 use Rattle.rl_reading.specs.Forms.{form_opener, has_form}
-use Rattle.rl_reasons.specs.NumberFlaws.{HasKind}
-use Rattle.rl_reasons.specs.OneStrictFlaw.{HasOneStrictFlaw}
+use Rattle.rl_reasons.specs.OneFlaw.{HasOneFlaw}
 use Rattle.rl_reasons.specs.StrictFlawKinds.{HasStrictQuotedFlaw, StrictQuotedFlaw}
 use Rattle.rl_reasons.specs.StrictFlaws.{IsStrictFlawOf}
-use Rattle.rl_reasons.specs.StrictNumberFlaws.{IsStrictNumberFlaw, IsStrictWordFlaw}
+use Rattle.rl_reasons.specs.StrictNumberFlaws.{BeginsWord, IsStrictNumberFlaw, IsStrictWordFlaw}
 use Rattle.rl_strict.specs.StrictShapes.{IsToken}
 use Rattle.rl_reading.specs.Mirrors.NumberAt.{after_digits, radix_at}
 use Rattle.rl_reading.specs.Mirrors.OpenerAt.{found_opener, opener_at}
 use Rattle.rl_strict.specs.Mirrors.StrictAt.{ends_whole, is_decimal, is_strict_number}
 use Rattle.rl_reading.proofs.FormLemmas.{front_complete}
-use Rattle.rl_reasons.proofs.OneFlawLemmas.{IsFront, begins_front, flaw_same, opener_same, stops_once, truth_front}
 use Rattle.rl_reasons.proofs.OneStrictRaw.{raw_once}
 use Rattle.rl_reasons.proofs.OneStrictUnit.{cooked_once, single_once}
 use Rattle.rl_reading.proofs.ReadingLemmas.{front_not_quoted}
 use Rattle.rl_reasons.proofs.StrictExplainLemmas.{quoted_cut}
 use Rattle.rl_reasons.proofs.StrictNumberKinds.{digit_kind}
 use Rattle.rl_reasons.proofs.StrictTokens.{digit_front, number_is_token}
+use Rattle.rl_reasons.specs.declared.flaws.Flaw.{Flaw}
+use Rattle.rl_reading.specs.WholeShapes.{is_number_front}
+
+-- ---- the place
+
+-- two cuts of one text
+pub data Meets (f g r s : List ℕ) : Type 0 where
+  Same : f ≡ g → r ≡ s → Meets f g r s
+  Before : (c : ℕ) (more : List ℕ) → g ≡ f ++ (c ∷ more) → r ≡ c ∷ (more ++ s) → Meets f g r s
+  After : (c : ℕ) (more : List ℕ) → f ≡ g ++ (c ∷ more) → s ≡ c ∷ (more ++ r) → Meets f g r s
+
+-- the same character before both
+meets_on : (c : ℕ) (f g r s : List ℕ) → Meets f g r s → Meets (c ∷ f) (c ∷ g) r s
+meets_on c f g r s (Same a b) = Same (ap (λ z. c ∷ z) a) b
+meets_on c f g r s (Before d more a b) = Before d more (ap (λ z. c ∷ z) a) b
+meets_on c f g r s (After d more a b) = After d more (ap (λ z. c ∷ z) a) b
+
+-- the ends of two fronts are one, or one is in the other
+pub meets : (f g r s : List ℕ) → f ++ r ≡ g ++ s → Meets f g r s
+meets [] [] r s e = Same refl e
+meets [] (c ∷ g) r s e = Before c g refl e
+meets (c ∷ f) [] r s e = After c f refl (sym e)
+meets (c ∷ f) (d ∷ g) r s e =
+    let more : f ++ r ≡ g ++ s = (let h : c ∷ (f ++ r) ≡ d ∷ (g ++ s) = e in cc) in
+    let same : c ≡ d = (let h : c ∷ (f ++ r) ≡ d ∷ (g ++ s) = e in cc) in
+    subst (λ z. Meets (c ∷ f) (z ∷ g) r s) same (meets_on c f g r s (meets f g r s more))
+
+-- what can be completed isn't stuck before its end
+not_before : (takes : List ℕ → Type 0) (text r s : List ℕ) (a : StopsBefore takes text r) (b : StopsBefore takes text s)
+    (c : ℕ) (more : List ℕ) → b.front ≡ a.front ++ (c ∷ more) → r ≡ c ∷ (more ++ s) → ⊥
+not_before takes text r s a b c more e h = a.stuck c (more ++ s) (more ++ b.begins.ending) h
+    (subst takes (ap (λ z. z ++ b.begins.ending) e ∙ append_assoc a.front (c ∷ more) b.begins.ending) b.begins.is_taken)
+
+-- a text stops at one place
+pub stops_once : (takes : List ℕ → Type 0) (text r s : List ℕ) (a : StopsBefore takes text r)
+    (b : StopsBefore takes text s)
+    → (a.front ≡ b.front) × (r ≡ s)
+stops_once takes text r s a b = go (meets a.front b.front r s (sym a.text_is ∙ b.text_is))
+  where
+    go : Meets a.front b.front r s → (a.front ≡ b.front) × (r ≡ s)
+    go (Same e h) = (e, h)
+    go (Before c more e h) = absurd (not_before takes text r s a b c more e h)
+    go (After c more e h) = absurd (not_before takes text s r b a c more e h)
+
+-- ---- the opener
+
+-- a form, a kind, and the text after the opener
+abbrev Told : Type 0
+Told = QuotedForm × Kind × List ℕ
+
+-- one opener at most begins a text
+pub opener_same : (t : List ℕ) (f g : QuotedForm) (k l : Kind) (x y : List ℕ) → opener_at t ≡ found_opener f k x
+    → opener_at t ≡ found_opener g l y → ◌≡◌ {A = Told} (f, k, x) (g, l, y)
+opener_same t f g k l x y a b =
+    let p : Told = (f, k, x) in
+    let q : Told = (g, l, y) in
+    let e : Some p ≡ Some q = sym a ∙ b in
+    cc
+
+-- ---- fronts of words
+
+-- what a word begins with is no number and has no opener
+pub record IsFront (front : List ℕ) : Type 0 where
+  pub no_opener : opener_at front ≡ None
+  pub no_number : first_passes is_number_front front ≡ false
+
+-- of a truth value
+pub truth_front : (b : Bool) (front more : List ℕ) → truth_text b ≡ front ++ more → IsFront front
+unfolding opener_at
+truth_front b [] more e = record { no_opener = refl; no_number = refl }
+truth_front true (c ∷ cs) more e =
+    let same : 116 ≡ c = cc in
+    subst (λ z. IsFront (z ∷ cs)) same (record { no_opener = refl; no_number = refl })
+truth_front false (c ∷ cs) more e =
+    let same : 102 ≡ c = cc in
+    subst (λ z. IsFront (z ∷ cs)) same (record { no_opener = refl; no_number = refl })
+
+-- of `b`
+letter_front : IsFront (98 ∷ [])
+unfolding opener_at
+letter_front = record { no_opener = refl; no_number = refl }
+
+-- of `c`
+other_front : IsFront (99 ∷ [])
+unfolding opener_at
+other_front = record { no_opener = refl; no_number = refl }
+
+-- of any of these
+pub begins_front : (front : List ℕ) → BeginsWord front → IsFront front
+begins_front front (inl e) = subst IsFront (sym e) letter_front
+begins_front front (inr (inl e)) = subst IsFront (sym e) other_front
+begins_front front (inr (inr w)) = truth_front w.truth front w.more w.word_is
+
+-- ---- the flaw
+
+-- a flaw, by its fields
+make : FlawKind → ℕ → ℕ → ℕ → Flaw
+make kind from lo hi = record { kind = kind; from = from; lo = lo; hi = hi }
+
+-- flaws of the same fields are the same
+pub flaw_same : (a b : Flaw) → a.kind ≡ b.kind → a.from ≡ b.from → a.lo ≡ b.lo → a.hi ≡ b.hi → a ≡ b
+unfolding make
+flaw_same a b kind from lo hi =
+    ap (λ z. make z a.from a.lo a.hi) kind
+    ∙ ap (λ z. make b.kind z a.lo a.hi) from
+    ∙ ap (λ z. make b.kind b.from z a.hi) lo
+    ∙ ap (λ z. make b.kind b.from b.lo z) hi
 
 -- ---- quoted literals
 
@@ -162,10 +267,10 @@ kinds_once k l t pa pb rest s p q = go p q
       a.1 ∙ sym b.1,
     )
 
--- ---- the flaw
+-- ---- one flaw
 
 -- one flaw explains the text
-pub one_strict_flaw : (text : List ℕ) → HasOneStrictFlaw text
+pub one_strict_flaw : (text : List ℕ) → HasOneFlaw text
 one_strict_flaw text a b p q =
     let same = stops_once IsToken text p.place.rest q.place.rest p.place.stops q.place.stops in
     let lo = p.place.lo_is ∙ ap byte_len same.0 ∙ sym q.place.lo_is in

@@ -1,5 +1,5 @@
 -- At one place a strict raw string has one flaw, in one piece.
-use Rattle.rl_text.proofs.Common.{◌≡◌, ◌≢◌, ℕ, ◌&&◌, Bool, true, false, not, ◌==◌, cond, List, [], ◌∷◌, ◌++◌, replicate, refl, sym, ap, ◌∙◌, inl, inr, arith, append_assoc, append_cancel_right, nat_lt, and_parts, both_ways, eqb-true, or_from, list_all}
+use Rattle.rl_text.proofs.Common.{◌≡◌, ◌≢◌, ℕ, ◌&&◌, Bool, true, false, not, ◌==◌, cond, List, [], ◌∷◌, ◌++◌, replicate, refl, sym, ap, ◌∙◌, inl, inr, arith, append_assoc, append_cancel_right, nat_lt, and_parts, both_ways, eqb-true, or_from, list_all, zero, suc}
 use Rattle.rl_reading.proofs.Names.{append_cancel_left, Kind, first_passes, after_run, is_hash}
 use Rattle.std.proofs.lemmas.Bool.{or_left}
 use Rattle.rl_text.specs.Texts.{begins}
@@ -9,15 +9,31 @@ use Rattle.rl_forms.proofs.StrictNumbers.{begins_front}
 use Rattle.rl_reasons.specs.declared.flaws.FlawKind.{FlawKind}
 use Rattle.rl_reasons.specs.declared.flaws.FlawKind.TheVariants.{Unfinished, NoQuote, Unclosed, Nul, NotAscii, TooManyHashes, CarriageReturn}
 use Rattle.rl_reading.specs.declared.quoted_forms.QuotedForm.TheVariants.{Raw as RawForm}
-use Rattle.rl_reasons.specs.FlawKinds.{IsUnopened}
+use Rattle.rl_reasons.specs.FlawKinds.{IsUnopened, is_quote}
 use Rattle.rl_reasons.specs.StrictFlawKinds.{IsOpen, StrictQuotedFlaw, StrictRawFlaw}
 use Rattle.rl_strict.specs.Mirrors.StrictAt.{is_raw_character}
 use Rattle.rl_reasons.specs.Mirrors.StrictFlawAt.{raw_stop, held_flaw_of}
 use Rattle.rl_reasons.specs.Mirrors.UnitFlawAt.{spoiled_flaw_of}
-use Rattle.rl_reasons.proofs.OneRawFlaw.{HasQuote, unopened_quote}
 use Rattle.rl_reasons.proofs.OneStrictUnit.{suffix_once}
 use Rattle.rl_reasons.proofs.StrictRawFlaws.{ends_at, many_hashes, no_closer_at, walk_halt}
 use Rattle.rl_strict.proofs.StrictRawLemmas.{NoCloser, inside_allowed}
+
+-- after the hashes stands a quote
+abbrev pub HasQuote : List ℕ → Type 0
+HasQuote t = (hashes : ℕ) × (inside : List ℕ) × (t ≡ replicate hashes 35 ++ (34 ∷ inside))
+
+-- and where it does, nothing else does
+pub no_quote : (n m : ℕ) (rest z : List ℕ) → first_passes is_hash rest ≡ false → first_passes is_quote rest ≡ false
+    → replicate n 35 ++ rest ≡ replicate m 35 ++ (34 ∷ z) → ⊥
+no_quote zero zero rest z h q e = both_ways (first_passes is_quote rest) q (ap (first_passes is_quote) e)
+no_quote zero (suc m) rest z h q e = both_ways (first_passes is_hash rest) h (ap (first_passes is_hash) e)
+no_quote (suc n) zero rest z h q e = both_ways true (sym (ap (first_passes is_quote) e)) refl
+no_quote (suc n) (suc m) rest z h q e = no_quote n m rest z h q
+    (let same : 35 ∷ (replicate n 35 ++ rest) ≡ 35 ∷ (replicate m 35 ++ (34 ∷ z)) = e in cc)
+
+-- where only hashes stand, no quote does
+pub unopened_quote : (t rest : List ℕ) → IsUnopened t rest → HasQuote t → ⊥
+unopened_quote t rest u (m, z, e) = no_quote u.hashes m rest z u.no_hash u.no_quote (sym u.text_is ∙ e)
 
 -- ---- the hashes, and what follows the quote
 

@@ -3,7 +3,7 @@ use Rattle.rl_text.proofs.Common.{◌≡◌, ℕ, ◌⊎◌, ◌&&◌, Bool, tru
 use Rattle.rl_reading.proofs.Names.{Kind, Byte, Char, first_passes, is_single, is_string, is_line_end, StrictUnit, strict_text, is_strict_unit}
 use Rattle.std.proofs.lemmas.Bool.{and_right}
 use Rattle.rl_reasons.specs.declared.flaws.FlawKind.{FlawKind}
-use Rattle.rl_reasons.specs.declared.flaws.FlawKind.TheVariants.{Unclosed, UnknownEscape, NoUnicode, Nul, LoneCr, MustEscape, NoCharacter, TwoCharacters, BadSuffix, CarriageReturn, EarlyQuote, ExtraHash, UnderscoreSuffix}
+use Rattle.rl_reasons.specs.declared.flaws.FlawKind.TheVariants.{Unclosed, UnknownEscape, NoUnicode, Nul, MustEscape, NoCharacter, TwoCharacters, BadSuffix, CarriageReturn, EarlyQuote, ExtraHash, UnderscoreSuffix}
 use Rattle.rl_reading.specs.declared.quoted_forms.QuotedForm.{QuotedForm}
 use Rattle.rl_reading.specs.declared.quoted_forms.QuotedForm.TheVariants.{Cooked as CookedForm, Raw as RawForm, Single as SingleForm}
 use Rattle.rl_reading.specs.StrictUnits.{BeginsStrictUnit, BeginsStrictUnits, BreaksEnd, HasNoStrictUnit}
@@ -59,25 +59,18 @@ after_backslash c = cond (c == 117) NoUnicode (cond (c == 48) Nul UnknownEscape)
 
 no_unknown : (kind : Kind) (k : FlawKind) (t : List ℕ) (a c : ℕ) (cs : List ℕ) → StrictUnitFlaw kind k t (c ∷ cs)
     → is_bad_return kind c ≡ true → k ≡ flaw_of (a ∷ []) c → ⊥
-no_unknown kind k t a c cs h bad e = go (a == 13) refl
+no_unknown kind k t a c cs h bad e =
+    let is : k ≡ UnknownEscape = e ∙ ap after_backslash (eqb-true c 13 p.0) in
+    unknown (subst (λ z. StrictUnitFlaw kind z t (c ∷ cs)) is h)
   where
     p : ((c == 13) ≡ true) × (is_string kind ≡ true)
     p = and_parts (c == 13) (is_string kind) bad
 
-    go : (b : Bool) → (a == 13) ≡ b → ⊥
-    go true g =
-        let is : k ≡ LoneCr = e ∙ ap (λ z. cond z LoneCr (after_backslash c)) g in
-        subst (λ z. StrictUnitFlaw kind z t (c ∷ cs)) is h
-    go false g =
-        let is : k ≡ UnknownEscape = e ∙ ap (λ z. cond z LoneCr (after_backslash c)) g
-        ∙ ap after_backslash (eqb-true c 13 p.0) in
-        unknown (subst (λ z. StrictUnitFlaw kind z t (c ∷ cs)) is h)
-      where
-        unknown : StrictUnitFlaw kind UnknownEscape t (c ∷ cs) → ⊥
-        unknown (text, b) =
-            let same : c ≡ b.first = let r = b.rest_is in cc in
-            both_ways (is_string kind && is_line_end b.first) b.no_line_end (and_from (is_string kind)
-            (is_line_end b.first) p.1 (ap is_line_end (sym same ∙ eqb-true c 13 p.0)))
+    unknown : StrictUnitFlaw kind UnknownEscape t (c ∷ cs) → ⊥
+    unknown (text, b) =
+        let same : c ≡ b.first = let r = b.rest_is in cc in
+        both_ways (is_string kind && is_line_end b.first) b.no_line_end (and_from (is_string kind)
+        (is_line_end b.first) p.1 (ap is_line_end (sym same ∙ eqb-true c 13 p.0)))
 
 -- a kind of both grammars
 shared_told : (kind : Kind) (k : FlawKind) (t : List ℕ) (c : ℕ) (cs : List ℕ) (front : List ℕ)
@@ -118,7 +111,6 @@ told kind NoCharacter t c cs (o, e, h) = record {
   kind_is = ap character_flaw_of (sym (eqb-true c 39 h))
       ∙ sym (ap (λ z. cond z CarriageReturn (character_flaw_of c)) (single_return kind c o));
 }
-told kind LoneCr t c cs h = absurd h
 told kind k t c cs h = let p = spoils kind k t c cs h in shared_told kind k t c cs p.front h p.text_is p.kind_is
 
 -- at the end of the text
@@ -126,7 +118,6 @@ strict_end : (kind : Kind) (k : FlawKind) (t : List ℕ) → StrictUnitFlaw kind
 strict_end kind CarriageReturn t (s, e, h) = absurd (cc)
 strict_end kind MustEscape t (s, e, h) = absurd (cc)
 strict_end kind NoCharacter t (s, e, h) = absurd (cc)
-strict_end kind LoneCr t h = absurd h
 strict_end kind k t h = at_end kind k t h
 
 unit_once : (kind : Kind) (k l : FlawKind) (t rest : List ℕ) → StrictUnitFlaw kind k t rest

@@ -10,12 +10,12 @@ use Rattle.rl_reasons.specs.SignedFlaws.{ExplainsSigned, IsMinusFlawOf, IsSigned
 use Rattle.rl_reasons.specs.StrictFlaws.{ExplainsStrictly}
 use Rattle.rl_strict.specs.StrictShapes.{IsToken}
 use Rattle.rl_reading.specs.Mirrors.NumberAt.{after_minus}
-use Rattle.rl_reasons.specs.Mirrors.NumberFlawAt.{end_flaw_at}
 use Rattle.rl_reasons.specs.Mirrors.UnitFlawAt.{FoundFlaw}
-use Rattle.rl_reasons.proofs.ExplainLemmas.{cut_bytes}
+use Rattle.rl_reasons.proofs.StrictExplainLemmas.{cut_bytes}
 use Rattle.rl_reasons.proofs.OneStrictFlaw.{goes_on as digit_goes_on, one_digit}
 use Rattle.rl_reasons.proofs.StrictWordFlaws.{minus_no_token}
 use Rattle.rl_reading.proofs.TestLemmas.{goes_on}
+use Rattle.rl_reasons.specs.Mirrors.WordFlawAt.{end_flaw_at}
 
 -- ---- what stands after a minus
 

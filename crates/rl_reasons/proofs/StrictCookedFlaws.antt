@@ -10,7 +10,6 @@ use Rattle.rl_reading.specs.StrictUnits.{BeginsStrictUnit, BeginsStrictUnits, Br
 use Rattle.rl_reasons.specs.StrictFlawKinds.{suffix_piece}
 use Rattle.rl_strict.specs.StrictShapes.{ClosesForm, ClosesUnits}
 use Rattle.rl_strict.specs.Mirrors.StrictAt.{ends_quoted, is_strict_suffix, unit_rest}
-use Rattle.rl_reasons.specs.Mirrors.NumberFlawAt.{end_flaw_at}
 use Rattle.rl_reasons.specs.Mirrors.StrictFlawAt.{strict_unit_flaw_at, closed_flaw_at}
 use Rattle.rl_reasons.specs.Mirrors.UnitFlawAt.{FoundFlaw, found_flaw}
 use Rattle.rl_strict.proofs.StrictRowLemmas.{one_end, one_none, quote_stops, quoted_single, units_end, units_step}
@@ -19,6 +18,7 @@ use Rattle.rl_reasons.proofs.StrictUnitFlaws.{HasStrictUnitFlaw, left_none, left
 use Rattle.rl_strict.proofs.StrictUnitLemmas.{StrictFront, unit_rest_complete, unit_rest_sound}
 use Rattle.rl_strict.proofs.StrictUnitRows.{breaks_to, row_closes}
 use Rattle.rl_reading.proofs.TestLemmas.{goes_on}
+use Rattle.rl_reasons.specs.Mirrors.WordFlawAt.{end_flaw_at}
 
 -- ---- units of the definitions and of the proofs
 

@@ -1,5 +1,5 @@
 -- Places of flaws of the strict grammar, in bytes.
-use Rattle.rl_text.proofs.Common.{◌≡◌, ℕ, false, Bool, List, [], ◌∷◌, ◌+◌, ◌++◌, length, replicate, refl, sym, ap, ◌∙◌, inl, inr, append_assoc, both_ways, flat_map, IsTrue, IsUtf8}
+use Rattle.rl_text.proofs.Common.{◌≡◌, ℕ, false, Bool, List, [], ◌∷◌, ◌+◌, ◌++◌, length, replicate, refl, sym, ap, ◌∙◌, inl, inr, append_assoc, both_ways, flat_map, IsTrue, IsUtf8, encode_utf8_all, encodes-append, encodes-chars}
 use Rattle.rl_reading.proofs.Names.{◌↔◌, byte_len, Kind, strict_text}
 use Rattle.std.specs.Str.{chars}
 use Rattle.rl_reasons.specs.declared.flaws.FlawKind.{FlawKind}
@@ -11,8 +11,18 @@ use Rattle.rl_reading.specs.Forms.{form_opener}
 use Rattle.rl_reasons.specs.StrictFlawKinds.{ClosedFlaw, IsClosed, IsOpen, OpenFlaw, StrictCloserFlaw, StrictQuotedFlaw, StrictRawFlaw, suffix_piece}
 use Rattle.rl_reasons.specs.StrictFlaws.{IsStrictFlawOf}
 use Rattle.rl_strict.specs.StrictShapes.{IsToken}
-use Rattle.rl_reasons.proofs.ExplainLemmas.{cut_bytes}
 use Rattle.rl_reasons.proofs.OneStrictUnit.{strict_unit_cut}
+use Rattle.std.proofs.lemmas.List.{length-append}
+
+-- a front's bytes, and those of what follows it
+pub cut_bytes : (t rest front : List ℕ) → IsUtf8 t → IsUtf8 rest → chars t ≡ front ++ chars rest → length t
+    ≡ byte_len front + length rest
+cut_bytes t rest front ut ur cut =
+    ap length (sym (encodes-chars t ut))
+    ∙ ap byte_len cut
+    ∙ ap length (encodes-append front (chars rest))
+    ∙ length-append (encode_utf8_all front) (encode_utf8_all (chars rest))
+    ∙ ap (λ z. byte_len front + length z) (encodes-chars rest ur)
 
 -- what the code's test rejects is no token
 pub never_token : (t : List ℕ) (b : Bool) → IsTrue b ↔ IsToken t → b ≡ false → IsToken t → ⊥

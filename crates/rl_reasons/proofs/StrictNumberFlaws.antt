@@ -1,5 +1,5 @@
 -- Where a text that begins with a digit stops being the front of a strict number, and why.
-use Rattle.rl_text.proofs.Common.{◌≡◌, ◌≢◌, ℕ, suc, ◌⊎◌, ◌||◌, ◌&&◌, Bool, true, false, not, ◌==◌, cond, List, [], ◌∷◌, ◌++◌, length, refl, sym, ap, subst, ◌∙◌, inl, inr, arith, append_assoc, append-nil, and_from, and_parts, both_ways, eqb-true, not-true, not_from_false, or_cases, or_parts, or_right, is_ascii_digit, AllByRecursion, list_all, list_all-append, list_any, is_xid_start}
+use Rattle.rl_text.proofs.Common.{◌≡◌, ◌≢◌, ℕ, suc, ◌⊎◌, ◌||◌, ◌&&◌, Bool, true, false, not, ◌==◌, cond, List, [], ◌∷◌, ◌++◌, length, refl, sym, ap, subst, ◌∙◌, inl, inr, arith, append_assoc, append-nil, and_from, and_parts, both_ways, eqb-true, not-true, not_from_false, or_cases, or_parts, or_right, is_ascii_digit, AllByRecursion, list_all, list_all-append, list_any, is_xid_start, or_from}
 use Rattle.rl_reading.proofs.Names.{and_right, cond_both, false_from_ne_true, IsScalar, first_passes, is_row_part, is_underscore, IsSuffix, Base, Binary, Octal, Decimal, Hexadecimal, radix, prefix, is_exponent_letter}
 use Rattle.std.proofs.lemmas.Bool.{and_left, or_left}
 use Rattle.std.proofs.lemmas.List.Folds.{list_any-append}
@@ -20,11 +20,59 @@ use Rattle.rl_reading.specs.Mirrors.PlainAt.{is_some_text}
 use Rattle.rl_reasons.specs.Mirrors.StrictFlawAt.{suffix_rest, strict_based_flaw_at, strict_exponent_flaw_at, fraction_flaw_at, number_flaw_at, strict_power_flaw_at, strict_tail_flaw_at, whole_flaw_at}
 use Rattle.rl_reasons.specs.Mirrors.UnitFlawAt.{FoundFlaw, found_flaw}
 use Rattle.rl_reading.proofs.IntegerLemmas.{based}
-use Rattle.rl_reasons.proofs.NumberFlawLemmas.{both_fail, each_fails, names, names_none, ten_first, ten_stays}
 use Rattle.rl_reading.proofs.RunLemmas.{run_all, run_ends, run_join, run_past}
 use Rattle.rl_strict.proofs.StrictNumberLemmas.{front_digits, row_part, sign_off, sign_split}
 use Rattle.rl_reasons.proofs.StrictSuffixFlaws.{goes_on_first, no_start_no_suffix, suffix_cut, suffix_stuck}
 use Rattle.rl_reading.proofs.TestLemmas.{front_passes, goes_on, passes_more}
+
+-- ---- base ten
+
+-- a letter that names a base after this whole part
+abbrev pub names : List ℕ → ℕ → Bool
+names [] c = false
+names (a ∷ []) c = a == 48 && not (radix_of c == 10)
+names (a ∷ b ∷ ws) c = false
+
+not_named : (b : Bool) (r : ℕ) (cs u : List ℕ) → (cond {A = ℕ × List ℕ} (b && not (r == 10)) (r, cs) (10, u)).0 ≡ 10
+    → (b && not (r == 10)) ≡ false
+not_named false r cs u h = refl
+not_named true r cs u h = go (r == 10) refl h
+  where
+    go : (d : Bool) → (r == 10) ≡ d → (cond {A = ℕ × List ℕ} (not d) (r, cs) (10, u)).0 ≡ 10 → not d ≡ false
+    go true e k = refl
+    go false e k = let same : false ≡ true = sym e ∙ ap (λ z. z == 10) k in absurd (cc)
+
+-- what follows the whole part of a number in base ten names no base
+pub names_none : (w z : List ℕ) → (radix_at (w ++ z)).0 ≡ 10 → first_passes (names w) z ≡ false
+unfolding radix_at
+names_none w [] h = refl
+names_none [] (c ∷ cs) h = refl
+names_none (a ∷ []) (c ∷ cs) h = not_named (a == 48) (radix_of c) cs (a ∷ c ∷ cs) h
+names_none (a ∷ b ∷ ws) (c ∷ cs) h = refl
+
+-- and where no base is named, the number is in base ten
+pub ten_stays : (w z x : List ℕ) → first_passes is_ascii_digit w ≡ true → (radix_at (w ++ z)).0 ≡ 10
+    → first_passes (names w) x ≡ false → radix_at (w ++ x) ≡ (10, w ++ x)
+unfolding radix_at
+ten_stays [] z x d h k = absurd (cc)
+ten_stays (a ∷ []) z [] d h k = refl
+ten_stays (a ∷ []) z (c ∷ cs) d h k = ap (λ b. cond {A = ℕ × List ℕ} b (radix_of c, cs) (10, a ∷ c ∷ cs)) k
+ten_stays (a ∷ b ∷ ws) z x d h k = ap (λ t. cond {A = ℕ × List ℕ} t (radix_of b, ws ++ x) (10, a ∷ b ∷ (ws ++ x)))
+    (not_named (a == 48) (radix_of b) (ws ++ z) (a ∷ b ∷ (ws ++ z)) h)
+
+-- what may follow the whole part
+abbrev pub ten_first : List ℕ → ℕ → Bool
+ten_first w c = is_row_part (has_value 10) c || names w c
+
+pub both_fail : (f g : ℕ → Bool) (z : List ℕ) → first_passes f z ≡ false → first_passes g z ≡ false
+    → first_passes (λ c. f c || g c) z ≡ false
+both_fail f g [] h k = refl
+both_fail f g (c ∷ cs) h k = or_from (f c) (g c) h k
+
+pub each_fails : (f g : ℕ → Bool) (z : List ℕ) → first_passes (λ c. f c || g c) z ≡ false → (first_passes f z ≡ false)
+    × (first_passes g z ≡ false)
+each_fails f g [] h = (refl, refl)
+each_fails f g (c ∷ cs) h = or_parts (f c) (g c) h
 
 -- ---- a flaw after some front of a number
 

@@ -14,9 +14,8 @@ use Rattle.rl_strict.specs.Mirrors.StrictAt.{is_strict_number}
 use Rattle.rl_reasons.specs.Mirrors.StrictFlawAt.{strict_based_flaw_at, strict_exponent_flaw_at, fraction_flaw_at, number_flaw_at, strict_power_flaw_at, strict_tail_flaw_at, whole_flaw_at}
 use Rattle.rl_reasons.specs.Mirrors.UnitFlawAt.{FoundFlaw, found_flaw}
 use Rattle.rl_reading.proofs.FloatLemmas.{letter_no_dot}
-use Rattle.rl_reasons.proofs.NumberFlawLemmas.{each_fails}
+use Rattle.rl_reasons.proofs.StrictNumberFlaws.{each_fails, IsSign, Says, TailFlaw, in_base, in_row, is_sign, never_row, number_flaw_based, number_spoils, of_base, row_no_base, sign_past}
 use Rattle.rl_reading.proofs.RunLemmas.{run_past}
-use Rattle.rl_reasons.proofs.StrictNumberFlaws.{IsSign, Says, TailFlaw, in_base, in_row, is_sign, never_row, number_flaw_based, number_spoils, of_base, row_no_base, sign_past}
 use Rattle.rl_strict.proofs.StrictNumberLemmas.{row_part}
 use Rattle.rl_reasons.proofs.StrictTokens.{number_is_token, token_number}
 use Rattle.rl_reasons.proofs.StrictWordFlaws.{IsStrictFlaw}

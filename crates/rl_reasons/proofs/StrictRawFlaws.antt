@@ -470,3 +470,9 @@ raw_many_hashes k f n t rest q z cs c s few text last is hash kind piece place =
         let less = y.few in
         let full = go (cases_Bool (nat_lt n 255)) in
         absurd (omega (arith, many, less, full))
+
+-- ---- the steps of the code
+
+pub opened_text : (t hashes rest inside : List ℕ) (c : ℕ) → t ≡ hashes ++ rest → rest ≡ c ∷ inside → c ≡ 34 → t ≡ hashes
+    ++ (34 ∷ inside)
+opened_text t hashes rest inside c cut first is = cut ∙ ap (λ z. hashes ++ z) (first ∙ ap (λ z. z ∷ inside) is)

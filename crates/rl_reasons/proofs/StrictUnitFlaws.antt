@@ -2,11 +2,11 @@
 -- flaw of the
 -- code's kind.
 use Rattle.rl_text.proofs.Common.{◌≡◌, ◌≢◌, ℕ, ◌||◌, ◌&&◌, Bool, true, false, not, ◌==◌, cond, ltb, List, [], ◌∷◌, ◌++◌, Option, Some, None, refl, sym, ap, subst, ◌∙◌, inl, inr, and_parts, both_ways, cases_Bool, eqb-true}
-use Rattle.rl_reading.proofs.Names.{cond_both, Kind, Str, ByteStr, CStr, Byte, Char, first_passes, Letter, Named, LowerN, LowerR, LowerT, Backslash, Apostrophe, Quote, Zero, letter_text, is_string, is_single, is_line_end, Itself, is_dropped_blank, is_strict_unit, after_run}
+use Rattle.rl_reading.proofs.Names.{cond_both, Kind, Str, ByteStr, CStr, Byte, Char, first_passes, Letter, Named, LowerN, LowerR, LowerT, Backslash, Apostrophe, Quote, Zero, letter_text, is_string, is_line_end, Itself, is_dropped_blank, is_strict_unit, after_run}
 use Rattle.std.proofs.Common.{option_map}
 use Rattle.std.proofs.lemmas.Bool.{and_left}
 use Rattle.rl_reasons.specs.declared.flaws.FlawKind.{FlawKind}
-use Rattle.rl_reasons.specs.declared.flaws.FlawKind.TheVariants.{UnknownEscape, LoneCr, Nul, NotAscii, MustEscape, NoCharacter, CarriageReturn}
+use Rattle.rl_reasons.specs.declared.flaws.FlawKind.TheVariants.{UnknownEscape, Nul, NotAscii, MustEscape, NoCharacter, CarriageReturn}
 use Rattle.rl_reasons.specs.FlawKinds.{UnitFlaw}
 use Rattle.rl_reasons.specs.StrictFlawKinds.{StrictUnitFlaw}
 use Rattle.rl_reading.specs.Mirrors.UnitAt.{escape_at, unit_at}
@@ -97,15 +97,10 @@ escape_same k d e n m =
 
 -- ---- the kinds
 
--- what both grammars say alike
-shared : (k : Kind) (f : FlawKind) (t rest : List ℕ) → (is_string k ≡ true → first_passes (λ c. c == 13) t ≡ false)
-    → UnitFlaw k f t rest → StrictUnitFlaw k f t rest
-shared k LoneCr t rest n u = absurd (both_ways (first_passes (λ c. c == 13) t) (n u.0)
-    (ap (first_passes (λ c. c == 13)) u.1))
-shared k MustEscape t rest n u = (ap is_single u.0, u.1, u.2)
-shared k NoCharacter t rest n u = (ap is_single u.0, u.1, u.2)
-shared k CarriageReturn t rest n u = absurd u
-shared k f t rest n u = u
+-- what is said of no CR
+shared : (k : Kind) (f : FlawKind) (t rest : List ℕ) → UnitFlaw k f t rest → StrictUnitFlaw k f t rest
+shared k CarriageReturn t rest u = absurd u
+shared k f t rest u = u
 
 -- ---- an escape
 
@@ -114,7 +109,7 @@ lifted : (k : Kind) (d : ℕ) (ds : List ℕ) (flaw : FoundFlaw) → (d == 10) �
     → HasUnitFlaw k (escape_at k) (92 ∷ []) (d ∷ ds) flaw → HasStrictUnitFlaw k (92 ∷ d ∷ ds) flaw
 lifted k d ds flaw n m h = record {
   stops = go h.stops.front h.stops.text_is h.stops.completes h.stops.stuck;
-  has = shared k flaw.0 (92 ∷ d ∷ ds) flaw.1 (λ s. refl) h.has;
+  has = shared k flaw.0 (92 ∷ d ∷ ds) flaw.1 h.has;
 }
   where
     go : (front : List ℕ) → d ∷ ds ≡ front ++ flaw.1 → Completes (escape_at k) front
@@ -316,9 +311,9 @@ alone_has : (k : Kind) (c : ℕ) (cs : List ℕ) → IsQuotedKind k → IsOpen k
     → StrictUnitFlaw k (character_flaw_of c) (c ∷ cs) (c ∷ cs)
 alone_has k c cs (inl s) still a r bare =
     let return : (c == 13) ≡ false = left_false (c == 13) (is_string k) s r in
-    shared k (character_flaw_of c) (c ∷ cs) (c ∷ cs) (λ h. return) (string_has k c cs s
+    shared k (character_flaw_of c) (c ∷ cs) (c ∷ cs) (string_has k c cs s
     (plain_is_bare k c (no_char k s) ∙ bare) (still s) a return)
-alone_has Byte c cs (inr s) still a r bare = shared Byte (character_flaw_of c) (c ∷ cs) (c ∷ cs) (λ h. absurd (cc))
+alone_has Byte c cs (inr s) still a r bare = shared Byte (character_flaw_of c) (c ∷ cs) (c ∷ cs)
     (byte_has c cs bare a)
 alone_has Char c cs (inr s) still a r bare = char_has c cs bare a
 alone_has kind c cs (inr s) still a r bare = absurd (cc)

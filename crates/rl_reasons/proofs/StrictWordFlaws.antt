@@ -4,9 +4,8 @@ use Rattle.rl_reading.proofs.Names.{IsScalar, ByteStr, CStr, first_passes, truth
 use Rattle.rl_reasons.specs.declared.flaws.FlawKind.{FlawKind}
 use Rattle.rl_reasons.specs.declared.flaws.FlawKind.TheVariants.{Empty, NoLiteral, Unfinished, Minus}
 use Rattle.rl_reading.specs.declared.quoted_forms.QuotedForm.TheVariants.{Cooked as CookedForm}
-use Rattle.rl_reasons.specs.Flaws.{IsCompletable, StopsBefore}
-use Rattle.rl_reasons.specs.NumberFlaws.{BeginsWord, HasKind, IsWordFlaw}
-use Rattle.rl_reasons.specs.StrictNumberFlaws.{IsStrictWordFlaw}
+use Rattle.rl_reasons.specs.Flaws.{IsCompletable, StopsBefore, HasKind}
+use Rattle.rl_reasons.specs.StrictNumberFlaws.{IsStrictWordFlaw, BeginsWord, IsWordFlaw}
 use Rattle.rl_strict.specs.StrictShapes.{IsToken}
 use Rattle.rl_reading.specs.WholeShapes.{is_number_front}
 use Rattle.rl_reading.specs.Mirrors.OpenerAt.{opener_at}

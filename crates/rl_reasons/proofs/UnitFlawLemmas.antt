@@ -1,16 +1,16 @@
 -- Where no unit of a quoted literal stands, the text stops being the front of one at the code's
 -- place, and has the flaw of the code's kind.
 use Rattle.rl_text.proofs.Common.{◌≡◌, ◌≢◌, ℕ, suc, ◌+◌, ◌*◌, ◌<◌, ◌≤◌, ◌||◌, ◌&&◌, Bool, true, false, not, cond, eqb, ltb, List, [], ◌∷◌, ◌++◌, length, Option, Some, None, refl, sym, ap, subst, ◌∙◌, inl, inr, arith, append_assoc, option_and_then, list_all, digit_value, scalar, and_from, and_parts, both_ways, cases_Bool, eqb-true, ltb-true, ltb-false, lt-ltb, not-true, not_from_false, list_all-append}
-use Rattle.rl_reading.proofs.Names.{pow-suc, cond_both, Kind, Str, ByteStr, CStr, Byte, Char, first_passes, is_underscore, Letter, Named, LowerN, LowerR, LowerT, Backslash, Apostrophe, Quote, Zero, letter_text, letter_value, hex_value, content_of, place_value, without_underscores, is_hex_digit, holds_characters, is_string, is_single, is_plain, is_line_end, allows_code, may_be_hex, has_unicode}
+use Rattle.rl_reading.proofs.Names.{pow-suc, cond_both, Kind, Str, ByteStr, CStr, Byte, first_passes, is_underscore, Letter, Named, LowerN, LowerR, LowerT, Backslash, Apostrophe, Quote, Zero, letter_text, letter_value, hex_value, content_of, place_value, without_underscores, is_hex_digit, holds_characters, is_string, is_plain, is_line_end, allows_code, may_be_hex, has_unicode}
 use Rattle.std.proofs.Common.{length-append}
 use Rattle.rl_text.proofs.Basics.{apart}
 use Rattle.rl_reasons.specs.declared.flaws.FlawKind.{FlawKind}
 use Rattle.rl_reasons.specs.declared.flaws.FlawKind.TheVariants.{Unclosed, UnknownEscape, NoUnicode, NoHexDigit, NoBrace, EmptyBraces, TooManyDigits, PastAscii, PastUnicode, Surrogate, Nul, NotAscii, MustEscape, NoCharacter}
 use Rattle.rl_reasons.specs.FlawKinds.{IsBraced, digit_count, number_of, FirstDigit, SecondDigit, AfterBrace, AfterDigits, IsNoCode, HasNoCode, AtBrace, AtSixth, AsItIs, ByLetter, ByDigits, ByNumber, UnitFlaw}
-use Rattle.rl_reading.specs.Mirrors.UnitAt.{found, number_if, hex_at, unicode_at, after_blanks, named_at, escape_at, line_feed_at, unit_at}
-use Rattle.rl_reasons.specs.Mirrors.UnitFlawAt.{FoundFlaw, found_flaw, low_digit_flaw_at, hex_flaw_at, is_code, code_flaw_of, first_digit_flaw_at, unicode_flaw_at, escape_flaw_at, line_end_flaw_at, character_flaw_of, unit_flaw_at}
-use Rattle.rl_reading.proofs.UnitLemmas.{holds_more, two_digits, unit_complete, crlf_complete}
-use Rattle.rl_reasons.proofs.EscapeLemmas.{Reader, given, Completes, inner_none, only_zero, hex_read, hex_one, second, hex_second, never, no_low, no_high, past_hex, allowed, coded, closed_code, closed_bad, digit_on, digit_past, underscore_on, other_none, full_none, not_low, not_high, Spelled, room, closing, spelled_on, braced, braced_first, braced_none, first_spelled, braced_one, unicode_on, no_unicode_brace, unicode_one, unicode_never, escape_n, by_hex, by_unicode, same_escape, by_escape, IsQuotedKind, unit_one, line_feed, no_line_feed, same_character}
+use Rattle.rl_reading.specs.Mirrors.UnitAt.{found, number_if, hex_at, unicode_at, after_blanks, named_at, escape_at}
+use Rattle.rl_reasons.specs.Mirrors.UnitFlawAt.{FoundFlaw, found_flaw, low_digit_flaw_at, hex_flaw_at, is_code, code_flaw_of, first_digit_flaw_at, unicode_flaw_at, escape_flaw_at, character_flaw_of}
+use Rattle.rl_reading.proofs.UnitLemmas.{holds_more, two_digits, unit_complete}
+use Rattle.rl_reasons.proofs.EscapeLemmas.{Reader, given, Completes, inner_none, only_zero, hex_read, hex_one, second, hex_second, never, no_low, no_high, past_hex, allowed, coded, closed_code, closed_bad, digit_on, digit_past, underscore_on, other_none, full_none, not_low, not_high, Spelled, room, closing, spelled_on, braced, braced_first, braced_none, first_spelled, braced_one, unicode_on, no_unicode_brace, unicode_one, unicode_never, escape_n, by_hex, by_unicode, same_escape, by_escape}
 use Rattle.rl_reading.proofs.CodeDigitLemmas.{digit_apart}
 use Rattle.rl_reasons.proofs.CodeDigitFlaws.{digits_flaw_at, digits_flaw_is}
 use Rattle.rl_reading.proofs.TestLemmas.{passes_more}
@@ -473,15 +473,6 @@ escape_spoils kind (c ∷ cs) none = cond_both (eqb c 120) _ _ P by_x
 
 -- ---- a character that doesn't stand for itself
 
-no_plain : (kind : Kind) (c : ℕ) (cs : List ℕ) → eqb c 92 ≡ false → unit_at kind (c ∷ cs) ≡ None → is_plain kind c
-    ≡ false
-unfolding unit_at
-no_plain kind c cs a none = go (is_plain kind c) (cond (eqb c 13) (line_feed_at kind cs) None) (rw a at none)
-  where
-    go : (p : Bool) (o : Option (List ℕ × List ℕ)) → cond p (found (content_of kind (c ∷ [])) cs) o ≡ None → p ≡ false
-    go true o h = absurd (cc)
-    go false o h = refl
-
 abbrev Alone : Kind → ℕ → List ℕ → FlawKind → Type 0
 Alone kind c cs flaw = UnitFlaw kind flaw (c ∷ cs) (c ∷ cs)
 
@@ -533,66 +524,8 @@ byte_has c cs p b = zero (eqb c 0) refl
     zero true e = let h : true ≡ false = ap (is_plain Byte) (sym (eqb-true c 0 e)) ∙ p in absurd (cc)
     zero false e = apostrophe (eqb c 39) refl
 
-single_has : (kind : Kind) (c : ℕ) (cs : List ℕ) → is_single kind ≡ true → is_plain kind c ≡ false → eqb c 92 ≡ false
-    → Alone kind c cs (character_flaw_of c)
-single_has Byte c cs s p b = byte_has c cs p b
-single_has Char c cs s p b = let e : true ≡ false = rw b at p in absurd (cc)
-single_has kind c cs s p b = absurd (cc)
-
 -- ---- a unit
 
 -- no quote closes a string there
 abbrev pub IsOpen : Kind → List ℕ → Type 0
 IsOpen kind t = is_string kind ≡ true → first_passes (λ c. eqb c 34) t ≡ false
-
-line_end_spoils : (kind : Kind) (t : List ℕ) → is_string kind ≡ true → unit_at kind (13 ∷ t) ≡ None
-    → HasUnitFlaw kind (unit_at kind) [] (13 ∷ t) (line_end_flaw_at t)
-line_end_spoils kind t s none = go t none
-  where
-    whole : Completes (unit_at kind) (13 ∷ [])
-    whole = record { ending = 10 ∷ []; value = 10 ∷ []; are_characters = (refl, tt); no_blank = λ r h. absurd (cc); reads = λ r. crlf_complete kind r s }
-
-    no_feed : (a b : Bool) (ds : List ℕ) → a ≡ true → cond (a && b) (found (10 ∷ []) ds) None ≡ None → b ≡ false
-    no_feed true true ds e h = absurd (cc)
-    no_feed true false ds e h = refl
-    no_feed false b ds e h = absurd (cc)
-
-    go : (t : List ℕ) → unit_at kind (13 ∷ t) ≡ None → HasUnitFlaw kind (unit_at kind) [] (13 ∷ t) (line_end_flaw_at t)
-    go [] h = record { stops = record { front = 13 ∷ []; text_is = refl; completes = whole; stuck = λ c cs e g. absurd (cc) }; has = refl }
-    go (d ∷ ds) h =
-        let stuck : line_feed_at kind (d ∷ ds) ≡ None = sym (line_feed kind (d ∷ ds) s) ∙ h in
-        record {
-          stops = record {
-            front = 13 ∷ [];
-            text_is = refl;
-            completes = whole;
-            stuck = λ c cs e g.
-                let head : d ≡ c = cc in
-                subst (λ x. unit_at kind (13 ∷ x ∷ e) ≡ None) head (line_feed kind (d ∷ e) s
-                ∙ no_line_feed kind d ds e stuck);
-          };
-          has = (s, refl, not_from_false (eqb d 10) (no_feed (is_string kind) (eqb d 10) ds s stuck));
-        }
-
-pub unit_spoils : (kind : Kind) (t : List ℕ) → IsQuotedKind kind → IsOpen kind t → unit_at kind t ≡ None
-    → HasUnitFlaw kind (unit_at kind) [] t (unit_flaw_at kind t)
-unfolding unit_flaw_at
-unit_spoils kind [] q still none = at_end (unit_one kind q)
-unit_spoils kind (c ∷ cs) q still none =
-    let P : FoundFlaw → Type 0 = HasUnitFlaw kind (unit_at kind) [] (c ∷ cs) in
-    cond_both (eqb c 92) _ _ P
-    (λ e. next_same (escape_at kind) (unit_at kind) c 92 (eqb-true c 92 e) (by_escape kind) none
-    (escape_spoils kind cs))
-    (λ a. cond_both (eqb c 13 && is_string kind) _ _ P
-    (λ e.
-    let parts = and_parts (eqb c 13) (is_string kind) e in
-    let is = eqb-true c 13 parts.0 in
-    subst (λ x. HasUnitFlaw kind (unit_at kind) [] (x ∷ cs) (line_end_flaw_at cs)) (sym is)
-    (line_end_spoils kind cs parts.1 (ap (λ x. unit_at kind (x ∷ cs)) (sym is) ∙ none)))
-    (λ e. here c cs (character_flaw_of c) (unit_one kind q) (λ r. same_character kind c cs r a e none) (alone q e a)))
-  where
-    alone : IsQuotedKind kind → (eqb c 13 && is_string kind) ≡ false → eqb c 92 ≡ false
-        → Alone kind c cs (character_flaw_of c)
-    alone (inl s) e a = string_has kind c cs s (no_plain kind c cs a none) (still s) a
-        (left_false (eqb c 13) (is_string kind) s e)
-    alone (inr s) e a = single_has kind c cs s (no_plain kind c cs a none) a

@@ -2,19 +2,23 @@
 -- truth value.
 use Rattle.rl_text.proofs.Common.{◌≡◌, ◌≢◌, ℕ, Bool, true, false, cond, ◌||◌, ◌==◌, List, [], ◌∷◌, ◌++◌, None, Some, inl, inr, refl, sym, ap, subst, ◌∙◌, append-nil, AllByRecursion, both_ways, cases_Bool, eq-eqb, eqb-true, or_parts, append_cancel_right}
 use Rattle.rl_reading.proofs.Names.{IsScalar, cond_both, append_cancel_left, Kind, BoolKind, Byte, ByteStr, Char, CStr, Str, is_string, opener, HasContents, HasNoTruth, HasReading, Truth, quoted_contents, truth_text, first_passes}
-use Rattle.rl_reasons.specs.Flaws.{StopsBefore}
-use Rattle.rl_reasons.specs.NumberFlaws.{BeginsWord, IsWordFlaw}
+use Rattle.rl_reasons.specs.Flaws.{StopsBefore, HasKind}
 use Rattle.rl_reading.specs.declared.quoted_forms.QuotedForm.{QuotedForm}
 use Rattle.rl_reading.specs.declared.quoted_forms.QuotedForm.TheVariants.{Cooked as CookedForm, Raw as RawForm, Single as SingleForm}
 use Rattle.rl_reading.specs.WholeShapes.{is_number_front}
 use Rattle.rl_reasons.specs.declared.flaws.FlawKind.TheVariants.{Unfinished, NoLiteral}
-use Rattle.rl_reasons.specs.Mirrors.NumberFlawAt.{end_flaw_at}
 use Rattle.rl_reading.specs.Mirrors.OpenerAt.{FoundOpener, byte_opener_at, found_opener, opener_at, string_opener_at}
 use Rattle.rl_reasons.specs.Mirrors.UnitFlawAt.{FoundFlaw, found_flaw}
-use Rattle.rl_reasons.specs.Mirrors.WordFlawAt.{after_letters, word_flaw_at}
+use Rattle.rl_reasons.specs.Mirrors.WordFlawAt.{after_letters, word_flaw_at, end_flaw_at}
 use Rattle.rl_reading.proofs.FormLemmas.{no_front}
-use Rattle.rl_reasons.proofs.NumberFlawLemmas.{IsFlaw}
 use Rattle.rl_reading.proofs.ReadingLemmas.{no_front_number, no_reading}
+use Rattle.rl_reasons.specs.declared.flaws.FlawKind.{FlawKind}
+use Rattle.rl_reasons.specs.StrictNumberFlaws.{BeginsWord, IsWordFlaw}
+
+-- a flaw stands so in the text
+pub record IsFlaw (says : FlawKind → List ℕ → List ℕ → Type 0) (t : List ℕ) (flaw : FoundFlaw) : Type 0 where
+  pub stops : StopsBefore HasReading t flaw.1
+  pub kind : HasKind (says flaw.0) t flaw.1
 
 -- ---- the code's two words
 

@@ -1,7 +1,7 @@
 -- What the programs print of each kind of flaw.
 use Rattle.std.specs.Prelude.{ℕ, List, codes}
 use Rattle.rl_reasons.specs.declared.flaws.FlawKind.{FlawKind}
-use Rattle.rl_reasons.specs.declared.flaws.FlawKind.TheVariants.{Empty, NoLiteral, Unfinished, NoQuote, NoNumber, Unclosed, UnknownEscape, NoUnicode, NoHexDigit, NoBrace, EmptyBraces, TooManyDigits, PastAscii, PastUnicode, Surrogate, Nul, NotAscii, LateQuote, LoneCr, MustEscape, NoCharacter, TwoCharacters, NoExponentDigit, BadSuffix, TooLarge, Minus, TooManyHashes, CarriageReturn, EarlyQuote, ExtraHash, UnderscoreSuffix, NoDigits, DigitOfBase, BasedFloat, NoFractionDigit}
+use Rattle.rl_reasons.specs.declared.flaws.FlawKind.TheVariants.{Empty, NoLiteral, Unfinished, NoQuote, NoNumber, Unclosed, UnknownEscape, NoUnicode, NoHexDigit, NoBrace, EmptyBraces, TooManyDigits, PastAscii, PastUnicode, Surrogate, Nul, NotAscii, MustEscape, NoCharacter, TwoCharacters, NoExponentDigit, BadSuffix, TooLarge, Minus, TooManyHashes, CarriageReturn, EarlyQuote, ExtraHash, UnderscoreSuffix, NoDigits, DigitOfBase, BasedFloat, NoFractionDigit}
 
 abbrev pub flaw_message : FlawKind → List ℕ
 flaw_message Empty = codes "empty text"
@@ -21,8 +21,6 @@ flaw_message PastUnicode = codes "no character past 10FFFF"
 flaw_message Surrogate = codes "surrogates are no characters"
 flaw_message Nul = codes "NUL in a C string"
 flaw_message NotAscii = codes "not an ASCII character"
-flaw_message LateQuote = codes "a later quote moves the end past a character that the string can't hold"
-flaw_message LoneCr = codes "CR without LF"
 flaw_message MustEscape = codes "must be written as an escape"
 flaw_message NoCharacter = codes "no character between the quotes"
 flaw_message TwoCharacters = codes "more than one character between the quotes"

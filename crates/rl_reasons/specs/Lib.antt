@@ -1,11 +1,10 @@
 pub mod FlawKinds
 pub mod FlawWords
 pub mod Flaws
-pub mod OneFlaw
-pub mod NumberFlaws
 pub mod StrictFlawKinds
 pub mod StrictNumberFlaws
 pub mod StrictFlaws
-pub mod OneStrictFlaw
+pub mod OneFlaw
 pub mod SignedFlaws
+pub mod Limits
 pub mod Mirrors

@@ -1,8 +1,6 @@
 -- Mirrors of the code: programs on lists of characters that code is proved equal to. No public
 -- clause cites one.
 
-pub mod NumberFlawAt
-pub mod StopsInside
 pub mod StrictFlawAt
 pub mod UnitFlawAt
 pub mod WordFlawAt

@@ -6,8 +6,7 @@ use Rattle.rl_text.specs.Texts.{byte_len, first_passes}
 use Rattle.rl_reasons.specs.declared.flaws.Flaw.{Flaw}
 use Rattle.rl_reasons.specs.declared.flaws.FlawKind.{FlawKind}
 use Rattle.rl_reasons.specs.declared.flaws.FlawKind.TheVariants.{NoNumber, Unfinished}
-use Rattle.rl_reasons.specs.Flaws.{IsPlaced}
-use Rattle.rl_reasons.specs.NumberFlaws.{HasKind}
+use Rattle.rl_reasons.specs.Flaws.{HasKind, IsPlaced}
 use Rattle.rl_reasons.specs.StrictFlaws.{IsStrictFlawOf}
 use Rattle.rl_reasons.specs.StrictNumberFlaws.{IsStrictNumberFlaw}
 use Rattle.rl_strict.specs.StrictShapes.{IsToken}

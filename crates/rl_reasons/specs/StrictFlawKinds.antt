@@ -7,29 +7,23 @@ use Rattle.std.specs.List.{list_all}
 use Prim.Native.Char.{code}
 use Rattle.rl_forms.specs.declared.kind.Kind.{Kind}
 use Rattle.rl_forms.specs.declared.kind.Kind.TheVariants.{ByteStr, CStr}
-use Rattle.rl_text.specs.Texts.{first_passes, is_among, is_continue, is_start}
-use Rattle.rl_forms.specs.Quoted.{is_single, is_string}
+use Rattle.rl_text.specs.Texts.{first_passes, is_continue, is_start}
+use Rattle.rl_forms.specs.Quoted.{is_string}
 use Rattle.rl_text.specs.Classes.{is_hash}
 use Rattle.rl_lexer.specs.Sources.{is_apostrophe}
 use Rattle.rl_forms.specs.Strict.{IsRawInside}
 use Rattle.rl_reasons.specs.declared.flaws.FlawKind.{FlawKind}
-use Rattle.rl_reasons.specs.declared.flaws.FlawKind.TheVariants.{Unfinished, NoQuote, Unclosed, Nul, NotAscii, LoneCr, MustEscape, NoCharacter, TwoCharacters, BadSuffix, TooManyHashes, CarriageReturn, EarlyQuote, ExtraHash, UnderscoreSuffix}
+use Rattle.rl_reasons.specs.declared.flaws.FlawKind.TheVariants.{Unfinished, NoQuote, Unclosed, Nul, NotAscii, TwoCharacters, BadSuffix, TooManyHashes, CarriageReturn, EarlyQuote, ExtraHash, UnderscoreSuffix}
 use Rattle.rl_reading.specs.declared.quoted_forms.QuotedForm.{QuotedForm}
 use Rattle.rl_reading.specs.declared.quoted_forms.QuotedForm.TheVariants.{Cooked as CookedForm, Raw as RawForm, Single as SingleForm}
 use Rattle.rl_reasons.specs.FlawKinds.{Begins, IsUnopened, UnitFlaw}
 use Rattle.rl_reading.specs.Forms.{form_opener, has_form}
 use Rattle.rl_reading.specs.StrictBytes.{HasNoCarriageReturn}
 
--- What the kinds say of a text that no unit begins: what they say in the lenient grammar, but that strings hold no CR,
--- and that
--- characters have to be written as escapes where bytes have.
+-- What the kinds say of a text that no unit begins: strings hold no CR, as it is or after a backslash; else what `UnitFlaw` says.
 abbrev pub StrictUnitFlaw : Kind → FlawKind → List ℕ → List ℕ → Type 0
 StrictUnitFlaw kind CarriageReturn text rest =
     IsTrue (is_string kind) × ((text ≡ rest) ⊎ (text ≡ codes "\\" ++ rest)) × Begins (λ c. c == code "\r") rest
-StrictUnitFlaw kind MustEscape text rest = IsTrue (is_single kind) × (text ≡ rest)
-    × Begins (is_among (codes "\n\r\t")) rest
-StrictUnitFlaw kind NoCharacter text rest = IsTrue (is_single kind) × (text ≡ rest) × Begins is_apostrophe rest
-StrictUnitFlaw kind LoneCr text rest = ⊥
 StrictUnitFlaw kind flaw text rest = UnitFlaw kind flaw text rest
 
 -- ---- the end of a closed literal

@@ -6,12 +6,12 @@ use Rattle.std.specs.Char.{is_ascii_digit}
 use Rattle.std.specs.List.{list_all, list_any}
 use Prim.Native.Char.{code}
 use Rattle.rl_forms.specs.Numbers.{Base, Decimal, is_digit, is_exponent_letter, is_power_sign, prefix}
+use Rattle.rl_forms.specs.Reading.{truth_text}
 use Rattle.rl_forms.specs.Strict.{IsDigits}
 use Rattle.rl_text.specs.Texts.{first_passes, is_row_part, is_underscore}
 use Rattle.rl_reasons.specs.declared.flaws.FlawKind.{FlawKind}
-use Rattle.rl_reasons.specs.declared.flaws.FlawKind.TheVariants.{NoLiteral, NoExponentDigit, BadSuffix, Minus, NoDigits, DigitOfBase, BasedFloat, NoFractionDigit}
+use Rattle.rl_reasons.specs.declared.flaws.FlawKind.TheVariants.{Empty, NoLiteral, Unfinished, NoExponentDigit, BadSuffix, Minus, NoDigits, DigitOfBase, BasedFloat, NoFractionDigit}
 use Rattle.rl_reasons.specs.FlawKinds.{Begins}
-use Rattle.rl_reasons.specs.NumberFlaws.{BeginsWord, IsWordFlaw}
 use Rattle.rl_strict.specs.StrictShapes.{IsToken}
 
 -- what a float alone goes on with after its whole part
@@ -69,8 +69,25 @@ IsStrictNumberFlaw BadSuffix front rest =
     IsToken front × (rest ≢ []) × ((kind : FlawKind) → IsDigitFlaw kind front rest → ⊥)
 IsStrictNumberFlaw kind front rest = IsDigitFlaw kind front rest
 
--- The kinds of texts that begin neither with a digit nor as a quoted literal: those of the lenient grammar, and a
--- minus.
+-- a truth value begins with the text, which may be all of it
+pub record BeginsTruth (text : List ℕ) : Type 0 where
+  pub truth : Bool
+  pub more : List ℕ
+  pub word_is : truth_text truth ≡ text ++ more
+
+-- what the prefixes and the truth values begin with
+abbrev pub BeginsWord : List ℕ → Type 0
+BeginsWord text = (text ≡ codes "b") ⊎ (text ≡ codes "c") ⊎ BeginsTruth text
+
+-- The kinds of texts that begin neither as a number, nor with a minus, nor as a quoted literal. In turn: no text; a text
+-- that ends too soon; a character that goes on with no literal.
+abbrev pub IsWordFlaw : FlawKind → List ℕ → List ℕ → Type 0
+IsWordFlaw Empty front rest = (front ≡ []) × (rest ≡ [])
+IsWordFlaw Unfinished front rest = BeginsWord front × (front ≢ []) × (rest ≡ [])
+IsWordFlaw NoLiteral front rest = BeginsWord front × (rest ≢ [])
+IsWordFlaw kind front rest = ⊥
+
+-- The kinds of texts that begin neither with a digit nor as a quoted literal: these, and a minus.
 abbrev pub IsStrictWordFlaw : FlawKind → List ℕ → List ℕ → Type 0
 IsStrictWordFlaw Minus front rest = (front ≡ []) × Begins (λ c. c == code "-") rest
 IsStrictWordFlaw NoLiteral front rest =

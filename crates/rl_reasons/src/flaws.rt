@@ -1,23 +1,12 @@
-//! Why a text is no literal, and where.
+//! Kinds of flaws, and where a text has one.
 
-ghost use Rattle.std.specs.Prelude.{◌≡◌, ◌≤◌, ◌+◌, ◌-◌, IfNone, IfSome, length, None, IsFalse};
+ghost use Rattle.std.specs.Prelude.{◌≡◌, ◌≤◌, ◌+◌, ◌-◌, length};
 ghost use Rattle.std.specs.Str.{chars};
-ghost use Rattle.rl_forms.specs.Reading.{HasNoReading, HasReading};
-ghost use Rattle.rl_reasons.specs.Flaws.{Explains, IsFlawOf, IsPieceOf, StopsBefore, first_len, place_in};
-ghost use Rattle.rl_text.specs.Texts.{first_passes};
-ghost use Rattle.rl_reasons.specs.NumberFlaws.{HasKind, IsWordFlaw};
-ghost use Rattle.rl_reading.specs.WholeShapes.{is_number_front};
+ghost use Rattle.rl_reasons.specs.Flaws.{first_len, place_in};
 ghost use Rattle.rl_reasons.specs.declared.flaws.FlawKind.TheVariants.{Unfinished, NoLiteral};
-ghost use Rattle.rl_reasons.specs.Mirrors.NumberFlawAt.{end_flaw_at};
-ghost use Rattle.rl_reading.specs.Mirrors.OpenerAt.{opener_at};
 ghost use Rattle.rl_reasons.specs.Mirrors.UnitFlawAt.{found_flaw};
-ghost use Rattle.rl_reasons.specs.Mirrors.WordFlawAt.{after_letters, word_flaw_at};
+ghost use Rattle.rl_reasons.specs.Mirrors.WordFlawAt.{after_letters, end_flaw_at, word_flaw_at};
 
-use crate::number_flaws::number_flaw;
-use crate::quoted_flaws::quoted_flaw;
-use rl_reading::find;
-use rl_reading::found::begins_number;
-use rl_reading::quoted_forms::split_opener;
 use rl_text::Span;
 use rl_text::text::split_char;
 use std::fmt;
@@ -60,11 +49,7 @@ pub enum FlawKind {
     Nul,
     /// Bytes and byte strings hold ASCII alone.
     NotAscii,
-    /// The quote moves the end of a raw string, which then holds a character that its kind doesn't take.
-    LateQuote,
-    /// A CR in a string without an LF after it.
-    LoneCr,
-    /// The byte can stand as an escape alone.
+    /// The character can stand as an escape alone.
     MustEscape,
     /// No character stands between the quotes.
     NoCharacter,
@@ -123,9 +108,6 @@ impl FlawKind {
             FlawKind::Surrogate => "surrogates are no characters",
             FlawKind::Nul => "NUL in a C string",
             FlawKind::NotAscii => "not an ASCII character",
-            FlawKind::LateQuote =>
-                "a later quote moves the end past a character that the string can't hold",
-            FlawKind::LoneCr => "CR without LF",
             FlawKind::MustEscape => "must be written as an escape",
             FlawKind::NoCharacter => "no character between the quotes",
             FlawKind::TwoCharacters => "more than one character between the quotes",
@@ -148,12 +130,15 @@ impl FlawKind {
 
 impl fmt::Display for FlawKind {
     ghost use Rattle.std.specs.Prelude.{Some};
+    ghost use Rattle.std.specs.Fmt.{padded};
     ghost use Rattle.rl_reasons.specs.FlawWords.{flaw_message};
 
     ghost output = { λ kind. Some (flaw_message kind) };
 
+    ghost styled_output = { λ kind spec. Some (padded spec (flaw_message kind)) };
+
     fn fmt<W: fmt::Write>(&self, f: &mut fmt::Formatter<W>) -> fmt::Result {
-        f.write_str(self.words())
+        f.pad(self.words())
     }
 }
 
@@ -161,12 +146,15 @@ impl std::error::Error for FlawKind {}
 
 impl fmt::Display for Flaw {
     ghost use Rattle.std.specs.Prelude.{Some};
+    ghost use Rattle.std.specs.Fmt.{padded};
     ghost use Rattle.rl_reasons.specs.FlawWords.{flaw_message};
 
     ghost output = { λ flaw. Some (flaw_message flaw.kind) };
 
+    ghost styled_output = { λ flaw spec. Some (padded spec (flaw_message flaw.kind)) };
+
     fn fmt<W: fmt::Write>(&self, f: &mut fmt::Formatter<W>) -> fmt::Result {
-        f.write_str(self.kind.words())
+        f.pad(self.kind.words())
     }
 }
 
@@ -227,8 +215,8 @@ impl<'t> FlawAt<'t> {
 /// Why a text is no literal, and where.
 ///
 /// What stands before `lo` is the longest front of the text that some literal begins with: with
-/// another ending it is one, and with the text's next character it can't become one. A compiler
-/// would mark `from..hi`.
+/// another ending it is one, and with the text's next character it can't become one. Of an integer
+/// past 128 bits it is what stands before the suffix. A compiler would mark `from..hi`.
 #[derive(Clone, Copy, PartialEq, Eq, Debug)]
 pub struct Flaw {
     /// What is wrong.
@@ -237,7 +225,7 @@ pub struct Flaw {
     /// what follows the quote of a character or byte literal, a number or word as a whole.
     pub from: usize,
     /// The place in bytes of the character that no literal goes on with; the text's end where the
-    /// text is too short.
+    /// text is too short. Of an integer past 128 bits it is where the digits end.
     pub lo: usize,
     /// The place after that character.
     pub hi: usize,
@@ -337,32 +325,6 @@ pub(crate) fn first_flaw(text: &str) -> FlawAt<'_>
     }
 }
 
-/// Why a text that begins neither as a number nor as a quoted literal is no literal, and the text from there on.
-fn word_flaw(text: &str) -> FlawAt<'_>
-    requires no_number { IsFalse (first_passes is_number_front (chars text.now)) }
-    requires no_opener { opener_at (chars text.now) ≡ None }
-    ensures stops { StopsBefore HasReading (chars text.now) (chars result.rest.now) }
-    ensures kind { HasKind (IsWordFlaw result.kind) (chars text.now) (chars result.rest.now) }
-{
-    first_flaw(text)
-}
-
-/// Why a text without a reading is no literal, and the text from there on.
-fn flaw_at(text: &str) -> FlawAt<'_>
-    requires { HasNoReading (chars text.now) }
-    ensures stops { StopsBefore HasReading (chars text.now) (chars result.rest.now) }
-    ensures kind { IsFlawOf result.kind (chars text.now) (chars result.rest.now) }
-    ensures piece { IsPieceOf (chars text.now) (chars result.piece.now) (chars result.rest.now) }
-{
-    if begins_number(text) {
-        return number_flaw(text).in_piece(text);
-    }
-    match split_opener(text) {
-        Some((form, kind, inside)) => quoted_flaw(form, kind, inside),
-        None => word_flaw(text).in_piece(text),
-    }
-}
-
 /// How many bytes the first character of the text has; 0 of an empty one.
 fn first_len(text: &str) -> usize
     ensures len { result ≡ first_len (chars text.now) }
@@ -372,31 +334,4 @@ fn first_len(text: &str) -> usize
         Some((_, after)) => text.len() - after.len(),
         None => 0,
     }
-}
-
-/// Why the text is no literal, and where; `None` exactly where it is one. No memory is taken.
-///
-/// The grammar is that of [`find`], which is `syn`'s and wider than Rust's: `0b102`, `1e` and `'''` are literals there, so
-/// they have no flaw. Why Rust has no such token, [`strict::explain`](crate::strict_flaws::explain) says. An integer past 128 bits
-/// is no literal.
-///
-/// # Example
-///
-/// ```
-/// use rl_grammar::explain;
-///
-/// pub fn reason(text: &str) -> Option<&'static str> {
-///     Some(explain(text)?.kind.words())
-/// }
-/// // reason("\"a\\q\"") == Some("unknown escape")
-/// ```
-pub fn explain(text: &str) -> Option<Flaw>
-    ensures none { IfNone result (HasReading (chars text.now)) }
-    ensures some { IfSome result (Explains (chars text.now)) }
-{
-    if find(text).is_some() {
-        return None;
-    }
-    let found = flaw_at(text);
-    Some(found.in_text(text))
 }

@@ -1,13 +1,16 @@
-//! Why a text is no literal, and where. No memory is taken.
+//! Why a text is no literal of Rust, or has no value, and where. No memory is taken.
 #![tactic(auto)]
 
 mod flaws;
 pub mod laws;
-mod number_flaws;
+mod limits;
 mod quoted_flaws;
-pub mod signed_flaws;
-pub mod strict_flaws;
+mod signed_flaws;
+mod strict_flaws;
 mod strict_number_flaws;
 mod strict_quoted_flaws;
 
-pub use crate::flaws::{Flaw, FlawKind, explain};
+pub use crate::flaws::{Flaw, FlawKind};
+pub use crate::limits::{explain_limit, explain_value};
+pub use crate::signed_flaws::explain_signed;
+pub use crate::strict_flaws::explain;

@@ -1,23 +1,14 @@
-//! Why a text that begins as a quoted literal is none, and where.
+//! Why no unit of a quoted literal stands at the front of a text: its escapes, and its characters.
 
-ghost use Rattle.std.specs.Prelude.{◌≡◌, ◌<◌, ◌==◌, ◌++◌, ◌∷◌, ℕ, not, replicate, IsTrue, IsFalse, MatchBool};
+ghost use Rattle.std.specs.Prelude.{◌≡◌};
 ghost use Rattle.std.specs.Str.{chars};
-ghost use Rattle.rl_reasons.specs.Mirrors.UnitFlawAt.{character_flaw_of, code_flaw_of, code_flaw_at, escape_flaw_at, first_digit_flaw_at, found_flaw, hex_flaw_at, is_code, line_end_flaw_at, low_digit_flaw_at, unicode_flaw_at, unit_flaw_at, spoiled_flaw_of, after_unit_flaw_of};
+ghost use Rattle.rl_reasons.specs.Mirrors.UnitFlawAt.{character_flaw_of, code_flaw_of, code_flaw_at, escape_flaw_at, first_digit_flaw_at, found_flaw, hex_flaw_at, is_code, low_digit_flaw_at, unicode_flaw_at, spoiled_flaw_of};
 ghost use Rattle.rl_reading.specs.Mirrors.UnitAt.{code_digits};
-ghost use Rattle.std.specs.List.{list_all};
-ghost use Rattle.rl_text.specs.Classes.{after_run};
-ghost use Rattle.rl_text.specs.Texts.{first_passes, IsTail, code};
-ghost use Rattle.rl_forms.specs.Quoted.{is_raw, is_string, raw_opener, is_single};
-ghost use Rattle.rl_reasons.specs.FlawKinds.{is_quote, HasLastCloser, RawFlaw, IsPiece, QuotedFlaw};
-ghost use Rattle.rl_reading.specs.Forms.{HasNoParts, form_opener, has_form};
-ghost use Rattle.rl_reasons.specs.Mirrors.StopsInside.{StopsInside};
 
 use crate::flaws::{FlawAt, FlawKind, make_flaw};
 use rl_forms::Kind;
-use rl_reading::quoted_forms::{QuotedForm, skip_units, split_last_quote};
-use rl_reading::units::{CodeDigits, allows_code, code_digits, has_unicode, unit};
-use rl_text::classes::{CharClass, skip_class, skip_hashes};
-use rl_text::text::{after_prefix, before, split_char};
+use rl_reading::units::{CodeDigits, allows_code, code_digits, has_unicode};
+use rl_text::text::split_char;
 
 /// The first flaw after the first digit of `\x`, which may stand there.
 fn low_digit_flaw(text: &str) -> FlawAt<'_>
@@ -134,16 +125,6 @@ pub(crate) fn escape_flaw(kind: Kind, text: &str) -> FlawAt<'_>
     }
 }
 
-/// The flaw after a CR.
-fn line_end_flaw(text: &str) -> FlawAt<'_>
-    ensures { found_flaw result.kind (chars result.rest.now) ≡ line_end_flaw_at (chars text.now) }
-{
-    match split_char(text) {
-        None => make_flaw(FlawKind::Unclosed, text),
-        Some(_) => make_flaw(FlawKind::LoneCr, text),
-    }
-}
-
 /// Why a character doesn't stand for itself.
 pub(crate) fn character_flaw(c: char) -> FlawKind
     ensures { result ≡ character_flaw_of c }
@@ -156,60 +137,6 @@ pub(crate) fn character_flaw(c: char) -> FlawKind
     }
 }
 
-/// Why no unit of the kind stands at the front, and the text from there on.
-#[tactic(auto, unfolding(crate::specs::Mirrors::UnitFlawAt::unit_flaw_at))]
-fn unit_flaw(kind: Kind, text: &str) -> FlawAt<'_>
-    ensures { found_flaw result.kind (chars result.rest.now) ≡ unit_flaw_at kind (chars text.now) }
-{
-    match split_char(text) {
-        None => make_flaw(FlawKind::Unclosed, text),
-        Some(('\\', rest)) => escape_flaw(kind, rest),
-        Some(('\r', rest)) if kind.is_string() => line_end_flaw(rest),
-        Some((first, _)) => make_flaw(character_flaw(first), text),
-    }
-}
-
-/// The text after the characters at its front that a raw string of the kind may hold.
-fn skip_raw(kind: Kind, text: &str) -> &str
-    ensures rest { chars result.now ≡ after_run (is_raw kind) (chars text.now) }
-    ensures following { IsTail text.now result.now }
-{
-    match kind {
-        Kind::ByteStr => skip_class(CharClass::Ascii, text),
-        Kind::CStr => skip_class(CharClass::NonNul, text),
-        _ => &text[text.len()..],
-    }
-}
-
-/// The characters at the front that a raw string of the kind may hold, and the text after them.
-fn split_raw(kind: Kind, text: &str) -> (&str, &str)
-    ensures cut { chars text.now ≡ chars result.0.now ++ chars result.1.now }
-    ensures each { IsTrue (list_all (is_raw kind) (chars result.0.now)) }
-    ensures stops { IsFalse (first_passes (is_raw kind) (chars result.1.now)) }
-{
-    let rest = skip_raw(kind, text);
-    (before(text, rest), rest)
-}
-
-/// The text from its first quote on.
-fn skip_to_quote(text: &str) -> &str
-    ensures { chars result.now ≡ after_run (λ c. not (is_quote c)) (chars text.now) }
-{
-    skip_class(CharClass::Unquoted, text)
-}
-
-/// Whether the hashes stand after the last quote.
-fn closes(hashes: &str, text: &str) -> bool
-    requires { (n : ℕ) × (chars hashes.now ≡ replicate n (code "#")) }
-    ensures { MatchBool result
-        (HasLastCloser (chars hashes.now) (chars text.now)) (HasLastCloser (chars hashes.now) (chars text.now) → ⊥) }
-{
-    match split_last_quote(text) {
-        Some((_, after)) => after_prefix(hashes, after).is_some(),
-        None => false,
-    }
-}
-
 /// The flaw at a character that a raw string of the kind can't hold.
 pub(crate) fn spoiled_flaw(kind: Kind) -> FlawKind
     ensures { result ≡ spoiled_flaw_of kind }
@@ -217,98 +144,5 @@ pub(crate) fn spoiled_flaw(kind: Kind) -> FlawKind
     match kind {
         Kind::CStr => FlawKind::Nul,
         _ => FlawKind::NotAscii,
-    }
-}
-
-/// The flaw of a raw string after its first quote.
-fn opened_flaw<'t>(kind: Kind, hashes: &str, inside: &'t str) -> FlawAt<'t>
-    requires string { IsTrue (is_string kind) }
-    requires hashes { (n : ℕ) × (chars hashes.now ≡ replicate n (code "#")) }
-    requires none { HasNoParts QuotedForm.Raw kind
-        (raw_opener kind ++ (chars hashes.now ++ (code "\"" ∷ chars inside.now))) }
-    ensures kind { RawFlaw kind result.kind
-        (chars hashes.now ++ (code "\"" ∷ chars inside.now)) (chars result.rest.now) }
-    ensures piece { result.piece.now ≡ result.rest.now }
-{
-    let (body, rest) = split_raw(kind, inside);
-    let Some((_, after)) = split_char(rest) else {
-        return make_flaw(FlawKind::Unclosed, rest);
-    };
-    if closes(hashes, body) {
-        make_flaw(FlawKind::LateQuote, skip_to_quote(after))
-    } else {
-        make_flaw(spoiled_flaw(kind), rest)
-    }
-}
-
-/// The flaw of a raw string, from its hashes on.
-fn raw_flaw(kind: Kind, text: &str) -> FlawAt<'_>
-    requires string { IsTrue (is_string kind) }
-    requires none { HasNoParts QuotedForm.Raw kind (raw_opener kind ++ chars text.now) }
-    ensures kind { RawFlaw kind result.kind (chars text.now) (chars result.rest.now) }
-    ensures piece { result.piece.now ≡ result.rest.now }
-{
-    let rest = skip_hashes(text);
-    let Some((first, inside)) = split_char(rest) else {
-        return make_flaw(FlawKind::Unfinished, rest);
-    };
-    if first == '"' {
-        opened_flaw(kind, before(text, rest), inside)
-    } else {
-        make_flaw(FlawKind::NoQuote, rest)
-    }
-}
-
-/// The flaw of a string with escapes, after its opener.
-fn cooked_flaw(kind: Kind, text: &str) -> FlawAt<'_>
-    requires string { IsTrue (is_string kind) }
-    requires none { HasNoParts QuotedForm.Cooked kind (form_opener QuotedForm.Cooked kind ++ chars text.now) }
-    ensures place { StopsInside QuotedForm.Cooked kind (chars text.now) (chars result.rest.now) }
-    ensures kind { QuotedFlaw QuotedForm.Cooked kind result.kind (chars text.now) (chars result.rest.now) }
-    ensures piece { IsPiece QuotedForm.Cooked kind (chars text.now) (chars result.piece.now) (chars result.rest.now) }
-{
-    let piece = skip_units(kind, text);
-    unit_flaw(kind, piece).in_piece(piece)
-}
-
-/// Why a character or a byte isn't closed after its unit.
-fn after_unit_flaw(text: &str, rest: &str) -> FlawKind
-    ensures { result ≡ after_unit_flaw_of (chars text.now) (chars rest.now) }
-{
-    match split_char(rest) {
-        None => FlawKind::Unclosed,
-        Some(_) => match split_char(text) {
-            Some(('\'', _)) => FlawKind::NoCharacter,
-            _ => FlawKind::TwoCharacters,
-        },
-    }
-}
-
-/// The flaw of a character or a byte, after its opener.
-fn single_flaw(kind: Kind, text: &str) -> FlawAt<'_>
-    requires single { IsTrue (is_single kind) }
-    requires none { HasNoParts QuotedForm.Single kind (form_opener QuotedForm.Single kind ++ chars text.now) }
-    ensures place { StopsInside QuotedForm.Single kind (chars text.now) (chars result.rest.now) }
-    ensures kind { QuotedFlaw QuotedForm.Single kind result.kind (chars text.now) (chars result.rest.now) }
-    ensures piece { IsPiece QuotedForm.Single kind (chars text.now) (chars result.piece.now) (chars result.rest.now) }
-{
-    match unit(kind, text) {
-        None => unit_flaw(kind, text).in_piece(text),
-        Some((_, rest)) => make_flaw(after_unit_flaw(text, rest), rest).in_piece(text),
-    }
-}
-
-/// The flaw of a quoted literal, after its opener.
-pub(crate) fn quoted_flaw(form: QuotedForm, kind: Kind, text: &str) -> FlawAt<'_>
-    requires form { IsTrue (has_form form kind) }
-    requires none { HasNoParts form kind (form_opener form kind ++ chars text.now) }
-    ensures place { StopsInside form kind (chars text.now) (chars result.rest.now) }
-    ensures kind { QuotedFlaw form kind result.kind (chars text.now) (chars result.rest.now) }
-    ensures piece { IsPiece form kind (chars text.now) (chars result.piece.now) (chars result.rest.now) }
-{
-    match form {
-        QuotedForm::Cooked => cooked_flaw(kind, text),
-        QuotedForm::Raw => raw_flaw(kind, text),
-        QuotedForm::Single => single_flaw(kind, text),
     }
 }

@@ -40,7 +40,7 @@ fn is_number_token(number: &str) -> bool
 /// # Example
 ///
 /// ```
-/// use rl_grammar::strict::explain_signed;
+/// use rl_grammar::explain_signed;
 ///
 /// pub fn is_value(text: &str) -> bool {
 ///     explain_signed(text).is_none()

@@ -4,8 +4,7 @@ ghost use Rattle.std.specs.Prelude.{◌≡◌, IfNone, IfSome, IsFalse, None};
 ghost use Rattle.std.specs.Char.{is_ascii_digit};
 ghost use Rattle.std.specs.Str.{chars};
 ghost use Rattle.rl_text.specs.Texts.{code, begins_char, first_passes};
-ghost use Rattle.rl_reasons.specs.Flaws.{StopsBefore};
-ghost use Rattle.rl_reasons.specs.NumberFlaws.{HasKind};
+ghost use Rattle.rl_reasons.specs.Flaws.{HasKind, StopsBefore};
 ghost use Rattle.rl_reasons.specs.StrictFlaws.{ExplainsStrictly, IsStrictFlawOf};
 ghost use Rattle.rl_reasons.specs.StrictNumberFlaws.{IsStrictWordFlaw};
 ghost use Rattle.rl_strict.specs.StrictShapes.{IsToken};
@@ -58,18 +57,21 @@ fn flaw_at(text: &str) -> FlawAt<'_>
 /// Why the text is no literal token of the strict grammar, and where; `None` exactly where it is one. No memory is taken.
 ///
 /// What stands before `lo` is the longest front of the text that some token begins with: with another ending it is one, and
-/// with the text's next character it can't become one.
+/// with the text's next character it can't become one. A minus is a token of its own, so the text of a negative number has a
+/// flaw; [`explain_signed`](crate::explain_signed) takes a minus too. An integer past 128 bits is a token:
+/// [`explain_limit`](crate::explain_limit).
 ///
 /// # Example
 ///
 /// ```
-/// use rl_grammar::strict::explain;
+/// use rl_grammar::explain;
 ///
-/// pub fn rust_reason(text: &str) -> Option<&'static str> {
+/// pub fn reason(text: &str) -> Option<&'static str> {
 ///     Some(explain(text)?.kind.words())
 /// }
-/// // rust_reason("0b102") == Some("not a digit of the base")
-/// // rust_reason("0b101") == None
+/// // reason("\"a\\q\"") == Some("unknown escape")
+/// // reason("0b102") == Some("not a digit of the base")
+/// // reason("0b101") == None
 /// ```
 pub fn explain(text: &str) -> Option<Flaw>
     ensures none { IfNone result (IsToken (chars text.now)) }

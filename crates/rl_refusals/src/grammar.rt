@@ -1,7 +1,7 @@
 //! Calls of `rl_grammar`.
 
 use crate::trial::{Scarce, Trial, UNFIT};
-use rl_grammar::strict::explain_in_file;
+use rl_grammar::explain_in_file;
 use rl_grammar::{Kind, Segments, bytes_of, digits_of, shape, spans_of, str_of};
 use rl_refusing::Page;
 use rl_tokens::Span;
@@ -21,7 +21,7 @@ pub fn contents_of<A: Scarce>(trial: &Trial<'_, A>, text: &str, page: &mut Page)
     }
 }
 
-/// `strict::explain_in_file`.
+/// `explain_in_file`.
 pub fn flaw_in_file<A: Scarce>(trial: &Trial<'_, A>, text: &str, page: &mut Page) {
     trial.ends(explain_in_file(trial.begins(), text), page)
 }

@@ -82,7 +82,7 @@ pub word_rejected : {S A : Type 0} (has_colors : Bool) (bytes : S → List ℕ) 
     → AskSoFar has_colors (map bytes (take i words)) between middle
     → IsRejectedWord between middle word error
     → AreRejected has_colors (map bytes words) error
-word_rejected hc bytes words i item word between middle error within is word_is steps rejected = inr (inr (
+word_rejected hc bytes words i item word between middle error within is word_is steps rejected = inr (
   map bytes (take i words),
   map bytes (drop (i + 1) words),
   word,
@@ -91,7 +91,7 @@ word_rejected hc bytes words i item word between middle error within is word_is 
   around bytes words i item word within is word_is,
   steps,
   rejected,
-))
+)
 
 -- all words were taken
 pub all_taken : {S : Type 0} (has_colors : Bool) (bytes : S → List ℕ) (words : List S) (i : ℕ) (then : Next)

@@ -77,7 +77,6 @@ pub record IsOptionsFor (command : Command) (path : List ℕ) (options : Options
   pub by_line : options.by_line ≡ is_by_line command.places path
   pub rejects_strays : options.rejects_strays ≡ command.rejects_strays
   pub explains : options.explains ≡ is_bad command.shown
-  pub judge : options.judge ≡ command.judge
   pub before : IsPathIn command.form path options.path
 
 -- the lines of a text, and its error where it has one

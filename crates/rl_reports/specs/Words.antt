@@ -14,14 +14,12 @@ use Rattle.rl_reports.specs.declared.command.Output.TheVariants as output
 use Rattle.rl_reports.specs.declared.command.Command.{Command}
 use Rattle.rl_sources.specs.declared.options.Form.{Form}
 use Rattle.rl_sources.specs.declared.options.Form.TheVariants as written
-use Rattle.rl_sources.specs.declared.options.Judge.{Judge}
-use Rattle.rl_sources.specs.declared.options.Judge.TheVariants as judge
 use Rattle.rl_sources.specs.declared.options.Shown.{Shown}
 use Rattle.rl_sources.specs.declared.options.Spelling.{Spelling}
 use Rattle.rl_sources.specs.declared.options.Spelling.TheVariants.{Value, Source}
 use Rattle.rl_sources.specs.declared.options.Shown.TheVariants as shown
 use Rattle.rl_reports.specs.declared.flags.Flag.{Flag}
-use Rattle.rl_reports.specs.declared.flags.Flag.TheVariants.{Bad, Hidden, Lenient, Only, Find, Text, Json, Color, Bytes, Lines, NoStray, Count, Files, Quiet, Help, Version, Paths}
+use Rattle.rl_reports.specs.declared.flags.Flag.TheVariants.{Bad, Hidden, Only, Find, Text, Json, Color, Bytes, Lines, NoStray, Count, Files, Quiet, Help, Version, Paths}
 use Rattle.rl_reports.specs.declared.flags.Operand.{Operand}
 use Rattle.rl_reports.specs.declared.flags.Operand.TheVariants as takes
 use Rattle.rl_reports.specs.declared.flags.Next.{Next}
@@ -30,14 +28,13 @@ use Rattle.rl_reports.specs.declared.flags.When.{When}
 use Rattle.rl_reports.specs.declared.flags.When.TheVariants.{Auto, Always, Never}
 use Rattle.rl_reports.specs.declared.words.Asked.{Asked}
 use Rattle.rl_reports.specs.declared.words.WordError.{WordError}
-use Rattle.rl_reports.specs.declared.words.WordError.TheVariants.{Memory, UnknownOption, UnknownKind, NoKinds, TwoChoices, LenientAlone, NoText, EmptyText, BadAndFind, NoColor, UnknownColor}
+use Rattle.rl_reports.specs.declared.words.WordError.TheVariants.{Memory, UnknownOption, UnknownKind, NoKinds, TwoChoices, NoText, EmptyText, BadAndFind, NoColor, UnknownColor}
 use Rattle.rl_sources.specs.Options.{Names, words_of}
 
 -- the words of an option
 abbrev pub IsOptionWord : Flag → List ℕ → Type 0
 IsOptionWord Bad word = (word ≡ codes "-b") ⊎ (word ≡ codes "--bad")
 IsOptionWord Hidden word = (word ≡ codes "-B") ⊎ (word ≡ codes "--hidden")
-IsOptionWord Lenient word = word ≡ codes "--lenient"
 IsOptionWord Only word = (word ≡ codes "-k") ⊎ (word ≡ codes "--only")
 IsOptionWord Find word = (word ≡ codes "-f") ⊎ (word ≡ codes "--find")
 IsOptionWord Text word = word ≡ codes "--text"
@@ -132,7 +129,6 @@ pub record Wishes : Type 0 where
   pub places : PlaceForm
   pub output : Output
   pub rejects_strays : Bool
-  pub judge : Judge
   pub spelling : Spelling
   pub form : Form
   pub paths : List (List ℕ)
@@ -146,7 +142,6 @@ first_wishes has_colors = record {
   places = form.Usual;
   output = output.Lines;
   rejects_strays = false;
-  judge = judge.Rust;
   spelling = Value;
   form = colored_form has_colors Auto;
   paths = [];
@@ -161,7 +156,6 @@ wishes_of command paths = record {
   places = command.places;
   output = command.output;
   rejects_strays = command.rejects_strays;
-  judge = command.judge;
   spelling = command.spelling;
   form = command.form;
   paths = paths;
@@ -191,7 +185,6 @@ MayStand flag w = IsAllowed flag w × GoesWithFind flag w
 abbrev pub with_flag : Flag → Wishes → Wishes
 with_flag Bad w = record w { wanted = BadWanted }
 with_flag Hidden w = record w { wanted = HiddenWanted }
-with_flag Lenient w = record w { judge = judge.Syn }
 with_flag Only w = w
 with_flag Find w = w
 with_flag Text w = record w { spelling = Source }
@@ -259,15 +252,11 @@ AreSteps has_colors first old (word ∷ words) then new =
 abbrev pub AskSoFar : Bool → List (List ℕ) → Next → Wishes → Type 0
 AskSoFar has_colors words then new = AreSteps has_colors next.Any (first_wishes has_colors) words then new
 
--- the lenient judge was asked for, and nothing of which it judges
-abbrev pub IsLenientAlone : Wishes → Type 0
-IsLenientAlone w = (w.judge ≡ judge.Syn) × (w.wanted ≢ BadWanted)
-
 -- all words ask for this
 abbrev pub Asks : Bool → List (List ℕ) → Wishes → Type 0
 Asks has_colors words wishes =
     (then : Next) × AskSoFar has_colors words then wishes
-    × ((operand : Operand) → then ≢ next.Operand operand) × (IsLenientAlone wishes → ⊥)
+    × ((operand : Operand) → then ≢ next.Operand operand)
 
 -- what is wrong
 abbrev pub word_message : {A : Type 0} → WordError A → List ℕ
@@ -279,7 +268,6 @@ word_message (UnknownKind word) =
     ++ codes "': one of Str, ByteStr, CStr, Byte, Char, Int, Float, Bool, Verbatim")
 word_message NoKinds = codes "--only: which kinds? as in --only Str,ByteStr"
 word_message TwoChoices = codes "--bad, --hidden and --only: one of them, once"
-word_message LenientAlone = codes "--lenient: only with --bad"
 word_message NoText = codes "--find: which text? as in --find TODO"
 word_message EmptyText = codes "--find: an empty text stands everywhere"
 word_message BadAndFind = codes "--bad, --hidden and --find: one of them, once"
@@ -341,13 +329,11 @@ IsMissing takes.Kinds error = error ≡ NoKinds
 IsMissing takes.Text error = error ≡ NoText
 IsMissing takes.Color error = error ≡ NoColor
 
--- Why the words can't be asked for: where they end, what the lenient judge is to judge is missing, or what
--- an option takes; or they ask for something up to one that can't be asked for.
+-- Why the words can't be asked for: where they end, what an option takes is missing; or they ask for something
+-- up to one that can't be asked for.
 abbrev pub AreRejected : {A : Type 0} → Bool → List (List ℕ) → WordError A → Type 0
 AreRejected has_colors words error =
-    ((then : Next) × (old : Wishes) × (error ≡ LenientAlone) × AskSoFar has_colors words then old
-    × ((operand : Operand) → then ≢ next.Operand operand) × IsLenientAlone old)
-    ⊎ ((operand : Operand) × (old : Wishes) × IsMissing operand error
+    ((operand : Operand) × (old : Wishes) × IsMissing operand error
     × AskSoFar has_colors words (next.Operand operand) old)
     ⊎ ((before after : List (List ℕ)) × (word : List ℕ) × (first : Next) × (old : Wishes)
     × (words ≡ before ++ word ∷ after) × AskSoFar has_colors before first old

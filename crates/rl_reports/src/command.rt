@@ -1,6 +1,6 @@
 //! What a call of the program asks for.
 
-use rl_sources::{Form, Judge, Shown, Spelling};
+use rl_sources::{Form, Shown, Spelling};
 
 /// What a call asks for.
 #[derive(Clone, Copy)]
@@ -56,8 +56,6 @@ pub struct Command<'a> {
     pub output: Output,
     /// Whether a stray character is an error, as it is in Rust.
     pub rejects_strays: bool,
-    /// By which grammar a literal is bad.
-    pub judge: Judge,
 }
 
 /// What a call knows of where it runs.

@@ -8,7 +8,7 @@ ghost use Rattle.rl_reports.specs.Words.{IsOptionWord, joined_word, taken_by as 
 
 use crate::command::{Command, Output, PlaceForm, Wish};
 use crate::words::WordError;
-use rl_sources::{Form, Judge, Shown, Spelling};
+use rl_sources::{Form, Shown, Spelling};
 use std::alloc::Allocator;
 
 /// An option.
@@ -16,7 +16,6 @@ use std::alloc::Allocator;
 pub(crate) enum Flag {
     Bad,
     Hidden,
-    Lenient,
     Only,
     Find,
     Text,
@@ -72,7 +71,6 @@ pub(crate) fn flag_of(word: &str) -> Option<Flag>
     match word {
         "-b" | "--bad" => Some(Flag::Bad),
         "-B" | "--hidden" => Some(Flag::Hidden),
-        "--lenient" => Some(Flag::Lenient),
         "-k" | "--only" => Some(Flag::Only),
         "-f" | "--find" => Some(Flag::Find),
         "--text" => Some(Flag::Text),
@@ -141,7 +139,6 @@ fn with_flag(command: Command<'_>, flag: Flag) -> Option<Command<'_>>
         (Flag::Hidden, Shown::All) => next.shown = Shown::Hidden,
         (Flag::Only, Shown::All) => {}
         (Flag::Bad | Flag::Hidden | Flag::Only, _) => return None,
-        (Flag::Lenient, _) => next.judge = Judge::Syn,
         (Flag::Find | Flag::Color | Flag::Paths, _) => {}
         (Flag::Text, _) => next.spelling = Spelling::Source,
         (Flag::Json, _) => next.form = Form::Json,

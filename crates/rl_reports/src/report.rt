@@ -112,7 +112,6 @@ fn options_for<'a>(command: Command<'a>, path: &'a str, shown: Option<&'a str>) 
         by_line: is_by_line(command.places, path),
         rejects_strays: command.rejects_strays,
         explains: is_bad(command.shown),
-        judge: command.judge,
         path: path_in(command.form, path, shown),
     }
 }

@@ -5,15 +5,15 @@ ghost use Rattle.rl_files.specs.Trees.{string_texts};
 ghost use Rattle.rl_reports.specs.declared.flags.Next.TheVariants as next;
 ghost use Rattle.rl_reports.specs.declared.flags.Operand.{Operand};
 ghost use Rattle.rl_reports.specs.declared.flags.Operand.TheVariants as takes;
-ghost use Rattle.rl_reports.specs.Words.{IsKindWord, AreKindWords, IsUnknownKind, is_path_word, taken_by as flag_before, first_wishes, wishes_of, wishes_in, MayStand, IsLenientAlone, with_kinds, with_path, with_text, IsAdded, IsTaken, IsStep, Asks, IsRejectedFlag, IsRejectedText, IsRejectedJoined, IsRejectedWord, IsMissing, AreRejected};
+ghost use Rattle.rl_reports.specs.Words.{IsKindWord, AreKindWords, IsUnknownKind, is_path_word, taken_by as flag_before, first_wishes, wishes_of, wishes_in, MayStand, with_kinds, with_path, with_text, IsAdded, IsTaken, IsStep, Asks, IsRejectedFlag, IsRejectedText, IsRejectedJoined, IsRejectedWord, IsMissing, AreRejected};
 
 use crate::command::{Command, Output, PlaceForm, Wish};
 use crate::flags::{
     Flag, Next, Operand, When, add_flag, flag_of, form_when, joined_of, next_after, recolored,
     taken_by, when_of,
 };
-use crate::report::{is_bad, visible_text};
-use rl_sources::{Judge, Shown, Spelling, names};
+use crate::report::visible_text;
+use rl_sources::{Shown, Spelling, names};
 use std::alloc::{AllocError, Allocator, Global};
 use std::fmt;
 
@@ -30,8 +30,6 @@ pub enum WordError<A: Allocator = Global> {
     NoKinds,
     /// Two options say which literals are printed.
     TwoChoices,
-    /// `--lenient` stands without `--bad`.
-    LenientAlone,
     /// After `--find` stands no text.
     NoText,
     /// After `--find` stands an empty text.
@@ -73,7 +71,6 @@ impl<A: Allocator> fmt::Display for WordError<A> {
             ),
             WordError::NoKinds => write!(f, "--only: which kinds? as in --only Str,ByteStr"),
             WordError::TwoChoices => write!(f, "--bad, --hidden and --only: one of them, once"),
-            WordError::LenientAlone => write!(f, "--lenient: only with --bad"),
             WordError::NoText => write!(f, "--find: which text? as in --find TODO"),
             WordError::EmptyText => write!(f, "--find: an empty text stands everywhere"),
             WordError::BadAndFind => write!(f, "--bad, --hidden and --find: one of them, once"),
@@ -108,13 +105,6 @@ pub(crate) struct Asked<'a, A: Allocator = Global> {
     pub command: Command<'a>,
     pub paths: Vec<String<A>, A>,
     next: Next,
-}
-
-/// Whether the lenient judge was asked for, and nothing of which it judges.
-fn is_lenient_alone(command: Command<'_>) -> bool
-    ensures { (paths : List (List ℕ)) → IsTrue result ↔ IsLenientAlone (wishes_of command.entry paths) }
-{
-    matches!(command.judge, Judge::Syn) && !is_bad(command.shown)
 }
 
 /// Whether a word is a path, and no option.
@@ -295,7 +285,6 @@ fn first_command<'a>(has_colors: bool) -> Command<'a>
         places: PlaceForm::Usual,
         output: Output::Lines,
         rejects_strays: false,
-        judge: Judge::Rust,
         spelling: Spelling::Value,
         form: form_when(has_colors, When::Auto),
     }
@@ -305,7 +294,7 @@ fn first_command<'a>(has_colors: bool) -> Command<'a>
 ///
 /// # Errors
 ///
-/// The first word that can't be asked for, or `NoKinds`, `NoText`, `NoColor` or `LenientAlone` at the end.
+/// The first word that can't be asked for, or `NoKinds`, `NoText` or `NoColor` at the end.
 pub(crate) fn asked_by<A: Allocator + Copy>(
     alloc: A,
     has_colors: bool,
@@ -327,9 +316,6 @@ pub(crate) fn asked_by<A: Allocator + Copy>(
     }
     if let Some(operand) = operand_of(asked.next) {
         return Err(missing(operand));
-    }
-    if is_lenient_alone(asked.command) {
-        return Err(WordError::LenientAlone);
     }
     Ok(asked)
 }

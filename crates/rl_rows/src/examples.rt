@@ -5,7 +5,8 @@ use rl_tokens::Span;
 use rl_uses::examples::attributes::{host_of, missing_at, string_setting};
 use rl_uses::examples::buffers::{first_in_group, mark_after_name, port, trees_left, trees_of};
 use rl_uses::examples::grammar::{
-    contents, first_escape, is_plain_string, is_rust, place_after_escape, reason, suffix_of,
+    contents, first_escape, is_plain_string, is_rust, is_too_large, is_value, place_after_escape,
+    reason, reason_in_file, suffix_of, why_no_value,
 };
 use rl_uses::examples::literals::{
     after_literal, code_of, digits_or_text, first_flaw, second_string,
@@ -14,7 +15,6 @@ use rl_uses::examples::own::{mark_in_string, set_value};
 use rl_uses::examples::quoted::{
     brace_in_file, bytes_len, c_string_len, literal_in_file, string_of, string_value,
 };
-use rl_uses::examples::strict::{is_value, reason_in_file, rust_reason};
 use rl_uses::examples::tokens::{
     after_comments, all_places, first_delimiter, first_docs, is_name, no_token, second_token,
     text_at,
@@ -76,12 +76,17 @@ fn of_grammar(alloc: Global, out: &mut Page) {
     shown!(out, is_rust("-1"));
     shown!(out, suffix_of("0xFF_u8"));
     shown!(out, reason("\"a\\q\""));
-    shown!(out, rust_reason("0b102"));
-    shown!(out, rust_reason("0b101"));
+    shown!(out, reason("0b102"));
+    shown!(out, reason("0b101"));
     shown!(out, reason_in_file(alloc, "\"a\rb\""));
     shown!(out, reason_in_file(alloc, "\"a\r\nb\""));
     shown!(out, is_value("-1.5"));
     shown!(out, is_value("-\"a\""));
+    shown!(out, is_too_large("340282366920938463463374607431768211456"));
+    shown!(out, is_too_large("340282366920938463463374607431768211455"));
+    shown!(out, why_no_value("-340282366920938463463374607431768211456"));
+    shown!(out, why_no_value("-1e"));
+    shown!(out, why_no_value("-1"));
     shown!(out, is_plain_string("\"a\""));
     shown!(out, is_plain_string("\"\\n\""));
     shown!(out, contents(alloc, "\"a\\x41\""));

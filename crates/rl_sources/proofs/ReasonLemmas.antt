@@ -13,8 +13,9 @@ use Rattle.rl_lexer.specs.declared.lex_error.LexKind.{LexKind}
 use Rattle.rl_lexer.specs.declared.lex_error.LexKind.TheVariants.{DocComment, UnclosedComment, UnclosedQuote, Lifetime, RawIdentifier, StrayCharacter, UnmatchedClose, UnclosedGroup, TooDeep, Memory}
 use Rattle.rl_reasons.specs.declared.flaws.Flaw.{Flaw}
 use Rattle.rl_reasons.specs.declared.flaws.FlawKind.{FlawKind}
-use Rattle.rl_reasons.specs.declared.flaws.FlawKind.TheVariants.{Empty, NoLiteral, Unfinished, NoQuote, NoNumber, Unclosed, UnknownEscape, NoUnicode, NoHexDigit, NoBrace, EmptyBraces, TooManyDigits, PastAscii, PastUnicode, Surrogate, Nul, NotAscii, LateQuote, LoneCr, MustEscape, NoCharacter, TwoCharacters, NoExponentDigit, BadSuffix, TooLarge, Minus, TooManyHashes, CarriageReturn, EarlyQuote, ExtraHash, UnderscoreSuffix, NoDigits, DigitOfBase, BasedFloat, NoFractionDigit}
-use Rattle.rl_reasons.specs.Flaws.{Explains, first_len}
+use Rattle.rl_reasons.specs.declared.flaws.FlawKind.TheVariants.{Empty, NoLiteral, Unfinished, NoQuote, NoNumber, Unclosed, UnknownEscape, NoUnicode, NoHexDigit, NoBrace, EmptyBraces, TooManyDigits, PastAscii, PastUnicode, Surrogate, Nul, NotAscii, MustEscape, NoCharacter, TwoCharacters, NoExponentDigit, BadSuffix, TooLarge, Minus, TooManyHashes, CarriageReturn, EarlyQuote, ExtraHash, UnderscoreSuffix, NoDigits, DigitOfBase, BasedFloat, NoFractionDigit}
+use Rattle.rl_reasons.specs.Flaws.{first_len}
+use Rattle.rl_reasons.specs.Limits.{IsLimitFlaw}
 use Rattle.rl_reasons.specs.FlawWords.{flaw_message}
 use Rattle.std.proofs.Common.{rules}
 use Rattle.std.proofs.lemmas.Bool.{false≢true}
@@ -22,8 +23,6 @@ use Rattle.rl_files.specs.Visible.{visible}
 use Rattle.rl_lines.specs.Lines.{Appends}
 use Rattle.rl_lines.proofs.LineLemmas.{pushed}
 use Rattle.rl_grammar.specs.FileTexts.{ExplainsInFile}
-use Rattle.rl_sources.specs.declared.options.Judge.{Judge}
-use Rattle.rl_sources.specs.declared.options.Judge.TheVariants.{Rust, Syn}
 use Rattle.rl_sources.specs.declared.options.Options.{Options}
 use Rattle.rl_sources.specs.declared.place.Place.{Place}
 use Rattle.rl_sources.specs.Held.{IsCutAt}
@@ -58,24 +57,22 @@ first_within (c ∷ cs) =
     (encode_utf8_all cs) in
     omega (arith, whole)
 
--- a flaw of either grammar has its place in the text
-explained_place : (text : List ℕ) (flaw : Flaw) → Explains text flaw → HasPlace text flaw
-explained_place text flaw e =
-    let stops = e.place.stops in
-    record {
-      front = stops.front;
-      rest = e.place.rest;
-      text_is = stops.text_is;
-      lo_is = e.place.lo_is;
-      within = omega (
-        arith,
-        e.place.hi_is,
-        e.place.lo_is,
-        first_within e.place.rest,
-        ap byte_len stops.text_is,
-        byte_len-append stops.front e.place.rest,
-      );
-    }
+-- a flaw has its place in the text
+limit_place : (text : List ℕ) (flaw : Flaw) → IsLimitFlaw text flaw → HasPlace text flaw
+limit_place text flaw e = record {
+  front = e.number;
+  rest = e.past.suffix;
+  text_is = e.text_is;
+  lo_is = e.lo_is;
+  within = omega (
+    arith,
+    e.hi_is,
+    e.lo_is,
+    first_within e.past.suffix,
+    ap byte_len e.text_is,
+    byte_len-append e.number e.past.suffix,
+  );
+}
 
 place_in_file : (text : List ℕ) (flaw : Flaw) → ExplainsInFile text flaw → HasPlace text flaw
 place_in_file text flaw e = record {
@@ -86,10 +83,9 @@ place_in_file text flaw e = record {
   within = omega (arith, e.hi.at_is, ap byte_len e.hi.text_is, byte_len-append e.hi.front e.hi.rest);
 }
 
-pub has_place : (judge : Judge) (text : List ℕ) (flaw : Flaw) → FindsFlaw judge text flaw → HasPlace text flaw
-has_place Rust text flaw (inl e) = place_in_file text flaw e
-has_place Rust text flaw (inr (token, e)) = explained_place text flaw e
-has_place Syn text flaw e = explained_place text flaw e
+pub has_place : (text : List ℕ) (flaw : Flaw) → FindsFlaw text flaw → HasPlace text flaw
+has_place text flaw (inl e) = place_in_file text flaw e
+has_place text flaw (inr (token, e)) = limit_place text flaw e
 
 -- Where the token's text is cut, the rest is.
 pub record IsCutWithin (rest : List ℕ) (lo size : ℕ) : Type 0 where
@@ -167,8 +163,6 @@ message_low PastUnicode = refl
 message_low Surrogate = refl
 message_low Nul = refl
 message_low NotAscii = refl
-message_low LateQuote = refl
-message_low LoneCr = refl
 message_low MustEscape = refl
 message_low NoCharacter = refl
 message_low TwoCharacters = refl
@@ -290,7 +284,7 @@ flaw_shown options text flaw place piece old a new is_piece begun ended =
 
 -- the flaw, at its place
 pub flaw_placed : (options : Options) (whole text : List ℕ) (lo : ℕ) (flaw : Flaw) (place : Place)
-    (old new : List ℕ) → FindsFlaw options.judge text flaw
+    (old new : List ℕ) → FindsFlaw text flaw
     → IsPlaceIn options whole (lo + flaw.lo) (lo + flaw.hi) place
     → Appends (IsFlawLineAt options text flaw place) old new → Appends (IsFlawLine options whole text lo) old new
 flaw_placed options whole text lo flaw place old new explains is_place (shown, is, e) =

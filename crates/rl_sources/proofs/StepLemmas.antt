@@ -1,5 +1,5 @@
 -- What is appended for one token.
-use Rattle.rl_reading.proofs.Names.{HasNoReading, Kind}
+use Rattle.rl_reading.proofs.Names.{HasNoReading, HasReading, Kind}
 use Rattle.rl_text.proofs.Common.{Bool, IsAscii, IsUtf8, List, None, Option, Some, [], ap, append_assoc, arith, chars, chars-IsAscii, cond, false, inl, inr, lit<, nat_tests, refl, subst, suc, sym, true, zero, ℕ, ◌%◌, ◌++◌, ◌/◌, ◌<◌, ◌==◌, ◌&&◌, ◌∙◌, ◌∷◌, ◌≡◌, ◌⊎◌, IsCharBoundary, and_parts, codes, is_ascii, list_all, ltb-true, length, take, drop, ◌+◌, chars-append, chars_from_encodes, encodes-append, encodes-chars, length-append, take-append_seam}
 use Rattle.std.specs.Fmt.{digits, decimal, digits_onto, digit_glyph}
 use Rattle.std.proofs.lemmas.List.{append-nil}
@@ -19,8 +19,6 @@ use Rattle.rl_lines.specs.Bare.{IsBareString, is_bare, bare_line}
 use Rattle.rl_lines.specs.Lines.{label_of, IsLabelOf, IsLineOf, Appends}
 use Rattle.rl_lines.proofs.LineLemmas.{pushed}
 use Rattle.rl_reasons.specs.declared.flaws.Flaw.{Flaw}
-use Rattle.rl_sources.specs.declared.options.Judge.{Judge}
-use Rattle.rl_sources.specs.declared.options.Judge.TheVariants.{Rust, Syn}
 use Rattle.rl_sources.specs.declared.options.Options.{Options}
 use Rattle.rl_sources.specs.declared.options.Spelling.TheVariants.{Value}
 use Rattle.rl_sources.specs.declared.options.Shown.{Shown}
@@ -35,6 +33,7 @@ use Rattle.rl_sources.specs.Held.{Holds, IsHeldAt}
 use Rattle.rl_sources.specs.Hidden.{HoldsHidden, IsHiddenAt}
 use Rattle.rl_sources.specs.Scans.{FindsFlaw, FindsNoFlaw, IsAskedLine, IsBad, IsPicked, IsPlacedLine, IsFlawLine, IsHeldLine, IsHiddenLine, IsLineAt, IsLineEnd, IsLineIn, IsPickedLine, IsPrintedAs, IsShownLiteral}
 use Rattle.rl_sources.specs.Steps.{LooksForFlaws}
+use Rattle.rl_sources.proofs.JudgeLemmas.{no_file, past_unread}
 
 -- ---- places are ASCII
 
@@ -204,44 +203,42 @@ explained options whole text lo hi old new asked (shown, is, e) = (shown, inl (a
 
 -- a line that doesn't
 pub unexplained : (options : Options) (whole text : List ℕ) (lo hi : ℕ) (old new : List ℕ)
-    → (IsTrue options.explains → FindsNoFlaw options.judge text)
+    → (IsTrue options.explains → FindsNoFlaw text)
     → Appends (IsPlacedLine options whole text lo hi) old new
     → Appends (IsLineIn options whole text lo hi) old new
 unexplained options whole text lo hi old new passes (shown, is, e) = (shown, inr (passes, is), e)
 
 -- where lines tell flaws, a literal without one passes
 pub passes_unasked : (options : Options) (text : List ℕ) (flaw : Option Flaw)
-    → IfNone flaw (LooksForFlaws options → FindsNoFlaw options.judge text) → (IsTrue options.explains → flaw ≡ None)
-    → IsTrue options.explains → FindsNoFlaw options.judge text
+    → IfNone flaw (LooksForFlaws options → FindsNoFlaw text) → (IsTrue options.explains → flaw ≡ None)
+    → IsTrue options.explains → FindsNoFlaw text
 passes_unasked options text (Some f) none asked is = absurd (none-some f (sym (asked is)))
 passes_unasked options text None none asked is = none (inl is)
 
--- what a judge passes isn't bad
-not_bad : (judge : Judge) (text : List ℕ) (flaw : Flaw) → FindsNoFlaw judge text → FindsFlaw judge text flaw → ⊥
-not_bad Rust text flaw (token, reads) (inl e) = e.explains.no_token token
-not_bad Rust text flaw (token, (kind, (contents, suffix, reads))) (inr (same, e)) =
-    e.unread kind contents suffix reads
-not_bad Syn text flaw (kind, (contents, suffix, reads)) e = e.unread kind contents suffix reads
+-- a text without a flaw isn't bad
+not_bad : (text : List ℕ) (flaw : Flaw) → FindsNoFlaw text → FindsFlaw text flaw → ⊥
+not_bad text flaw (token, reads) (inl e) = e.explains.no_token token
+not_bad text flaw (token, reads) (inr (signed, e)) = past_unread text e.past (subst HasReading (no_file text signed) reads)
 
 -- what was looked for says whether a literal is picked
 pub picks_found : (options : Options) (text label : List ℕ) (flaw : Option Flaw) (r h b : Bool) → r ≡ is_some flaw
-    → IfSome flaw (FindsFlaw options.judge text)
-    → IfNone flaw (LooksForFlaws options → FindsNoFlaw options.judge text)
+    → IfSome flaw (FindsFlaw text)
+    → IfNone flaw (LooksForFlaws options → FindsNoFlaw text)
     → (options.shown ≡ Hidden → IsTrue h ↔ HoldsHidden text)
     → IsTrue b ↔ Picks options.shown label (IsTrue r) (IsTrue h) → IsTrue b ↔ IsPicked options text label
 picks_found options text label flaw r h b is found none hides picks = go options.shown refl picks
   where
-    bad : (f : Option Flaw) → r ≡ is_some f → IfSome f (FindsFlaw options.judge text)
-        → IfNone f (LooksForFlaws options → FindsNoFlaw options.judge text) → LooksForFlaws options
-        → IsTrue r ↔ IsBad options.judge text
+    bad : (f : Option Flaw) → r ≡ is_some f → IfSome f (FindsFlaw text)
+        → IfNone f (LooksForFlaws options → FindsNoFlaw text) → LooksForFlaws options
+        → IsTrue r ↔ IsBad text
     bad (Some f) e finds nothing looks = (λ _. (f, finds), λ _. e)
     bad None e finds nothing looks = (
       λ t. absurd (false≢true (sym e ∙ t)),
-      λ (f, finds). absurd (not_bad options.judge text f (nothing looks) finds),
+      λ (f, finds). absurd (not_bad text f (nothing looks) finds),
     )
 
     go : (shown : Shown) → options.shown ≡ shown → IsTrue b ↔ Picks shown label (IsTrue r) (IsTrue h)
-        → IsTrue b ↔ Picks shown label (IsBad options.judge text) (HoldsHidden text)
+        → IsTrue b ↔ Picks shown label (IsBad text) (HoldsHidden text)
     go All e p = p
     go (Only list) e p = p
     go Bad e p =

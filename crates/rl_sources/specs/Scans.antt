@@ -13,7 +13,7 @@ use Rattle.rl_lexer.specs.Sources.{source_text, SourceKind, PlainKind, StrayKind
 use Rattle.rl_lexer.specs.declared.lex_error.LexKind.{LexKind}
 use Rattle.rl_lexer.specs.declared.lex_error.LexKind.TheVariants.{StrayCharacter}
 use Rattle.rl_reasons.specs.declared.flaws.Flaw.{Flaw}
-use Rattle.rl_reasons.specs.Flaws.{Explains}
+use Rattle.rl_reasons.specs.Limits.{ExplainsLimit}
 use Rattle.rl_reasons.specs.FlawWords.{flaw_message}
 use Rattle.rl_grammar.specs.StrictShapes.{IsToken}
 use Rattle.rl_grammar.specs.FileTexts.{lf_text, ExplainsInFile}
@@ -24,10 +24,8 @@ use Rattle.rl_program.specs.declared.fault.Fault.TheVariants.{Write, Memory}
 use Rattle.rl_sources.specs.declared.color.Paint.TheVariants as paint
 use Rattle.rl_sources.specs.declared.options.Form.{Form}
 use Rattle.rl_sources.specs.declared.options.Form.TheVariants.{Plain, Colored, Json}
-use Rattle.rl_sources.specs.declared.options.Judge.{Judge}
 use Rattle.rl_sources.specs.declared.options.Spelling.{Spelling}
 use Rattle.rl_sources.specs.declared.options.Spelling.TheVariants.{Value, Source}
-use Rattle.rl_sources.specs.declared.options.Judge.TheVariants.{Rust, Syn}
 use Rattle.rl_sources.specs.declared.options.Options.{Options}
 use Rattle.rl_sources.specs.declared.options.Shown.{Shown}
 use Rattle.rl_sources.specs.declared.options.Shown.TheVariants as asked
@@ -41,20 +39,17 @@ use Rattle.rl_sources.specs.Json.{is_json, IsJsonLiteral, flaw_members, error_me
 use Rattle.rl_sources.specs.Options.{Picks}
 use Rattle.rl_sources.specs.Places.{line_front, IsPlaceIn}
 
--- the flaw that a judge finds in the text of a literal: Rust the one of the strict grammar, and of
--- what that takes, an integer past 128 bits, the lenient one
-abbrev pub FindsFlaw : Judge → List ℕ → Flaw → Type 0
-FindsFlaw Rust text flaw = ExplainsInFile text flaw ⊎ (IsToken (lf_text text) × Explains text flaw)
-FindsFlaw Syn text flaw = Explains text flaw
+-- the flaw of the text of a literal: as rustc reads it, it is no token; or it is an integer past 128 bits
+abbrev pub FindsFlaw : List ℕ → Flaw → Type 0
+FindsFlaw text flaw = ExplainsInFile text flaw ⊎ ExplainsLimit text flaw
 
--- the judge finds none
-abbrev pub FindsNoFlaw : Judge → List ℕ → Type 0
-FindsNoFlaw Rust text = IsToken (lf_text text) × HasReading text
-FindsNoFlaw Syn text = HasReading text
+-- as rustc reads it, the text is a token and has a reading
+abbrev pub FindsNoFlaw : List ℕ → Type 0
+FindsNoFlaw text = IsToken (lf_text text) × HasReading (lf_text text)
 
--- it finds one
-abbrev pub IsBad : Judge → List ℕ → Type 0
-IsBad judge text = (flaw : Flaw) × FindsFlaw judge text flaw
+-- the text has a flaw
+abbrev pub IsBad : List ℕ → Type 0
+IsBad text = (flaw : Flaw) × FindsFlaw text flaw
 
 -- what is printed of a literal: the line of its text as a literal, or the text as it is written
 abbrev pub IsPrintedAs : Spelling → List ℕ → List ℕ → Type 0
@@ -116,11 +111,11 @@ IsFlawLineAt options text flaw place shown =
     × (shown ≡ line_front options.form options.path place
     ++ flaw_end options.form text (flaw_message flaw.kind) piece)
 
--- the line that says why a text, which begins at this byte of the whole source, is bad: of the flaw
--- that the judge finds, at its place
+-- the line that says why a text, which begins at this byte of the whole source, is bad: of its flaw, at
+-- the flaw's place
 abbrev pub IsFlawLine : Options → List ℕ → List ℕ → ℕ → List ℕ → Type 0
 IsFlawLine options whole text lo shown =
-    (flaw : Flaw) × (place : Place) × FindsFlaw options.judge text flaw
+    (flaw : Flaw) × (place : Place) × FindsFlaw text flaw
     × IsPlaceIn options whole (lo + flaw.lo) (lo + flaw.hi) place
     × IsFlawLineAt options text flaw place shown
 
@@ -129,7 +124,7 @@ IsFlawLine options whole text lo shown =
 abbrev pub IsLineIn : Options → List ℕ → List ℕ → ℕ → ℕ → List ℕ → Type 0
 IsLineIn options whole text lo hi shown =
     (IsTrue options.explains × IsFlawLine options whole text lo shown)
-    ⊎ ((IsTrue options.explains → FindsNoFlaw options.judge text) × IsPlacedLine options whole text lo hi shown)
+    ⊎ ((IsTrue options.explains → FindsNoFlaw text) × IsPlacedLine options whole text lo hi shown)
 
 -- what is shown where this is looked for: where the contents of the literal hold it, the literal's
 -- line, at the place of what gives it where it stands first; else nothing
@@ -162,7 +157,7 @@ IsPickedLine (Some sought) options whole text lo hi shown =
 
 -- the literal is picked, whose line begins with this word
 abbrev pub IsPicked : Options → List ℕ → List ℕ → Type 0
-IsPicked options text label = Picks options.shown label (IsBad options.judge text) (HoldsHidden text)
+IsPicked options text label = Picks options.shown label (IsBad text) (HoldsHidden text)
 
 -- what is shown of a literal: where it is picked, what is shown of it then, else nothing
 abbrev pub IsShownLiteral : Options → List ℕ → List ℕ → ℕ → ℕ → List ℕ → Type 0

@@ -52,9 +52,9 @@ pub record IsFoundIn (text : List ℕ) (found : Option Found) : Type 0 where
 pub record IsLiteralOf (options : Options) (text : List ℕ) (literal : Literal) : Type 0 where
   pub begins : BeginsRest literal.token.now text literal.rest.now
   pub is_read : IsFoundIn literal.token.now.text.now literal.found.now
-  pub flaw : IfSome literal.flaw (FindsFlaw options.judge (chars literal.token.now.text.now))
+  pub flaw : IfSome literal.flaw (FindsFlaw (chars literal.token.now.text.now))
   pub no_flaw : IfNone literal.flaw
-      (LooksForFlaws options → FindsNoFlaw options.judge (chars literal.token.now.text.now))
+      (LooksForFlaws options → FindsNoFlaw (chars literal.token.now.text.now))
 
 -- The cursor over tokens goes over the text whose places are looked for.
 pub record IsCursorOver (tokens : CursorState) (places : List ℕ) : Type 0 where

@@ -1,26 +1,22 @@
-//! The flaw of a literal of a source, as its judge finds it.
+//! The flaw of a literal of a source, as rustc finds it.
 
 ghost use Rattle.std.specs.Prelude.{◌≡◌, ◌↔◌, None, Some, IsTrue, IfOk, IfNone, IfSome};
 ghost use Rattle.std.specs.Str.{chars};
 ghost use Rattle.rl_sources.specs.Scans.{FindsFlaw, FindsNoFlaw};
 ghost use Rattle.rl_sources.specs.Steps.{LooksForFlaws};
 
-use crate::options::{Judge, Options, Shown};
-use rl_grammar::strict::explain_in_file;
-use rl_grammar::{Flaw, explain};
+use crate::options::{Options, Shown};
+use rl_grammar::{Flaw, explain_in_file, explain_limit};
 use std::alloc::{AllocError, Allocator};
 
-/// The flaw that the judge finds in the text of a literal.
-fn judged<A: Allocator>(alloc: A, judge: Judge, text: &str) -> Result<Option<Flaw>, AllocError>
-    ensures some { IfOk result (λ flaw. IfSome flaw (FindsFlaw judge (chars text.now))) }
-    ensures none { IfOk result (λ flaw. IfNone flaw (FindsNoFlaw judge (chars text.now))) }
+/// The flaw of the text of a literal: the text as rustc reads it is no token, or an integer past 128 bits.
+fn judged<A: Allocator>(alloc: A, text: &str) -> Result<Option<Flaw>, AllocError>
+    ensures some { IfOk result (λ flaw. IfSome flaw (FindsFlaw (chars text.now))) }
+    ensures none { IfOk result (λ flaw. IfNone flaw (FindsNoFlaw (chars text.now))) }
 {
-    match judge {
-        Judge::Syn => Ok(explain(text)),
-        Judge::Rust => match explain_in_file(alloc, text)? {
-            Some(flaw) => Ok(Some(flaw)),
-            None => Ok(explain(text)),
-        },
+    match explain_in_file(alloc, text)? {
+        Some(flaw) => Ok(Some(flaw)),
+        None => Ok(explain_limit(text)),
     }
 }
 
@@ -37,14 +33,13 @@ pub(crate) fn flaw_of<A: Allocator>(
     options: &Options<'_>,
     text: &str,
 ) -> Result<Option<Flaw>, AllocError>
-    ensures some { IfOk result (λ flaw. IfSome flaw (FindsFlaw options.now.judge (chars text.now))) }
-    ensures none { IfOk result (λ flaw. IfNone flaw (LooksForFlaws options.now
-        → FindsNoFlaw options.now.judge (chars text.now))) }
+    ensures some { IfOk result (λ flaw. IfSome flaw (FindsFlaw (chars text.now))) }
+    ensures none { IfOk result (λ flaw. IfNone flaw (LooksForFlaws options.now → FindsNoFlaw (chars text.now))) }
 {
     if !looks_for_flaws(options) {
         return Ok(None);
     }
-    judged(alloc, options.judge, text)
+    judged(alloc, text)
 }
 
 /// The flaw that the line of a literal reports, where lines do so.

@@ -3,15 +3,6 @@
 ghost use Rattle.std.specs.Prelude.{◌↔◌, IsTrue};
 ghost use Rattle.rl_sources.specs.Options.{Names, Picks};
 
-/// By which grammar a literal is bad.
-#[derive(Clone, Copy)]
-pub enum Judge {
-    /// Rust's: the strict grammar, of which an integer has 128 bits at most. A CR LF of a file is an LF there.
-    Rust,
-    /// That of `syn`: a literal is bad where it has no reading.
-    Syn,
-}
-
 /// How a literal is printed.
 #[derive(Clone, Copy)]
 pub enum Spelling {
@@ -39,7 +30,7 @@ pub enum Shown<'a> {
     All,
     /// Those whose lines begin with one of these words, in any case of their letters; commas separate the words.
     Only(&'a str),
-    /// Those that are bad.
+    /// Those that are bad: no literal tokens of Rust, where a CR LF of the file is an LF, or integers past 128 bits.
     Bad,
     /// Those that hold characters which turn or hide text, as they are written.
     Hidden,
@@ -62,8 +53,6 @@ pub struct Options<'a> {
     pub rejects_strays: bool,
     /// Whether the line of a bad literal says why it is bad.
     pub explains: bool,
-    /// By which grammar a literal is bad.
-    pub judge: Judge,
     /// What stands before each place: a file's path as it is printed, or for the form `Json` as it is.
     pub path: Option<&'a str>,
 }
@@ -71,7 +60,6 @@ pub struct Options<'a> {
 impl Default for Options<'_> {
     ghost use Rattle.std.specs.Prelude.{◌≡◌, None, false};
     ghost use Rattle.rl_sources.specs.declared.options.Form.TheVariants.{Plain};
-    ghost use Rattle.rl_sources.specs.declared.options.Judge.TheVariants.{Rust};
     ghost use Rattle.rl_sources.specs.declared.options.Shown.TheVariants.{All};
     ghost use Rattle.rl_sources.specs.declared.options.Spelling.TheVariants.{Value};
 
@@ -83,11 +71,10 @@ impl Default for Options<'_> {
       by_line = false;
       rejects_strays = false;
       explains = false;
-      judge = Rust;
       path = None;
     } };
 
-    /// All literals, each by its value after its place in bytes, without reasons. Rust's grammar says which are bad.
+    /// All literals, each by its value after its place in bytes, without reasons.
     fn default() -> Self {
         Options {
             shown: Shown::All,
@@ -97,7 +84,6 @@ impl Default for Options<'_> {
             by_line: false,
             rejects_strays: false,
             explains: false,
-            judge: Judge::Rust,
             path: None,
         }
     }

@@ -107,7 +107,7 @@ pub(crate) fn push_flaw<'t, A: Allocator>(
     flaw: Flaw,
 ) -> Result<(), AllocError>
     requires rest { BeginsRest literal.now.token.now places.old literal.now.rest.now }
-    requires flaw { FindsFlaw options.now.judge (chars literal.now.token.now.text.now) flaw }
+    requires flaw { FindsFlaw (chars literal.now.token.now.text.now) flaw }
     ensures shown { OnOk result (Appends
         (IsFlawLine options.now (chars places.old) (chars literal.now.token.now.text.now) literal.now.token.now.lo)
         (chars (string_bytes out.old)) (chars (string_bytes out.new))) }

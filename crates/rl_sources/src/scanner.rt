@@ -22,7 +22,7 @@ fn is_any(before: bool, lines: &[u8]) -> bool
 
 /// Writes a line for each literal of a source, in order: its place, after the path where there is one, and what
 /// `rl_lines` prints of its text, with escapes for what turns or hides text; with `explains` the line of a literal that
-/// the judge rejects has the place and the reason of its flaw, as `rl_grammar` explains it. With `finds` only literals whose
+/// Rust rejects has the place and the reason of its flaw, as `rl_grammar` explains it. With `finds` only literals whose
 /// contents hold that text have a line, with the place of what gives it where it stands first. With `Hidden` a line has
 /// the place of the first character that turns or hides text. In the form `Json` a line is an object: `path`, `lo`, `hi`,
 /// `line`, `column`, and of a literal `kind`, `text`, `value` and `suffix`, of a flaw `text`, `error` and `piece`. Tokens are

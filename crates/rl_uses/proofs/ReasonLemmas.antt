@@ -1,14 +1,12 @@
 -- The reasons of literals, one literal after another.
-use Rattle.rl_text.proofs.Common.{List, [], ap, chars, inl, inr, refl, ◌++◌, ◌∷◌}
-use Rattle.rl_forms.specs.Reading.{HasReading}
+use Rattle.rl_text.proofs.Common.{List, [], ap, inl, inr, refl, ◌++◌, ◌∷◌}
 use Rattle.rust_literals.specs.declared.lit.Lit.{Lit}
-use Rattle.rust_literals.specs.Literals.{token_of}
 use Rattle.rl_uses.specs.declared.reasons.Reason.{Reason}
-use Rattle.rl_uses.specs.Reasons.{IsReasonOf, AreReasons}
+use Rattle.rl_uses.specs.Reasons.{HasValue, IsReasonOf, AreReasons}
 
--- one literal more that has a reading
+-- one literal more that has a value
 pub reasons_same : {A : Type 0} (ls : List (Lit A)) (l : Lit A) (reasons : List Reason) → AreReasons ls reasons
-    → HasReading (chars (token_of l).text) → AreReasons (ls ++ (l ∷ [])) reasons
+    → HasValue l → AreReasons (ls ++ (l ∷ [])) reasons
 reasons_same [] l reasons e t = inl (t, e)
 reasons_same (x ∷ xs) l reasons (inl (u, h)) t = inl (u, reasons_same xs l reasons h t)
 reasons_same (x ∷ xs) l reasons (inr (first, rest, u, e, h)) t = inr (first, rest, u, e, reasons_same xs l rest h t)

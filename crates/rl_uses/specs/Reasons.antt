@@ -1,9 +1,11 @@
--- Why literals without a reading have none.
+-- Why literals have no value in Rust.
 use Rattle.std.specs.Prelude.{◌≡◌, ◌⊎◌, List, [], ◌∷◌}
 use Rattle.std.specs.Str.{chars}
 use Rattle.rl_forms.specs.Reading.{HasReading}
 use Rattle.rl_reasons.specs.declared.flaws.Flaw.{Flaw}
-use Rattle.rl_reasons.specs.Flaws.{Explains, place_in}
+use Rattle.rl_reasons.specs.Flaws.{place_in}
+use Rattle.rl_reasons.specs.Limits.{ExplainsValue}
+use Rattle.rl_reasons.specs.SignedFlaws.{IsSignedToken}
 use Rattle.rust_literals.specs.declared.lit.Lit.{Lit}
 use Rattle.rust_literals.specs.Literals.{token_of}
 use Rattle.rust_literals.specs.LitParts.{lit_span}
@@ -12,7 +14,7 @@ use Rattle.rl_uses.specs.declared.reasons.Reason.{Reason}
 -- The reason is a flaw that explains the literal's text, at its place in the file.
 abbrev pub IsReasonOf : {A : Type 0} → Lit A → Reason → Type 0
 IsReasonOf literal reason =
-    (flaw : Flaw) × Explains (chars (token_of literal).text) flaw
+    (flaw : Flaw) × ExplainsValue (chars (token_of literal).text) flaw
     × (reason.kind ≡ flaw.kind)
     × (reason.span ≡ record {
       file = (lit_span literal).file;
@@ -20,10 +22,15 @@ IsReasonOf literal reason =
       hi = place_in (lit_span literal) flaw.hi;
     })
 
--- The reasons are those of the literals that have no reading, in order.
+-- The literal is one of Rust, perhaps a negative number, and has a reading.
+abbrev pub HasValue : {A : Type 0} → Lit A → Type 0
+HasValue literal =
+    IsSignedToken (chars (token_of literal).text) × HasReading (chars (token_of literal).text)
+
+-- The reasons are those of the literals that have no value, in order.
 abbrev pub AreReasons : {A : Type 0} → List (Lit A) → List Reason → Type 0
 AreReasons [] reasons = reasons ≡ []
 AreReasons (l ∷ ls) reasons =
-    (HasReading (chars (token_of l).text) × AreReasons ls reasons)
+    (HasValue l × AreReasons ls reasons)
     ⊎ ((first : Reason) × (rest : List Reason) × IsReasonOf l first × (reasons ≡ first ∷ rest)
     × AreReasons ls rest)

@@ -7,5 +7,4 @@ pub mod grammar;
 pub mod literals;
 pub mod own;
 pub mod quoted;
-pub mod strict;
 pub mod tokens;

@@ -1,20 +1,17 @@
-//! A linter: why literals without a reading have none.
+//! A linter: why literals have no value in Rust.
 
 ghost use Rattle.std.specs.Prelude.{List, IfOk, IfErr, IfSome, IfNone};
-ghost use Rattle.std.specs.Str.{chars};
-ghost use Rattle.rl_forms.specs.Reading.{HasReading};
 ghost use Rattle.rust_literals.specs.declared.lit.Lit.{Lit};
-ghost use Rattle.rust_literals.specs.Literals.{token_of};
 ghost use Rattle.rust_literals.specs.Parsing.{AreRead};
 ghost use Rattle.rl_uses.specs.Shortage.{IsShortOf, RejectsTextOrMemory};
-ghost use Rattle.rl_uses.specs.Reasons.{IsReasonOf, AreReasons};
+ghost use Rattle.rl_uses.specs.Reasons.{HasValue, IsReasonOf, AreReasons};
 
 use rl_grammar::FlawKind;
 use rl_tokens::{Error, Span};
 use rust_literals::{Lit, read_all};
 use std::alloc::Allocator;
 
-/// Why a literal has no reading.
+/// Why a literal has no value in Rust.
 #[derive(Clone, Copy)]
 pub struct Reason {
     /// The file and the bytes of the character that is wrong.
@@ -23,9 +20,9 @@ pub struct Reason {
     pub kind: FlawKind,
 }
 
-/// Why a literal has no reading; `None` where it has one.
+/// Why a literal has no value; `None` where it has one.
 fn reason_of<A: Allocator>(literal: &Lit<A>) -> Option<Reason>
-    ensures none { IfNone result (HasReading (chars (token_of literal.now).text)) }
+    ensures none { IfNone result (HasValue literal.now) }
     ensures some { IfSome result (IsReasonOf literal.now) }
 {
     let flaw = literal.explain()?;
@@ -35,7 +32,7 @@ fn reason_of<A: Allocator>(literal: &Lit<A>) -> Option<Reason>
     })
 }
 
-/// Why those of the literals that have no reading have none.
+/// Why those of the literals that have no value have none.
 fn reasons_of<A: Allocator>(alloc: A, literals: &[Lit<A>]) -> Result<Vec<Reason, A>, Error<A>>
     ensures found { IfOk result (λ reasons. AreReasons literals.now reasons.items) }
     ensures memory { IfErr result (IsShortOf literals.now) }
@@ -51,8 +48,8 @@ fn reasons_of<A: Allocator>(alloc: A, literals: &[Lit<A>]) -> Result<Vec<Reason,
     Ok(reasons)
 }
 
-/// Why literals of the text have no reading, in the text's order: each with the file and the bytes of the character that
-/// is wrong. The text is nothing but literals, white space and plain comments.
+/// Why literals of the text have no value in Rust, in the text's order: each with the file and the bytes of the character
+/// that is wrong. The text is nothing but literals, white space and plain comments.
 ///
 /// # Errors
 ///
@@ -63,7 +60,7 @@ pub fn bad_literals<A: Allocator + Copy>(
     text: &str,
     file: u32,
 ) -> Result<Vec<Reason, A>, Error<A>>
-    // The text reads as literals, and these are the reasons of those among them that have no reading.
+    // The text reads as literals, and these are the reasons of those among them that have no value.
     ensures found { IfOk result (λ reasons. (list : List (Lit A))
         × AreRead (chars text.now) file list × AreReasons list reasons.items) }
     // What `read_all` rejects of the text, or an allocation failed for one of its literals, which the

@@ -4,9 +4,8 @@ ghost use Rattle.std.specs.Prelude.{◌≡◌, IfOk, IfErr, IfSome, IfNone, Some
 ghost use Rattle.std.specs.Str.{chars};
 ghost use Rattle.rl_tokens.specs.Errors.{memory_at};
 ghost use Rattle.rl_forms.specs.Reading.{HasNoReading, HasReading, HasSuffix};
-ghost use Rattle.rl_reasons.specs.Flaws.{Explains};
-ghost use Rattle.rl_reasons.specs.StrictFlaws.{ExplainsStrictly};
-ghost use Rattle.rl_strict.specs.StrictShapes.{IsToken};
+ghost use Rattle.rl_reasons.specs.Limits.{ExplainsValue};
+ghost use Rattle.rl_reasons.specs.SignedFlaws.{IsSignedToken};
 ghost use Rattle.rl_reading.specs.Founds.{IsFound};
 ghost use Rattle.rl_grammar.specs.FrontTokens.{front_token};
 ghost use Rattle.rust_literals.specs.Held.{HasOwnSuffix};
@@ -18,7 +17,7 @@ use crate::lit_bool::{LitBool, word};
 use crate::lit_float::LitFloat;
 use crate::lit_int::LitInt;
 use crate::number::{Number, NumberKind};
-use rl_grammar::{Flaw, Found, Front, Kind, explain, find, strict};
+use rl_grammar::{Flaw, Found, Front, Kind, explain_value, find};
 use rl_quoted::{LitByte, LitByteStr, LitCStr, LitChar, LitStr, Quoted, QuotedKind};
 use rl_tokens::{Error, Kept, Literal, Parse, ParseBuffer, Span, Token};
 use std::alloc::{Allocator, Global};
@@ -239,27 +238,17 @@ impl<A: Allocator> Lit<A> {
         self.view().span
     }
 
-    /// Why the literal's text is no literal, and where, in bytes of the text; `None` exactly where it is one. So of
-    /// `Verbatim` it is the reason. [`Flaw::in_span`] gives the place in the file. No memory is taken.
+    /// Why the literal's text has no value in Rust, and where, in bytes of the text; `None` exactly where it is a literal
+    /// token, or a minus and a number, and has a reading. So it is the reason of `Verbatim`, and of a literal that `syn`
+    /// reads and rustc rejects. [`Flaw::in_span`] gives the place in the file. No memory is taken.
     ///
     /// See the example of [`read_all`].
     pub fn explain(&self) -> Option<Flaw>
+        ensures token { IfNone result (IsSignedToken (chars (token_of self.now).text)) }
         ensures none { IfNone result (HasReading (chars (token_of self.now).text)) }
-        ensures some { IfSome result (Explains (chars (token_of self.now).text)) }
+        ensures some { IfSome result (ExplainsValue (chars (token_of self.now).text)) }
     {
-        explain(self.text())
-    }
-
-    /// Why the literal's text is no token of Rust's own grammar, and where, in bytes of the text; `None` exactly where it
-    /// is one. So of a literal that `syn` reads and rustc rejects it is the reason. A minus is a token of its own, so the
-    /// text of a negative number is none. No memory is taken.
-    ///
-    /// See the example of [`strict::explain`].
-    pub fn explain_strict(&self) -> Option<Flaw>
-        ensures none { IfNone result (IsToken (chars (token_of self.now).text)) }
-        ensures some { IfSome result (ExplainsStrictly (chars (token_of self.now).text)) }
-    {
-        strict::explain(self.text())
+        explain_value(self.text())
     }
 
     /// Puts the literal elsewhere: its span becomes this one, and all else stays.

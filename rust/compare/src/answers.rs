@@ -8,7 +8,7 @@ const KINDS: [&str; 9] = [
 ];
 
 /// The flaws, by their numbers.
-const FLAWS: [&str; 35] = [
+const FLAWS: [&str; 33] = [
     "Empty",
     "NoLiteral",
     "Unfinished",
@@ -26,8 +26,6 @@ const FLAWS: [&str; 35] = [
     "Surrogate",
     "Nul",
     "NotAscii",
-    "LateQuote",
-    "LoneCr",
     "MustEscape",
     "NoCharacter",
     "TwoCharacters",
@@ -181,17 +179,9 @@ pub mod library {
         );
     }
 
-    fn flaw(out: &mut String, text: &str, found: Option<library::Explanation>) {
-        match found {
-            Some(why) => push_flaw(
-                out,
-                FLAWS[usize::from(why.kind) - 1],
-                why.from,
-                why.lo,
-                why.hi,
-            ),
-            None => push_flaw(out, "NotRust", 0, 0, text.len()),
-        }
+    fn flaw(out: &mut String, why: &library::Explanation) {
+        let kind = FLAWS[usize::from(why.kind) - 1];
+        push_flaw(out, kind, why.from, why.lo, why.hi);
     }
 
     /// Where the first bytes of what a quoted literal stands for are written.
@@ -204,21 +194,25 @@ pub mod library {
     pub fn one(out: &mut String, text: &str) {
         places(out, text);
         let reading = library::find(text);
-        assert_eq!(reading.is_none(), library::explain(text).is_some());
+        let why = library::explain(text);
         match &reading {
             Some(reading) => literal(out, text, reading),
             None => {
                 push_literal(out, "Verbatim", text, None, "", &Value::None);
-                flaw(out, text, library::explain(text));
+                flaw(out, why.as_ref().unwrap());
             }
         }
         let is_number = reading.is_some_and(|it| matches!(it.kind, 6 | 7));
         let unsigned = text.strip_prefix('-').filter(|_| is_number).unwrap_or(text);
-        if reading.is_some() && library::is_token(unsigned) {
-            out.push_str("of Rust\n");
-        } else {
-            let why = library::explain_signed(text).or_else(|| library::explain(text));
-            flaw(out, text, why);
+        assert_eq!(
+            reading.is_some() && library::is_token(unsigned),
+            why.is_none()
+        );
+        let signed = library::explain_signed(text);
+        assert!(signed.is_none() || signed == why);
+        match &why {
+            None => out.push_str("of Rust\n"),
+            Some(why) => flaw(out, why),
         }
         let _ = writeln!(out, "{}", library::is_token(text));
     }

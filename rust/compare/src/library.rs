@@ -34,7 +34,7 @@ pub struct Next {
     pub negative: bool,
 }
 
-/// Why a text is no literal.
+/// Why a text has no value.
 #[repr(C)]
 #[derive(Clone, Copy, Default, PartialEq, Debug)]
 pub struct Explanation {
@@ -118,7 +118,7 @@ fn placed<T: Default, R>(export: impl FnOnce(&mut T) -> R) -> (R, T) {
 /// That the library has the version and the structs of this side.
 pub fn check() {
     // SAFETY: it requires nothing.
-    assert_eq!(unsafe { exports::rl_version() }, 7);
+    assert_eq!(unsafe { exports::rl_version() }, 8);
     // SAFETY: it requires nothing, and writes eight numbers.
     let ((), layout) = placed(|it| unsafe { exports::rl_layout(it) });
     let sizes = [

@@ -6,11 +6,10 @@ use Rattle.std.proofs.Math.Utf8.{scalar}
 use Prim.Native.Char.{code}
 use Rattle.rl_forms.specs.declared.kind.Kind.{Kind}
 use Rattle.rl_forms.specs.declared.kind.Kind.TheVariants.{CStr}
-use Rattle.rl_text.specs.Texts.{first_passes}
-use Rattle.rl_forms.specs.Quoted.{allows_code, has_unicode, holds_characters, is_string}
+use Rattle.rl_forms.specs.Quoted.{allows_code, has_unicode, holds_characters}
 use Rattle.rl_reading.specs.Mirrors.UnitAt.{CodeDigits, code_digits_at}
 use Rattle.rl_reasons.specs.declared.flaws.FlawKind.{FlawKind}
-use Rattle.rl_reasons.specs.declared.flaws.FlawKind.TheVariants.{Unclosed, UnknownEscape, NoUnicode, NoHexDigit, NoBrace, EmptyBraces, TooManyDigits, PastAscii, PastUnicode, Surrogate, Nul, NotAscii, LoneCr, MustEscape, NoCharacter, TwoCharacters}
+use Rattle.rl_reasons.specs.declared.flaws.FlawKind.TheVariants.{Unclosed, UnknownEscape, NoUnicode, NoHexDigit, NoBrace, EmptyBraces, TooManyDigits, PastAscii, PastUnicode, Surrogate, Nul, NotAscii, MustEscape, NoCharacter}
 
 abbrev pub FoundFlaw : Type 0
 FoundFlaw = FlawKind × List ℕ
@@ -79,31 +78,12 @@ escape_flaw_at kind (c ∷ cs) =
     (if has_unicode kind then unicode_flaw_at kind cs else found_flaw NoUnicode (c ∷ cs))
     else (if c == code "0" then found_flaw Nul (c ∷ cs) else found_flaw UnknownEscape (c ∷ cs)))
 
--- of what follows a CR
-abbrev pub line_end_flaw_at : List ℕ → FoundFlaw
-line_end_flaw_at [] = found_flaw Unclosed []
-line_end_flaw_at (c ∷ cs) = found_flaw LoneCr (c ∷ cs)
-
 -- why a character doesn't stand for itself
 abbrev pub character_flaw_of : ℕ → FlawKind
 character_flaw_of c =
     if c == 0 then Nul
     else (if c == code "'" then NoCharacter
     else (if nat_lt c 128 then MustEscape else NotAscii))
-
--- of a unit
-unfoldable pub unit_flaw_at : Kind → List ℕ → FoundFlaw
-unit_flaw_at kind [] = found_flaw Unclosed []
-unit_flaw_at kind (c ∷ cs) =
-    if c == code "\\" then escape_flaw_at kind cs
-    else (if c == code "\r" && is_string kind then line_end_flaw_at cs
-    else found_flaw (character_flaw_of c) (c ∷ cs))
-
--- of a character or a byte, by the text from its unit on and by what follows the unit
-abbrev pub after_unit_flaw_of : List ℕ → List ℕ → FlawKind
-after_unit_flaw_of text [] = Unclosed
-after_unit_flaw_of text (c ∷ cs) =
-    if first_passes (λ d. d == code "'") text then NoCharacter else TwoCharacters
 
 -- of a raw string of the kind, by a character that it can't hold
 abbrev pub spoiled_flaw_of : Kind → FlawKind

@@ -3,9 +3,14 @@
 use Rattle.std.specs.Prelude.{ℕ, true, false, ◌==◌, ◌||◌, List, [], ◌∷◌, if◌then◌else◌}
 use Prim.Native.Char.{code}
 use Rattle.rl_forms.specs.Reading.{truth_text}
+use Rattle.rl_reasons.specs.declared.flaws.FlawKind.{FlawKind}
 use Rattle.rl_reasons.specs.declared.flaws.FlawKind.TheVariants.{Empty, Unfinished, NoLiteral}
-use Rattle.rl_reasons.specs.Mirrors.NumberFlawAt.{end_flaw_at}
 use Rattle.rl_reasons.specs.Mirrors.UnitFlawAt.{FoundFlaw, found_flaw}
+
+-- one kind at the end of the text, another before a character
+abbrev pub end_flaw_at : FlawKind → FlawKind → List ℕ → FoundFlaw
+end_flaw_at at_end before [] = found_flaw at_end []
+end_flaw_at at_end before (c ∷ cs) = found_flaw before (c ∷ cs)
 
 -- what follows the letters at the front that the word begins with
 abbrev pub after_letters : List ℕ → List ℕ → List ℕ

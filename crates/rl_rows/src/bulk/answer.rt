@@ -4,7 +4,7 @@
 use super::attributes::attributes_answer;
 use super::command::Command;
 use super::ending::{ended, rejected};
-use super::flaws::{flaw_answer, strict_flaw_answer};
+use super::flaws::{flaw_answer, value_flaw_answer};
 use super::lent::value_answer;
 use super::literal::literal_of;
 use super::sources::source_answer;
@@ -112,7 +112,7 @@ fn text_asked(alloc: Global, command: Command, text: &str) -> Result<String, All
         Command::Attr => attributes_answer(alloc, text),
         Command::Source => source_answer(alloc, text),
         Command::Explain => flaw_answer(alloc, text),
-        Command::ExplainStrict => strict_flaw_answer(alloc, text),
+        Command::ExplainValue => value_flaw_answer(alloc, text),
     }
 }
 
@@ -138,7 +138,8 @@ pub(crate) fn parts_of(line: &str) -> (&str, &str) {
 /// What is printed for a line of input that begins with a command; `None` for any other. Under `text` a literal's line;
 /// under `int` and `float` such a line, `None` where the text is no such number, or `TooLarge`; under `skip` how many bytes
 /// stand after white space and comments; under `strict` whether the text is a strict token; under `value` what it borrows,
-/// or `None`; under `explain` why it is no literal and where, or `None` where it is one, and under `explain-strict` the same of strict tokens; under `read`, `spans`, `attr` and `source` lines up to one with a point. Digits that aren't hexadecimal or
+/// or `None`; under `explain` why it is no literal token and where, or `None` where it is one, and under `explain-value` why it
+/// has no value; under `read`, `spans`, `attr` and `source` lines up to one with a point. Digits that aren't hexadecimal or
 /// come in no pairs, and bytes that aren't UTF-8, are each answered by a line of their own.
 pub(crate) fn answer(alloc: Global, line: &str) -> Result<Option<String>, AllocError> {
     let (name, digits) = parts_of(line);

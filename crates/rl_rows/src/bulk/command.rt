@@ -23,10 +23,10 @@ pub(crate) enum Command {
     Attr,
     /// The literals of the text as a whole source.
     Source,
-    /// Why the text is no literal, and where.
+    /// Why the text is no literal token, and where.
     Explain,
-    /// Why the text is no token of the strict grammar, and where.
-    ExplainStrict,
+    /// Why the text has no value, and where.
+    ExplainValue,
 }
 
 impl Command {
@@ -44,7 +44,7 @@ impl Command {
             "attr" => Some(Command::Attr),
             "source" => Some(Command::Source),
             "explain" => Some(Command::Explain),
-            "explain-strict" => Some(Command::ExplainStrict),
+            "explain-value" => Some(Command::ExplainValue),
             _ => None,
         }
     }

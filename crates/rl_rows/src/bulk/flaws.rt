@@ -1,6 +1,6 @@
-//! Why a text is no literal.
+//! Why a text is no literal of Rust, or has no value.
 
-use rl_grammar::{Flaw, FlawKind, explain, strict};
+use rl_grammar::{Flaw, FlawKind, explain, explain_value};
 use std::alloc::{AllocError, Global};
 
 /// What a kind of flaw is called.
@@ -23,8 +23,6 @@ fn flaw_name(kind: FlawKind) -> &'static str {
         FlawKind::Surrogate => "Surrogate",
         FlawKind::Nul => "Nul",
         FlawKind::NotAscii => "NotAscii",
-        FlawKind::LateQuote => "LateQuote",
-        FlawKind::LoneCr => "LoneCr",
         FlawKind::MustEscape => "MustEscape",
         FlawKind::NoCharacter => "NoCharacter",
         FlawKind::TwoCharacters => "TwoCharacters",
@@ -45,32 +43,21 @@ fn flaw_name(kind: FlawKind) -> &'static str {
     }
 }
 
-/// The line of a flaw: its kind, and the bytes where it stands.
-fn flaw_line(alloc: Global, flaw: Flaw) -> Result<String, AllocError> {
-    let name = flaw_name(flaw.kind);
-    let Flaw { lo, hi, .. } = flaw;
-    format!(in alloc; "{name} {lo}..{hi}\n")
-}
-
-/// The line of the text's flaw; `None` where the text is a literal.
-pub(crate) fn flaw_answer(alloc: Global, text: &str) -> Result<String, AllocError> {
-    match explain(text) {
-        Some(flaw) => flaw_line(alloc, flaw),
-        None => String::from_str(alloc, "None\n"),
-    }
-}
-
-/// The line of the flaw that makes the text no strict token, with the place where its piece begins; `None` where it is one.
-pub(crate) fn strict_flaw_answer(alloc: Global, text: &str) -> Result<String, AllocError> {
-    match strict::explain(text) {
-        Some(flaw) => strict_flaw_line(alloc, flaw),
-        None => String::from_str(alloc, "None\n"),
-    }
-}
-
-/// The line of a strict flaw: its kind, where its piece begins, and the bytes where it stands.
-fn strict_flaw_line(alloc: Global, flaw: Flaw) -> Result<String, AllocError> {
-    let name = flaw_name(flaw.kind);
-    let Flaw { from, lo, hi, .. } = flaw;
+/// The line of a flaw: its kind, where its piece begins, and the bytes where it stands; `None` where there is none.
+fn flaw_line(alloc: Global, flaw: Option<Flaw>) -> Result<String, AllocError> {
+    let Some(Flaw { kind, from, lo, hi }) = flaw else {
+        return String::from_str(alloc, "None\n");
+    };
+    let name = flaw_name(kind);
     format!(in alloc; "{name} {from} {lo}..{hi}\n")
+}
+
+/// The line of the flaw that makes the text no literal token.
+pub(crate) fn flaw_answer(alloc: Global, text: &str) -> Result<String, AllocError> {
+    flaw_line(alloc, explain(text))
+}
+
+/// The line of the flaw that leaves the text without a value.
+pub(crate) fn value_flaw_answer(alloc: Global, text: &str) -> Result<String, AllocError> {
+    flaw_line(alloc, explain_value(text))
 }

@@ -1,7 +1,10 @@
 //! Examples of `rl_grammar`: what a text is, with no memory taken.
 
 use rl_grammar::strict::is_token;
-use rl_grammar::{Kind, SegmentValue, Segments, explain, is_plain, place_of, shape, str_of};
+use rl_grammar::{
+    Kind, SegmentValue, Segments, explain, explain_in_file, explain_limit, explain_signed,
+    explain_value, is_plain, place_of, shape, str_of,
+};
 use std::alloc::Global;
 
 /// Whether a text is a literal of Rust.
@@ -17,6 +20,29 @@ pub fn suffix_of(text: &str) -> Option<&str> {
 /// Why a text is no literal.
 pub fn reason(text: &str) -> Option<&'static str> {
     Some(explain(text)?.kind.words())
+}
+
+/// Whether a text is a literal of Rust, or a minus and a number.
+pub fn is_value(text: &str) -> bool {
+    explain_signed(text).is_none()
+}
+
+/// Whether a text is an integer past 128 bits.
+pub fn is_too_large(text: &str) -> bool {
+    explain_limit(text).is_some()
+}
+
+/// Why a text has no value in Rust.
+pub fn why_no_value(text: &str) -> Option<&'static str> {
+    Some(explain_value(text)?.kind.words())
+}
+
+/// Why the text of a literal in a file is none of Rust, where memory is found.
+pub fn reason_in_file(alloc: Global, text: &str) -> Option<&'static str> {
+    match explain_in_file(alloc, text) {
+        Ok(Some(flaw)) => Some(flaw.kind.words()),
+        _ => None,
+    }
 }
 
 /// Whether a text is a string without escapes.

@@ -74,7 +74,7 @@ pub(crate) fn integer_of(head: Head<'_>) -> Option<Integer<'_>> {
 }
 
 /// The integer that the text is.
-pub(crate) fn read_integer(text: &str) -> Option<Integer<'_>> {
+pub fn read_integer(text: &str) -> Option<Integer<'_>> {
     match read_head(text) {
         Some(head) => integer_of(head),
         None => None,

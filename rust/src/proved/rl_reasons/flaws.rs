@@ -1,11 +1,6 @@
 // Rendered from crates/rl_reasons/src/flaws.rt by tools/render, which erases contracts: change that file, and render anew.
-//! Why a text is no literal, and where.
+//! Kinds of flaws, and where a text has one.
 
-use crate::rl_reasons::number_flaws::number_flaw;
-use crate::rl_reasons::quoted_flaws::quoted_flaw;
-use crate::rl_reading::find;
-use crate::rl_reading::found::begins_number;
-use crate::rl_reading::quoted_forms::split_opener;
 use crate::rl_text::Span;
 use crate::rl_text::text::split_char;
 use core::fmt;
@@ -48,11 +43,7 @@ pub enum FlawKind {
     Nul,
     /// Bytes and byte strings hold ASCII alone.
     NotAscii,
-    /// The quote moves the end of a raw string, which then holds a character that its kind doesn't take.
-    LateQuote,
-    /// A CR in a string without an LF after it.
-    LoneCr,
-    /// The byte can stand as an escape alone.
+    /// The character can stand as an escape alone.
     MustEscape,
     /// No character stands between the quotes.
     NoCharacter,
@@ -107,9 +98,6 @@ impl FlawKind {
             FlawKind::Surrogate => "surrogates are no characters",
             FlawKind::Nul => "NUL in a C string",
             FlawKind::NotAscii => "not an ASCII character",
-            FlawKind::LateQuote =>
-                "a later quote moves the end past a character that the string can't hold",
-            FlawKind::LoneCr => "CR without LF",
             FlawKind::MustEscape => "must be written as an escape",
             FlawKind::NoCharacter => "no character between the quotes",
             FlawKind::TwoCharacters => "more than one character between the quotes",
@@ -132,7 +120,7 @@ impl FlawKind {
 
 impl fmt::Display for FlawKind {
     fn fmt(&self, f: &mut fmt::Formatter<'_>) -> fmt::Result {
-        f.write_str(self.words())
+        f.pad(self.words())
     }
 }
 
@@ -140,7 +128,7 @@ impl core::error::Error for FlawKind {}
 
 impl fmt::Display for Flaw {
     fn fmt(&self, f: &mut fmt::Formatter<'_>) -> fmt::Result {
-        f.write_str(self.kind.words())
+        f.pad(self.kind.words())
     }
 }
 
@@ -189,8 +177,8 @@ impl<'t> FlawAt<'t> {
 /// Why a text is no literal, and where.
 ///
 /// What stands before `lo` is the longest front of the text that some literal begins with: with
-/// another ending it is one, and with the text's next character it can't become one. A compiler
-/// would mark `from..hi`.
+/// another ending it is one, and with the text's next character it can't become one. Of an integer
+/// past 128 bits it is what stands before the suffix. A compiler would mark `from..hi`.
 #[derive(Clone, Copy, PartialEq, Eq, Debug)]
 pub struct Flaw {
     /// What is wrong.
@@ -199,7 +187,7 @@ pub struct Flaw {
     /// what follows the quote of a character or byte literal, a number or word as a whole.
     pub from: usize,
     /// The place in bytes of the character that no literal goes on with; the text's end where the
-    /// text is too short.
+    /// text is too short. Of an integer past 128 bits it is where the digits end.
     pub lo: usize,
     /// The place after that character.
     pub hi: usize,
@@ -274,39 +262,10 @@ pub(crate) fn first_flaw(text: &str) -> FlawAt<'_> {
     }
 }
 
-/// Why a text that begins neither as a number nor as a quoted literal is no literal, and the text from there on.
-fn word_flaw(text: &str) -> FlawAt<'_> {
-    first_flaw(text)
-}
-
-/// Why a text without a reading is no literal, and the text from there on.
-fn flaw_at(text: &str) -> FlawAt<'_> {
-    if begins_number(text) {
-        return number_flaw(text).in_piece(text);
-    }
-    match split_opener(text) {
-        Some((form, kind, inside)) => quoted_flaw(form, kind, inside),
-        None => word_flaw(text).in_piece(text),
-    }
-}
-
 /// How many bytes the first character of the text has; 0 of an empty one.
 fn first_len(text: &str) -> usize {
     match split_char(text) {
         Some((_, after)) => text.len() - after.len(),
         None => 0,
     }
-}
-
-/// Why the text is no literal, and where; `None` exactly where it is one. No memory is taken.
-///
-/// The grammar is that of [`find`], which is `syn`'s and wider than Rust's: `0b102`, `1e` and `'''` are literals there, so
-/// they have no flaw. Why Rust has no such token, [`strict::explain`](crate::rl_reasons::strict_flaws::explain) says. An integer past 128 bits
-/// is no literal.
-pub fn explain(text: &str) -> Option<Flaw> {
-    if find(text).is_some() {
-        return None;
-    }
-    let found = flaw_at(text);
-    Some(found.in_text(text))
 }

@@ -1,12 +1,15 @@
 // Rendered from crates/rl_reasons/src/lib.rt by tools/render, which erases contracts: change that file, and render anew.
-//! Why a text is no literal, and where. No memory is taken.
+//! Why a text is no literal of Rust, or has no value, and where. No memory is taken.
 
 mod flaws;
-mod number_flaws;
+mod limits;
 mod quoted_flaws;
-pub mod signed_flaws;
-pub mod strict_flaws;
+mod signed_flaws;
+mod strict_flaws;
 mod strict_number_flaws;
 mod strict_quoted_flaws;
 
-pub use crate::rl_reasons::flaws::{Flaw, FlawKind, explain};
+pub use crate::rl_reasons::flaws::{Flaw, FlawKind};
+pub use crate::rl_reasons::limits::{explain_limit, explain_value};
+pub use crate::rl_reasons::signed_flaws::explain_signed;
+pub use crate::rl_reasons::strict_flaws::explain;

@@ -37,7 +37,9 @@ fn flaw_at(text: &str) -> FlawAt<'_> {
 /// Why the text is no literal token of the strict grammar, and where; `None` exactly where it is one. No memory is taken.
 ///
 /// What stands before `lo` is the longest front of the text that some token begins with: with another ending it is one, and
-/// with the text's next character it can't become one.
+/// with the text's next character it can't become one. A minus is a token of its own, so the text of a negative number has a
+/// flaw; [`explain_signed`](crate::rl_reasons::explain_signed) takes a minus too. An integer past 128 bits is a token:
+/// [`explain_limit`](crate::rl_reasons::explain_limit).
 pub fn explain(text: &str) -> Option<Flaw> {
     if is_token(text) {
         return None;

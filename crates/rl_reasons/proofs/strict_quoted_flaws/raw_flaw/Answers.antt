@@ -4,8 +4,7 @@ use Rattle.rl_reading.specs.declared.quoted_forms.QuotedForm.TheVariants.{Raw as
 use Rattle.rl_reasons.specs.Flaws.{StopsBefore}
 use Rattle.rl_reasons.specs.StrictFlawKinds.{StrictQuotedFlaw}
 use Rattle.rl_strict.specs.StrictShapes.{ClosesForm}
-use Rattle.rl_reasons.proofs.RawFlawLemmas.{opened_text}
-use Rattle.rl_reasons.proofs.StrictRawFlaws.{raw_many_hashes, raw_no_quote, raw_unfinished}
+use Rattle.rl_reasons.proofs.StrictRawFlaws.{opened_text, raw_many_hashes, raw_no_quote, raw_unfinished}
 use Rattle.rl_reasons.proofs.strict_quoted_flaws.raw_flaw.Goals as goal
 
 pub before-requires : goal.before-requires

@@ -4,10 +4,10 @@ use Rattle.rl_sources.proofs.reason.push_flaw.Goals as goal
 
 pub place_inside-place-requires-clause-cut : goal.place_inside-place-requires-clause-cut
 place_inside-place-requires-clause-cut g c = flaw_cut (chars c.args.literal.now.token.now.text.now) c.args.flaw
-    (has_place c.args.options.now.judge (chars c.args.literal.now.token.now.text.now) c.args.flaw c.requires.flaw)
+    (has_place (chars c.args.literal.now.token.now.text.now) c.args.flaw c.requires.flaw)
 
 pub place_inside-place-requires-clause-within : goal.place_inside-place-requires-clause-within
-place_inside-place-requires-clause-within g c = (has_place c.args.options.now.judge
+place_inside-place-requires-clause-within g c = (has_place
     (chars c.args.literal.now.token.now.text.now) c.args.flaw c.requires.flaw).within
 
 pub returns-clause-shown : goal.returns-clause-shown

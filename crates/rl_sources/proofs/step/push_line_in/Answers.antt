@@ -5,7 +5,7 @@ use Rattle.rl_sources.proofs.StepLemmas.{explained, passes_unasked, unexplained}
 use Rattle.rl_sources.proofs.step.push_line_in.Goals as goal
 
 pub push_flaw-requires-clause-flaw : goal.push_flaw-requires-clause-flaw
-push_flaw-requires-clause-flaw g c = subst (λ (f : Option Flaw). IfSome f (FindsFlaw c.args.options.now.judge
+push_flaw-requires-clause-flaw g c = subst (λ (f : Option Flaw). IfSome f (FindsFlaw
     (chars c.args.literal.now.token.now.text.now))) c.in-Some.ensures.some.1 c.requires.flaw
 
 pub returns-in-Some-clause-shown : goal.returns-in-Some-clause-shown

@@ -1,7 +1,5 @@
-use Rattle.rl_text.proofs.Common.{[], arith, chars, common_steps, rules, take, ◌++◌, ◌+◌, ◌∷◌, ◌≡◌}
-use Rattle.rl_forms.specs.Reading.{HasReading}
-use Rattle.rust_literals.specs.Literals.{token_of}
-use Rattle.rl_uses.specs.Reasons.{IsReasonOf}
+use Rattle.rl_text.proofs.Common.{[], arith, common_steps, rules, take, ◌++◌, ◌+◌, ◌∷◌, ◌≡◌}
+use Rattle.rl_uses.specs.Reasons.{HasValue, IsReasonOf}
 use Rattle.rl_uses.proofs.ReasonLemmas.{reasons_same, reasons_more}
 use Rattle.rl_uses.proofs.reasons.reasons_of.Goals.{in-Some+else-is_err, in_default}
 use Rattle.rl_uses.proofs.reasons.reasons_of.Goals as goal
@@ -20,7 +18,7 @@ loop-literal-preserved g c =
           rw (grown, more) (reasons_more (take i literals) l c.loop-literal.reasons.items w.in-Some.reason
           c.loop-literal.invariant some)
       | in_default w ↦
-          let none : HasReading (chars (token_of l).text) = search rules in
+          let none : HasValue l = search rules in
           rw (grown, w.reasons-is) (reasons_same (take i literals) l c.loop-literal.reasons.items
           c.loop-literal.invariant none)
     ]

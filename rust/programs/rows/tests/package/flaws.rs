@@ -6,18 +6,18 @@ use navyspindle::{
     ParseError, ParseErrorKind,
 };
 use navyspindle_programs::rattle_std::alloc::Global;
-use navyspindle_programs::rl_grammar::{explain, strict, Flaw};
+use navyspindle_programs::rl_grammar::{explain_in_file, explain_limit, explain_signed, Flaw};
 
 /// Why Rust doesn't take the text: it is no token after an optional minus, or an integer past 128 bits.
 fn proved_flaw(text: &str) -> Option<Flaw> {
-    strict::explain_signed(text).or_else(|| explain(text))
+    explain_signed(text).or_else(|| explain_limit(text))
 }
 
 /// The same of a text in a file.
 pub fn proved_flaw_in_file(text: &str) -> Option<Flaw> {
     if !text.starts_with('-') {
-        let flaw = strict::explain_in_file(Global, text).unwrap();
-        return flaw.or_else(|| explain(text));
+        let flaw = explain_in_file(Global, text).unwrap();
+        return flaw.or_else(|| explain_limit(text));
     }
     // Where the text without the CR of each CR LF has a byte, this one has it there: at an LF, where its CR stands.
     let (mut read, mut places) = (String::new(), Vec::new());

@@ -1,7 +1,7 @@
 // Rendered from crates/rl_reports/src/command.rt by tools/render, which erases contracts: change that file, and render anew.
 //! What a call of the program asks for.
 
-use crate::rl_sources::{Form, Judge, Shown, Spelling};
+use crate::rl_sources::{Form, Shown, Spelling};
 
 /// What a call asks for.
 #[derive(Clone, Copy)]
@@ -57,8 +57,6 @@ pub struct Command<'a> {
     pub output: Output,
     /// Whether a stray character is an error, as it is in Rust.
     pub rejects_strays: bool,
-    /// By which grammar a literal is bad.
-    pub judge: Judge,
 }
 
 /// What a call knows of where it runs.

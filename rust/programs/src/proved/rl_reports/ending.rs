@@ -19,7 +19,6 @@ Prints the literals of Rust sources, or what is wrong with them.
          `target`; links aren't followed. `-` is standard input, as is no PATH, unless input is a terminal (then `.`)
 What is printed (every literal, if nothing is said; of -b, -B and -k one, and -f with -k alone)
   -b, --bad            what Rust rejects: bad literals, quotes and comments left open, and why
-      --lenient        with --bad: what `syn` rejects too
   -B, --hidden         literals with raw characters in them that turn or hide text, such as U+202E; not comments
   -k, --only KIND,..   Str ByteStr CStr Byte Char Int Float Bool Verbatim, in any case
   -f, --find TEXT      what holds TEXT in its contents, however it is written, at the place where TEXT begins

@@ -3,7 +3,7 @@
 
 use crate::rl_reports::command::{Command, Output, PlaceForm, Wish};
 use crate::rl_reports::words::WordError;
-use crate::rl_sources::{Form, Judge, Shown, Spelling};
+use crate::rl_sources::{Form, Shown, Spelling};
 use crate::rattle_std::alloc::Allocator;
 
 /// An option.
@@ -11,7 +11,6 @@ use crate::rattle_std::alloc::Allocator;
 pub(crate) enum Flag {
     Bad,
     Hidden,
-    Lenient,
     Only,
     Find,
     Text,
@@ -64,7 +63,6 @@ pub(crate) fn flag_of(word: &str) -> Option<Flag> {
     match word {
         "-b" | "--bad" => Some(Flag::Bad),
         "-B" | "--hidden" => Some(Flag::Hidden),
-        "--lenient" => Some(Flag::Lenient),
         "-k" | "--only" => Some(Flag::Only),
         "-f" | "--find" => Some(Flag::Find),
         "--text" => Some(Flag::Text),
@@ -117,7 +115,6 @@ fn with_flag(command: Command<'_>, flag: Flag) -> Option<Command<'_>> {
         (Flag::Hidden, Shown::All) => next.shown = Shown::Hidden,
         (Flag::Only, Shown::All) => {}
         (Flag::Bad | Flag::Hidden | Flag::Only, _) => return None,
-        (Flag::Lenient, _) => next.judge = Judge::Syn,
         (Flag::Find | Flag::Color | Flag::Paths, _) => {}
         (Flag::Text, _) => next.spelling = Spelling::Source,
         (Flag::Json, _) => next.form = Form::Json,

@@ -7,8 +7,8 @@ use crate::rl_reports::flags::{
     Flag, Next, Operand, When, add_flag, flag_of, form_when, joined_of, next_after, recolored,
     taken_by, when_of,
 };
-use crate::rl_reports::report::{is_bad, visible_text};
-use crate::rl_sources::{Judge, Shown, Spelling, names};
+use crate::rl_reports::report::visible_text;
+use crate::rl_sources::{Shown, Spelling, names};
 use crate::rattle_std::alloc::{AllocError, Allocator, Global};
 use crate::rattle_std::fmt;
 
@@ -24,8 +24,6 @@ pub enum WordError<A: Allocator = Global> {
     NoKinds,
     /// Two options say which literals are printed.
     TwoChoices,
-    /// `--lenient` stands without `--bad`.
-    LenientAlone,
     /// After `--find` stands no text.
     NoText,
     /// After `--find` stands an empty text.
@@ -57,7 +55,6 @@ impl<A: Allocator> fmt::Display for WordError<A> {
             ),
             WordError::NoKinds => write!(f, "--only: which kinds? as in --only Str,ByteStr"),
             WordError::TwoChoices => write!(f, "--bad, --hidden and --only: one of them, once"),
-            WordError::LenientAlone => write!(f, "--lenient: only with --bad"),
             WordError::NoText => write!(f, "--find: which text? as in --find TODO"),
             WordError::EmptyText => write!(f, "--find: an empty text stands everywhere"),
             WordError::BadAndFind => write!(f, "--bad, --hidden and --find: one of them, once"),
@@ -87,11 +84,6 @@ pub(crate) struct Asked<'a, A: Allocator = Global> {
     pub command: Command<'a>,
     pub paths: Vec<String<A>, A>,
     next: Next,
-}
-
-/// Whether the lenient judge was asked for, and nothing of which it judges.
-fn is_lenient_alone(command: Command<'_>) -> bool {
-    matches!(command.judge, Judge::Syn) && !is_bad(command.shown)
 }
 
 /// Whether a word is a path, and no option.
@@ -221,7 +213,6 @@ fn first_command<'a>(has_colors: bool) -> Command<'a> {
         places: PlaceForm::Usual,
         output: Output::Lines,
         rejects_strays: false,
-        judge: Judge::Rust,
         spelling: Spelling::Value,
         form: form_when(has_colors, When::Auto),
     }
@@ -231,7 +222,7 @@ fn first_command<'a>(has_colors: bool) -> Command<'a> {
 ///
 /// # Errors
 ///
-/// The first word that can't be asked for, or `NoKinds`, `NoText`, `NoColor` or `LenientAlone` at the end.
+/// The first word that can't be asked for, or `NoKinds`, `NoText` or `NoColor` at the end.
 pub(crate) fn asked_by<A: Allocator + Copy>(
     alloc: A,
     has_colors: bool,
@@ -250,9 +241,6 @@ pub(crate) fn asked_by<A: Allocator + Copy>(
     }
     if let Some(operand) = operand_of(asked.next) {
         return Err(missing(operand));
-    }
-    if is_lenient_alone(asked.command) {
-        return Err(WordError::LenientAlone);
     }
     Ok(asked)
 }

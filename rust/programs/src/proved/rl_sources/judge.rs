@@ -1,19 +1,15 @@
 // Rendered from crates/rl_sources/src/judge.rt by tools/render, which erases contracts: change that file, and render anew.
-//! The flaw of a literal of a source, as its judge finds it.
+//! The flaw of a literal of a source, as rustc finds it.
 
-use crate::rl_sources::options::{Judge, Options, Shown};
-use crate::rl_grammar::strict::explain_in_file;
-use crate::rl_grammar::{Flaw, explain};
+use crate::rl_sources::options::{Options, Shown};
+use crate::rl_grammar::{Flaw, explain_in_file, explain_limit};
 use crate::rattle_std::alloc::{AllocError, Allocator};
 
-/// The flaw that the judge finds in the text of a literal.
-fn judged<A: Allocator>(alloc: A, judge: Judge, text: &str) -> Result<Option<Flaw>, AllocError> {
-    match judge {
-        Judge::Syn => Ok(explain(text)),
-        Judge::Rust => match explain_in_file(alloc, text)? {
-            Some(flaw) => Ok(Some(flaw)),
-            None => Ok(explain(text)),
-        },
+/// The flaw of the text of a literal: the text as rustc reads it is no token, or an integer past 128 bits.
+fn judged<A: Allocator>(alloc: A, text: &str) -> Result<Option<Flaw>, AllocError> {
+    match explain_in_file(alloc, text)? {
+        Some(flaw) => Ok(Some(flaw)),
+        None => Ok(explain_limit(text)),
     }
 }
 
@@ -31,7 +27,7 @@ pub(crate) fn flaw_of<A: Allocator>(
     if !looks_for_flaws(options) {
         return Ok(None);
     }
-    judged(alloc, options.judge, text)
+    judged(alloc, text)
 }
 
 /// The flaw that the line of a literal reports, where lines do so.

@@ -7,7 +7,7 @@ use crate::rust_literals::lit_bool::{LitBool, word};
 use crate::rust_literals::lit_float::LitFloat;
 use crate::rust_literals::lit_int::LitInt;
 use crate::rust_literals::number::{Number, NumberKind};
-use crate::rl_grammar::{Flaw, Found, Front, Kind, explain, find, strict};
+use crate::rl_grammar::{Flaw, Found, Front, Kind, explain_value, find};
 use crate::rl_quoted::{LitByte, LitByteStr, LitCStr, LitChar, LitStr, Quoted, QuotedKind};
 use crate::rl_tokens::{Error, Kept, Literal, Parse, ParseBuffer, Span, Token};
 use crate::rattle_std::alloc::{Allocator, Global};
@@ -157,17 +157,11 @@ impl<A: Allocator> Lit<A> {
         self.view().span
     }
 
-    /// Why the literal's text is no literal, and where, in bytes of the text; `None` exactly where it is one. So of
-    /// `Verbatim` it is the reason. [`Flaw::in_span`] gives the place in the file. No memory is taken.
+    /// Why the literal's text has no value in Rust, and where, in bytes of the text; `None` exactly where it is a literal
+    /// token, or a minus and a number, and has a reading. So it is the reason of `Verbatim`, and of a literal that `syn`
+    /// reads and rustc rejects. [`Flaw::in_span`] gives the place in the file. No memory is taken.
     pub fn explain(&self) -> Option<Flaw> {
-        explain(self.text())
-    }
-
-    /// Why the literal's text is no token of Rust's own grammar, and where, in bytes of the text; `None` exactly where it
-    /// is one. So of a literal that `syn` reads and rustc rejects it is the reason. A minus is a token of its own, so the
-    /// text of a negative number is none. No memory is taken.
-    pub fn explain_strict(&self) -> Option<Flaw> {
-        strict::explain(self.text())
+        explain_value(self.text())
     }
 
     /// Puts the literal elsewhere: its span becomes this one, and all else stays.
