@@ -6,7 +6,9 @@ use navyspindle::{
     ParseError, ParseErrorKind,
 };
 use navyspindle_programs::rattle_std::alloc::Global;
-use navyspindle_programs::rl_grammar::{explain_in_file, explain_limit, explain_signed, Flaw};
+use navyspindle_programs::rl_grammar::{
+    explain_in_file, explain_limit, explain_signed, strict, Flaw,
+};
 
 /// Why Rust doesn't take the text: it is no token after an optional minus, or an integer past 128 bits.
 fn proved_flaw(text: &str) -> Option<Flaw> {
