@@ -83,6 +83,8 @@ impl Weigh for ByLiteral {
 
     fn weigh(alloc: Global, text: &str) -> Result<u64, AllocError> {
         let literal = literal_of(alloc, text)?;
-        literal_weight(alloc, &literal)
+        let weight = literal_weight(alloc, &literal);
+        drop(literal);
+        weight
     }
 }

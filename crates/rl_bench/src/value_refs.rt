@@ -37,6 +37,8 @@ impl Weigh for ByValueRef {
 
     fn weigh(alloc: Global, text: &str) -> Result<u64, AllocError> {
         let literal = literal_of(alloc, text)?;
-        value_ref_weight(alloc, &literal)
+        let weight = value_ref_weight(alloc, &literal);
+        drop(literal);
+        weight
     }
 }

@@ -2,16 +2,14 @@
 //! then the second, and so on.
 
 use crate::held::NO_CALL;
+use crate::trial::Scarce;
 use rl_attributes::Attrs;
 use rl_commands::Command;
 use rl_commands::run::run;
 use rl_program::Refusal;
 use rl_refusing::{Failing, Page};
 use rl_tokens::{Error, Parse, ParseBuffer, Span, lex};
-use std::alloc::Global;
-
-/// A borrowed allocator that fails where it is asked to.
-type Borrowed<'a> = &'a Failing<Global>;
+use std::alloc::{Allocator, Global};
 
 /// Puts last what comes of a run, with ample memory, and then with each allocation and all after it failing. A row is the
 /// command's name, a space and the input.
@@ -29,9 +27,9 @@ pub fn of_command(alloc: Global, row: &str, page: &mut Page) {
 
 /// Puts last what a run reports while the allocations from this one on fail, and how many bytes it has written. Returns
 /// how many requests came.
-fn put_run(
+fn put_run<A: Scarce>(
     alloc: Global,
-    failing: Borrowed<'_>,
+    failing: A,
     first: u64,
     command: Command,
     text: &str,
@@ -65,7 +63,7 @@ pub fn attributes(alloc: Global, text: &str, page: &mut Page) {
 
 /// Puts last what the parser reports while these allocations fail, and how many trees are left. Returns how many requests
 /// came.
-fn put_parsed(failing: Borrowed<'_>, first: u64, last: u64, text: &str, page: &mut Page) -> u64 {
+fn put_parsed<A: Scarce>(failing: A, first: u64, last: u64, text: &str, page: &mut Page) -> u64 {
     let Ok(stream) = lex(failing, text, 0) else {
         page.fail();
         return 0;
@@ -83,7 +81,7 @@ fn put_parsed(failing: Borrowed<'_>, first: u64, last: u64, text: &str, page: &m
 }
 
 /// Puts last how many attributes were parsed, or why none were.
-fn put_answer(answer: Result<Attrs<Borrowed<'_>>, Error<Borrowed<'_>>>, page: &mut Page) {
+fn put_answer<A: Allocator>(answer: Result<Attrs<A>, Error<A>>, page: &mut Page) {
     match answer {
         Ok(attrs) => {
             page.put_number(attrs.entries().len());

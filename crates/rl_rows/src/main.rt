@@ -37,10 +37,16 @@ use std::io::{BufRead, BufReader, BufWriter, Write};
 fn main(rt: HostRuntime) -> io::Result<()> {
     let alloc = rt.alloc();
     let mut out = BufWriter::new(alloc, io::writer(&rt))?;
-    for line in BufReader::new(alloc, rt.reader())?.split(alloc, b'\n') {
-        answer_to(alloc, line?, &mut out)?;
-    }
+    answer_all(alloc, BufReader::new(alloc, rt.reader())?, &mut out)?;
     out.flush()
+}
+
+/// Writes what is printed for the lines of an input.
+fn answer_all<R: BufRead + Drop, W: Write>(alloc: Global, input: R, out: &mut W) -> io::Result<()> {
+    for line in input.split(alloc, b'\n') {
+        answer_to(alloc, line?, out)?;
+    }
+    Ok(())
 }
 
 /// Writes what is printed for a line of input.

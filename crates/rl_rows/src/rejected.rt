@@ -5,7 +5,7 @@ use crate::tell::{HERE, at, literal_of};
 use rl_refusing::{Failing, Page};
 use rl_tokens::{Error, Kept, Literal};
 use rust_literals::{Lit, LitStr};
-use std::alloc::Global;
+use std::alloc::{Allocator, Global};
 
 /// A borrowed allocator that fails where it is asked to.
 type Lent<'a> = &'a Failing<Global>;
@@ -41,28 +41,34 @@ fn refused_literal<'a>(failing: Lent<'a>, token: Literal<Lent<'a>>, out: &mut Pa
 }
 
 /// Why a token is no literal, and the token.
-fn tell_kept<'a>(kept: Kept<Literal<Lent<'a>>, Lent<'a>>, out: &mut Page) {
+fn tell_kept<A: Allocator>(kept: Kept<Literal<A>, A>, out: &mut Page) {
     out.show(&kept.error, " ");
     at(kept.error.span, " ", out);
     out.say(kept.value.text(), " ");
-    at(kept.value.span(), "\n", out)
+    at(kept.value.span(), "\n", out);
+    drop(kept)
 }
 
 /// Prints the digits of a number, and its suffix.
-fn tell_number(literal: Lit<Lent<'_>>, out: &mut Page) {
-    match &literal {
-        Lit::Int(number) => {
-            out.put("Int ");
-            out.say(number.base10_digits(), " ")
-        }
-        Lit::Float(number) => {
-            out.put("Float ");
-            out.say(number.base10_digits(), " ")
-        }
-        other => out.say(other.text(), " "),
-    }
+fn tell_number<A: Allocator>(literal: Lit<A>, out: &mut Page) {
+    tell_digits(&literal, out);
     out.say(literal.suffix(), "\n");
     drop(literal)
+}
+
+/// Prints the digits of a number, after what it is; the text of another literal.
+fn tell_digits<A: Allocator>(literal: &Lit<A>, out: &mut Page) {
+    match literal {
+        Lit::Int(number) => tell_pair("Int ", number.base10_digits(), out),
+        Lit::Float(number) => tell_pair("Float ", number.base10_digits(), out),
+        other => out.say(other.text(), " "),
+    }
+}
+
+/// Prints a number's digits after what it is.
+fn tell_pair(kind: &str, digits: &str, out: &mut Page) {
+    out.put(kind);
+    out.say(digits, " ")
 }
 
 /// The value of a string whose contents are the text ten thousand times over, with all allocations but the first failing.
@@ -99,6 +105,7 @@ fn refused_value<'a>(failing: Lent<'a>, literal: &LitStr<Lent<'a>>, out: &mut Pa
 }
 
 /// Prints an error.
-fn failed<'a>(error: Error<Lent<'a>>, out: &mut Page) {
-    out.show(&error, "\n")
+fn failed<A: Allocator>(error: Error<A>, out: &mut Page) {
+    out.show(&error, "\n");
+    drop(error)
 }

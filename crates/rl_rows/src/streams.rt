@@ -1,5 +1,6 @@
 //! Streams over memory that pass few bytes a call, and fail or end after some.
 
+use crate::bulk::parts_of;
 use std::io::{self, ErrorKind, Read, Write};
 
 /// How the streams of a call behave.
@@ -19,9 +20,9 @@ impl Streams {
     /// The streams that words with a space between them ask for: three numbers, each without a limit where no number
     /// stands, and `full`.
     pub(crate) fn of_words(words: &str) -> Streams {
-        let (at_once, rest) = words.split_once(' ').unwrap_or((words, ""));
-        let (readable, rest) = rest.split_once(' ').unwrap_or((rest, ""));
-        let (writable, end) = rest.split_once(' ').unwrap_or((rest, ""));
+        let (at_once, rest) = parts_of(words);
+        let (readable, rest) = parts_of(rest);
+        let (writable, end) = parts_of(rest);
         Streams {
             at_once: limit_of(at_once),
             readable: limit_of(readable),

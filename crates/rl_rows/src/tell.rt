@@ -135,7 +135,14 @@ pub(crate) fn literal_of<A: Allocator + Copy>(
     text: &str,
     span: Span,
 ) -> Result<Lit<A>, Error<A>> {
-    let token = Literal::from_text(alloc, text, span)?;
+    match Literal::from_text(alloc, text, span) {
+        Ok(token) => literal_of_token(alloc, token),
+        Err(error) => Err(error),
+    }
+}
+
+/// The literal that a token is.
+fn literal_of_token<A: Allocator + Copy>(alloc: A, token: Literal<A>) -> Result<Lit<A>, Error<A>> {
     match Lit::new(alloc, token) {
         Ok(literal) => Ok(literal),
         Err(kept) => Err(Error::from(kept)),

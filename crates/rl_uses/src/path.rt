@@ -6,7 +6,7 @@ ghost use Rattle.rl_attributes.specs.AttributeParsing.{entries_of};
 ghost use Rattle.rl_uses.specs.Paths.{IsBackslashOf, IsBackslashSet, IsPathText, is_backslash};
 
 use rl_attributes::{Attrs, Setting, SettingError, read};
-use rl_tokens::{Error, Span};
+use rl_tokens::Span;
 use rust_literals::{Lit, LitStr};
 use std::alloc::Allocator;
 
@@ -27,7 +27,7 @@ fn first_backslash(text: &[u8]) -> Option<usize>
 fn backslash_of<A: Allocator + Copy>(
     alloc: A,
     literal: &LitStr<A>,
-) -> Result<Option<Span>, Error<A>>
+) -> Result<Option<Span>, SettingError<A>>
     ensures { IfOk result (IsBackslashOf literal.now) }
 {
     let value = literal.value(alloc)?;
@@ -46,7 +46,7 @@ fn backslash_set<A: Allocator + Copy>(
 {
     match attrs.get(PATH.name) {
         None => Ok(None),
-        Some(Lit::Str(literal)) => Ok(backslash_of(alloc, literal)?),
+        Some(Lit::Str(literal)) => backslash_of(alloc, literal),
         Some(other) => Err(SettingError::Kind(PATH, other.span())),
     }
 }

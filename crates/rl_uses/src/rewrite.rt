@@ -104,10 +104,10 @@ pub fn rewritten<A: Allocator + Copy>(alloc: A, literal: &Lit<A>) -> Result<Lit<
         Lit::CStr(literal) => Ok(Lit::CStr(c_string_rewritten(alloc, literal)?)),
         Lit::Byte(literal) => Ok(Lit::Byte(byte_rewritten(alloc, literal)?)),
         Lit::Char(literal) => Ok(Lit::Char(character_rewritten(alloc, literal)?)),
-        Lit::Int(literal) => Ok(Lit::Int(literal.clone(alloc)?)),
-        Lit::Float(literal) => Ok(Lit::Float(literal.clone(alloc)?)),
-        Lit::Bool(literal) => Ok(Lit::Bool(literal.clone(alloc)?)),
-        Lit::Verbatim(token) => Ok(Lit::Verbatim(token.clone(alloc)?)),
+        Lit::Int(_) => literal.clone(alloc),
+        Lit::Float(_) => literal.clone(alloc),
+        Lit::Bool(_) => literal.clone(alloc),
+        Lit::Verbatim(_) => literal.clone(alloc),
     }
 }
 
