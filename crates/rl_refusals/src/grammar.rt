@@ -1,8 +1,7 @@
 //! Calls of `rl_grammar`.
 
 use crate::trial::{Scarce, Trial, UNFIT};
-use rl_grammar::explain_in_file;
-use rl_grammar::{Kind, Segments, bytes_of, digits_of, shape, spans_of, str_of};
+use rl_grammar::{Kind, Segments, bytes_of, digits_of, explain_in_file, shape, spans_of, str_of};
 use rl_refusing::Page;
 use rl_tokens::Span;
 

@@ -84,7 +84,10 @@ fn of_grammar(alloc: Global, out: &mut Page) {
     shown!(out, is_value("-\"a\""));
     shown!(out, is_too_large("340282366920938463463374607431768211456"));
     shown!(out, is_too_large("340282366920938463463374607431768211455"));
-    shown!(out, why_no_value("-340282366920938463463374607431768211456"));
+    shown!(
+        out,
+        why_no_value("-340282366920938463463374607431768211456")
+    );
     shown!(out, why_no_value("-1e"));
     shown!(out, why_no_value("-1"));
     shown!(out, is_plain_string("\"a\""));

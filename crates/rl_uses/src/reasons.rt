@@ -1,6 +1,7 @@
 //! A linter: why literals have no value in Rust.
 
 ghost use Rattle.std.specs.Prelude.{List, IfOk, IfErr, IfSome, IfNone};
+ghost use Rattle.std.specs.Str.{chars};
 ghost use Rattle.rust_literals.specs.declared.lit.Lit.{Lit};
 ghost use Rattle.rust_literals.specs.Parsing.{AreRead};
 ghost use Rattle.rl_uses.specs.Shortage.{IsShortOf, RejectsTextOrMemory};
