@@ -39,7 +39,7 @@ def with_streams(source, call):
 # ---- calls of rl_scan
 
 # Which literals are printed, in which form, whether lines are counted, and more; a word without hyphens takes something.
-WHICH = [[], [], [], ['--bad'], ['-b'], ['--bad', '--lenient'], ['--hidden'], ['-B'], ['only'], ['find'], ['find'], ['find', 'only']]
+WHICH = [[], [], [], ['--bad'], ['-b'], ['--hidden'], ['-B'], ['only'], ['find'], ['find'], ['find', 'only']]
 FORMS = [[], [], [], ['--lines'], ['--bytes'], ['-o'], ['--text'], ['--json'], ['--json', '--lines'], ['--text', '-o']]
 COUNTS = [[]] * 20 + [['-c'], ['--count'], ['-l'], ['--files'], ['-q'], ['--quiet']]
 MORE = [[]] * 5 + [['--no-stray'], ['color'], ['color'], ['color', '--no-stray']]
@@ -53,7 +53,7 @@ SHORT = {'only': '-k', 'find': '-f', 'color': '--color'}
 WRONG = [
     '--nope', '-x', '-bl', '-bb', '-kStr', '-fa', '-\u00e9', b'-\xff', '---', '--BAD', '--col', '--bad=x', '--json=1', '--lines=',
     '--only', '-k', '--only=', '--only=Str,', '--only=x', '--only:Str', '--find', '-f', '--find=', b'--find=\xff',
-    '--color', '--color=x', '--color=', '--lenient', '--bad', '-B', '-h', '--help', '-V', '--version', '--', '-',
+    '--color', '--color=x', '--color=', '--bad', '-B', '-h', '--help', '-V', '--version', '--', '-',
 ]
 
 

@@ -22,7 +22,7 @@ AT_ONCE = 4_000_000
 PLACED = re.compile(rb'(\d+)\.\.(\d+) (.*)', re.S)
 # What rl_scan is asked for beside all lines.
 WORDS = (('--lines',), ('--lines', '--no-stray', '--only', 'int,FLOAT,Verbatim'), ('--only', 'verbatim'))
-NO_CALLS = (('--x',), ('-x',), ('--only',), ('--only', ''), ('--only', 'Str,'), ('--only', 'strs'), ('--bad', '--only', 'Str'), ('--only', 'Str', '--bad'), ('--only', 'Str', '--only', 'Int'), ('--bad', '--bad'), ('--lenient',), ('--lenient', '--only', 'Str'))
+NO_CALLS = (('--x',), ('-x',), ('--only',), ('--only', ''), ('--only', 'Str,'), ('--only', 'strs'), ('--bad', '--only', 'Str'), ('--only', 'Str', '--bad'), ('--only', 'Str', '--only', 'Int'), ('--bad', '--bad'))
 # The edition that is asked about sources with prefixes that are reserved since.
 OLDER = '2018'
 

@@ -1,5 +1,5 @@
-"""Why a text is no token of the strict grammar, and where: a model written from docs/GRAMMAR.md ("The strict token grammar",
-"Why a text is no token"). It shares nothing with the programs.
+"""Why a text is no token of the strict grammar or has no value, and where: a model written from docs/GRAMMAR.md ("The strict
+token grammar", "Why a text is no literal of Rust"). It shares nothing with the programs.
 
 The place is the notion itself. The grammar stands here as forms, and of these a machine is made that is in all states at once in
 which some token goes on. Each state leads to a token's end, so the longest front that some token begins with is as long as the
@@ -272,15 +272,50 @@ def rows_at(front, c):
     return found
 
 
-def line(text):
-    """The line that the command `explain-strict` has to answer."""
+def flaw(text):
+    """The kind of the flaw that makes a text no token, where its piece begins, and its place in bytes; None of a token."""
     drawn = sketch(text)
     count, is_token = longest_front(drawn)
     if is_token:
-        return b'None'
+        return None
     found = rows_at(drawn[:count], drawn[count:count + 1])
     if len(found) != 1:
-        return b'%d rows fit' % len(found)
+        return '%d rows fit' % len(found), 0, 0, 0
     kind, begin = found[0]
-    begin, low, high = (len(text[:at].encode()) for at in (begin, count, count + 1))
-    return b'%s %d %d..%d' % (kind.encode(), begin, low, high)
+    return (kind, *(len(text[:at].encode()) for at in (begin, count, count + 1)))
+
+
+def number_after_minus(text):
+    """The flaw of what stands after a minus, in the piece that is the whole text."""
+    if text[1:2] not in DIGITS:
+        return 'NoNumber' if text[1:] else 'Unfinished', 0, 1, len(text[:2].encode())
+    found = flaw(text[1:])
+    return found and (found[0], 0, found[2] + 1, found[3] + 1)
+
+
+INTEGER = re.compile('(-?(?:0x([0-9A-Fa-f_]*+)|0o([0-7_]*+)|0b([01_]*+)|(?!0[xob])([0-9][0-9_]*+)(?![eE])))(?:%s)?' % SUFFIX_OF_NUMBER)
+
+
+def limit(text):
+    """The flaw of a token, or of a minus and one, that is an integer past 128 bits, else None."""
+    integer = INTEGER.fullmatch(sketch(text))
+    if not integer:
+        return None
+    digits, base = next((it, base) for it, base in zip(integer.groups()[1:], (16, 8, 2, 10)) if it is not None)
+    end = integer.end(1)
+    return ('TooLarge', 0, end, len(text[:end + 1].encode())) if int(digits.replace('_', ''), base) >= 2**128 else None
+
+
+def line_of(found):
+    return b'%s %d %d..%d' % (found[0].encode(), *found[1:]) if found else b'None'
+
+
+def line(text):
+    """The line that the command `explain` has to answer."""
+    return line_of(flaw(text))
+
+
+def value_line(text):
+    """The line that the command `explain-value` has to answer."""
+    found = number_after_minus(text) if text[:1] == '-' else flaw(text)
+    return line_of(found or limit(text))

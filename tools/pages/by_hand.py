@@ -35,7 +35,7 @@ def run_commands(tell):
 # (`attr`: one).
 CALLS = {
     'read': ('rl_rows', 'read'), 'text': ('rl_rows', 'text'), 'attr': ('rl_tool', 'attr'),
-    'explain': ('rl_rows', 'explain'),
+    'explain': ('rl_rows', 'explain'), 'explain-value': ('rl_rows', 'explain-value'),
     'LitInt::new': ('rl_rows', 'integer'), 'LitFloat::new': ('rl_rows', 'real'),
     'LitStr::parse': ('rl_rows', 'inside'), 'read_number': ('rl_rows', 'settings'),
     'read_config': ('rl_rows', 'config'),
