@@ -17,3 +17,7 @@ pub mod SignedFlaws
 pub mod OneUnitFlaw
 pub mod CodeDigitFlaws
 pub mod LimitLemmas
+pub mod Tails
+pub mod ReadNumbers
+pub mod ReadQuoted
+pub mod ReadLemmas

@@ -61,6 +61,24 @@ string_closer k t closing suffix s r e =
           ((moves x).1 (subst (ClosesUnits k) (append_assoc front (34 ∷ []) x) c)));
     }
 
+cooked_text : (k : Kind) (t closing suffix : List ℕ) (r : BeginsStrictUnits k t closing) → closing ≡ 34 ∷ suffix → t
+    ≡ (flat_map strict_text r.units ++ (34 ∷ [])) ++ suffix
+cooked_text k t closing suffix r e = r.text_is ∙ ap (λ z. flat_map strict_text r.units ++ z) e
+    ∙ sym (append_assoc (flat_map strict_text r.units) (34 ∷ []) suffix)
+
+-- a string is closed exactly where a suffix follows its quote
+pub cooked_closes : (k : Kind) (t closing suffix : List ℕ) → is_string k ≡ true → BeginsStrictUnits k t closing
+    → closing ≡ 34 ∷ suffix → is_strict_suffix suffix ≡ true → ClosesUnits k t
+unfolding string_closer
+cooked_closes k t closing suffix s r e h = subst (ClosesUnits k) (sym (cooked_text k t closing suffix r e))
+    ((string_closer k t closing suffix s r e).good suffix h)
+
+pub cooked_unclosed : (k : Kind) (t closing suffix : List ℕ) → is_string k ≡ true → BeginsStrictUnits k t closing
+    → closing ≡ 34 ∷ suffix → is_strict_suffix suffix ≡ false → ClosesUnits k t → ⊥
+unfolding string_closer
+cooked_unclosed k t closing suffix s r e h c = (string_closer k t closing suffix s r e).bad suffix h
+    (subst (ClosesUnits k) (cooked_text k t closing suffix r e) c)
+
 pub string_closed : (k : Kind) (f : FlawKind) (t closing suffix piece rest : List ℕ) → is_string k ≡ true
     → BeginsStrictUnits k t closing → closing ≡ 34 ∷ suffix → (ClosesUnits k t → ⊥) → found_flaw f rest
     ≡ closed_flaw_at CookedForm suffix → piece ≡ suffix_piece f closing suffix → FlawInside CookedForm k f t piece rest

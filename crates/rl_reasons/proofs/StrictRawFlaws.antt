@@ -375,7 +375,7 @@ raw_closed k f n hashes inside rest suffix q z c cs s few e at is quote more non
 -- ---- the flaw before it
 
 -- what follows hashes where none goes on
-hash_run : (n : ℕ) (z : List ℕ) → first_passes is_hash z ≡ false → after_run is_hash (replicate n 35 ++ z) ≡ z
+pub hash_run : (n : ℕ) (z : List ℕ) → first_passes is_hash z ≡ false → after_run is_hash (replicate n 35 ++ z) ≡ z
 hash_run zero [] h = refl
 hash_run zero (c ∷ cs) h = ap (λ b. cond b (after_run is_hash cs) (c ∷ cs)) h
 hash_run (suc n) z h = hash_run n z h
@@ -476,3 +476,47 @@ raw_many_hashes k f n t rest q z cs c s few text last is hash kind piece place =
 pub opened_text : (t hashes rest inside : List ℕ) (c : ℕ) → t ≡ hashes ++ rest → rest ≡ c ∷ inside → c ≡ 34 → t ≡ hashes
     ++ (34 ∷ inside)
 opened_text t hashes rest inside c cut first is = cut ∙ ap (λ z. hashes ++ z) (first ∙ ap (λ z. z ∷ inside) is)
+-- ---- whether it is closed, by what the code finds
+
+closing_text : (n : ℕ) (hashes rest suffix cs : List ℕ) (c : ℕ) → hashes ≡ replicate n 35 → rest ≡ c ∷ cs → c ≡ 34 → cs
+    ≡ hashes ++ suffix → rest ≡ 34 ∷ (replicate n 35 ++ suffix)
+closing_text n hashes rest suffix cs c e is quote more = is ∙ ap (λ y. y ∷ cs) quote
+    ∙ ap (λ y. 34 ∷ y) (more ∙ ap (λ y. y ++ suffix) e)
+
+pub raw_closes : (k : Kind) (n : ℕ) (hashes inside rest suffix : List ℕ) (c : ℕ) (cs : List ℕ) → is_string k ≡ true
+    → n ≤ 255 → hashes ≡ replicate n 35 → rest ≡ raw_stop k hashes inside → rest ≡ c ∷ cs → c ≡ 34 → cs
+    ≡ hashes ++ suffix → is_strict_suffix suffix ≡ true → ClosesRaw k (hashes ++ (34 ∷ inside))
+raw_closes k n hashes inside rest suffix c cs s few e at is quote more h =
+    let less : n < 256 = omega (arith, few) in
+    let w = found_walk k n hashes inside rest e at in
+    let text = closing_text n hashes rest suffix cs c e is quote more in
+    subst (ClosesRaw k) (sym (ap (λ y. y ++ (34 ∷ inside)) e ∙ cut k n inside rest s less w
+    ∙ ap (λ z. before k n inside rest s less w ++ z) text)) (closed_at k n inside rest s less w suffix h)
+
+pub raw_off : (k : Kind) (n : ℕ) (hashes inside rest suffix : List ℕ) (c : ℕ) (cs : List ℕ) → is_string k ≡ true
+    → n ≤ 255 → hashes ≡ replicate n 35 → rest ≡ raw_stop k hashes inside → rest ≡ c ∷ cs → c ≡ 34 → cs
+    ≡ hashes ++ suffix → is_strict_suffix suffix ≡ false → ClosesRaw k (hashes ++ (34 ∷ inside)) → ⊥
+raw_off k n hashes inside rest suffix c cs s few e at is quote more h y =
+    let less : n < 256 = omega (arith, few) in
+    let w = found_walk k n hashes inside rest e at in
+    let text = closing_text n hashes rest suffix cs c e is quote more in
+    bad k n inside rest s less w (34 ∷ (replicate n 35 ++ suffix)) refl (raw_close k (replicate n 35) suffix ∙ h)
+    (subst (ClosesRaw k) (ap (λ y. y ++ (34 ∷ inside)) e ∙ cut k n inside rest s less w
+    ∙ ap (λ z. before k n inside rest s less w ++ z) text) y)
+
+pub raw_end_none : (k : Kind) (n : ℕ) (hashes inside rest : List ℕ) → is_string k ≡ true → n ≤ 255 → hashes
+    ≡ replicate n 35 → rest ≡ raw_stop k hashes inside → rest ≡ [] → ClosesRaw k (hashes ++ (34 ∷ inside)) → ⊥
+unfolding ends_raw
+raw_end_none k n hashes inside rest s few e at end y =
+    let less : n < 256 = omega (arith, few) in
+    let w = found_walk k n hashes inside rest e at in
+    bad k n inside rest s less w [] refl refl
+    (subst (ClosesRaw k) (ap (λ y. y ++ (34 ∷ inside)) e ∙ cut k n inside rest s less w
+    ∙ ap (λ z. before k n inside rest s less w ++ z) end) y)
+
+-- the body, which the text after the quote holds before its closer
+pub raw_body : (k : Kind) (n : ℕ) (hashes inside rest : List ℕ) → hashes ≡ replicate n 35 → rest
+    ≡ raw_stop k hashes inside → (body : List ℕ) × (inside ≡ body ++ rest) × (list_all (is_raw_character k) body ≡ true)
+raw_body k n hashes inside rest e at =
+    let w = found_walk k n hashes inside rest e at in
+    (w.body, w.text_is, w.each)

@@ -7,4 +7,7 @@ pub mod StrictFlaws
 pub mod OneFlaw
 pub mod SignedFlaws
 pub mod Limits
+pub mod StrictNumbersRead
+pub mod QuotedRead
+pub mod StrictRead
 pub mod Mirrors

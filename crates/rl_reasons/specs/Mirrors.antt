@@ -4,3 +4,5 @@
 pub mod StrictFlawAt
 pub mod UnitFlawAt
 pub mod WordFlawAt
+pub mod NumberRead
+pub mod SuffixRead

@@ -5,12 +5,15 @@ mod flaws;
 pub mod laws;
 mod limits;
 mod quoted_flaws;
+pub mod read;
+pub mod read_numbers;
+pub mod read_quoted;
 mod signed_flaws;
 mod strict_flaws;
-mod strict_number_flaws;
 mod strict_quoted_flaws;
 
 pub use crate::flaws::{Flaw, FlawKind};
 pub use crate::limits::{explain_limit, explain_value};
+pub use crate::read::{Reading, read, read_signed};
 pub use crate::signed_flaws::explain_signed;
 pub use crate::strict_flaws::explain;

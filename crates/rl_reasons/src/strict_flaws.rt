@@ -5,17 +5,13 @@ ghost use Rattle.std.specs.Char.{is_ascii_digit};
 ghost use Rattle.std.specs.Str.{chars};
 ghost use Rattle.rl_text.specs.Texts.{code, begins_char, first_passes};
 ghost use Rattle.rl_reasons.specs.Flaws.{HasKind, StopsBefore};
-ghost use Rattle.rl_reasons.specs.StrictFlaws.{ExplainsStrictly, IsStrictFlawOf};
+ghost use Rattle.rl_reasons.specs.StrictFlaws.{ExplainsStrictly};
 ghost use Rattle.rl_reasons.specs.StrictNumberFlaws.{IsStrictWordFlaw};
 ghost use Rattle.rl_strict.specs.StrictShapes.{IsToken};
 ghost use Rattle.rl_reading.specs.Mirrors.OpenerAt.{opener_at};
 
 use crate::flaws::{Flaw, FlawAt, FlawKind, first_flaw, make_flaw};
-use crate::strict_number_flaws::number_flaw;
-use crate::strict_quoted_flaws::quoted_flaw;
-use rl_reading::digit_rows::begins_digit;
-use rl_reading::quoted_forms::split_opener;
-use rl_strict::strict::is_token;
+use crate::read::read;
 use rl_text::text::split_char;
 
 /// Whether the text begins with a minus.
@@ -26,7 +22,7 @@ pub(crate) fn begins_minus(text: &str) -> bool
 }
 
 /// Why a text that begins neither with a digit nor as a quoted literal is no token, and the text from there on.
-fn word_flaw(text: &str) -> FlawAt<'_>
+pub(crate) fn word_flaw(text: &str) -> FlawAt<'_>
     requires no_number { IsFalse (first_passes is_ascii_digit (chars text.now)) }
     requires no_opener { opener_at (chars text.now) ≡ None }
     ensures stops { StopsBefore IsToken (chars text.now) (chars result.rest.now) }
@@ -36,21 +32,6 @@ fn word_flaw(text: &str) -> FlawAt<'_>
         make_flaw(FlawKind::Minus, text)
     } else {
         first_flaw(text)
-    }
-}
-
-/// Why a text is no token, and the text from there on.
-fn flaw_at(text: &str) -> FlawAt<'_>
-    requires { IsToken (chars text.now) → ⊥ }
-    ensures stops { StopsBefore IsToken (chars text.now) (chars result.rest.now) }
-    ensures kind { IsStrictFlawOf result.kind (chars text.now) (chars result.piece.now) (chars result.rest.now) }
-{
-    if begins_digit(text) {
-        return number_flaw(text).in_piece(text);
-    }
-    match split_opener(text) {
-        Some((form, kind, inside)) => quoted_flaw(form, kind, inside),
-        None => word_flaw(text).in_piece(text),
     }
 }
 
@@ -77,9 +58,8 @@ pub fn explain(text: &str) -> Option<Flaw>
     ensures none { IfNone result (IsToken (chars text.now)) }
     ensures some { IfSome result (ExplainsStrictly (chars text.now)) }
 {
-    if is_token(text) {
-        return None;
+    match read(text) {
+        Ok(_) => None,
+        Err(flaw) => Some(flaw),
     }
-    let found = flaw_at(text);
-    Some(found.in_text(text))
 }

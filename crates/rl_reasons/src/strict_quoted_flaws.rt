@@ -13,16 +13,15 @@ ghost use Rattle.rl_strict.specs.Mirrors.StrictAt.{is_raw_character};
 ghost use Rattle.rl_reasons.specs.Mirrors.StrictFlawAt.{raw_stop, suffix_rest, suffix_end_flaw_at, begins_hash, held_flaw_of, strict_escape_flaw_at, strict_unit_flaw_at, closed_flaw_at};
 ghost use Rattle.rl_reasons.specs.Mirrors.UnitFlawAt.{found_flaw};
 
-use crate::flaws::{FlawAt, FlawKind, end_flaw, make_flaw};
+use crate::flaws::{FlawAt, FlawKind, make_flaw};
 use crate::quoted_flaws::{character_flaw, escape_flaw, spoiled_flaw};
-use crate::strict_number_flaws::skip_suffix;
 use rl_forms::Kind;
-use rl_reading::quoted_forms::{QuotedForm, after_quote};
-use rl_strict::strict::{after_closer, is_raw_character, skip_inside, skip_unit, skip_units};
-use rl_text::text::{before, split_char};
+use rl_reading::quoted_forms::QuotedForm;
+use rl_strict::strict::{after_closer, is_raw_character, skip_inside};
+use rl_text::text::split_char;
 
 /// The quote of the form.
-fn quote_of(form: QuotedForm) -> char
+pub(crate) fn quote_of(form: QuotedForm) -> char
     ensures { result ≡ form_quote form }
 {
     match form {
@@ -32,41 +31,12 @@ fn quote_of(form: QuotedForm) -> char
 }
 
 /// Whether a hash after the closer is one of the closer's too much.
-fn begins_hash(form: QuotedForm, text: &str) -> bool
+pub(crate) fn begins_hash(form: QuotedForm, text: &str) -> bool
     ensures { result ≡ begins_hash form (chars text.now) }
 {
     match form {
         QuotedForm::Raw => matches!(split_char(text), Some(('#', _))),
         _ => false,
-    }
-}
-
-/// The flaw after the suffix of a closed literal, or after its first characters; `closing` is the text from the closing
-/// quote on, and `suffix` that after the closer.
-fn after_suffix_flaw<'t>(form: QuotedForm, closing: &'t str, suffix: &'t str) -> FlawAt<'t>
-    ensures flaw { found_flaw result.kind (chars result.rest.now)
-        ≡ suffix_end_flaw_at form (suffix_rest (chars suffix.now)) }
-    ensures piece { chars result.piece.now ≡ suffix_piece result.kind (chars closing.now) (chars suffix.now) }
-{
-    let rest = skip_suffix(suffix);
-    match split_char(rest) {
-        None => make_flaw(FlawKind::UnderscoreSuffix, rest).in_piece(suffix),
-        Some((c, _)) if c == quote_of(form) => make_flaw(FlawKind::EarlyQuote, rest).in_piece(
-            closing,
-        ),
-        Some(_) => make_flaw(FlawKind::BadSuffix, rest).in_piece(suffix),
-    }
-}
-
-/// The flaw after a closed literal, from the text after its closer on.
-fn suffix_flaw<'t>(form: QuotedForm, closing: &'t str, suffix: &'t str) -> FlawAt<'t>
-    ensures flaw { found_flaw result.kind (chars result.rest.now) ≡ closed_flaw_at form (chars suffix.now) }
-    ensures piece { chars result.piece.now ≡ suffix_piece result.kind (chars closing.now) (chars suffix.now) }
-{
-    if begins_hash(form, suffix) {
-        make_flaw(FlawKind::ExtraHash, suffix).in_piece(closing)
-    } else {
-        after_suffix_flaw(form, closing, suffix)
     }
 }
 
@@ -83,7 +53,7 @@ fn strict_escape_flaw(kind: Kind, text: &str) -> FlawAt<'_>
 
 /// Why no strict unit of the kind stands at the front, and the text from there on.
 #[tactic(auto, unfolding(crate::specs::Mirrors::StrictFlawAt::strict_unit_flaw_at))]
-fn unit_flaw(kind: Kind, text: &str) -> FlawAt<'_>
+pub(crate) fn unit_flaw(kind: Kind, text: &str) -> FlawAt<'_>
     ensures { found_flaw result.kind (chars result.rest.now) ≡ strict_unit_flaw_at kind (chars text.now) }
 {
     match split_char(text) {
@@ -91,38 +61,6 @@ fn unit_flaw(kind: Kind, text: &str) -> FlawAt<'_>
         Some(('\\', rest)) => strict_escape_flaw(kind, rest),
         Some(('\r', _)) if kind.is_string() => make_flaw(FlawKind::CarriageReturn, text),
         Some((first, _)) => make_flaw(character_flaw(first), text),
-    }
-}
-
-/// The flaw of a string with escapes, after its opener.
-fn cooked_flaw(kind: Kind, text: &str) -> FlawAt<'_>
-    requires string { IsTrue (is_string kind) }
-    requires none { ClosesForm QuotedForm.Cooked kind (chars text.now) → ⊥ }
-    ensures stops { StopsBefore (ClosesForm QuotedForm.Cooked kind) (chars text.now) (chars result.rest.now) }
-    ensures kind { StrictQuotedFlaw QuotedForm.Cooked kind result.kind (chars text.now) (chars result.piece.now)
-        (chars result.rest.now) }
-{
-    let piece = skip_units(kind, text);
-    match after_quote(Kind::Str, piece) {
-        Some(suffix) => suffix_flaw(QuotedForm::Cooked, piece, suffix),
-        None => unit_flaw(kind, piece).in_piece(piece),
-    }
-}
-
-/// The flaw of a character or a byte, after its opener.
-fn single_flaw(kind: Kind, text: &str) -> FlawAt<'_>
-    requires single { IsTrue (is_single kind) }
-    requires none { ClosesForm QuotedForm.Single kind (chars text.now) → ⊥ }
-    ensures stops { StopsBefore (ClosesForm QuotedForm.Single kind) (chars text.now) (chars result.rest.now) }
-    ensures kind { StrictQuotedFlaw QuotedForm.Single kind result.kind (chars text.now) (chars result.piece.now)
-        (chars result.rest.now) }
-{
-    match skip_unit(kind, text) {
-        None => unit_flaw(kind, text).in_piece(text),
-        Some(rest) => match after_quote(Kind::Char, rest) {
-            Some(suffix) => suffix_flaw(QuotedForm::Single, rest, suffix),
-            None => { end_flaw(FlawKind::Unclosed, FlawKind::TwoCharacters, rest).in_piece(text) }
-        },
     }
 }
 
@@ -134,7 +72,7 @@ fn halts(kind: Kind, hashes: &str, c: char, after: &str) -> bool
 }
 
 /// The text from the first closer on, or from the first character on that a raw string of the kind can't hold.
-fn skip_raw<'t>(kind: Kind, hashes: &str, text: &'t str) -> &'t str
+pub(crate) fn skip_raw<'t>(kind: Kind, hashes: &str, text: &'t str) -> &'t str
     ensures { chars result.now ≡ raw_stop kind (chars hashes.now) (chars text.now) }
 {
     let mut rest = skip_inside(kind, text);
@@ -148,7 +86,7 @@ fn skip_raw<'t>(kind: Kind, hashes: &str, text: &'t str) -> &'t str
 }
 
 /// The flaw at a character that a raw string of the kind can't hold.
-fn held_flaw(kind: Kind, c: char) -> FlawKind
+pub(crate) fn held_flaw(kind: Kind, c: char) -> FlawKind
     ensures { result ≡ held_flaw_of kind c }
 {
     match c {
@@ -157,28 +95,8 @@ fn held_flaw(kind: Kind, c: char) -> FlawKind
     }
 }
 
-/// The flaw of a raw string after its first quote.
-fn opened_flaw<'t>(kind: Kind, hashes: &str, inside: &'t str) -> FlawAt<'t>
-    requires string { IsTrue (is_string kind) }
-    requires hashes { (n : ℕ) × (n ≤ 255) × (chars hashes.now ≡ replicate n (code "#")) }
-    requires none { ClosesForm QuotedForm.Raw kind (chars hashes.now ++ (code "\"" ∷ chars inside.now)) → ⊥ }
-    ensures stops { StopsBefore (ClosesForm QuotedForm.Raw kind)
-        (chars hashes.now ++ (code "\"" ∷ chars inside.now)) (chars result.rest.now) }
-    ensures kind { StrictQuotedFlaw QuotedForm.Raw kind result.kind
-        (chars hashes.now ++ (code "\"" ∷ chars inside.now)) (chars result.piece.now) (chars result.rest.now) }
-{
-    let rest = skip_raw(kind, hashes, inside);
-    let Some((c, after)) = split_char(rest) else {
-        return make_flaw(FlawKind::Unclosed, rest);
-    };
-    match after_closer(hashes, c, after) {
-        Some(suffix) => suffix_flaw(QuotedForm::Raw, rest, suffix),
-        None => make_flaw(held_flaw(kind, c), rest),
-    }
-}
-
 /// The text after the hashes at its front, but not after more than 255.
-fn skip_few_hashes(text: &str) -> &str
+pub(crate) fn skip_few_hashes(text: &str) -> &str
     ensures hashes { (n : ℕ) × (n ≤ 255) × (chars text.now ≡ replicate n (code "#") ++ chars result.now)
         × (n < 255 → IsFalse (first_passes is_hash (chars result.now))) }
     ensures following { IsTail text.now result.now }
@@ -196,40 +114,4 @@ fn skip_few_hashes(text: &str) -> &str
         count += 1;
     }
     rest
-}
-
-/// The flaw of a raw string, from its hashes on.
-fn raw_flaw(kind: Kind, text: &str) -> FlawAt<'_>
-    requires string { IsTrue (is_string kind) }
-    requires none { ClosesForm QuotedForm.Raw kind (chars text.now) → ⊥ }
-    ensures stops { StopsBefore (ClosesForm QuotedForm.Raw kind) (chars text.now) (chars result.rest.now) }
-    ensures kind { StrictQuotedFlaw QuotedForm.Raw kind result.kind (chars text.now) (chars result.piece.now)
-        (chars result.rest.now) }
-{
-    let rest = skip_few_hashes(text);
-    let Some((first, inside)) = split_char(rest) else {
-        return make_flaw(FlawKind::Unfinished, rest);
-    };
-    if first == '#' {
-        make_flaw(FlawKind::TooManyHashes, rest).in_piece(text)
-    } else if first == '"' {
-        opened_flaw(kind, before(text, rest), inside)
-    } else {
-        make_flaw(FlawKind::NoQuote, rest)
-    }
-}
-
-/// The flaw of a quoted literal, after its opener.
-pub(crate) fn quoted_flaw(form: QuotedForm, kind: Kind, text: &str) -> FlawAt<'_>
-    requires form { IsTrue (has_form form kind) }
-    requires none { ClosesForm form kind (chars text.now) → ⊥ }
-    ensures stops { StopsBefore (ClosesForm form kind) (chars text.now) (chars result.rest.now) }
-    ensures kind { StrictQuotedFlaw form kind result.kind (chars text.now) (chars result.piece.now)
-        (chars result.rest.now) }
-{
-    match form {
-        QuotedForm::Cooked => cooked_flaw(kind, text),
-        QuotedForm::Raw => raw_flaw(kind, text),
-        QuotedForm::Single => single_flaw(kind, text),
-    }
 }

@@ -1,0 +1,71 @@
+-- What reading a text finds is what the grammars say of the whole text.
+use Rattle.rl_text.proofs.Common.{◌≡◌, ◌≢◌, ℕ, Bool, true, false, List, [], ◌∷◌, None, Some, refl, sym, ap, ◌∙◌, inl, inr, both_ways, is_ascii_digit, IsTrue, IsUtf8}
+use Rattle.rl_reading.proofs.Names.{Kind, Str, Char, first_passes, truth_text, is_string}
+use Rattle.std.specs.Str.{chars}
+use Rattle.rl_reading.specs.declared.found.Body.{Body}
+use Rattle.rl_reading.specs.declared.quoted_forms.QuotedForm.{QuotedForm}
+use Rattle.rl_reading.specs.declared.quoted_forms.QuotedForm.TheVariants.{Cooked as CookedForm, Single as SingleForm}
+use Rattle.rl_reading.specs.Founds.{IsFound, IsQuotedAt}
+use Rattle.rl_reading.specs.Mirrors.OpenerAt.{found_opener, opener_at}
+use Rattle.rl_reading.proofs.FormLemmas.{front_complete, front_sound}
+use Rattle.rl_reading.proofs.FoundLemmas.{OfUnit, quoted_found}
+use Rattle.rl_reading.proofs.SingleBodies.{no_unit}
+use Rattle.rl_strict.specs.StrictShapes.{ClosesForm, IsToken}
+use Rattle.rl_strict.proofs.StrictLemmas.{close_token, told_token}
+use Rattle.rl_reasons.specs.declared.flaws.FlawKind.{FlawKind}
+use Rattle.rl_reasons.specs.Flaws.{HasKind}
+use Rattle.rl_reasons.specs.QuotedRead.{StopsIn}
+use Rattle.rl_reasons.specs.StrictNumbersRead.{IsStop}
+use Rattle.rl_reasons.specs.StrictRead.{IsFlawAt, IsMinusStop}
+use Rattle.rl_reasons.specs.declared.flaws.FlawKind.TheVariants.{NoNumber, Unfinished}
+use Rattle.rl_reasons.specs.Mirrors.WordFlawAt.{end_flaw_at}
+use Rattle.rl_reasons.specs.Mirrors.UnitFlawAt.{found_flaw}
+use Rattle.rl_reasons.proofs.SignedFlaws.{no_digit, number_of, number_stops}
+use Rattle.rl_reasons.proofs.StrictTokens.{stops_token, strict_quoted_has}
+
+-- a quote tells its form
+pub string_opens : (t inside : List ℕ) → t ≡ 34 ∷ inside → opener_at t ≡ found_opener CookedForm Str inside
+string_opens t inside e = ap opener_at e ∙ front_complete CookedForm Str inside refl
+
+pub character_opens : (t inside : List ℕ) → t ≡ 39 ∷ inside → opener_at t ≡ found_opener SingleForm Char inside
+character_opens t inside e = ap opener_at e ∙ front_complete SingleForm Char inside refl
+
+-- what is closed after its opener is a token
+pub form_token : (t : List ℕ) (form : QuotedForm) (kind : Kind) (inside : List ℕ) → opener_at t
+    ≡ found_opener form kind inside → ClosesForm form kind inside → IsToken t
+form_token t form kind inside h c =
+    let told = front_sound t (form, kind, inside) h in
+    close_token form kind t inside told.has told.text_is c
+
+-- and what isn't is none
+pub form_flaw : (t : List ℕ) (form : QuotedForm) (kind : Kind) (inside : List ℕ) (k : FlawKind) (piece rest : List ℕ)
+    → opener_at t ≡ found_opener form kind inside → StopsIn form kind k inside piece rest → IsFlawAt t k piece rest
+form_flaw t form kind inside k piece rest h s =
+    let off : IsTrue false → ClosesForm form kind inside = λ n. absurd (both_ways false refl n) in
+    let back : ClosesForm form kind inside → IsTrue false = λ c. absurd (s.none c) in
+    record {
+      none = λ y. both_ways false refl ((told_token t (form, kind, inside) false (sym h) (off, back)).1 y);
+      stops = stops_token t form kind inside rest h s.stops;
+      says = inl (strict_quoted_has t form kind inside k piece rest h s.has);
+    }
+
+pub number_flaw_at : (t : List ℕ) (k : FlawKind) (rest : List ℕ) → first_passes is_ascii_digit t ≡ true → IsStop t k rest
+    → IsFlawAt t k t rest
+number_flaw_at t k rest d s = record { none = s.none; stops = s.stops; says = inr (inl (d, s.kind, refl)) }
+
+-- the string that was found
+pub text_found : (t : List ℕ) (kind : Kind) (body : Body) → is_string kind ≡ true → IsUtf8 t → IsQuotedAt kind t body
+    → IsFound t (OfUnit kind body 0)
+text_found t kind body s u q = quoted_found t kind body 0 (OfUnit kind body 0) u q (no_unit kind q.value s) refl
+
+-- ---- after a minus
+
+pub minus_number : (t : List ℕ) (k : FlawKind) (rest : List ℕ) → first_passes is_ascii_digit t ≡ true → IsStop t k rest
+    → IsMinusStop t k rest
+minus_number t k rest d s = record { none = λ y. s.none (number_of t y).1; stops = number_stops t rest d s.stops; says = inl (d, s.kind) }
+
+pub minus_alone : (t : List ℕ) (k : FlawKind) (rest : List ℕ) → first_passes is_ascii_digit t ≡ false
+    → found_flaw k rest ≡ end_flaw_at Unfinished NoNumber t → IsMinusStop t k rest
+minus_alone t k rest n same =
+    let flaw = no_digit t (found_flaw k rest) n same in
+    record { none = λ y. both_ways (first_passes is_ascii_digit t) n (number_of t y).0; stops = flaw.stops; says = flaw.kind }

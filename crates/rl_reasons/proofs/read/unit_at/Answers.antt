@@ -1,0 +1,14 @@
+use Rattle.rl_reading.specs.declared.quoted_forms.QuotedForm.TheVariants.{Single as Form}
+use Rattle.rl_text.proofs.Common.{refl}
+use Rattle.rl_reading.proofs.FoundLemmas.{quoted_found}
+use Rattle.rl_reasons.proofs.ReadLemmas.{form_flaw, form_token}
+use Rattle.rl_reasons.proofs.read.unit_at.Goals as goal
+
+pub returns-in-Ok-clause-reads : goal.returns-in-Ok-clause-reads
+returns-in-Ok-clause-reads c = quoted_found _ _ _ _ _ c.utf8.text c.in-Ok.ensures.found.0 c.in-Ok.ensures.found.1 refl
+
+pub returns-in-Ok-clause-token : goal.returns-in-Ok-clause-token
+returns-in-Ok-clause-token c = form_token _ Form _ _ c.requires c.in-Ok.ensures.closes
+
+pub returns-in-Err-clause-flaw : goal.returns-in-Err-clause-flaw
+returns-in-Err-clause-flaw c = form_flaw _ Form _ _ _ _ _ c.requires c.in-Err.ensures.stops

@@ -1,0 +1,7 @@
+use Rattle.rl_text.proofs.TailLemmas.{tail_step}
+use Rattle.rl_reasons.proofs.Tails.{ok_tail}
+use Rattle.rl_reasons.proofs.read_numbers.read_power.Goals as goal
+
+pub returns-then-row-clause-following : goal.returns-then-row-clause-following
+returns-then-row-clause-following c = ok_tail (λ x. x.now) _ _ _
+    (tail_step _ _ _ c.after_sign.ensures.following c.skip_row-row.ensures.following) c.read_suffix.ensures.following

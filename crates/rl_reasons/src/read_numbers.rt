@@ -1,0 +1,208 @@
+//! Numbers of the strict grammar, in one walk: what one is, or where and why the text stops being the front of one.
+
+ghost use Rattle.std.specs.Prelude.{◌≡◌, ◌≤◌, ◌||◌, IsTrue, IfOk, IfErr};
+ghost use Rattle.std.specs.Char.{is_ascii_digit};
+ghost use Rattle.rl_strict.specs.StrictShapes.{IsToken};
+ghost use Rattle.rl_reasons.specs.StrictNumbersRead.{IsNumberRead, IsStop, suffix_of};
+ghost use Rattle.std.specs.Str.{chars};
+ghost use Rattle.rl_text.specs.Texts.{IsTail, first_passes};
+ghost use Rattle.rl_reading.specs.Mirrors.NumberAt.{after_power_sign, capped, magnitude_at};
+ghost use Rattle.rl_reasons.specs.StrictNumberFlaws.{is_float_mark};
+ghost use Rattle.rl_reasons.specs.Mirrors.StrictFlawAt.{suffix_rest};
+ghost use Rattle.rl_reasons.specs.Mirrors.NumberRead.{based_read_at, digits_end_at, fraction_end_at, number_outcome, number_read_at, outcome, power_end_at, suffix_end_at, whole_read_at};
+
+use crate::flaws::FlawKind;
+use rl_reading::digit_rows::{DigitRow, begins_digit, read_row, skip_row};
+use rl_reading::number_forms::split_radix;
+use rl_text::characters::is_start;
+use rl_text::classes::{CharClass, skip_class};
+use rl_text::text::{split_ascii, split_char};
+
+/// Where a text stops, and why: a kind of flaw, and the text from its place on.
+#[derive(Clone, Copy)]
+pub struct Stop<'t> {
+    pub kind: FlawKind,
+    pub rest: &'t str,
+}
+
+/// A number, read.
+#[derive(Clone, Copy)]
+pub enum Number<'t> {
+    /// The magnitude, where 128 bits hold it, and the suffix.
+    Integer(Option<u128>, &'t str),
+    /// The suffix.
+    Float(&'t str),
+}
+
+/// The text after the first characters of a suffix at its front, perhaps none.
+#[inline(always)]
+#[tactic(auto, using(rl_text::proofs::TailLemmas::tail_step, rl_text::proofs::TailLemmas::tail_self), unfolding(crate::specs::Mirrors::StrictFlawAt::suffix_rest))]
+pub(crate) fn skip_suffix(text: &str) -> &str
+    ensures rest { chars result.now ≡ suffix_rest (chars text.now) }
+{
+    match split_char(text) {
+        Some((first, rest)) if is_start(first) => skip_class(CharClass::Continue, rest),
+        _ => text,
+    }
+}
+
+/// The suffix that all of the text is.
+#[inline(always)]
+#[tactic(auto, using(rl_reading::proofs::CutLemmas::some_text, rl_text::proofs::TailLemmas::tail_self), unfolding(crate::specs::Mirrors::NumberRead::suffix_end_at))]
+fn read_suffix(text: &str) -> Result<&str, Stop<'_>>
+    ensures value { outcome (λ x. chars x.now) result ≡ suffix_end_at (chars text.now) }
+    ensures following { IfOk result (λ x. IsTail text.now x.now) }
+{
+    if text.is_empty() {
+        return Ok(text);
+    }
+    let rest = skip_suffix(text);
+    if rest.is_empty() {
+        Ok(text)
+    } else {
+        Err(Stop {
+            kind: FlawKind::BadSuffix,
+            rest,
+        })
+    }
+}
+
+/// The text after the sign at its front, if one stands there.
+#[inline(always)]
+#[tactic(auto, using(rl_text::proofs::TailLemmas::tail_step, rl_text::proofs::TailLemmas::tail_self))]
+fn after_sign(text: &str) -> &str
+    ensures value { chars result.now ≡ after_power_sign (chars text.now) }
+    ensures following { IsTail text.now result.now }
+{
+    match split_ascii(text) {
+        Some((b'+' | b'-', rest)) => rest,
+        _ => text,
+    }
+}
+
+/// The suffix of the float, from what follows the letter of its exponent.
+#[inline(always)]
+#[tactic(auto, using(crate::proofs::Tails::ok_tail, rl_text::proofs::TailLemmas::tail_step, rl_text::proofs::TailLemmas::tail_self), unfolding(crate::specs::Mirrors::NumberRead::power_end_at))]
+fn read_power(text: &str) -> Result<&str, Stop<'_>>
+    ensures value { outcome (λ x. chars x.now) result ≡ power_end_at (chars text.now) }
+    ensures following { IfOk result (λ x. IsTail text.now x.now) }
+{
+    let row = skip_row(after_sign(text));
+    if row.has_digit {
+        read_suffix(row.rest)
+    } else {
+        Err(Stop {
+            kind: FlawKind::NoExponentDigit,
+            rest: row.rest,
+        })
+    }
+}
+
+/// The suffix of the float, from what follows the digits of its fraction.
+#[inline(always)]
+#[tactic(auto, using(crate::proofs::Tails::ok_tail, rl_text::proofs::TailLemmas::tail_step, rl_text::proofs::TailLemmas::tail_self), unfolding(crate::specs::Mirrors::NumberRead::digits_end_at))]
+fn read_exponent(text: &str) -> Result<&str, Stop<'_>>
+    ensures value { outcome (λ x. chars x.now) result ≡ digits_end_at (chars text.now) }
+    ensures following { IfOk result (λ x. IsTail text.now x.now) }
+{
+    match split_ascii(text) {
+        Some((b'e' | b'E', power)) => read_power(power),
+        _ => read_suffix(text),
+    }
+}
+
+/// The suffix of the float, from what follows its dot.
+#[inline(always)]
+#[tactic(auto, using(crate::proofs::Tails::ok_tail, rl_text::proofs::TailLemmas::tail_step, rl_text::proofs::TailLemmas::tail_self), unfolding(crate::specs::Mirrors::NumberRead::fraction_end_at))]
+fn read_fraction(text: &str) -> Result<&str, Stop<'_>>
+    ensures value { outcome (λ x. chars x.now) result ≡ fraction_end_at (chars text.now) }
+    ensures following { IfOk result (λ x. IsTail text.now x.now) }
+{
+    match split_char(text) {
+        None => Ok(text),
+        Some(('0'..='9', _)) => read_exponent(skip_row(text).rest),
+        Some(_) => Err(Stop {
+            kind: FlawKind::NoFractionDigit,
+            rest: text,
+        }),
+    }
+}
+
+/// The number whose whole part, in base ten, is this row.
+#[inline(always)]
+#[tactic(auto, using(crate::proofs::Tails::ok_tail, rl_text::proofs::TailLemmas::tail_step, rl_text::proofs::TailLemmas::tail_self), unfolding(crate::specs::Mirrors::NumberRead::whole_read_at))]
+fn read_whole(row: DigitRow<'_>) -> Result<Number<'_>, Stop<'_>>
+    ensures value { number_outcome result ≡ whole_read_at row.entry.magnitude (chars row.entry.rest.now) }
+    ensures following { IfOk result (λ n. IsTail row.entry.rest.now (suffix_of n)) }
+{
+    match split_ascii(row.rest) {
+        Some((b'.', fraction)) => Ok(Number::Float(read_fraction(fraction)?)),
+        Some((b'e' | b'E', power)) => Ok(Number::Float(read_power(power)?)),
+        _ => Ok(Number::Integer(row.magnitude, read_suffix(row.rest)?)),
+    }
+}
+
+/// Whether the text goes on as a float alone does: with a dot, or the letter of an exponent.
+fn begins_float(text: &str) -> bool
+    ensures { result ≡ first_passes is_float_mark (chars text.now) }
+{
+    matches!(split_char(text), Some(('.' | 'e' | 'E', _)))
+}
+
+/// The integer of another base, from what follows its prefix.
+#[inline(never)]
+#[tactic(auto, using(crate::proofs::Tails::ok_tail, rl_text::proofs::TailLemmas::tail_step, rl_text::proofs::TailLemmas::tail_self), unfolding(crate::specs::Mirrors::NumberRead::based_read_at))]
+fn read_based(radix: u32, text: &str) -> Result<Number<'_>, Stop<'_>>
+    requires { (2 ≤ radix) × (radix ≤ 16) }
+    ensures value { number_outcome result ≡ based_read_at radix (chars text.now) }
+    ensures following { IfOk result (λ n. IsTail text.now (suffix_of n)) }
+{
+    let row = read_row(text, radix);
+    let rest = row.rest;
+    if begins_digit(rest) {
+        Err(Stop {
+            kind: FlawKind::DigitOfBase,
+            rest,
+        })
+    } else if !row.has_digit {
+        Err(Stop {
+            kind: FlawKind::NoDigits,
+            rest,
+        })
+    } else if begins_float(rest) {
+        Err(Stop {
+            kind: FlawKind::BasedFloat,
+            rest,
+        })
+    } else {
+        Ok(Number::Integer(row.magnitude, read_suffix(rest)?))
+    }
+}
+
+/// The number that a text that begins with a digit is, all of it.
+#[inline(always)]
+#[tactic(auto, using(crate::proofs::Tails::ok_tail, rl_text::proofs::TailLemmas::tail_step), unfolding(crate::specs::Mirrors::NumberRead::number_read_at))]
+fn read_digits(text: &str) -> Result<Number<'_>, Stop<'_>>
+    ensures value { number_outcome result ≡ number_read_at (chars text.now) }
+    ensures following { IfOk result (λ n. IsTail text.now (suffix_of n)) }
+{
+    let (radix, digits) = split_radix(text);
+    if radix == 10 {
+        read_whole(read_row(digits, 10))
+    } else {
+        read_based(radix, digits)
+    }
+}
+
+/// The number that a text that begins with a digit is, all of it; or else why it is none, and the text from there on.
+#[inline(always)]
+#[tactic(auto, using(crate::proofs::ReadNumbers::read_ok, crate::proofs::ReadNumbers::read_err, crate::proofs::ReadNumbers::read_token))]
+pub fn read_number(text: &str) -> Result<Number<'_>, Stop<'_>>
+    requires digit { IsTrue (first_passes is_ascii_digit (chars text.now)) }
+    ensures token { IfOk result (λ n. IsToken (chars text.now)) }
+    ensures number { IfOk result (IsNumberRead (chars text.now)) }
+    ensures following { IfOk result (λ n. IsTail text.now (suffix_of n)) }
+    ensures stop { IfErr result (λ s. IsStop (chars text.now) s.kind (chars s.rest.now)) }
+{
+    read_digits(text)
+}

@@ -1,0 +1,256 @@
+//! Quoted literals of the strict grammar, in one walk: where the parts of one stand, or where and why the text stops being the
+//! front of one.
+
+ghost use Rattle.std.specs.Prelude.{◌≡◌, ◌≤◌, ◌∷◌, ◌++◌, ◌+◌, ℕ, List, [], Some, length, option_map, replicate, IsTrue, IfOk, IfErr, IfSome};
+ghost use Rattle.rl_text.specs.Texts.{code};
+ghost use Rattle.rl_forms.specs.Quoted.{is_single};
+ghost use Rattle.rl_reading.specs.Bodies.{IsUnitValue};
+ghost use Rattle.rl_reading.specs.Mirrors.UnitAt.{piece_value, unit_at};
+ghost use Rattle.rl_strict.specs.Mirrors.StrictAt.{unit_rest};
+ghost use Rattle.std.specs.Str.{chars};
+ghost use Rattle.rl_text.specs.Texts.{IsTail};
+ghost use Rattle.rl_reading.specs.Founds.{IsQuotedAt, StandsIn, body_in, suffix_in};
+ghost use Rattle.rl_reading.specs.Mirrors.OpenerAt.{found_opener, opener_at};
+ghost use Rattle.rl_strict.specs.StrictShapes.{ClosesForm};
+ghost use Rattle.rl_reasons.specs.QuotedRead.{StopsIn};
+ghost use Rattle.rl_reasons.specs.StrictFlawKinds.{suffix_piece};
+ghost use Rattle.rl_reasons.specs.Mirrors.SuffixRead.{is_lone, suffix_read_at};
+ghost use Rattle.rl_reasons.specs.Mirrors.UnitFlawAt.{found_flaw};
+
+use crate::flaws::{FlawAt, FlawKind, end_flaw, make_flaw};
+use crate::read_numbers::skip_suffix;
+use crate::strict_quoted_flaws::{
+    begins_hash, held_flaw, quote_of, skip_few_hashes, skip_raw, unit_flaw,
+};
+use rl_forms::Kind;
+use rl_reading::Body;
+use rl_reading::quoted_forms::{QuotedForm, after_quote};
+use rl_reading::units::{Piece, is_bare_character, split_plain, unit};
+use rl_strict::strict::{after_closer, skip_units};
+use rl_text::text::{before, split_char};
+
+/// Where the parts of a quoted literal stand, from what is left of its text: from the body on, from the closing quote
+/// on, and from the suffix on.
+#[inline(always)]
+fn places(text: &str, opened: &str, closer: &str, suffix: &str, plain: bool) -> Body
+    requires opened { IsTail text.now opened.now }
+    requires closer { IsTail opened.now closer.now }
+    requires suffix { IsTail closer.now suffix.now }
+    ensures stands { StandsIn text.now result }
+    ensures body { chars opened.now ≡ chars (body_in text.now result) ++ chars closer.now }
+    ensures suffix { suffix_in text.now result ≡ suffix.now }
+    ensures plain { result.plain ≡ plain }
+    ensures lo { result.lo + length opened.now ≡ length text.now }
+{
+    Body {
+        lo: text.len() - opened.len(),
+        hi: text.len() - closer.len(),
+        suffix_at: text.len() - suffix.len(),
+        plain,
+    }
+}
+
+/// Whether the text is `_` alone.
+#[tactic(auto, using(rl_reading::proofs::CutLemmas::some_text))]
+fn is_lone(text: &str) -> bool
+    ensures { result ≡ is_lone (chars text.now) }
+{
+    match split_char(text) {
+        Some((first, rest)) => rest.is_empty() && first == '_',
+        None => false,
+    }
+}
+
+/// The flaw after the closer, where no suffix stands alone; `closing` is the text from the closing quote on, and `suffix` that
+/// after the closer.
+#[inline(never)]
+#[tactic(auto, unfolding(crate::specs::Mirrors::SuffixRead::suffix_read_at))]
+fn some_suffix_flaw<'t>(form: QuotedForm, closing: &'t str, suffix: &'t str) -> Option<FlawAt<'t>>
+    ensures flaw { option_map (λ f. found_flaw f.kind (chars f.rest.now)) result ≡ suffix_read_at form (chars suffix.now) }
+    ensures piece { IfSome result (λ f. chars f.piece.now ≡ suffix_piece f.kind (chars closing.now) (chars suffix.now)) }
+{
+    if begins_hash(form, suffix) {
+        return Some(make_flaw(FlawKind::ExtraHash, suffix).in_piece(closing));
+    }
+    let rest = skip_suffix(suffix);
+    match split_char(rest) {
+        None => {
+            if is_lone(suffix) {
+                Some(make_flaw(FlawKind::UnderscoreSuffix, rest).in_piece(suffix))
+            } else {
+                None
+            }
+        }
+        Some((c, _)) if c == quote_of(form) => {
+            Some(make_flaw(FlawKind::EarlyQuote, rest).in_piece(closing))
+        }
+        Some(_) => Some(make_flaw(FlawKind::BadSuffix, rest).in_piece(suffix)),
+    }
+}
+
+/// The flaw after the closer, where no suffix stands alone. Most literals have none, which is seen here.
+#[inline(always)]
+#[tactic(auto, using(rl_reading::proofs::CutLemmas::some_text), unfolding(crate::specs::Mirrors::SuffixRead::suffix_read_at, crate::specs::Mirrors::StrictFlawAt::suffix_rest))]
+fn suffix_flaw<'t>(form: QuotedForm, closing: &'t str, suffix: &'t str) -> Option<FlawAt<'t>>
+    ensures flaw { option_map (λ f. found_flaw f.kind (chars f.rest.now)) result ≡ suffix_read_at form (chars suffix.now) }
+    ensures piece { IfSome result (λ f. chars f.piece.now ≡ suffix_piece f.kind (chars closing.now) (chars suffix.now)) }
+{
+    if suffix.is_empty() {
+        return None;
+    }
+    some_suffix_flaw(form, closing, suffix)
+}
+
+/// The reading of the text as a string with escapes, by the text after its opener.
+#[inline(always)]
+pub(crate) fn read_cooked<'t>(
+    kind: Kind,
+    text: &'t str,
+    inside: &'t str,
+) -> Result<Body, FlawAt<'t>>
+    requires { opener_at (chars text.now) ≡ found_opener QuotedForm.Cooked kind (chars inside.now) }
+    ensures found { IfOk result (IsQuotedAt kind text.now) }
+    ensures closes { IfOk result (λ b. ClosesForm QuotedForm.Cooked kind (chars inside.now)) }
+    ensures stops { IfErr result (λ f. StopsIn QuotedForm.Cooked kind f.kind (chars inside.now) (chars f.piece.now)
+        (chars f.rest.now)) }
+{
+    let (_, following) = split_plain(kind, inside);
+    if let Some(suffix) = after_quote(Kind::Str, following) {
+        return match suffix_flaw(QuotedForm::Cooked, following, suffix) {
+            None => Ok(places(text, inside, following, suffix, true)),
+            Some(flaw) => Err(flaw),
+        };
+    }
+    let closing = skip_units(kind, following);
+    match after_quote(Kind::Str, closing) {
+        Some(suffix) => match suffix_flaw(QuotedForm::Cooked, closing, suffix) {
+            None => Ok(places(text, inside, closing, suffix, false)),
+            Some(flaw) => Err(flaw),
+        },
+        None => Err(unit_flaw(kind, closing).in_piece(closing)),
+    }
+}
+
+/// Where the parts of a character or a byte stand, and what it stands for.
+#[derive(Clone, Copy)]
+pub struct Single {
+    pub body: Body,
+    pub unit: u32,
+}
+
+/// The number of the one character or byte that the piece of a character or a byte literal is.
+#[inline(always)]
+fn piece_unit(kind: Kind, piece: Piece) -> u32
+    requires single { IsTrue (is_single kind) }
+    requires one { (n : ℕ) × (piece_value kind piece ≡ n ∷ []) }
+    ensures { IsUnitValue kind (piece_value kind piece) result }
+{
+    match piece {
+        Piece::Character(c) => c as u32,
+        Piece::Byte(b) => b as u32,
+        Piece::Nothing => unreachable!(),
+    }
+}
+
+/// What the unit of a character or a byte at the front stands for, and the text after it.
+#[inline(always)]
+fn split_unit(kind: Kind, text: &str) -> Option<(Piece, &str)>
+    requires { IsTrue (is_single kind) }
+    ensures rest { option_map (λ p. chars p.1.now) result ≡ unit_rest kind (chars text.now) }
+    ensures value { IfSome result (λ p. unit_at kind (chars text.now) ≡ Some (piece_value kind p.0, chars p.1.now)) }
+{
+    match split_char(text) {
+        None => None,
+        Some(('\\', _)) => unit(kind, text),
+        Some((first, _)) => {
+            if is_bare_character(first) {
+                unit(kind, text)
+            } else {
+                None
+            }
+        }
+    }
+}
+
+/// The reading of the text as a character or a byte, by the text after its opener.
+#[inline(always)]
+pub(crate) fn read_single<'t>(
+    kind: Kind,
+    text: &'t str,
+    inside: &'t str,
+) -> Result<Single, FlawAt<'t>>
+    requires { opener_at (chars text.now) ≡ found_opener QuotedForm.Single kind (chars inside.now) }
+    ensures found { IfOk result (λ s. (q : IsQuotedAt kind text.now s.body) × IsUnitValue kind q.value s.unit) }
+    ensures closes { IfOk result (λ b. ClosesForm QuotedForm.Single kind (chars inside.now)) }
+    ensures stops { IfErr result (λ f. StopsIn QuotedForm.Single kind f.kind (chars inside.now) (chars f.piece.now)
+        (chars f.rest.now)) }
+{
+    let Some((piece, closing)) = split_unit(kind, inside) else {
+        return Err(unit_flaw(kind, inside).in_piece(inside));
+    };
+    match after_quote(Kind::Char, closing) {
+        Some(suffix) => match suffix_flaw(QuotedForm::Single, closing, suffix) {
+            None => Ok(Single {
+                body: places(text, inside, closing, suffix, false),
+                unit: piece_unit(kind, piece),
+            }),
+            Some(flaw) => Err(flaw),
+        },
+        None => {
+            Err(end_flaw(FlawKind::Unclosed, FlawKind::TwoCharacters, closing).in_piece(inside))
+        }
+    }
+}
+
+/// The reading of the text as a raw string, from its hashes on, from its first quote on and from after that on.
+fn read_opened<'t>(
+    kind: Kind,
+    text: &'t str,
+    inside: &'t str,
+    quote: &'t str,
+    opened: &'t str,
+) -> Result<Body, FlawAt<'t>>
+    requires front { opener_at (chars text.now) ≡ found_opener QuotedForm.Raw kind (chars inside.now) }
+    requires hashes { (n : ℕ) × (n ≤ 255) × (chars inside.now ≡ replicate n (code "#") ++ chars quote.now) }
+    requires following { IsTail inside.now quote.now }
+    requires quote { chars quote.now ≡ code "\"" ∷ chars opened.now }
+    ensures found { IfOk result (IsQuotedAt kind text.now) }
+    ensures closes { IfOk result (λ b. ClosesForm QuotedForm.Raw kind (chars inside.now)) }
+    ensures stops { IfErr result (λ f. StopsIn QuotedForm.Raw kind f.kind (chars inside.now) (chars f.piece.now)
+        (chars f.rest.now)) }
+{
+    let hashes = before(inside, quote);
+    let closing = skip_raw(kind, hashes, opened);
+    let Some((c, after)) = split_char(closing) else {
+        return Err(make_flaw(FlawKind::Unclosed, closing));
+    };
+    match after_closer(hashes, c, after) {
+        Some(suffix) => match suffix_flaw(QuotedForm::Raw, closing, suffix) {
+            None => Ok(places(text, opened, closing, suffix, true)),
+            Some(flaw) => Err(flaw),
+        },
+        None => Err(make_flaw(held_flaw(kind, c), closing)),
+    }
+}
+
+/// The reading of the text as a raw string, by the text from its hashes on.
+#[inline(always)]
+pub(crate) fn read_raw<'t>(kind: Kind, text: &'t str, inside: &'t str) -> Result<Body, FlawAt<'t>>
+    requires { opener_at (chars text.now) ≡ found_opener QuotedForm.Raw kind (chars inside.now) }
+    ensures found { IfOk result (IsQuotedAt kind text.now) }
+    ensures closes { IfOk result (λ b. ClosesForm QuotedForm.Raw kind (chars inside.now)) }
+    ensures stops { IfErr result (λ f. StopsIn QuotedForm.Raw kind f.kind (chars inside.now) (chars f.piece.now)
+        (chars f.rest.now)) }
+{
+    let rest = skip_few_hashes(inside);
+    let Some((first, opened)) = split_char(rest) else {
+        return Err(make_flaw(FlawKind::Unfinished, rest));
+    };
+    if first == '#' {
+        Err(make_flaw(FlawKind::TooManyHashes, rest).in_piece(inside))
+    } else if first == '"' {
+        read_opened(kind, text, inside, rest, opened)
+    } else {
+        Err(make_flaw(FlawKind::NoQuote, rest))
+    }
+}
