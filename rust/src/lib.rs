@@ -40,7 +40,6 @@ mod characters;
 mod common;
 mod contents;
 mod error;
-mod frequent;
 mod kind;
 mod line_index;
 mod list;
@@ -55,7 +54,6 @@ mod proc_macros;
 #[allow(clippy::style, clippy::complexity, clippy::pedantic)]
 #[rustfmt::skip]
 mod proved;
-mod reading;
 mod setting;
 mod settings;
 mod simd;
@@ -104,7 +102,7 @@ pub use write::{write_byte, write_byte_str, write_c_str, write_char, write_str};
 /// ```
 #[must_use]
 pub fn is_token(text: &str) -> bool {
-    rl_strict::is_token(text)
+    rl_reasons::is_token(text)
 }
 
 /// The examples of `README.md`.

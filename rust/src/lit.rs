@@ -1,13 +1,15 @@
 //! Literals of any kind.
 
-use crate::frequent::{find_apart, find_frequent, Float, Frequent};
 use crate::kind::Kind;
-use crate::numbers::plain_len;
 use crate::parse_error::ParseError;
 use crate::places::{Places, Segments};
-use crate::reading::{find_rust, is_plainly_rust, is_rust};
 use crate::rl_forms;
-use crate::rl_reading::{find, Found};
+use crate::rl_reading::digits::is_plain_integer;
+use crate::rl_reading::{find, Body, Found};
+use crate::rl_reasons::limits::limit_flaw;
+use crate::rl_reasons::read::{
+    front_of, read_digits, read_signed, read_string, Front, Reading,
+};
 use crate::{
     LitBool, LitByte, LitByteStr, LitCStr, LitChar, LitFloat, LitInt, LitStr, LitVerbatim,
 };
@@ -70,22 +72,6 @@ macro_rules! each_kind {
     };
 }
 
-/// Does the same of each kind that is found, in an arm of its own. There the kind is known, and so it is to a caller's match on the
-/// literal that the arm makes, where that is inlined.
-macro_rules! each_found_kind {
-    ($found:expr, $kind:ident => $result:expr) => {
-        each_found_kind!(@arms $found, $kind => $result; Str ByteStr CStr Byte Char Int Float Bool)
-    };
-    (@arms $found:expr, $kind:ident => $result:expr; $($name:ident)*) => {
-        match $found {
-            $(rl_forms::Kind::$name => {
-                let $kind = rl_forms::Kind::$name;
-                $result
-            })*
-        }
-    };
-}
-
 impl<'t> Lit<'t> {
     /// What `syn` reads the text as, all of it: `Verbatim` exactly where it has no reading, and for integers past 128 bits.
     ///
@@ -128,24 +114,19 @@ impl<'t> Lit<'t> {
     #[inline]
     pub fn parse(text: &'t str) -> Result<Lit<'t>, ParseError> {
         let borrowed = Cow::Borrowed(text);
-        match find_frequent(text) {
-            Some(Frequent::Char(found)) => {
-                return Ok(Lit::of_kind(rl_forms::Kind::Char, borrowed, &found));
+        // The calls that read most literals return what they find in registers, which one for all literals can't.
+        let reading = match front_of(text) {
+            Front::Quote(inside) => {
+                let body = read_string(text, inside).map_err(ParseError::of_flaw)?;
+                return Ok(Lit::Str(LitStr::of(borrowed, body)));
             }
-            Some(Frequent::Str(body)) => return Ok(Lit::Str(LitStr::of(borrowed, body))),
-            Some(Frequent::Float(float)) => return Ok(Lit::Float(LitFloat::of(borrowed, float))),
-            None => {}
-        }
-        if let Some(found) = find_apart(text) {
-            each_found_kind!(found.kind, kind => if is_plainly_rust(kind, text, &found) {
-                return Ok(Lit::of_kind(kind, borrowed, &found));
-            });
-        }
-        // The text is read anew: keeping what was found for this would cost each text that came out above.
-        match find_rust(text) {
-            Some(found) => Ok(Lit::of(Cow::Borrowed(text), &found)),
-            None => Err(ParseError::of(text)),
-        }
+            Front::Bare(c) => {
+                return Ok(Lit::Char(LitChar::of(borrowed, text.len(), u32::from(c))));
+            }
+            Front::Digit => read_digits(text),
+            Front::Other => read_signed(text),
+        };
+        Lit::read(borrowed, reading.map_err(ParseError::of_flaw)?)
     }
 
     /// That Rust takes the literal where it stands in a file: as [`Lit::parse`] of its text, but that a CR LF counts as an LF, which
@@ -217,37 +198,63 @@ impl<'t> Lit<'t> {
         }
     }
 
-    /// The literal of a text, of which this was found.
-    #[inline]
-    pub(crate) fn of(text: Cow<'t, str>, found: &Found) -> Lit<'t> {
-        Lit::of_kind(found.kind, text, found)
+    /// The literal of a text that Rust reads so.
+    ///
+    /// # Errors
+    ///
+    /// It is an integer past 128 bits.
+    #[inline(always)]
+    fn read(text: Cow<'t, str>, reading: Reading) -> Result<Lit<'t>, ParseError> {
+        Ok(match reading {
+            Reading::Text(kind, body) => Lit::of_text(kind, text, body),
+            Reading::Unit(kind, body, unit) => Lit::of_unit(kind, text, body.suffix_at, unit),
+            Reading::Integer(Some(magnitude), suffix_at) => {
+                let is_plain = is_plain_integer(&text[..suffix_at]);
+                Lit::Int(LitInt::of(text, suffix_at, magnitude, is_plain))
+            }
+            Reading::Integer(None, suffix_at) => {
+                return Err(ParseError::of_flaw(limit_flaw(&text, suffix_at)));
+            }
+            Reading::Float(suffix_at) => Lit::Float(LitFloat::of(text, suffix_at)),
+            Reading::Truth(truth) => Lit::Bool(LitBool::of(text, truth)),
+        })
     }
 
-    /// The literal of a text, of which this was found, and this kind.
-    #[inline(always)]
-    fn of_kind(kind: rl_forms::Kind, text: Cow<'t, str>, found: &Found) -> Lit<'t> {
-        let body = found.body;
+    /// The string of this kind.
+    #[inline]
+    fn of_text(kind: rl_forms::Kind, text: Cow<'t, str>, body: Body) -> Lit<'t> {
         match kind {
-            rl_forms::Kind::Str => Lit::Str(LitStr::of(text, body)),
             rl_forms::Kind::ByteStr => Lit::ByteStr(LitByteStr::of(text, body)),
             rl_forms::Kind::CStr => Lit::CStr(LitCStr::of(text, body)),
-            rl_forms::Kind::Byte => Lit::Byte(LitByte::of(text, body.suffix_at, found.unit)),
-            rl_forms::Kind::Char => Lit::Char(LitChar::of(text, body.suffix_at, found.unit)),
-            rl_forms::Kind::Int => Lit::Int(LitInt::of(
-                text,
-                body.suffix_at,
-                found.magnitude,
-                body.plain,
-            )),
-            rl_forms::Kind::Float => {
-                let suffix_at = body.suffix_at;
-                let plain_len = plain_len(&text[..suffix_at]);
-                let float = Float {
-                    suffix_at,
-                    plain_len,
-                };
-                Lit::Float(LitFloat::of(text, float))
+            _ => Lit::Str(LitStr::of(text, body)),
+        }
+    }
+
+    /// The byte or the character.
+    #[inline]
+    fn of_unit(kind: rl_forms::Kind, text: Cow<'t, str>, suffix_at: usize, unit: u32) -> Lit<'t> {
+        match kind {
+            rl_forms::Kind::Byte => Lit::Byte(LitByte::of(text, suffix_at, unit)),
+            _ => Lit::Char(LitChar::of(text, suffix_at, unit)),
+        }
+    }
+
+    /// The literal of a text, of which this was found.
+    #[inline]
+    fn of(text: Cow<'t, str>, found: &Found) -> Lit<'t> {
+        let body = found.body;
+        let suffix_at = body.suffix_at;
+        match found.kind {
+            kind @ (rl_forms::Kind::Str | rl_forms::Kind::ByteStr | rl_forms::Kind::CStr) => {
+                Lit::of_text(kind, text, body)
             }
+            kind @ (rl_forms::Kind::Byte | rl_forms::Kind::Char) => {
+                Lit::of_unit(kind, text, suffix_at, found.unit)
+            }
+            rl_forms::Kind::Int => {
+                Lit::Int(LitInt::of(text, suffix_at, found.magnitude, body.plain))
+            }
+            rl_forms::Kind::Float => Lit::Float(LitFloat::of(text, suffix_at)),
             rl_forms::Kind::Bool => Lit::Bool(LitBool::of(text, found.truth)),
         }
     }
@@ -394,10 +401,8 @@ impl TryFrom<String> for Lit<'static> {
     type Error = ParseError;
 
     fn try_from(text: String) -> Result<Self, ParseError> {
-        match find(&text) {
-            Some(found) if is_rust(&text, &found) => Ok(Lit::of(Cow::Owned(text), &found)),
-            _ => Err(ParseError::of(&text)),
-        }
+        let reading = read_signed(&text).map_err(ParseError::of_flaw)?;
+        Lit::read(Cow::Owned(text), reading)
     }
 }
 

@@ -2,7 +2,6 @@
 
 use crate::common::literal_type;
 use crate::contents::digits_of;
-use crate::frequent::Float;
 use crate::rl_text::scan::{near_len_before, Marks};
 use alloc::borrow::Cow;
 use alloc::format;
@@ -363,18 +362,19 @@ const CHANGED: Marks = Marks {
 
 /// How many bytes at the front of a float's numeral are its digits as they stand.
 #[inline(never)]
-pub(crate) fn plain_len(numeral: &str) -> usize {
+fn plain_len(numeral: &str) -> usize {
     near_len_before(CHANGED, numeral.as_bytes())
 }
 
 impl<'t> LitFloat<'t> {
     /// The literal of this text.
     #[inline]
-    pub(crate) fn of(text: Cow<'t, str>, float: Float) -> Self {
+    pub(crate) fn of(text: Cow<'t, str>, suffix_at: usize) -> Self {
+        let plain_len = plain_len(&text[..suffix_at]);
         LitFloat {
             text,
-            suffix_at: float.suffix_at,
-            plain_len: float.plain_len,
+            suffix_at,
+            plain_len,
         }
     }
 

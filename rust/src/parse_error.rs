@@ -1,7 +1,7 @@
 //! Why a text is no literal, and where.
 
 use crate::kind::Kind;
-use crate::rl_reasons::explain_value;
+use crate::rl_reasons::{explain_value, Flaw};
 pub use crate::rl_reasons::FlawKind;
 use core::fmt;
 use core::ops::Range;
@@ -83,7 +83,12 @@ impl ParseError {
     /// Why a text has no value in Rust, which it hasn't.
     #[cold]
     pub(crate) fn of(text: &str) -> ParseError {
-        let flaw = explain_value(text).expect("the text has no value");
+        ParseError::of_flaw(explain_value(text).expect("the text has no value"))
+    }
+
+    /// The flaw as an error.
+    #[inline]
+    pub(crate) fn of_flaw(flaw: Flaw) -> ParseError {
         ParseError {
             kind: ParseErrorKind::Flaw(flaw.kind),
             from: flaw.from,

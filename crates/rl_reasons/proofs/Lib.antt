@@ -21,3 +21,4 @@ pub mod Tails
 pub mod ReadNumbers
 pub mod ReadQuoted
 pub mod ReadLemmas
+pub mod FrontLemmas

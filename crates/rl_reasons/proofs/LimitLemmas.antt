@@ -1,43 +1,33 @@
 -- Integers past the limit: their place, and that a token which is none has a reading.
-use Rattle.rl_text.proofs.Common.{◌≡◌, ℕ, ◌+◌, ◌-◌, ◌<◌, ◌≤◌, ◌⊎◌, List, [], ◌∷◌, ◌++◌, length, take, IfNone, Option, Some, None, refl, sym, ap, subst, ◌∙◌, inl, inr, arith, cases_Bool, cases_lt, is_ascii_digit, IsUtf8, IsUtf8-take, chars, true}
-use Rattle.rl_reading.proofs.Names.{Int, Float, Contents, Minus, NoSign, first_passes, limit, HasNoReading, HasReading, IsPast, byte_len}
+use Rattle.rl_text.proofs.Common.{◌≡◌, ℕ, ◌+◌, ◌-◌, ◌<◌, ◌≤◌, ◌⊎◌, ◌||◌, ◌==◌, Bool, true, false, cond, List, [], ◌∷◌, ◌++◌, length, take, IfNone, Option, Some, None, refl, sym, ap, subst, ◌∙◌, inl, inr, arith, cases_Bool, cases_lt, is_ascii_digit, IsUtf8, IsUtf8-take, chars}
+use Rattle.rl_reading.proofs.Names.{Int, Float, Contents, Digits, Minus, NoSign, Sign, first_passes, limit, HasNoReading, HasReading, IsPast, byte_len}
+use Rattle.std.specs.Prelude.{drop}
+use Rattle.std.specs.Str.{IsCharBoundary}
+use Rattle.std.proofs.lemmas.Bool.{le-leb, lt-leb}
 use Rattle.rl_text.specs.Texts.{IsTail}
-use Rattle.rl_forms.specs.Strict.{StrictFloat, StrictInt}
-use Rattle.rl_forms.proofs.OneNumber.{int_once}
+use Rattle.rl_forms.specs.Numbers.{IntReads}
+use Rattle.rl_forms.specs.Strict.{dec, spelled_number, StrictFloat, StrictInt}
+use Rattle.rl_forms.proofs.OneNumber.{begins_number, int_front}
 use Rattle.rl_forms.proofs.StrictNumbers.{float_strict_reads, minus_int, signed_float, strict_float, strict_int}
+use Rattle.rl_reading.specs.Founds.{suffix_in}
+use Rattle.rl_reading.specs.WholeShapes.{is_number_front}
+use Rattle.rl_reading.proofs.NumberLemmas.{past_number}
+use Rattle.rl_reading.proofs.ReadingLemmas.{only_number}
+use Rattle.rl_strict.proofs.DecLemmas.{dec_spells}
+use Rattle.rl_strict.proofs.StrictLemmas.{truth_token}
 use Rattle.rl_reasons.specs.declared.flaws.Flaw.{Flaw}
+use Rattle.rl_reasons.specs.declared.read.Reading.{Reading}
+use Rattle.rl_reasons.specs.declared.read.Reading.TheVariants.{Text, Unit, Integer, Float as AFloat, Truth}
+use Rattle.rl_reasons.specs.Limits.{past_at}
 use Rattle.rl_reasons.specs.SignedFlaws.{IsSignedToken}
+use Rattle.rl_reasons.specs.StrictNumbersRead.{held}
+use Rattle.rl_reasons.specs.StrictRead.{IsSignedRead}
 use Rattle.rl_strict.specs.StrictShapes.{IsToken}
-use Rattle.rl_reading.specs.Mirrors.NumberAt.{capped, capped_int, int_at}
 use Rattle.rl_text.proofs.TailLemmas.{cut_boundary, cut_chars}
-use Rattle.rl_reading.proofs.IntegerLemmas.{int_past, is_past_at, is_within_at, no_int, within_reads}
+use Rattle.rl_reading.proofs.IntegerLemmas.{within_reads}
 use Rattle.rl_reasons.proofs.StrictExplainLemmas.{cut_bytes}
-use Rattle.rl_reasons.proofs.StrictTokens.{token_number, token_reads}
+use Rattle.rl_reasons.proofs.StrictTokens.{token_number, token_reads, truth_no_digit}
 use Rattle.rl_strict.proofs.StrictNumberLemmas.{number_sound}
-
--- ---- what the code reads
-
-pub none_past : (t : List ℕ) → None ≡ capped_int (int_at t) → IsPast t → ⊥
-none_past t h p = no_int t h p.sign p.magnitude p.suffix p.reads
-
-not_both : (l m n : ℕ) → m ≡ n → m ≤ l → l < n → ⊥
-not_both l m n e small large = absurd (omega arith)
-
-pub within_past : (t x : List ℕ) (m : ℕ) (k : Option ℕ) → Some (k, x) ≡ capped_int (int_at t) → k ≡ Some m → IsPast t → ⊥
-within_past t x m k h e p =
-    let w = is_within_at t x x m k h e refl in
-    not_both limit m p.magnitude (int_once t x p.suffix w.sign p.sign m p.magnitude w.reads p.reads).1 w.within p.past
-
--- the suffix of what is read
-abbrev suffix_in : Option (Option ℕ × List ℕ) → List ℕ
-suffix_in None = []
-suffix_in (Some p) = p.1
-
-pub past_suffix : (t x : List ℕ) (k : Option ℕ) → Some (k, x) ≡ capped_int (int_at t) → k ≡ None
-    → (past : IsPast t) × (past.suffix ≡ x)
-past_suffix t x k h e =
-    let p = is_past_at t x k h e in
-    (p, sym (ap suffix_in (h ∙ ap capped_int (int_past t p.sign p.magnitude p.suffix p.reads))))
 
 -- ---- the place
 
@@ -113,3 +103,88 @@ value_reads t None y none = elim (either t y) [
   | inr p ↦ absurd (none p)
 ]
 value_reads t (Some f) y none = tt
+
+-- ---- what the reading tells
+
+-- past the limit nothing reads
+past_none : (t : List ℕ) → IsPast t → HasNoReading t
+past_none t p = only_number t (number_front t (int_front t p.suffix p.sign p.magnitude p.reads)) (past_number t p)
+  where
+    number_front : (t : List ℕ) → begins_number t ≡ true → first_passes is_number_front t ≡ true
+    number_front [] h = h
+    number_front (c ∷ cs) h = swap (is_ascii_digit c) (c == 45) h
+      where
+        swap : (a b : Bool) → (a || b) ≡ true → (b || a) ≡ true
+        swap true true h = refl
+        swap true false h = refl
+        swap false true h = refl
+        swap false false h = h
+
+-- what reads isn't past it
+read_within : (t : List ℕ) → HasReading t → IsPast t → ⊥
+read_within t r p = past_none t p r.0 r.1.0 r.1.1 r.1.2
+
+-- an integer of these digits has this magnitude
+digits_read : (t x : List ℕ) (n : ℕ) → StrictInt t (Digits (dec n)) x → IntReads t NoSign n x
+digits_read t x n s =
+    let i = strict_int t x (Digits (dec n)) s in
+    let e : Digits (dec n) ≡ Digits (dec i.magnitude) = i.contents_is in
+    let same : dec n ≡ dec i.magnitude = cc in
+    let number : i.magnitude ≡ n = sym (dec_spells i.magnitude) ∙ ap (spelled_number 10) (sym same) ∙ dec_spells n in
+    subst (λ z. IntReads t NoSign z x) number i.reads
+
+over : (n : ℕ) → None ≡ held n → limit < n
+over n h = elim (cases_lt limit n) [
+  | inl past ↦ past
+  | inr small ↦ let some : None ≡ Some n = h ∙ ap (λ b. cond b (Some n) None) (le-leb n limit small) in absurd (cc)
+]
+
+under : (n m : ℕ) → Some m ≡ held n → n ≤ limit
+under n m h = elim (cases_lt limit n) [
+  | inl past ↦ let none : Some m ≡ None = h ∙ ap (λ b. cond b (Some n) None) (lt-leb limit n past) in absurd (cc)
+  | inr small ↦ small
+]
+
+past_of : (t x : List ℕ) (s : Sign) (n : ℕ) → IntReads t s n x → None ≡ held n → (past : IsPast t) × (past.suffix ≡ x)
+past_of t x s n r h = (record { sign = s; magnitude = n; suffix = x; reads = r; past = over n h }, refl)
+
+within_of : (t x : List ℕ) (s : Sign) (n m : ℕ) → IntReads t s n x → Some m ≡ held n → HasReading t
+within_of t x s n m r h =
+    let w = within_reads t x n (record { sign = s; reads = r; within = under n m h }) in
+    (Int, (w.0, x, w.1))
+
+-- the suffix of what is read past the limit
+pub signed_past : (t : List ℕ) (r : Reading) (at : ℕ) → IsSignedRead t r → past_at r ≡ Some at → IsCharBoundary t at
+    × ((past : IsPast (chars t)) × (past.suffix ≡ chars (drop at t)))
+signed_past t (Integer None k) at y e =
+    let same : k ≡ at = cc in
+    subst (λ z. IsCharBoundary t z × ((past : IsPast (chars t)) × (past.suffix ≡ chars (drop z t)))) same (elim y [
+      | inl u ↦ (u.0, past_of (chars t) (chars (drop k t)) NoSign u.1
+          (digits_read (chars t) (chars (drop k t)) u.1 u.2) u.3)
+      | inr (number, text, boundary, n, s, h) ↦ (
+        boundary,
+        past_of (chars t) (chars (drop k t)) Minus n
+            (subst (λ z. IntReads z Minus n (chars (drop k t))) (sym text)
+            (minus_int number (chars (drop k t)) n (digits_read number (chars (drop k t)) n s))) h,
+      )
+    ])
+signed_past t r at y e = absurd (cc)
+
+-- whatever else is read isn't past it
+pub signed_within : (t : List ℕ) (r : Reading) → IsSignedRead t r → past_at r ≡ None → IsPast (chars t) → ⊥
+signed_within t r y e p = read_within (chars t) (reading t r y e) p
+  where
+    reading : (t : List ℕ) (r : Reading) → IsSignedRead t r → past_at r ≡ None → HasReading (chars t)
+    reading t (Text kind body) (inl f) e = (kind, (f.reads.0, chars (suffix_in t body), f.reads.1))
+    reading t (Unit kind body unit) (inl f) e = (kind, (f.reads.0, chars (suffix_in t body), f.reads.1))
+    reading t (Integer (Some m) at) (inl (b, n, s, h)) e = within_of (chars t) (chars (drop at t)) NoSign n m
+        (digits_read (chars t) (chars (drop at t)) n s) h
+    reading t (Integer None at) y e = absurd (cc)
+    reading t (AFloat at) (inl (b, v, s)) e = (Float, (v, chars (drop at t), float_strict_reads (chars t) (chars (drop at t)) v s))
+    reading t (Truth b) (inl same) e = token_reads (chars t) (ap (first_passes is_ascii_digit) same ∙ truth_no_digit b)
+        (truth_token (chars t) b same)
+    reading t (Integer (Some m) at) (inr (number, text, b, n, s, h)) e = within_of (chars t) (chars (drop at t)) Minus n m
+        (subst (λ z. IntReads z Minus n (chars (drop at t))) (sym text)
+        (minus_int number (chars (drop at t)) n (digits_read number (chars (drop at t)) n s))) h
+    reading t (AFloat at) (inr (number, text, b, v, s)) e = subst HasReading (sym text) (float_minus number (chars (drop at t)) v s)
+    reading t r (inr y) e = absurd y

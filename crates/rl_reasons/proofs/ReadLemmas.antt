@@ -1,7 +1,10 @@
 -- What reading a text finds is what the grammars say of the whole text.
-use Rattle.rl_text.proofs.Common.{◌≡◌, ◌≢◌, ℕ, Bool, true, false, List, [], ◌∷◌, None, Some, refl, sym, ap, ◌∙◌, inl, inr, both_ways, is_ascii_digit, IsTrue, IsUtf8}
-use Rattle.rl_reading.proofs.Names.{Kind, Str, Char, first_passes, truth_text, is_string}
+use Rattle.rl_text.proofs.Common.{◌≡◌, ◌≢◌, ℕ, Bool, true, false, List, [], ◌∷◌, None, Some, refl, sym, ap, subst, ◌∙◌, inl, inr, both_ways, is_ascii_digit, IsTrue, IsUtf8}
+use Rattle.rl_reading.proofs.Names.{◌↔◌, Kind, Str, Char, first_passes, truth_text, is_string}
+use Rattle.std.specs.Prelude.{Result, Ok, Err, IfOk, IfErr, is_ok}
 use Rattle.std.specs.Str.{chars}
+use Rattle.rl_text.specs.Texts.{IsTail}
+use Rattle.rl_text.proofs.TailLemmas.{cut_boundary, cut_drop}
 use Rattle.rl_reading.specs.declared.found.Body.{Body}
 use Rattle.rl_reading.specs.declared.quoted_forms.QuotedForm.{QuotedForm}
 use Rattle.rl_reading.specs.declared.quoted_forms.QuotedForm.TheVariants.{Cooked as CookedForm, Single as SingleForm}
@@ -15,8 +18,13 @@ use Rattle.rl_strict.proofs.StrictLemmas.{close_token, told_token}
 use Rattle.rl_reasons.specs.declared.flaws.FlawKind.{FlawKind}
 use Rattle.rl_reasons.specs.Flaws.{HasKind}
 use Rattle.rl_reasons.specs.QuotedRead.{StopsIn}
-use Rattle.rl_reasons.specs.StrictNumbersRead.{IsStop}
-use Rattle.rl_reasons.specs.StrictRead.{IsFlawAt, IsMinusStop}
+use Rattle.rl_reasons.specs.declared.flaws.Flaw.{Flaw}
+use Rattle.rl_reasons.specs.declared.read.Reading.{Reading}
+use Rattle.rl_reasons.specs.declared.read_numbers.Number.{Number}
+use Rattle.rl_reasons.specs.declared.read_numbers.Number.TheVariants.{Integer, Float}
+use Rattle.rl_reasons.specs.StrictFlaws.{ExplainsStrictly}
+use Rattle.rl_reasons.specs.StrictNumbersRead.{IsFloatRead, IsIntegerRead, IsNumberRead, IsStop, suffix_of}
+use Rattle.rl_reasons.specs.StrictRead.{IsFlawAt, IsMinusStop, IsReadAs, IsSignedRead, placed_in}
 use Rattle.rl_reasons.specs.declared.flaws.FlawKind.TheVariants.{NoNumber, Unfinished}
 use Rattle.rl_reasons.specs.Mirrors.WordFlawAt.{end_flaw_at}
 use Rattle.rl_reasons.specs.Mirrors.UnitFlawAt.{found_flaw}
@@ -69,3 +77,38 @@ pub minus_alone : (t : List ℕ) (k : FlawKind) (rest : List ℕ) → first_pass
 minus_alone t k rest n same =
     let flaw = no_digit t (found_flaw k rest) n same in
     record { none = λ y. both_ways (first_passes is_ascii_digit t) n (number_of t y).0; stops = flaw.stops; says = flaw.kind }
+
+-- ---- a number by the place of its suffix
+
+pub number_placed : (t : List ℕ) (n : Number) (r : Reading) → r ≡ placed_in t n → IsNumberRead (chars t) n
+    → IsTail t (suffix_of n) → IsReadAs t r
+number_placed t (Integer m x) r e h tail = subst (IsReadAs t) (sym e) (
+  cut_boundary t x.now tail,
+  subst (λ z. IsIntegerRead (chars t) m (chars z)) (sym (cut_drop t x.now tail)) h,
+)
+number_placed t (Float x) r e h tail = subst (IsReadAs t) (sym e) (
+  cut_boundary t x.now tail,
+  subst (λ z. IsFloatRead (chars t) (chars z)) (sym (cut_drop t x.now tail)) h,
+)
+
+pub minus_placed : (t u : List ℕ) (n : Number) (r : Reading) → r ≡ placed_in t n → chars t ≡ 45 ∷ chars u
+    → IsNumberRead (chars u) n → IsTail t (suffix_of n) → IsSignedRead t r
+minus_placed t u (Integer m x) r e text h tail = subst (IsSignedRead t) (sym e) (inr (
+  chars u,
+  text,
+  cut_boundary t x.now tail,
+  subst (λ z. IsIntegerRead (chars u) m (chars z)) (sym (cut_drop t x.now tail)) h,
+))
+minus_placed t u (Float x) r e text h tail = subst (IsSignedRead t) (sym e) (inr (
+  chars u,
+  text,
+  cut_boundary t x.now tail,
+  subst (λ z. IsFloatRead (chars u) (chars z)) (sym (cut_drop t x.now tail)) h,
+))
+
+-- ---- a token is what reads
+
+pub token_where : (t : List ℕ) (r : Result Reading Flaw) (b : Bool) → IfOk r (λ a. IsToken t)
+    → IfErr r (ExplainsStrictly t) → b ≡ is_ok r → IsTrue b ↔ IsToken t
+token_where t (Ok a) b y n e = (λ h. y, λ k. e)
+token_where t (Err f) b y n e = (λ h. absurd (both_ways b e h), λ k. absurd (n.no_token k))

@@ -51,7 +51,7 @@ no_opener t h o =
     let found = sym h ∙ ap opener_at o.text_is ∙ front_complete o.form o.kind o.inside o.has in
     absurd (cc)
 
-truth_no_digit : (b : Bool) → first_passes is_ascii_digit (truth_text b) ≡ false
+pub truth_no_digit : (b : Bool) → first_passes is_ascii_digit (truth_text b) ≡ false
 truth_no_digit true = refl
 truth_no_digit false = refl
 

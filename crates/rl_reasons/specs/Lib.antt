@@ -10,4 +10,5 @@ pub mod Limits
 pub mod StrictNumbersRead
 pub mod QuotedRead
 pub mod StrictRead
+pub mod Fronts
 pub mod Mirrors

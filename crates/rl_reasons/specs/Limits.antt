@@ -1,11 +1,18 @@
 -- Why a token has no value: an integer past 128 bits. Why a text has none.
-use Rattle.std.specs.Prelude.{◌≡◌, ◌⊎◌, ◌+◌, ℕ, List, ◌++◌}
+use Rattle.std.specs.Prelude.{◌≡◌, ◌⊎◌, ◌+◌, ℕ, List, Option, Some, None, ◌++◌}
 use Rattle.rl_forms.specs.Reading.{IsPast}
 use Rattle.rl_text.specs.Texts.{byte_len}
 use Rattle.rl_reasons.specs.declared.flaws.Flaw.{Flaw}
 use Rattle.rl_reasons.specs.declared.flaws.FlawKind.TheVariants.{TooLarge}
 use Rattle.rl_reasons.specs.Flaws.{first_len}
 use Rattle.rl_reasons.specs.SignedFlaws.{ExplainsSigned, IsSignedToken}
+use Rattle.rl_reasons.specs.declared.read.Reading.{Reading}
+use Rattle.rl_reasons.specs.declared.read.Reading.TheVariants.{Integer}
+
+-- the place of the suffix, of an integer past the limit
+abbrev pub past_at : Reading → Option ℕ
+past_at (Integer None suffix_at) = Some suffix_at
+past_at _ = None
 
 -- The text is an integer past the limit, and the flaw says so of all before its suffix: `lo` is where the suffix begins,
 -- `hi` after the character there, or the text's end too.

@@ -1,37 +1,45 @@
 //! Why a token has no value, an integer past 128 bits; and why a text has none.
 
-ghost use Rattle.std.specs.Prelude.{◌≡◌, IfNone, IfSome};
-ghost use Rattle.std.specs.Str.{chars};
+ghost use Rattle.std.specs.Prelude.{◌≡◌, IfNone, IfSome, drop};
+ghost use Rattle.std.specs.Str.{chars, IsCharBoundary};
 ghost use Rattle.rl_forms.specs.Reading.{HasReading, IsPast};
-ghost use Rattle.rl_reasons.specs.Limits.{ExplainsLimit, ExplainsValue, IsLimitFlaw};
+ghost use Rattle.rl_reasons.specs.Limits.{ExplainsLimit, ExplainsValue, IsLimitFlaw, past_at};
 ghost use Rattle.rl_reasons.specs.SignedFlaws.{IsSignedToken};
-ghost use Rattle.rl_text.specs.Texts.{IsTail};
+ghost use Rattle.rl_reasons.specs.StrictRead.{IsSignedRead};
 
 use crate::flaws::{Flaw, FlawKind, make_flaw};
-use crate::signed_flaws::explain_signed;
-use rl_reading::number_forms::read_integer;
+use crate::read::{Reading, read_signed};
 
-/// The suffix of the integer past 128 bits that the text is.
-fn past_suffix(text: &str) -> Option<&str>
-    ensures none { IfNone result (IsPast (chars text.now) → ⊥) }
-    ensures some { IfSome result (λ suffix. (past : IsPast (chars text.now)) × (past.suffix ≡ chars suffix.now)) }
-    ensures following { IfSome result (λ suffix. IsTail text.now suffix.now) }
+/// The place of the suffix, where the reading is an integer past 128 bits.
+fn past_at(reading: Reading) -> Option<usize>
+    ensures { result ≡ past_at reading }
 {
-    let integer = read_integer(text)?;
-    match integer.magnitude {
-        None => Some(integer.suffix),
-        Some(_) => None,
+    match reading {
+        Reading::Integer(None, suffix_at) => Some(suffix_at),
+        _ => None,
     }
 }
 
-/// The flaw of an integer past 128 bits: all of its digits, up to its suffix.
-fn limit_flaw(text: &str) -> Option<Flaw>
+/// The flaw of an integer past 128 bits, whose suffix stands there: all of its digits.
+pub fn limit_flaw(text: &str, suffix_at: usize) -> Flaw
+    requires boundary { IsCharBoundary text.now suffix_at }
+    requires past { (past : IsPast (chars text.now)) × (past.suffix ≡ chars (drop suffix_at text.now)) }
+    ensures { IsLimitFlaw (chars text.now) result }
+{
+    let found = make_flaw(FlawKind::TooLarge, &text[suffix_at..]).in_piece(text);
+    found.in_text(text)
+}
+
+/// The flaw of the text, where what it reads as is an integer past 128 bits.
+fn limit_of(text: &str, reading: Reading) -> Option<Flaw>
+    requires { IsSignedRead text.now reading }
     ensures none { IfNone result (IsPast (chars text.now) → ⊥) }
     ensures some { IfSome result (IsLimitFlaw (chars text.now)) }
 {
-    let suffix = past_suffix(text)?;
-    let found = make_flaw(FlawKind::TooLarge, suffix).in_piece(text);
-    Some(found.in_text(text))
+    match past_at(reading) {
+        Some(suffix_at) => Some(limit_flaw(text, suffix_at)),
+        None => None,
+    }
 }
 
 /// Why an integer of Rust has no value, and where: it is past 128 bits; `None` of any other text. No memory is taken.
@@ -54,10 +62,9 @@ pub fn explain_limit(text: &str) -> Option<Flaw>
     ensures none { IfNone result (IsSignedToken (chars text.now) → IsPast (chars text.now) → ⊥) }
     ensures some { IfSome result (ExplainsLimit (chars text.now)) }
 {
-    let flaw = limit_flaw(text)?;
-    match explain_signed(text) {
-        Some(_) => None,
-        None => Some(flaw),
+    match read_signed(text) {
+        Ok(reading) => limit_of(text, reading),
+        Err(_) => None,
     }
 }
 
@@ -81,8 +88,8 @@ pub fn explain_value(text: &str) -> Option<Flaw>
     ensures none { IfNone result (HasReading (chars text.now)) }
     ensures some { IfSome result (ExplainsValue (chars text.now)) }
 {
-    match explain_signed(text) {
-        Some(flaw) => Some(flaw),
-        None => limit_flaw(text),
+    match read_signed(text) {
+        Ok(reading) => limit_of(text, reading),
+        Err(flaw) => Some(flaw),
     }
 }

@@ -1,15 +1,18 @@
 //! Strict reading in one walk: what a text reads as, or why it is no token of Rust's, and where.
 
-ghost use Rattle.std.specs.Prelude.{◌≡◌, None, IsTrue, IsFalse, IfOk, IfErr};
+ghost use Rattle.std.specs.Prelude.{◌≡◌, ◌↔◌, ◌∷◌, None, IsTrue, IsFalse, IfOk, IfErr, IfSome, IfNone};
 ghost use Rattle.std.specs.Char.{is_ascii_digit};
 ghost use Rattle.std.specs.Str.{chars};
-ghost use Rattle.rl_text.specs.Texts.{IsTail, first_passes};
+ghost use Rattle.rl_forms.specs.declared.kind.Kind.TheVariants.{Str};
+ghost use Rattle.rl_text.specs.Texts.{IsTail, code, first_passes};
 ghost use Rattle.rl_reading.specs.Mirrors.OpenerAt.{found_opener, opener_at};
 ghost use Rattle.rl_strict.specs.StrictShapes.{IsToken};
 ghost use Rattle.rl_reasons.specs.StrictFlaws.{ExplainsStrictly};
 ghost use Rattle.rl_reasons.specs.SignedFlaws.{ExplainsSigned, IsSignedToken};
 ghost use Rattle.rl_reasons.specs.StrictNumbersRead.{IsNumberRead, suffix_of};
-ghost use Rattle.rl_reasons.specs.StrictRead.{IsFlawAt, IsMinusStop, IsReadAs, IsSignedRead};
+ghost use Rattle.rl_reasons.specs.declared.read.Reading.TheVariants.{Text};
+ghost use Rattle.rl_reasons.specs.Fronts.{IsBare, IsFront};
+ghost use Rattle.rl_reasons.specs.StrictRead.{IsFlawAt, IsMinusStop, IsReadAs, IsSignedRead, placed_in};
 
 use crate::flaws::{Flaw, FlawAt, FlawKind, end_flaw};
 use crate::read_numbers::{Number, Stop, read_number};
@@ -18,30 +21,97 @@ use crate::strict_flaws::word_flaw;
 use rl_forms::Kind;
 use rl_reading::digit_rows::begins_digit;
 use rl_reading::quoted_forms::{QuotedForm, split_opener};
+use rl_reading::units::is_bare_character;
 use rl_reading::{Body, truth_of};
-use rl_text::text::{split_ascii, strip_byte};
+use rl_text::text::strip_byte;
 
-/// What a token reads as.
+/// What a token reads as. Places are bytes of its text.
 #[derive(Clone, Copy)]
-pub enum Reading<'t> {
-    /// A string of the kind.
+pub enum Reading {
+    /// A string of the kind, and where its parts stand.
     Text(Kind, Body),
-    /// A character or a byte, and what it stands for.
+    /// A character or a byte, where its parts stand, and what it stands for.
     Unit(Kind, Body, u32),
-    Number(Number<'t>),
+    /// An integer: its magnitude, where 128 bits hold it, and the place of its suffix, the text's end where it has none.
+    Integer(Option<u128>, usize),
+    /// A float, and the place of its suffix.
+    Float(usize),
+    /// `true` or `false`.
     Truth(bool),
+}
+
+/// How a text begins: its first bytes tell most literals, and the call that reads them.
+#[derive(Clone, Copy)]
+pub enum Front<'t> {
+    /// With `"`: what follows that. [`read_string`] reads the text.
+    Quote(&'t str),
+    /// The text is this character of ASCII between single quotes, and it stands for itself.
+    Bare(u8),
+    /// With a digit: [`read_digits`] reads the text.
+    Digit,
+    /// Otherwise: [`read_signed`] reads the text.
+    Other,
+}
+
+/// The character, where the text is one of ASCII between single quotes that stands for itself: `'a'`.
+#[inline(always)]
+fn bare_of(text: &str) -> Option<u8>
+    ensures some { IfSome result (IsBare text.now) }
+    ensures none { IfNone result ((c : ℕ) → IsBare text.now c → ⊥) }
+{
+    let bytes = text.as_bytes();
+    if bytes.len() != 3 || bytes[0] != b'\'' || bytes[2] != b'\'' || bytes[1] >= 128 {
+        return None;
+    }
+    if is_bare_character(bytes[1] as char) {
+        Some(bytes[1])
+    } else {
+        None
+    }
+}
+
+/// How the text begins.
+#[inline(always)]
+pub fn front_of(text: &str) -> Front<'_>
+    ensures { IsFront text.now result }
+{
+    if let Some(inside) = strip_byte(text, b'"') {
+        return Front::Quote(inside);
+    }
+    if let Some(c) = bare_of(text) {
+        return Front::Bare(c);
+    }
+    if begins_digit(text) {
+        Front::Digit
+    } else {
+        Front::Other
+    }
+}
+
+/// The number, by the place of its suffix in the text that ends with it.
+#[inline(always)]
+fn placed(text: &str, number: Number<'_>) -> Reading
+    requires { IsTail text.now (suffix_of number) }
+    ensures { result ≡ placed_in text.now number }
+{
+    match number {
+        Number::Integer(magnitude, suffix) => {
+            Reading::Integer(magnitude, text.len() - suffix.len())
+        }
+        Number::Float(suffix) => Reading::Float(text.len() - suffix.len()),
+    }
 }
 
 /// The number that the text is, which begins with a digit.
 #[inline(always)]
-fn number_at(text: &str) -> Result<Reading<'_>, FlawAt<'_>>
+fn number_at(text: &str) -> Result<Reading, FlawAt<'_>>
     requires { IsTrue (first_passes is_ascii_digit (chars text.now)) }
     ensures reads { IfOk result (IsReadAs text.now) }
     ensures token { IfOk result (λ r. IsToken (chars text.now)) }
     ensures flaw { IfErr result (λ f. IsFlawAt (chars text.now) f.kind (chars f.piece.now) (chars f.rest.now)) }
 {
     match read_number(text) {
-        Ok(number) => Ok(Reading::Number(number)),
+        Ok(number) => Ok(placed(text, number)),
         Err(stop) => Err(FlawAt {
             kind: stop.kind,
             piece: text,
@@ -52,7 +122,7 @@ fn number_at(text: &str) -> Result<Reading<'_>, FlawAt<'_>>
 
 /// The string with escapes that the text is.
 #[inline(always)]
-fn text_at<'t>(kind: Kind, text: &'t str, inside: &'t str) -> Result<Reading<'t>, FlawAt<'t>>
+fn text_at<'t>(kind: Kind, text: &'t str, inside: &'t str) -> Result<Reading, FlawAt<'t>>
     requires { opener_at (chars text.now) ≡ found_opener QuotedForm.Cooked kind (chars inside.now) }
     ensures reads { IfOk result (IsReadAs text.now) }
     ensures token { IfOk result (λ r. IsToken (chars text.now)) }
@@ -66,7 +136,7 @@ fn text_at<'t>(kind: Kind, text: &'t str, inside: &'t str) -> Result<Reading<'t>
 
 /// The character or byte that the text is.
 #[inline(always)]
-fn unit_at<'t>(kind: Kind, text: &'t str, inside: &'t str) -> Result<Reading<'t>, FlawAt<'t>>
+fn unit_at<'t>(kind: Kind, text: &'t str, inside: &'t str) -> Result<Reading, FlawAt<'t>>
     requires { opener_at (chars text.now) ≡ found_opener QuotedForm.Single kind (chars inside.now) }
     ensures reads { IfOk result (IsReadAs text.now) }
     ensures token { IfOk result (λ r. IsToken (chars text.now)) }
@@ -80,7 +150,7 @@ fn unit_at<'t>(kind: Kind, text: &'t str, inside: &'t str) -> Result<Reading<'t>
 
 /// The raw string that the text is.
 #[inline(always)]
-fn raw_at<'t>(kind: Kind, text: &'t str, inside: &'t str) -> Result<Reading<'t>, FlawAt<'t>>
+fn raw_at<'t>(kind: Kind, text: &'t str, inside: &'t str) -> Result<Reading, FlawAt<'t>>
     requires { opener_at (chars text.now) ≡ found_opener QuotedForm.Raw kind (chars inside.now) }
     ensures reads { IfOk result (IsReadAs text.now) }
     ensures token { IfOk result (λ r. IsToken (chars text.now)) }
@@ -94,7 +164,7 @@ fn raw_at<'t>(kind: Kind, text: &'t str, inside: &'t str) -> Result<Reading<'t>,
 
 /// The word that the text is, or why it is none.
 #[inline(always)]
-fn word_at(text: &str) -> Result<Reading<'_>, FlawAt<'_>>
+fn word_at(text: &str) -> Result<Reading, FlawAt<'_>>
     requires no_number { IsFalse (first_passes is_ascii_digit (chars text.now)) }
     requires no_opener { opener_at (chars text.now) ≡ None }
     ensures reads { IfOk result (IsReadAs text.now) }
@@ -109,7 +179,7 @@ fn word_at(text: &str) -> Result<Reading<'_>, FlawAt<'_>>
 
 /// The token of a text that begins neither with a digit nor with a quote.
 #[inline(never)]
-fn read_rare(text: &str) -> Result<Reading<'_>, FlawAt<'_>>
+fn read_rare(text: &str) -> Result<Reading, FlawAt<'_>>
     requires { IsFalse (first_passes is_ascii_digit (chars text.now)) }
     ensures reads { IfOk result (IsReadAs text.now) }
     ensures token { IfOk result (λ r. IsToken (chars text.now)) }
@@ -123,36 +193,122 @@ fn read_rare(text: &str) -> Result<Reading<'_>, FlawAt<'_>>
     }
 }
 
-/// The token that the text is, or the flaw by the texts from its places on. The first byte tells most forms.
+/// The token that the text is, or the flaw by the texts from its places on.
 #[inline(always)]
-fn read_at(text: &str) -> Result<Reading<'_>, FlawAt<'_>>
+fn read_at(text: &str) -> Result<Reading, FlawAt<'_>>
     ensures reads { IfOk result (IsReadAs text.now) }
     ensures token { IfOk result (λ r. IsToken (chars text.now)) }
     ensures flaw { IfErr result (λ f. IsFlawAt (chars text.now) f.kind (chars f.piece.now) (chars f.rest.now)) }
 {
-    match split_ascii(text) {
-        Some((b'"', inside)) => return text_at(Kind::Str, text, inside),
-        Some((b'\'', inside)) => return unit_at(Kind::Char, text, inside),
-        _ => {}
-    }
-    if begins_digit(text) {
-        number_at(text)
-    } else {
-        read_rare(text)
+    match front_of(text) {
+        Front::Quote(inside) => text_at(Kind::Str, text, inside),
+        Front::Bare(c) => {
+            let body = Body {
+                lo: 1,
+                hi: 2,
+                suffix_at: 3,
+                plain: false,
+            };
+            Ok(Reading::Unit(Kind::Char, body, c as u32))
+        }
+        Front::Digit => number_at(text),
+        Front::Other => read_rare(text),
     }
 }
 
-/// The token that the text is, all of it; or else why it is none, and where. No memory is taken.
+/// The flaw, by its places in the text.
 #[inline(always)]
-pub fn read(text: &str) -> Result<Reading<'_>, Flaw>
+fn explained(found: FlawAt<'_>, text: &str) -> Flaw
+    requires { IsFlawAt (chars text.now) found.kind (chars found.piece.now) (chars found.rest.now) }
+    ensures { ExplainsStrictly (chars text.now) result }
+{
+    found.in_text(text)
+}
+
+/// The string that the text is, all of it, by what follows its `"`: where its parts stand. Or else why it is no token.
+#[inline(always)]
+pub fn read_string(text: &str, inside: &str) -> Result<Body, Flaw>
+    requires { chars text.now ≡ code "\"" ∷ chars inside.now }
+    ensures reads { IfOk result (λ body. IsReadAs text.now (Text Str body)) }
+    ensures token { IfOk result (λ b. IsToken (chars text.now)) }
+    ensures flaw { IfErr result (ExplainsStrictly (chars text.now)) }
+{
+    match read_cooked(Kind::Str, text, inside) {
+        Ok(body) => Ok(body),
+        Err(found) => Err(explained(found, text)),
+    }
+}
+
+/// The number that the text is, all of it, which begins with a digit. Or else why it is no token.
+#[inline(always)]
+pub fn read_digits(text: &str) -> Result<Reading, Flaw>
+    requires { IsTrue (first_passes is_ascii_digit (chars text.now)) }
+    ensures reads { IfOk result (IsReadAs text.now) }
+    ensures token { IfOk result (λ r. IsToken (chars text.now)) }
+    ensures flaw { IfErr result (ExplainsStrictly (chars text.now)) }
+{
+    match number_at(text) {
+        Ok(reading) => Ok(reading),
+        Err(found) => Err(explained(found, text)),
+    }
+}
+
+/// What the text reads as, all of it, where it is a literal token of the strict grammar; or else why it is none, and where. No
+/// memory is taken.
+///
+/// Integers of any size are tokens: of one past 128 bits the reading has no magnitude.
+///
+/// # Errors
+///
+/// The text is no token: the flaw is that of [`explain`](crate::explain).
+///
+/// # Example
+///
+/// ```
+/// use rl_grammar::strict::{Reading, read};
+///
+/// pub fn integer_of(text: &str) -> Option<u128> {
+///     match read(text) {
+///         Ok(Reading::Integer(magnitude, _)) => magnitude,
+///         _ => None,
+///     }
+/// }
+/// // integer_of("0x1F_u8") == Some(31)
+/// // integer_of("1.5") == None
+/// ```
+#[inline(always)]
+pub fn read(text: &str) -> Result<Reading, Flaw>
     ensures reads { IfOk result (IsReadAs text.now) }
     ensures token { IfOk result (λ r. IsToken (chars text.now)) }
     ensures flaw { IfErr result (ExplainsStrictly (chars text.now)) }
 {
     match read_at(text) {
         Ok(reading) => Ok(reading),
-        Err(flaw) => Err(flaw.in_text(text)),
+        Err(found) => Err(explained(found, text)),
     }
+}
+
+/// Whether the text is a literal token of the strict grammar, of any kind and with any suffix:
+/// `0xFF_u8` is one, `-1`, `1e` and `r"a"b"` are none. No memory is taken.
+///
+/// Every strict text is a literal of the lenient grammar too, unless it is an integer past 128
+/// bits: here integers have no limit. The reverse doesn't hold.
+///
+/// # Example
+///
+/// ```
+/// use rl_grammar::strict::is_token;
+///
+/// pub fn is_rust(text: &str) -> bool {
+///     is_token(text)
+/// }
+/// // is_rust("0xFF_u8") == true
+/// // is_rust("-1") == false
+/// ```
+pub fn is_token(text: &str) -> bool
+    ensures { IsTrue result ↔ IsToken (chars text.now) }
+{
+    read(text).is_ok()
 }
 
 /// The number that stands after a minus; or else why none does, and the text from there on.
@@ -178,9 +334,13 @@ fn read_minus(number: &str) -> Result<Number<'_>, Stop<'_>>
     }
 }
 
-/// The token that the text is, or a minus and a number, all of it; or else why it is neither, and where. No memory is taken.
+/// As [`read`], but a minus may stand before a number: `-1.5`. No memory is taken.
+///
+/// # Errors
+///
+/// The text is no token, nor a minus and a number: the flaw is that of [`explain_signed`](crate::explain_signed).
 #[inline(always)]
-pub fn read_signed(text: &str) -> Result<Reading<'_>, Flaw>
+pub fn read_signed(text: &str) -> Result<Reading, Flaw>
     ensures reads { IfOk result (IsSignedRead text.now) }
     ensures token { IfOk result (λ r. IsSignedToken (chars text.now)) }
     ensures flaw { IfErr result (ExplainsSigned (chars text.now)) }
@@ -192,7 +352,7 @@ pub fn read_signed(text: &str) -> Result<Reading<'_>, Flaw>
         };
     };
     match read_minus(number) {
-        Ok(read) => Ok(Reading::Number(read)),
+        Ok(number) => Ok(placed(text, number)),
         Err(stop) => {
             let flaw = FlawAt {
                 kind: stop.kind,

@@ -1,7 +1,6 @@
-//! The strict grammar of literal tokens, that of the Rust Reference. No memory is taken.
+//! The strict grammar of literal tokens, that of the Rust Reference: what its definitions say of a text, and the steps inside
+//! quoted literals. No memory is taken.
 #![tactic(auto)]
 
 pub mod laws;
 pub mod strict;
-
-pub use crate::strict::is_token;

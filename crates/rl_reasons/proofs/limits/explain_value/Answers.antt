@@ -1,6 +1,5 @@
 use Rattle.rl_reasons.proofs.LimitLemmas.{value_reads}
 use Rattle.rl_reasons.proofs.limits.explain_value.Goals as goal
 
-pub returns-in-None-clause-none : goal.returns-in-None-clause-none
-returns-in-None-clause-none c = value_reads _ c.limit_flaw.result c.in-None.ensures.none
-    c.limit_flaw.ensures.none
+pub returns-in-Ok-clause-none : goal.returns-in-Ok-clause-none
+returns-in-Ok-clause-none c = value_reads _ c.limit_of.result c.in-Ok.ensures.token c.limit_of.ensures.none

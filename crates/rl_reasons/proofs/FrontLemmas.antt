@@ -1,0 +1,68 @@
+-- A character of ASCII between single quotes, which stands for itself, by the bytes of its text.
+use Rattle.rl_text.proofs.Common.{◌≡◌, ◌<◌, ◌≤◌, ◌||◌, ◌&&◌, ◌==◌, ℕ, suc, zero, Bool, true, false, not, List, [], ◌∷◌, length, get_or, refl, sym, ap, subst, ◌∙◌, arith, inl, inr, and_from, both_ways, eqb-true, cases_Bool, is_ascii_digit, IsAscii, IsUtf8, chars}
+use Rattle.rl_reading.proofs.Names.{Char, first_passes}
+use Rattle.std.proofs.lemmas.Str.{chars-IsAscii}
+use Rattle.rl_forms.specs.Strict.{Itself, is_bare_character, is_strict_unit}
+use Rattle.rl_reading.specs.declared.found.Body.{Body}
+use Rattle.rl_reading.specs.declared.quoted_forms.QuotedForm.TheVariants.{Single as SingleForm}
+use Rattle.rl_reading.proofs.BareCharacters.{bare_text}
+use Rattle.rl_reading.proofs.FoundLemmas.{OfUnit}
+use Rattle.rl_reasons.specs.Fronts.{IsBare}
+use Rattle.rl_reasons.specs.StrictRead.{IsReadAs}
+use Rattle.rl_reasons.specs.declared.read.Reading.TheVariants.{Unit}
+use Rattle.rl_strict.specs.StrictShapes.{ClosesUnits, IsToken}
+use Rattle.rl_strict.proofs.StrictLemmas.{close_token}
+
+-- ---- by its bytes
+
+pub bare_bytes : (t b : List ℕ) → b ≡ t → length t ≡ 3 → get_or b 0 0 ≡ 39 → get_or b 2 0 ≡ 39 → get_or b 1 0 < 128
+    → is_bare_character (get_or b 1 0) ≡ true → IsBare t (get_or b 1 0)
+bare_bytes t b same long first last small bare = (sym same ∙ three b (ap length same ∙ long) first last, small, bare)
+  where
+    three : (b : List ℕ) → length b ≡ 3 → get_or b 0 0 ≡ 39 → get_or b 2 0 ≡ 39 → b ≡ 39 ∷ get_or b 1 0 ∷ 39 ∷ []
+    three [] n f l = absurd (omega (arith, n))
+    three (x ∷ []) n f l = absurd (omega (arith, n))
+    three (x ∷ y ∷ []) n f l = absurd (omega (arith, n))
+    three (x ∷ y ∷ z ∷ []) n f l = ap (λ v. v ∷ y ∷ z ∷ []) f ∙ ap (λ v. 39 ∷ y ∷ v ∷ []) l
+    three (x ∷ y ∷ z ∷ w ∷ ws) n f l = absurd (omega (arith, n))
+
+-- where its bytes are others, the text is none
+pub no_bare : (t b : List ℕ) (P : Type 0) → b ≡ t → ((c : ℕ) → b ≡ 39 ∷ c ∷ 39 ∷ [] → c < 128
+    → is_bare_character c ≡ true → P) → (c : ℕ) → IsBare t c → P
+no_bare t b P same h c y = h c (same ∙ y.0) y.1 y.2
+
+-- ---- it is a token, and what it stands for
+
+abbrev BareBody : Body
+BareBody = record { lo = 1; hi = 2; suffix_at = 3; plain = false }
+
+no_backslash : (c : ℕ) → is_bare_character c ≡ true → c ≡ 92 → ⊥
+no_backslash c h e = both_ways (is_bare_character 92) refl (ap is_bare_character (sym e) ∙ h)
+
+pub bare_reads : (t : List ℕ) (c : ℕ) → IsUtf8 t → IsBare t c → IsReadAs t (Unit Char BareBody c)
+bare_reads t c u (text, small, bare) =
+    let at : get_or t 1 0 ≡ c = ap (λ z. get_or z 1 0) text in
+    bare_text t t (OfUnit Char BareBody c) refl u (omega (arith, ap length text)) (ap (λ z. get_or z 0 0) text)
+    (ap (λ z. get_or z 2 0) text) (λ e. no_backslash c bare (sym at ∙ e)) (subst (λ z. z < 128) (sym at) small)
+    (ap (OfUnit Char BareBody) (sym at))
+
+three_ascii : (c : ℕ) → c < 128 → IsAscii (39 ∷ c ∷ 39 ∷ [])
+three_ascii c small zero = omega arith
+three_ascii c small (suc zero) = small
+three_ascii c small (suc (suc zero)) = omega arith
+three_ascii c small (suc (suc (suc i))) = omega arith
+
+closes : (c : ℕ) → is_bare_character c ≡ true → ClosesUnits Char (c ∷ 39 ∷ [])
+closes c bare = record {
+  units = Itself c ∷ [];
+  suffix = [];
+  count = refl;
+  each = and_from (is_strict_unit Char (Itself c)) true bare refl;
+  blanks_end = tt;
+  is_suffix = inl refl;
+  text_is = refl;
+}
+
+pub bare_token : (t : List ℕ) (c : ℕ) → IsBare t c → IsToken (chars t)
+bare_token t c (text, small, bare) = close_token SingleForm Char (chars t) (c ∷ 39 ∷ []) refl
+    (ap chars text ∙ chars-IsAscii (39 ∷ c ∷ 39 ∷ []) (three_ascii c small)) (closes c bare)
