@@ -414,3 +414,102 @@ impl FromStr for Lit<'static> {
         Lit::parse(text).map(Lit::into_owned)
     }
 }
+
+#[cfg(test)]
+mod tests {
+    use super::*;
+    use crate::rl_reasons::{explain_value, is_token};
+    use std::format;
+
+    /// All texts of up to so many of these characters, after the front.
+    fn each_text(front: &str, characters: &str, most: usize, check: &mut dyn FnMut(&str)) {
+        check(front);
+        if most > 0 {
+            for c in characters.chars() {
+                each_text(&format!("{front}{c}"), characters, most - 1, check);
+            }
+        }
+    }
+
+    /// What a literal says of itself.
+    fn told(literal: &Lit<'_>) -> String {
+        let more = match literal {
+            Lit::Str(it) => format!("{:?} {:?}", it.body_range(), it.value()),
+            Lit::ByteStr(it) => format!("{:?} {:?}", it.body_range(), it.value()),
+            Lit::CStr(it) => format!("{:?} {:?}", it.body_range(), it.value()),
+            Lit::Byte(it) => format!("{}", it.value()),
+            Lit::Char(it) => format!("{:?}", it.value()),
+            Lit::Int(it) => format!("{} {:?}", it.magnitude(), it.base10_digits()),
+            Lit::Float(it) => format!("{:?}", it.base10_digits()),
+            Lit::Bool(it) => format!("{}", it.value()),
+            Lit::Verbatim(_) => String::new(),
+        };
+        let borrows = |value: &Cow<'_, str>| matches!(value, Cow::Borrowed(_));
+        let borrows = match literal {
+            Lit::Str(it) => borrows(&it.value()),
+            Lit::Int(it) => borrows(&it.base10_digits()),
+            Lit::Float(it) => borrows(&it.base10_digits()),
+            _ => true,
+        };
+        format!("{literal:?} {} {more} {borrows}", literal.suffix())
+    }
+
+    /// Checks what is parsed, borrowed and owned, beside `syn`'s reading, and an error beside the reason.
+    fn check(text: &str, parsed: &mut usize) {
+        let owned = Lit::try_from(String::from(text));
+        match Lit::parse(text) {
+            Ok(literal) => {
+                *parsed += 1;
+                assert!(is_token(text.strip_prefix('-').unwrap_or(text)), "{text:?}");
+                assert_eq!(told(&literal), told(&Lit::new(text)), "{text:?}");
+                assert_eq!(owned.map(|it| told(&it)), Ok(told(&literal)), "{text:?}");
+            }
+            Err(error) => {
+                let flaw = explain_value(text).map(ParseError::of_flaw);
+                assert_eq!(flaw, Some(error), "{text:?}");
+                assert_eq!(owned, Err(error), "{text:?}");
+            }
+        }
+    }
+
+    #[test]
+    fn what_is_parsed_is_what_is_read() {
+        let mut parsed = 0;
+        let mut each = |fronts: &[&str], characters: &str, most| {
+            for front in fronts {
+                each_text(front, characters, most, &mut |text| check(text, &mut parsed));
+            }
+        };
+        each(&[""], "019_.eE+-xbu8f", 4);
+        each(
+            &["1.5", "1e5", "0x", "0b1", "-1.", "1_", "1f3", "1.0f3", "1e+", "12345.6E+"],
+            "1_.e+-2fé",
+            3,
+        );
+        let largest = "340282366920938463463374607431768211455";
+        each(&[largest, "0xFFFFFFFFFFFFFFFFFFFFFFFFFFFFFFFF", "-34028236692093846346337460743176821145"], "0_ef6", 3);
+        each(
+            &["", "r", "b", "c", "br", "cr#", "r#\"", "b'", "\"\\u{1", "'\\u{", "c\"\\x4"],
+            "\"'\\\r\n\tnxé#_ ",
+            3,
+        );
+        each(&["", "\"", "'", "b'", "r#\"", "\"a\\\n "], "\"'\\\r\n}_", 4);
+        each(&["tru", "fals", "t", "word"], "etrus_", 3);
+        assert!(parsed > 5_000, "{parsed}");
+    }
+
+    #[test]
+    fn raw_strings_have_up_to_255_hashes() {
+        for count in 250..260 {
+            let hashes = "#".repeat(count);
+            for opener in ["r", "br", "cr"] {
+                for inside in ["", "a", "\"", "\r"] {
+                    let text = format!("{opener}{hashes}\"{inside}\"{hashes}");
+                    let is_rust = count < 256 && inside != "\r";
+                    assert_eq!(Lit::parse(&text).is_ok(), is_rust, "{text}");
+                    check(&text, &mut 0);
+                }
+            }
+        }
+    }
+}

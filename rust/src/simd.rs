@@ -26,22 +26,8 @@ const LOWEST: u64 = 0x0101_0101_0101_0101;
 /// The highest one.
 const HIGHEST: u64 = LOWEST << 7;
 
-/// The place of the first of eight bytes that is this one.
-#[inline(always)]
-pub(crate) fn place_of(eight: [u8; 8], byte: u8) -> Option<usize> {
-    // Of a byte that is this one nothing is left, and then the subtraction sets its highest bit. It may set that of a byte above
-    // too, but none below.
-    let left = u64::from_le_bytes(eight) ^ (byte as u64 * LOWEST);
-    let found = left.wrapping_sub(LOWEST) & !left & HIGHEST;
-    if found == 0 {
-        return None;
-    }
-    Some(found.trailing_zeros() as usize / 8)
-}
-
 #[cfg(test)]
 mod tests {
-    use super::place_of;
     use std::vec::Vec;
 
     /// Numbers without an order, from a seed on.
@@ -184,20 +170,4 @@ mod tests {
 
     tests_of!(vectors);
     tests_of!(words);
-
-    #[test]
-    fn the_first_of_eight_bytes() {
-        for at in 0..8 {
-            for byte in [0, 1, 0x2D, 0x2E, 0x2F, 0x7F, 0x80, 0xAE, 0xFF] {
-                for others in [0x2D, 0x2F, 0x30, 0xAE] {
-                    let mut eight = [others; 8];
-                    eight[at] = byte;
-                    for wanted in [byte, others, b'.'] {
-                        let place = eight.iter().position(|byte| *byte == wanted);
-                        assert_eq!(place_of(eight, wanted), place, "{eight:x?}");
-                    }
-                }
-            }
-        }
-    }
 }
