@@ -251,7 +251,7 @@ fn skip_blanks(text: &str) -> &str
 /// What the escape stands for whose backslash stands before the text, and the text after it.
 #[tactic(auto, unfolding(crate::specs::Mirrors::UnitAt::escape_at), using(crate::proofs::AsciiLemmas::no_escape))]
 #[inline(always)]
-fn escape(kind: Kind, text: &str) -> Option<(Piece, &str)>
+pub fn escape(kind: Kind, text: &str) -> Option<(Piece, &str)>
     ensures value { option_map (λ p. (piece_value kind p.0, chars p.1.now)) result
         ≡ escape_at kind (chars text.now) }
     ensures piece { IfSome result (λ p. IsHeldBy kind p.0) }

@@ -219,6 +219,11 @@ bare_run k (c ∷ cs) h each =
     let b = and_parts (is_plain k c) (list_all (is_plain k) cs) each in
     and_from (is_bare k c) (list_all (is_bare k) cs) (sym (plain_is_bare k c (no_char k h)) ∙ b.0) (bare_run k cs h b.1)
 
+pub bare_stops : (k : Kind) (t : List ℕ) → is_string k ≡ true → first_passes (is_plain k) t ≡ false
+    → first_passes (is_bare k) t ≡ false
+bare_stops k [] h stops = refl
+bare_stops k (c ∷ cs) h stops = sym (plain_is_bare k c (no_char k h)) ∙ stops
+
 -- where no unit stands, the end stands
 stuck_down : (k : Kind) (t x : List ℕ) (us : List StrictUnit) → is_string k ≡ true → unit_rest k t ≡ None
     → list_all (is_strict_unit k) us ≡ true → BlanksEnd us → IsStrictSuffix x → t ≡ flat_map strict_text us ++ (34 ∷ x)

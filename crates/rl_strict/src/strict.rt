@@ -1,6 +1,6 @@
 //! Inside quoted literals of the strict grammar, that of the Rust Reference: what follows the units, or what a raw string holds.
 
-ghost use Rattle.std.specs.Prelude.{◌↔◌, IsTrue, ◌≡◌, ◌≤◌, ◌<◌, ◌∷◌, IfSome, length, option_map, ◌==◌, ◌&&◌, ◌++◌, IfNone, IsFalse, List, None, ℕ};
+ghost use Rattle.std.specs.Prelude.{◌↔◌, IsTrue, ◌≡◌, ◌≤◌, ◌<◌, IfSome, length, option_map, ◌==◌, ◌&&◌, ◌++◌, IfNone, IsFalse, List, None, ℕ};
 ghost use Rattle.std.specs.Str.{chars};
 ghost use Rattle.std.specs.List.{list_all};
 ghost use Rattle.rl_forms.specs.Quoted.{is_string};
@@ -8,13 +8,13 @@ ghost use Rattle.rl_forms.specs.Strict.{Itself, is_strict_unit};
 ghost use Rattle.rl_reading.specs.StrictUnits.{BeginsStrictUnits};
 ghost use Rattle.rl_strict.specs.StrictShapes.{ClosesUnits};
 ghost use Rattle.rl_strict.specs.Mirrors.StrictAt.{escape_rest, unit_rest, is_inside, is_raw_character};
-ghost use Rattle.rl_text.specs.Texts.{begins, code};
+ghost use Rattle.rl_text.specs.Texts.{begins, code, first_passes};
 
 use rl_forms::Kind;
-use rl_reading::units::{is_bare_character, is_plain, split_ascii_run, split_plain, unit};
+use rl_reading::units::{escape, split_ascii_run, split_plain};
 use rl_text::classes::{CharClass, skip_class};
 use rl_text::scan::{Marks, split_before};
-use rl_text::text::{after_prefix, split_char};
+use rl_text::text::{after_prefix, split_ascii};
 
 /// What may close a raw C string, and what it doesn't hold.
 const INSIDE_C_STRING: Marks = Marks {
@@ -24,46 +24,39 @@ const INSIDE_C_STRING: Marks = Marks {
     fourth: 0,
 };
 
-/// Whether the kind takes the character as it is. But for characters this is what the lenient grammar says.
-fn is_bare(kind: Kind, c: char) -> bool
-    ensures { result ≡ is_strict_unit kind (Itself c) }
-{
-    match kind {
-        Kind::Char => is_bare_character(c),
-        _ => is_plain(kind, c),
-    }
-}
-
-/// The text after an escape, whose backslash stands before the second text.
+/// The text after an escape, by the text after its backslash.
 ///
 /// But for line breaks the lenient escapes are the strict ones.
-fn skip_escape<'t>(kind: Kind, text: &'t str, following: &'t str) -> Option<&'t str>
-    requires backslash { chars text.now ≡ code "\\" ∷ chars following.now }
-    requires shorter { length following.now < length text.now }
+#[inline(always)]
+fn skip_escape(kind: Kind, following: &str) -> Option<&str>
     ensures value { option_map (λ r. chars r.now) result ≡ escape_rest kind (chars following.now) }
-    ensures shorter { IfSome result (λ r. length r.now < length text.now) }
+    ensures shorter { IfSome result (λ r. length r.now < length following.now) }
 {
-    match split_char(following) {
-        Some(('\n', blanks)) if kind.is_string() => {
-            Some(skip_class(CharClass::StrictBlank, blanks))
+    match split_ascii(following) {
+        Some((b'\n', blanks)) => {
+            if kind.is_string() {
+                Some(skip_class(CharClass::StrictBlank, blanks))
+            } else {
+                None
+            }
         }
-        Some(('\n' | '\r', _)) | None => None,
-        Some(_) => {
-            let (_, rest) = unit(kind, text)?;
+        Some((b'\r', _)) => None,
+        _ => {
+            let (_, rest) = escape(kind, following)?;
             Some(rest)
         }
     }
 }
 
-/// The text after the unit at the front: `None` where no unit of the kind stands there.
-#[tactic(auto, unfolding(crate::specs::Mirrors::StrictAt::unit_rest))]
-pub fn skip_unit(kind: Kind, text: &str) -> Option<&str>
+/// The text after the unit at the front, which isn't a character that stands for itself: `None` where no unit stands there.
+#[inline(always)]
+fn skip_escaped(kind: Kind, text: &str) -> Option<&str>
+    requires { IsFalse (first_passes (λ c. is_strict_unit kind (Itself c)) (chars text.now)) }
     ensures value { option_map (λ r. chars r.now) result ≡ unit_rest kind (chars text.now) }
     ensures shorter { IfSome result (λ r. length r.now < length text.now) }
 {
-    match split_char(text) {
-        Some(('\\', following)) => skip_escape(kind, text, following),
-        Some((first, following)) if is_bare(kind, first) => Some(following),
+    match split_ascii(text) {
+        Some((b'\\', following)) => skip_escape(kind, following),
         _ => None,
     }
 }
@@ -74,24 +67,40 @@ fn skip_bare(kind: Kind, text: &str) -> &str
     requires { IsTrue (is_string kind) }
     ensures run { (run : List ℕ) × (chars text.now ≡ run ++ chars result.now)
         × IsTrue (list_all (λ c. is_strict_unit kind (Itself c)) run) }
+    ensures stops { IsFalse (first_passes (λ c. is_strict_unit kind (Itself c)) (chars result.now)) }
     ensures shorter { length result.now ≤ length text.now }
 {
     let (_, rest) = split_plain(kind, text);
     rest
 }
 
-/// The text after the units at its front, as far as they go.
-pub fn skip_units(kind: Kind, text: &str) -> &str
+/// The text after the units at its front, by a loop that is compiled for the kind where its caller names it.
+#[inline(always)]
+fn skip_units_of(kind: Kind, text: &str) -> &str
     requires { IsTrue (is_string kind) }
     ensures row { BeginsStrictUnits kind (chars text.now) (chars result.now) }
     ensures same { ClosesUnits kind (chars result.now) ↔ ClosesUnits kind (chars text.now) }
     ensures stuck { unit_rest kind (chars result.now) ≡ None }
 {
     let mut rest = skip_bare(kind, text);
-    while let Some(after) = skip_unit(kind, rest) {
+    while let Some(after) = skip_escaped(kind, rest) {
         rest = skip_bare(kind, after);
     }
     rest
+}
+
+/// The text after the units at its front, as far as they go. Strings have a loop of their own, which knows their kind.
+#[inline(never)]
+pub fn skip_units(kind: Kind, text: &str) -> &str
+    requires { IsTrue (is_string kind) }
+    ensures row { BeginsStrictUnits kind (chars text.now) (chars result.now) }
+    ensures same { ClosesUnits kind (chars result.now) ↔ ClosesUnits kind (chars text.now) }
+    ensures stuck { unit_rest kind (chars result.now) ≡ None }
+{
+    match kind {
+        Kind::Str => skip_units_of(Kind::Str, text),
+        _ => skip_units_of(kind, text),
+    }
 }
 
 /// Whether a raw string of the kind may hold the character.

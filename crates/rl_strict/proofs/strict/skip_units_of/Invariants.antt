@@ -1,15 +1,18 @@
-use Rattle.rl_text.proofs.Common.{length}
+use Rattle.rl_text.proofs.Common.{◌≡◌, false, length}
 use Rattle.rl_reading.proofs.Names.{◌↔◌}
 use denote.Text.{Utf8}
 use denote.Shadow.{shadow}
 use Rattle.std.specs.Str.{chars}
 use Rattle.rl_reading.specs.StrictUnits.{BeginsStrictUnits}
 use Rattle.rl_strict.specs.StrictShapes.{ClosesUnits}
-use Rattle.rl_strict.proofs.strict.skip_units.Given as goal
+use Rattle.rl_strict.proofs.StrictRowLemmas.{is_bare}
+use Rattle.rl_text.specs.Texts.{first_passes}
+use Rattle.rl_strict.proofs.strict.skip_units_of.Given as goal
 
 abbrev pub invariant-loop-after : goal.invariant-loop-after
 invariant-loop-after l = record {
   utf8 : shadow (Utf8 l.rest);
+  stops : first_passes (is_bare l.kind) (chars l.rest) ≡ false;
   row : BeginsStrictUnits l.kind (chars l.text) (chars l.rest);
   same : ClosesUnits l.kind (chars l.rest) ↔ ClosesUnits l.kind (chars l.text);
 }
