@@ -35,7 +35,7 @@ pub enum Piece {
 
 /// The number of the one character or byte that the piece of a character or a byte literal is.
 #[inline(always)]
-pub(crate) fn piece_unit(kind: Kind, piece: Piece) -> u32
+pub fn piece_unit(kind: Kind, piece: Piece) -> u32
     requires single { IsTrue (is_single kind) }
     requires one { (n : ℕ) × (piece_value kind piece ≡ n ∷ []) }
     ensures { IsUnitValue kind (piece_value kind piece) result }

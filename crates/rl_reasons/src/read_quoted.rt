@@ -24,31 +24,10 @@ use crate::strict_quoted_flaws::{
 };
 use rl_forms::Kind;
 use rl_reading::Body;
-use rl_reading::quoted_forms::{QuotedForm, after_quote};
-use rl_reading::units::{Piece, is_bare_character, split_plain, unit};
+use rl_reading::quoted_forms::{QuotedForm, after_quote, places};
+use rl_reading::units::{Piece, is_bare_character, piece_unit, split_plain, unit};
 use rl_strict::strict::{after_closer, skip_units};
 use rl_text::text::{before, split_char};
-
-/// Where the parts of a quoted literal stand, from what is left of its text: from the body on, from the closing quote
-/// on, and from the suffix on.
-#[inline(always)]
-fn places(text: &str, opened: &str, closer: &str, suffix: &str, plain: bool) -> Body
-    requires opened { IsTail text.now opened.now }
-    requires closer { IsTail opened.now closer.now }
-    requires suffix { IsTail closer.now suffix.now }
-    ensures stands { StandsIn text.now result }
-    ensures body { chars opened.now ≡ chars (body_in text.now result) ++ chars closer.now }
-    ensures suffix { suffix_in text.now result ≡ suffix.now }
-    ensures plain { result.plain ≡ plain }
-    ensures lo { result.lo + length opened.now ≡ length text.now }
-{
-    Body {
-        lo: text.len() - opened.len(),
-        hi: text.len() - closer.len(),
-        suffix_at: text.len() - suffix.len(),
-        plain,
-    }
-}
 
 /// Whether the text is `_` alone.
 #[tactic(auto, using(rl_reading::proofs::CutLemmas::some_text))]
@@ -136,20 +115,6 @@ pub(crate) fn read_cooked<'t>(
 pub struct Single {
     pub body: Body,
     pub unit: u32,
-}
-
-/// The number of the one character or byte that the piece of a character or a byte literal is.
-#[inline(always)]
-fn piece_unit(kind: Kind, piece: Piece) -> u32
-    requires single { IsTrue (is_single kind) }
-    requires one { (n : ℕ) × (piece_value kind piece ≡ n ∷ []) }
-    ensures { IsUnitValue kind (piece_value kind piece) result }
-{
-    match piece {
-        Piece::Character(c) => c as u32,
-        Piece::Byte(b) => b as u32,
-        Piece::Nothing => unreachable!(),
-    }
 }
 
 /// What the unit of a character or a byte at the front stands for, and the text after it.
