@@ -1,7 +1,7 @@
 //! Quoted literals of the strict grammar, in one walk: where the parts of one stand, or where and why the text stops being the
 //! front of one.
 
-ghost use Rattle.std.specs.Prelude.{◌≡◌, ◌≤◌, ◌∷◌, ◌++◌, ◌+◌, ℕ, List, [], Some, length, option_map, replicate, IsTrue, IfOk, IfErr, IfSome};
+ghost use Rattle.std.specs.Prelude.{◌≡◌, ◌≤◌, ◌∷◌, ◌++◌, ◌+◌, ℕ, Some, option_map, replicate, IsTrue, IfOk, IfErr, IfSome};
 ghost use Rattle.rl_text.specs.Texts.{code};
 ghost use Rattle.rl_forms.specs.Quoted.{is_single};
 ghost use Rattle.rl_reading.specs.Bodies.{IsUnitValue};
@@ -9,7 +9,7 @@ ghost use Rattle.rl_reading.specs.Mirrors.UnitAt.{piece_value, unit_at};
 ghost use Rattle.rl_strict.specs.Mirrors.StrictAt.{unit_rest};
 ghost use Rattle.std.specs.Str.{chars};
 ghost use Rattle.rl_text.specs.Texts.{IsTail};
-ghost use Rattle.rl_reading.specs.Founds.{IsQuotedAt, StandsIn, body_in, suffix_in};
+ghost use Rattle.rl_reading.specs.Founds.{IsQuotedAt};
 ghost use Rattle.rl_reading.specs.Mirrors.OpenerAt.{found_opener, opener_at};
 ghost use Rattle.rl_strict.specs.StrictShapes.{ClosesForm};
 ghost use Rattle.rl_reasons.specs.QuotedRead.{StopsIn};
