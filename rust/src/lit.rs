@@ -114,19 +114,28 @@ impl<'t> Lit<'t> {
     #[inline]
     pub fn parse(text: &'t str) -> Result<Lit<'t>, ParseError> {
         let borrowed = Cow::Borrowed(text);
-        // The calls that read most literals return what they find in registers, which one for all literals can't.
-        let reading = match front_of(text) {
-            Front::Quote(inside) => {
-                let body = read_string(text, inside).map_err(ParseError::of_flaw)?;
-                return Ok(Lit::Str(LitStr::of(borrowed, body)));
-            }
-            Front::Bare(c) => {
-                return Ok(Lit::Char(LitChar::of(borrowed, text.len(), u32::from(c))));
-            }
-            Front::Digit => read_digits(text),
-            Front::Other => read_signed(text),
-        };
-        Lit::read(borrowed, reading.map_err(ParseError::of_flaw)?)
+        // Each call returns no more than its literals need, in registers; what reads all of them returns it in memory.
+        match front_of(text) {
+            Front::Quote(inside) => match read_string(text, inside) {
+                Ok(body) => Ok(Lit::Str(LitStr::of(borrowed, body))),
+                Err(flaw) => Err(ParseError::of_flaw(flaw)),
+            },
+            Front::Bare(c) => Ok(Lit::Char(LitChar::of(borrowed, text.len(), u32::from(c)))),
+            Front::Digit => match read_digits(text) {
+                Ok(reading) => Lit::read(borrowed, reading),
+                Err(flaw) => Err(ParseError::of_flaw(flaw)),
+            },
+            Front::Other => Lit::parse_signed(text),
+        }
+    }
+
+    /// The literal of a text of any beginning.
+    #[inline(never)]
+    fn parse_signed(text: &'t str) -> Result<Lit<'t>, ParseError> {
+        match read_signed(text) {
+            Ok(reading) => Lit::read(Cow::Borrowed(text), reading),
+            Err(flaw) => Err(ParseError::of_flaw(flaw)),
+        }
     }
 
     /// That Rust takes the literal where it stands in a file: as [`Lit::parse`] of its text, but that a CR LF counts as an LF, which
