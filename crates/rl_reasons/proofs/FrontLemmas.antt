@@ -9,7 +9,7 @@ use Rattle.rl_reading.proofs.BareCharacters.{bare_text}
 use Rattle.rl_reading.proofs.FoundLemmas.{OfUnit}
 use Rattle.rl_reasons.specs.Fronts.{IsBare}
 use Rattle.rl_reasons.specs.StrictRead.{IsReadAs}
-use Rattle.rl_reasons.specs.declared.read.Reading.TheVariants.{Unit}
+use Rattle.rl_reasons.specs.declared.strict_reading.Reading.TheVariants.{Unit}
 use Rattle.rl_strict.specs.StrictShapes.{ClosesUnits, IsToken}
 use Rattle.rl_strict.proofs.StrictLemmas.{close_token}
 

@@ -16,8 +16,8 @@ use Rattle.rl_reading.proofs.ReadingLemmas.{only_number}
 use Rattle.rl_strict.proofs.DecLemmas.{dec_spells}
 use Rattle.rl_strict.proofs.StrictLemmas.{truth_token}
 use Rattle.rl_reasons.specs.declared.flaws.Flaw.{Flaw}
-use Rattle.rl_reasons.specs.declared.read.Reading.{Reading}
-use Rattle.rl_reasons.specs.declared.read.Reading.TheVariants.{Text, Unit, Integer, Float as AFloat, Truth}
+use Rattle.rl_reasons.specs.declared.strict_reading.Reading.{Reading}
+use Rattle.rl_reasons.specs.declared.strict_reading.Reading.TheVariants.{Text, Unit, Integer, Float as AFloat, Truth}
 use Rattle.rl_reasons.specs.Limits.{past_at}
 use Rattle.rl_reasons.specs.SignedFlaws.{IsSignedToken}
 use Rattle.rl_reasons.specs.StrictNumbersRead.{held}
@@ -133,6 +133,11 @@ digits_read t x n s =
     let number : i.magnitude ≡ n = sym (dec_spells i.magnitude) ∙ ap (spelled_number 10) (sym same) ∙ dec_spells n in
     subst (λ z. IntReads t NoSign z x) number i.reads
 
+minus_read : (t number x : List ℕ) (n : ℕ) → chars t ≡ 45 ∷ number → StrictInt number (Digits (dec n)) x
+    → IntReads (chars t) Minus n x
+minus_read t number x n text s =
+    subst (λ z. IntReads z Minus n x) (sym text) (minus_int number x n (digits_read number x n s))
+
 over : (n : ℕ) → None ≡ held n → limit < n
 over n h = elim (cases_lt limit n) [
   | inl past ↦ past
@@ -141,7 +146,7 @@ over n h = elim (cases_lt limit n) [
 
 under : (n m : ℕ) → Some m ≡ held n → n ≤ limit
 under n m h = elim (cases_lt limit n) [
-  | inl past ↦ let none : Some m ≡ None = h ∙ ap (λ b. cond b (Some n) None) (lt-leb limit n past) in absurd (cc)
+  | inl past ↦ let none : Some m ≡ None = h ∙ ap (λ b. cond b (Some n) None) (lt-leb n limit past) in absurd (cc)
   | inr small ↦ small
 ]
 
@@ -159,13 +164,11 @@ pub signed_past : (t : List ℕ) (r : Reading) (at : ℕ) → IsSignedRead t r �
 signed_past t (Integer None k) at y e =
     let same : k ≡ at = cc in
     subst (λ z. IsCharBoundary t z × ((past : IsPast (chars t)) × (past.suffix ≡ chars (drop z t)))) same (elim y [
-      | inl u ↦ (u.0, past_of (chars t) (chars (drop k t)) NoSign u.1
-          (digits_read (chars t) (chars (drop k t)) u.1 u.2) u.3)
-      | inr (number, text, boundary, n, s, h) ↦ (
-        boundary,
-        past_of (chars t) (chars (drop k t)) Minus n
-            (subst (λ z. IntReads z Minus n (chars (drop k t))) (sym text)
-            (minus_int number (chars (drop k t)) n (digits_read number (chars (drop k t)) n s))) h,
+      | inl u ↦ (u.0, past_of (chars t) (chars (drop k t)) NoSign u.1.0
+          (digits_read (chars t) (chars (drop k t)) u.1.0 u.1.1) u.1.2)
+      | inr m ↦ (
+        m.2,
+        past_of (chars t) (chars (drop k t)) Minus m.3.0 (minus_read t m.0 (chars (drop k t)) m.3.0 m.1 m.3.1) m.3.2,
       )
     ])
 signed_past t r at y e = absurd (cc)
@@ -177,14 +180,15 @@ signed_within t r y e p = read_within (chars t) (reading t r y e) p
     reading : (t : List ℕ) (r : Reading) → IsSignedRead t r → past_at r ≡ None → HasReading (chars t)
     reading t (Text kind body) (inl f) e = (kind, (f.reads.0, chars (suffix_in t body), f.reads.1))
     reading t (Unit kind body unit) (inl f) e = (kind, (f.reads.0, chars (suffix_in t body), f.reads.1))
-    reading t (Integer (Some m) at) (inl (b, n, s, h)) e = within_of (chars t) (chars (drop at t)) NoSign n m
-        (digits_read (chars t) (chars (drop at t)) n s) h
+    reading t (Integer (Some m) at) (inl (b, i)) e = within_of (chars t) (chars (drop at t)) NoSign i.0 m
+        (digits_read (chars t) (chars (drop at t)) i.0 i.1) i.2
     reading t (Integer None at) y e = absurd (cc)
-    reading t (AFloat at) (inl (b, v, s)) e = (Float, (v, chars (drop at t), float_strict_reads (chars t) (chars (drop at t)) v s))
+    reading t (AFloat at) (inl (b, f)) e =
+        (Float, (f.0, chars (drop at t), float_strict_reads (chars t) (chars (drop at t)) f.0 f.1))
     reading t (Truth b) (inl same) e = token_reads (chars t) (ap (first_passes is_ascii_digit) same ∙ truth_no_digit b)
         (truth_token (chars t) b same)
-    reading t (Integer (Some m) at) (inr (number, text, b, n, s, h)) e = within_of (chars t) (chars (drop at t)) Minus n m
-        (subst (λ z. IntReads z Minus n (chars (drop at t))) (sym text)
-        (minus_int number (chars (drop at t)) n (digits_read number (chars (drop at t)) n s))) h
-    reading t (AFloat at) (inr (number, text, b, v, s)) e = subst HasReading (sym text) (float_minus number (chars (drop at t)) v s)
+    reading t (Integer (Some m) at) (inr (number, text, b, i)) e = within_of (chars t) (chars (drop at t)) Minus i.0 m
+        (minus_read t number (chars (drop at t)) i.0 text i.1) i.2
+    reading t (AFloat at) (inr (number, text, b, f)) e =
+        subst HasReading (sym text) (float_minus number (chars (drop at t)) f.0 f.1)
     reading t r (inr y) e = absurd y

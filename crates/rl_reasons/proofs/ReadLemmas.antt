@@ -19,7 +19,7 @@ use Rattle.rl_reasons.specs.declared.flaws.FlawKind.{FlawKind}
 use Rattle.rl_reasons.specs.Flaws.{HasKind}
 use Rattle.rl_reasons.specs.QuotedRead.{StopsIn}
 use Rattle.rl_reasons.specs.declared.flaws.Flaw.{Flaw}
-use Rattle.rl_reasons.specs.declared.read.Reading.{Reading}
+use Rattle.rl_reasons.specs.declared.strict_reading.Reading.{Reading}
 use Rattle.rl_reasons.specs.declared.read_numbers.Number.{Number}
 use Rattle.rl_reasons.specs.declared.read_numbers.Number.TheVariants.{Integer, Float}
 use Rattle.rl_reasons.specs.StrictFlaws.{ExplainsStrictly}

@@ -4,8 +4,8 @@ use Rattle.std.specs.Char.{is_ascii_digit}
 use Rattle.std.specs.Str.{chars}
 use Prim.Native.Char.{code}
 use Rattle.rl_forms.specs.Strict.{is_bare_character}
-use Rattle.rl_reasons.specs.declared.read.Front.{Front}
-use Rattle.rl_reasons.specs.declared.read.Front.TheVariants.{Quote, Bare, Digit, Other}
+use Rattle.rl_reasons.specs.declared.strict_reading.Front.{Front}
+use Rattle.rl_reasons.specs.declared.strict_reading.Front.TheVariants.{Quote, Bare, Digit, Other}
 use Rattle.rl_text.specs.Texts.{first_passes}
 
 -- The text is this character of ASCII between single quotes, and in the strict grammar it stands for itself.

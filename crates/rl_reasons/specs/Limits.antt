@@ -6,8 +6,8 @@ use Rattle.rl_reasons.specs.declared.flaws.Flaw.{Flaw}
 use Rattle.rl_reasons.specs.declared.flaws.FlawKind.TheVariants.{TooLarge}
 use Rattle.rl_reasons.specs.Flaws.{first_len}
 use Rattle.rl_reasons.specs.SignedFlaws.{ExplainsSigned, IsSignedToken}
-use Rattle.rl_reasons.specs.declared.read.Reading.{Reading}
-use Rattle.rl_reasons.specs.declared.read.Reading.TheVariants.{Integer}
+use Rattle.rl_reasons.specs.declared.strict_reading.Reading.{Reading}
+use Rattle.rl_reasons.specs.declared.strict_reading.Reading.TheVariants.{Integer}
 
 -- the place of the suffix, of an integer past the limit
 abbrev pub past_at : Reading → Option ℕ

@@ -8,8 +8,8 @@ use Rattle.rl_reasons.specs.declared.flaws.FlawKind.{FlawKind}
 use Rattle.rl_reasons.specs.declared.read_numbers.Number.{Number}
 use Rattle.rl_reasons.specs.declared.read_numbers.Number.TheVariants.{Integer as AnInteger, Float as AFloat}
 use Rattle.rl_reasons.specs.SignedFlaws.{IsMinusFlawOf, IsSignedToken}
-use Rattle.rl_reasons.specs.declared.read.Reading.{Reading}
-use Rattle.rl_reasons.specs.declared.read.Reading.TheVariants.{Text, Unit, Integer, Float, Truth}
+use Rattle.rl_reasons.specs.declared.strict_reading.Reading.{Reading}
+use Rattle.rl_reasons.specs.declared.strict_reading.Reading.TheVariants.{Text, Unit, Integer, Float, Truth}
 use Rattle.rl_reasons.specs.Flaws.{StopsBefore}
 use Rattle.rl_reasons.specs.StrictFlaws.{IsStrictFlawOf}
 use Rattle.rl_reasons.specs.StrictNumbersRead.{IsFloatRead, IsIntegerRead}

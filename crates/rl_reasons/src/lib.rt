@@ -5,7 +5,7 @@ mod flaws;
 pub mod laws;
 mod limits;
 mod quoted_flaws;
-pub mod read;
+pub mod strict_reading;
 pub mod read_numbers;
 pub mod read_quoted;
 mod signed_flaws;
@@ -14,7 +14,7 @@ mod strict_quoted_flaws;
 
 pub use crate::flaws::{Flaw, FlawKind};
 pub use crate::limits::{explain_limit, explain_value};
-pub use crate::read::{Reading, is_token, read, read_signed};
+pub use crate::strict_reading::{Reading, is_token, read, read_signed};
 pub use crate::read_numbers::Number;
 pub use crate::signed_flaws::explain_signed;
 pub use crate::strict_flaws::explain;

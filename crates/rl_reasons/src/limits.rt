@@ -8,7 +8,7 @@ ghost use Rattle.rl_reasons.specs.SignedFlaws.{IsSignedToken};
 ghost use Rattle.rl_reasons.specs.StrictRead.{IsSignedRead};
 
 use crate::flaws::{Flaw, FlawKind, make_flaw};
-use crate::read::{Reading, read_signed};
+use crate::strict_reading::{Reading, read_signed};
 
 /// The place of the suffix, where the reading is an integer past 128 bits.
 fn past_at(reading: Reading) -> Option<usize>

@@ -5,7 +5,7 @@ ghost use Rattle.std.specs.Str.{chars};
 ghost use Rattle.rl_reasons.specs.SignedFlaws.{ExplainsSigned, IsSignedToken};
 
 use crate::flaws::Flaw;
-use crate::read::read_signed;
+use crate::strict_reading::read_signed;
 
 /// Why the text is no literal token of the strict grammar, nor a minus and a number, and where; `None` exactly where it is one
 /// of these. No memory is taken.

@@ -11,7 +11,7 @@ ghost use Rattle.rl_strict.specs.StrictShapes.{IsToken};
 ghost use Rattle.rl_reading.specs.Mirrors.OpenerAt.{opener_at};
 
 use crate::flaws::{Flaw, FlawAt, FlawKind, first_flaw, make_flaw};
-use crate::read::read;
+use crate::strict_reading::read;
 use rl_text::text::split_char;
 
 /// Whether the text begins with a minus.

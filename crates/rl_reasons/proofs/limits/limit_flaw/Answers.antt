@@ -1,6 +1,7 @@
 use Rattle.rl_text.proofs.Common.{arith, ap, length, sym, ◌++◌, ◌∙◌, ◌+◌}
 use Rattle.std.specs.Str.{chars}
-use Rattle.rl_text.proofs.Rests.{tail_length}
+use Rattle.rl_text.proofs.Rests.{tail_drop, tail_length}
+use Rattle.rl_text.specs.Texts.{IsTail}
 use Rattle.rl_reasons.specs.Flaws.{first_len}
 use Rattle.rl_reasons.proofs.LimitLemmas.{front_of}
 use Rattle.rl_reasons.proofs.limits.limit_flaw.Goals as goal
@@ -10,23 +11,27 @@ in_text-requires-clause-rest c = omega (
   arith,
   ap length c.in_piece-found.ensures.1,
   ap length c.make_flaw.ensures.1,
-  tail_length _ _ c.in_ok-suffix.ensures.following,
+  tail_length _ _
+      (tail_drop c.args.text.now c.range_from.result.now c.args.suffix_at c.range_from.ensures.value c.range_from.utf8),
 )
 
 pub in_text-requires-clause-piece : goal.in_text-requires-clause-piece
 in_text-requires-clause-piece c = omega (arith, ap length c.in_piece-found.ensures.2)
 
-pub returns-clause-some : goal.returns-clause-some
-returns-clause-some c =
-    let p = c.in_ok-suffix.ensures.some in
-    let cut = front_of c.args.text.now c.in_ok-suffix.suffix.now c.utf8.text c.in_ok-suffix.ensures.following in
+pub returns : goal.returns
+returns c =
+    let past = c.requires.past in
+    let tail = tail_drop c.args.text.now c.range_from.result.now c.args.suffix_at c.range_from.ensures.value
+    c.range_from.utf8 in
+    let cut = front_of c.args.text.now c.range_from.result.now c.utf8.text tail in
+    let suffix = past.1 ∙ ap chars (sym c.range_from.ensures.value) in
     let rest = c.in_piece-found.ensures.1 ∙ c.make_flaw.ensures.1 in
     record {
-      past = p.0;
+      past = past.0;
       number = cut.0;
-      text_is = cut.1 ∙ ap (λ z. cut.0 ++ z) (sym p.1);
+      text_is = cut.1 ∙ ap (λ z. cut.0 ++ z) (sym suffix);
       kind_is = c.in_text.ensures.kind ∙ c.in_piece-found.ensures.0 ∙ c.make_flaw.ensures.0;
       from_is = omega (arith, ap length c.in_piece-found.ensures.2, c.in_text.ensures.from);
       lo_is = omega (arith, cut.2, ap length rest, c.in_text.ensures.lo);
-      hi_is = c.in_text.ensures.hi ∙ ap (λ z. c.in_text.result.lo + first_len z) (ap chars rest ∙ sym p.1);
+      hi_is = c.in_text.ensures.hi ∙ ap (λ z. c.in_text.result.lo + first_len z) (ap chars rest ∙ sym suffix);
     }

@@ -2,7 +2,17 @@ use Rattle.rl_text.proofs.Common.{[], arith, rules, inr, refl, subst, ◌∙◌,
 use Rattle.std.specs.Str.{chars}
 use Rattle.rl_reasons.specs.SignedFlaws.{IsSignedToken}
 use Rattle.rl_reasons.proofs.SignedFlaws.{signed_bytes, unsigned_explains}
-use Rattle.rl_reasons.proofs.read.read_signed.Goals as goal
+use Rattle.rl_text.proofs.TailLemmas.{tail_step}
+use Rattle.rl_reasons.proofs.ReadLemmas.{minus_placed}
+use Rattle.rl_reasons.proofs.strict_reading.read_signed.Goals as goal
+
+pub placed-requires : goal.placed-requires
+placed-requires c = tail_step _ _ _ c.in-Some.ensures.following c.in-Ok-read_minus.ensures.following
+
+pub returns-in-Ok-read_minus-clause-reads : goal.returns-in-Ok-read_minus-clause-reads
+returns-in-Ok-read_minus-clause-reads c = minus_placed _ _ _ _ c.placed.ensures c.in-Some.ensures.rest
+    c.in-Ok-read_minus.ensures.number
+    (tail_step _ _ _ c.in-Some.ensures.following c.in-Ok-read_minus.ensures.following)
 
 pub returns-in-Err-clause-flaw : goal.returns-in-Err-clause-flaw
 returns-in-Err-clause-flaw c = unsigned_explains _ _ c.in_default.ensures.rest c.in-Err.ensures.flaw

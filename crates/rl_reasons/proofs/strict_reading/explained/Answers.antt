@@ -1,7 +1,7 @@
 use Rattle.rl_text.proofs.Common.{rules, arith, IsUtf8}
 use Rattle.std.specs.Str.{chars}
 use Rattle.rl_reasons.proofs.StrictExplainLemmas.{front_bytes, piece_bytes, piece_front}
-use Rattle.rl_reasons.proofs.read.explained.Goals as goal
+use Rattle.rl_reasons.proofs.strict_reading.explained.Goals as goal
 
 pub in_text-requires-clause-rest : goal.in_text-requires-clause-rest
 in_text-requires-clause-rest c =

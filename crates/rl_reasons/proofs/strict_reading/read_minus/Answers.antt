@@ -1,6 +1,6 @@
 use Rattle.rl_text.proofs.Common.{◌∙◌, sym}
 use Rattle.rl_reasons.proofs.ReadLemmas.{minus_alone, minus_number}
-use Rattle.rl_reasons.proofs.read.read_minus.Goals as goal
+use Rattle.rl_reasons.proofs.strict_reading.read_minus.Goals as goal
 
 pub returns-in-Err-clause-stop : goal.returns-in-Err-clause-stop
 returns-in-Err-clause-stop c = minus_number _ _ _ (sym c.begins_digit.ensures ∙ c.if-begins_digit.true)

@@ -2,7 +2,7 @@ use Rattle.rl_reading.specs.declared.quoted_forms.QuotedForm.TheVariants.{Single
 use Rattle.rl_text.proofs.Common.{refl}
 use Rattle.rl_reading.proofs.FoundLemmas.{quoted_found}
 use Rattle.rl_reasons.proofs.ReadLemmas.{form_flaw, form_token}
-use Rattle.rl_reasons.proofs.read.unit_at.Goals as goal
+use Rattle.rl_reasons.proofs.strict_reading.unit_at.Goals as goal
 
 pub returns-in-Ok-clause-reads : goal.returns-in-Ok-clause-reads
 returns-in-Ok-clause-reads c = quoted_found _ _ _ _ _ c.utf8.text c.in-Ok.ensures.found.0 c.in-Ok.ensures.found.1 refl

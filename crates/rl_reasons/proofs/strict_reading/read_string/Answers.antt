@@ -1,7 +1,7 @@
 use Rattle.rl_reading.specs.declared.quoted_forms.QuotedForm.TheVariants.{Cooked as Form}
 use Rattle.rl_text.proofs.Common.{refl}
 use Rattle.rl_reasons.proofs.ReadLemmas.{form_flaw, form_token, string_opens, text_found}
-use Rattle.rl_reasons.proofs.read.read_string.Goals as goal
+use Rattle.rl_reasons.proofs.strict_reading.read_string.Goals as goal
 
 pub read_cooked-requires : goal.read_cooked-requires
 read_cooked-requires c = string_opens _ _ c.requires

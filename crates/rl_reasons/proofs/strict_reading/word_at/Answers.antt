@@ -4,7 +4,7 @@ use Rattle.rl_reasons.specs.StrictNumberFlaws.{IsStrictWordFlaw}
 use Rattle.rl_strict.proofs.StrictLemmas.{truth_token}
 use Rattle.rl_reasons.proofs.StrictTokens.{no_token}
 use Rattle.rl_reasons.proofs.StrictWordFlaws.{moved}
-use Rattle.rl_reasons.proofs.read.word_at.Goals as goal
+use Rattle.rl_reasons.proofs.strict_reading.word_at.Goals as goal
 
 pub returns-in-Some-clause-token : goal.returns-in-Some-clause-token
 returns-in-Some-clause-token c = truth_token _ c.in-Some.truth c.in-Some.ensures.some

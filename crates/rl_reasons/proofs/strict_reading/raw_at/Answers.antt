@@ -1,7 +1,7 @@
-use Rattle.rl_reading.specs.declared.quoted_forms.QuotedForm.TheVariants.{Cooked as Form}
+use Rattle.rl_reading.specs.declared.quoted_forms.QuotedForm.TheVariants.{Raw as Form}
 use Rattle.rl_reading.proofs.FormLemmas.{front_sound}
 use Rattle.rl_reasons.proofs.ReadLemmas.{form_flaw, form_token, text_found}
-use Rattle.rl_reasons.proofs.read.text_at.Goals as goal
+use Rattle.rl_reasons.proofs.strict_reading.raw_at.Goals as goal
 
 pub returns-in-Ok-clause-reads : goal.returns-in-Ok-clause-reads
 returns-in-Ok-clause-reads c = text_found _ _ _ (front_sound _ _ c.requires).has c.utf8.text c.in-Ok.ensures.found

@@ -1,6 +1,6 @@
 //! Strict reading in one walk: what a text reads as, or why it is no token of Rust's, and where.
 
-ghost use Rattle.std.specs.Prelude.{◌≡◌, ◌↔◌, ◌∷◌, None, IsTrue, IsFalse, IfOk, IfErr, IfSome, IfNone};
+ghost use Rattle.std.specs.Prelude.{◌≡◌, ◌↔◌, ◌∷◌, None, ℕ, IsTrue, IsFalse, IfOk, IfErr, IfSome, IfNone};
 ghost use Rattle.std.specs.Char.{is_ascii_digit};
 ghost use Rattle.std.specs.Str.{chars};
 ghost use Rattle.rl_forms.specs.declared.kind.Kind.TheVariants.{Str};
@@ -10,7 +10,7 @@ ghost use Rattle.rl_strict.specs.StrictShapes.{IsToken};
 ghost use Rattle.rl_reasons.specs.StrictFlaws.{ExplainsStrictly};
 ghost use Rattle.rl_reasons.specs.SignedFlaws.{ExplainsSigned, IsSignedToken};
 ghost use Rattle.rl_reasons.specs.StrictNumbersRead.{IsNumberRead, suffix_of};
-ghost use Rattle.rl_reasons.specs.declared.read.Reading.TheVariants.{Text};
+ghost use Rattle.rl_reasons.specs.declared.strict_reading.Reading.TheVariants.{Text};
 ghost use Rattle.rl_reasons.specs.Fronts.{IsBare, IsFront};
 ghost use Rattle.rl_reasons.specs.StrictRead.{IsFlawAt, IsMinusStop, IsReadAs, IsSignedRead, placed_in};
 
@@ -92,7 +92,7 @@ pub fn front_of(text: &str) -> Front<'_>
 #[inline(always)]
 fn placed(text: &str, number: Number<'_>) -> Reading
     requires { IsTail text.now (suffix_of number) }
-    ensures { result ≡ placed_in text.now number }
+    ensures { result ≡ placed_in text.now number.entry }
 {
     match number {
         Number::Integer(magnitude, suffix) => {
