@@ -4,9 +4,8 @@ use crate::kind::Kind;
 use crate::parse_error::ParseError;
 use crate::places::{Places, Segments};
 use crate::rl_forms;
-use crate::rl_reading::digits::is_plain_integer;
-use crate::rl_reading::{find, Body, Found};
-use crate::rl_reasons::limits::limit_flaw;
+use crate::rl_reading::{find, is_plain_integer, Body, Found};
+use crate::rl_reasons::limit_flaw;
 use crate::rl_reasons::strict_reading::{
     front_of, read_digits, read_signed, read_string, Front, Reading,
 };

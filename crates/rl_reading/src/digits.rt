@@ -46,7 +46,7 @@ fn is_plain_digits(text: &str) -> bool
 }
 
 /// Whether the body of an integer is its digits, perhaps after a minus.
-pub(crate) fn is_plain_integer(body: &str) -> bool
+pub fn is_plain_integer(body: &str) -> bool
     ensures { result ≡ is_plain_integer (chars body.now) }
 {
     is_plain_digits(after_minus(body))

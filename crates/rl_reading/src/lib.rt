@@ -16,7 +16,7 @@ pub mod units;
 pub use crate::contents::{
     byte_of, byte_of_body, bytes_into, char_of, char_of_body, is_plain, str_into,
 };
-pub use crate::digits::numeral_into;
+pub use crate::digits::{is_plain_integer, numeral_into};
 pub use crate::found::{
     Body, Found, Parts, find, find_float, find_int, find_negative, shape, truth_of,
 };

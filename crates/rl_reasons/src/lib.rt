@@ -13,7 +13,7 @@ mod strict_flaws;
 mod strict_quoted_flaws;
 
 pub use crate::flaws::{Flaw, FlawKind};
-pub use crate::limits::{explain_limit, explain_value};
+pub use crate::limits::{explain_limit, explain_value, limit_flaw};
 pub use crate::strict_reading::{Reading, is_token, read, read_signed};
 pub use crate::read_numbers::Number;
 pub use crate::signed_flaws::explain_signed;

@@ -15,7 +15,7 @@ pub mod units;
 pub use crate::rl_reading::contents::{
     byte_of, byte_of_body, bytes_into, char_of, char_of_body, is_plain, str_into,
 };
-pub use crate::rl_reading::digits::numeral_into;
+pub use crate::rl_reading::digits::{is_plain_integer, numeral_into};
 pub use crate::rl_reading::found::{
     Body, Found, Parts, find, find_float, find_int, find_negative, shape, truth_of,
 };

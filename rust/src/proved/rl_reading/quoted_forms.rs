@@ -106,7 +106,7 @@ pub fn after_quote(kind: Kind, text: &str) -> Option<&str> {
 /// Where the parts of a quoted literal stand, from what is left of its text: from the body on, from the closing quote
 /// on, and from the suffix on.
 #[inline(always)]
-fn places(text: &str, opened: &str, closer: &str, suffix: &str, plain: bool) -> Body {
+pub fn places(text: &str, opened: &str, closer: &str, suffix: &str, plain: bool) -> Body {
     Body {
         lo: text.len() - opened.len(),
         hi: text.len() - closer.len(),

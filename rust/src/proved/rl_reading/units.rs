@@ -24,7 +24,7 @@ pub enum Piece {
 
 /// The number of the one character or byte that the piece of a character or a byte literal is.
 #[inline(always)]
-pub(crate) fn piece_unit(kind: Kind, piece: Piece) -> u32 {
+pub fn piece_unit(kind: Kind, piece: Piece) -> u32 {
     match piece {
         Piece::Character(c) => c as u32,
         Piece::Byte(b) => b as u32,
@@ -189,7 +189,7 @@ fn skip_blanks(text: &str) -> &str {
 
 /// What the escape stands for whose backslash stands before the text, and the text after it.
 #[inline(always)]
-fn escape(kind: Kind, text: &str) -> Option<(Piece, &str)> {
+pub fn escape(kind: Kind, text: &str) -> Option<(Piece, &str)> {
     let (letter, rest) = split_ascii(text)?;
     match letter {
         b'x' => {

@@ -2,23 +2,28 @@
 //! Why a token has no value, an integer past 128 bits; and why a text has none.
 
 use crate::rl_reasons::flaws::{Flaw, FlawKind, make_flaw};
-use crate::rl_reasons::signed_flaws::explain_signed;
-use crate::rl_reading::number_forms::read_integer;
+use crate::rl_reasons::strict_reading::{Reading, read_signed};
 
-/// The suffix of the integer past 128 bits that the text is.
-fn past_suffix(text: &str) -> Option<&str> {
-    let integer = read_integer(text)?;
-    match integer.magnitude {
-        None => Some(integer.suffix),
-        Some(_) => None,
+/// The place of the suffix, where the reading is an integer past 128 bits.
+fn past_at(reading: Reading) -> Option<usize> {
+    match reading {
+        Reading::Integer(None, suffix_at) => Some(suffix_at),
+        _ => None,
     }
 }
 
-/// The flaw of an integer past 128 bits: all of its digits, up to its suffix.
-fn limit_flaw(text: &str) -> Option<Flaw> {
-    let suffix = past_suffix(text)?;
-    let found = make_flaw(FlawKind::TooLarge, suffix).in_piece(text);
-    Some(found.in_text(text))
+/// The flaw of an integer past 128 bits, whose suffix stands there: all of its digits.
+pub fn limit_flaw(text: &str, suffix_at: usize) -> Flaw {
+    let found = make_flaw(FlawKind::TooLarge, &text[suffix_at..]).in_piece(text);
+    found.in_text(text)
+}
+
+/// The flaw of the text, where what it reads as is an integer past 128 bits.
+fn limit_of(text: &str, reading: Reading) -> Option<Flaw> {
+    match past_at(reading) {
+        Some(suffix_at) => Some(limit_flaw(text, suffix_at)),
+        None => None,
+    }
 }
 
 /// Why an integer of Rust has no value, and where: it is past 128 bits; `None` of any other text. No memory is taken.
@@ -26,18 +31,17 @@ fn limit_flaw(text: &str) -> Option<Flaw> {
 /// The integer is a literal token, or a minus and one. The flaw begins with the text; its `lo` is where the digits end, and
 /// its `hi` after the suffix's first character, or the text's end.
 pub fn explain_limit(text: &str) -> Option<Flaw> {
-    let flaw = limit_flaw(text)?;
-    match explain_signed(text) {
-        Some(_) => None,
-        None => Some(flaw),
+    match read_signed(text) {
+        Ok(reading) => limit_of(text, reading),
+        Err(_) => None,
     }
 }
 
 /// Why the text has no value in Rust, and where: it is neither a literal token nor a minus and a number, or it is an integer
 /// past 128 bits. `None` exactly where it is such a token and has a reading. No memory is taken.
 pub fn explain_value(text: &str) -> Option<Flaw> {
-    match explain_signed(text) {
-        Some(flaw) => Some(flaw),
-        None => limit_flaw(text),
+    match read_signed(text) {
+        Ok(reading) => limit_of(text, reading),
+        Err(flaw) => Some(flaw),
     }
 }

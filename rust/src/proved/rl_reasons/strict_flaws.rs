@@ -2,11 +2,7 @@
 //! Why a text is no literal token of the strict grammar, and where.
 
 use crate::rl_reasons::flaws::{Flaw, FlawAt, FlawKind, first_flaw, make_flaw};
-use crate::rl_reasons::strict_number_flaws::number_flaw;
-use crate::rl_reasons::strict_quoted_flaws::quoted_flaw;
-use crate::rl_reading::digit_rows::begins_digit;
-use crate::rl_reading::quoted_forms::split_opener;
-use crate::rl_strict::strict::is_token;
+use crate::rl_reasons::strict_reading::read;
 use crate::rl_text::text::split_char;
 
 /// Whether the text begins with a minus.
@@ -15,22 +11,11 @@ pub(crate) fn begins_minus(text: &str) -> bool {
 }
 
 /// Why a text that begins neither with a digit nor as a quoted literal is no token, and the text from there on.
-fn word_flaw(text: &str) -> FlawAt<'_> {
+pub(crate) fn word_flaw(text: &str) -> FlawAt<'_> {
     if begins_minus(text) {
         make_flaw(FlawKind::Minus, text)
     } else {
         first_flaw(text)
-    }
-}
-
-/// Why a text is no token, and the text from there on.
-fn flaw_at(text: &str) -> FlawAt<'_> {
-    if begins_digit(text) {
-        return number_flaw(text).in_piece(text);
-    }
-    match split_opener(text) {
-        Some((form, kind, inside)) => quoted_flaw(form, kind, inside),
-        None => word_flaw(text).in_piece(text),
     }
 }
 
@@ -41,9 +26,8 @@ fn flaw_at(text: &str) -> FlawAt<'_> {
 /// flaw; [`explain_signed`](crate::rl_reasons::explain_signed) takes a minus too. An integer past 128 bits is a token:
 /// [`explain_limit`](crate::rl_reasons::explain_limit).
 pub fn explain(text: &str) -> Option<Flaw> {
-    if is_token(text) {
-        return None;
+    match read(text) {
+        Ok(_) => None,
+        Err(flaw) => Some(flaw),
     }
-    let found = flaw_at(text);
-    Some(found.in_text(text))
 }

@@ -1,0 +1,153 @@
+// Rendered from crates/rl_reasons/src/read_numbers.rt by tools/render, which erases contracts: change that file, and render anew.
+//! Numbers of the strict grammar, in one walk: what one is, or where and why the text stops being the front of one.
+
+use crate::rl_reasons::flaws::FlawKind;
+use crate::rl_reading::digit_rows::{DigitRow, begins_digit, read_row, skip_row};
+use crate::rl_reading::number_forms::split_radix;
+use crate::rl_text::characters::is_start;
+use crate::rl_text::classes::{CharClass, skip_class};
+use crate::rl_text::text::{split_ascii, split_char};
+
+/// Where a text stops, and why: a kind of flaw, and the text from its place on.
+#[derive(Clone, Copy)]
+pub struct Stop<'t> {
+    pub kind: FlawKind,
+    pub rest: &'t str,
+}
+
+/// A number, read.
+#[derive(Clone, Copy)]
+pub enum Number<'t> {
+    /// The magnitude, where 128 bits hold it, and the suffix.
+    Integer(Option<u128>, &'t str),
+    /// The suffix.
+    Float(&'t str),
+}
+
+/// The text after the first characters of a suffix at its front, perhaps none.
+#[inline(always)]
+pub(crate) fn skip_suffix(text: &str) -> &str {
+    match split_char(text) {
+        Some((first, rest)) if is_start(first) => skip_class(CharClass::Continue, rest),
+        _ => text,
+    }
+}
+
+/// The suffix that all of the text is.
+#[inline(always)]
+fn read_suffix(text: &str) -> Result<&str, Stop<'_>> {
+    if text.is_empty() {
+        return Ok(text);
+    }
+    let rest = skip_suffix(text);
+    if rest.is_empty() {
+        Ok(text)
+    } else {
+        Err(Stop {
+            kind: FlawKind::BadSuffix,
+            rest,
+        })
+    }
+}
+
+/// The text after the sign at its front, if one stands there.
+#[inline(always)]
+fn after_sign(text: &str) -> &str {
+    match split_ascii(text) {
+        Some((b'+' | b'-', rest)) => rest,
+        _ => text,
+    }
+}
+
+/// The suffix of the float, from what follows the letter of its exponent.
+#[inline(always)]
+fn read_power(text: &str) -> Result<&str, Stop<'_>> {
+    let row = skip_row(after_sign(text));
+    if row.has_digit {
+        read_suffix(row.rest)
+    } else {
+        Err(Stop {
+            kind: FlawKind::NoExponentDigit,
+            rest: row.rest,
+        })
+    }
+}
+
+/// The suffix of the float, from what follows the digits of its fraction.
+#[inline(always)]
+fn read_exponent(text: &str) -> Result<&str, Stop<'_>> {
+    match split_ascii(text) {
+        Some((b'e' | b'E', power)) => read_power(power),
+        _ => read_suffix(text),
+    }
+}
+
+/// The suffix of the float, from what follows its dot.
+#[inline(always)]
+fn read_fraction(text: &str) -> Result<&str, Stop<'_>> {
+    match split_char(text) {
+        None => Ok(text),
+        Some(('0'..='9', _)) => read_exponent(skip_row(text).rest),
+        Some(_) => Err(Stop {
+            kind: FlawKind::NoFractionDigit,
+            rest: text,
+        }),
+    }
+}
+
+/// The number whose whole part, in base ten, is this row.
+#[inline(always)]
+fn read_whole(row: DigitRow<'_>) -> Result<Number<'_>, Stop<'_>> {
+    match split_ascii(row.rest) {
+        Some((b'.', fraction)) => Ok(Number::Float(read_fraction(fraction)?)),
+        Some((b'e' | b'E', power)) => Ok(Number::Float(read_power(power)?)),
+        _ => Ok(Number::Integer(row.magnitude, read_suffix(row.rest)?)),
+    }
+}
+
+/// Whether the text goes on as a float alone does: with a dot, or the letter of an exponent.
+fn begins_float(text: &str) -> bool {
+    matches!(split_char(text), Some(('.' | 'e' | 'E', _)))
+}
+
+/// The integer of another base, from what follows its prefix.
+#[inline(never)]
+fn read_based(radix: u32, text: &str) -> Result<Number<'_>, Stop<'_>> {
+    let row = read_row(text, radix);
+    let rest = row.rest;
+    if begins_digit(rest) {
+        Err(Stop {
+            kind: FlawKind::DigitOfBase,
+            rest,
+        })
+    } else if !row.has_digit {
+        Err(Stop {
+            kind: FlawKind::NoDigits,
+            rest,
+        })
+    } else if begins_float(rest) {
+        Err(Stop {
+            kind: FlawKind::BasedFloat,
+            rest,
+        })
+    } else {
+        Ok(Number::Integer(row.magnitude, read_suffix(rest)?))
+    }
+}
+
+/// The number that a text that begins with a digit is, all of it.
+#[inline(always)]
+fn read_digits(text: &str) -> Result<Number<'_>, Stop<'_>> {
+    let (radix, digits) = split_radix(text);
+    if radix == 10 {
+        read_whole(read_row(digits, 10))
+    } else {
+        read_based(radix, digits)
+    }
+}
+
+/// The number that a text that begins with a digit is, all of it; or else why it is none, and the text from there on.
+#[inline(always)]
+pub fn read_number(text: &str) -> Result<Number<'_>, Stop<'_>> {
+    read_digits(text)
+}
