@@ -14,7 +14,7 @@ use rl_forms::Kind;
 use rl_reading::units::{escape, split_ascii_run, split_plain};
 use rl_text::classes::{CharClass, skip_class};
 use rl_text::scan::{Marks, split_before};
-use rl_text::text::{after_prefix, split_ascii};
+use rl_text::text::{after_prefix, split_char};
 
 /// What may close a raw C string, and what it doesn't hold.
 const INSIDE_C_STRING: Marks = Marks {
@@ -28,20 +28,17 @@ const INSIDE_C_STRING: Marks = Marks {
 ///
 /// But for line breaks the lenient escapes are the strict ones.
 #[inline(always)]
+#[tactic(auto, unfolding(rl_reading::specs::Mirrors::UnitAt::unit_at))]
 fn skip_escape(kind: Kind, following: &str) -> Option<&str>
     ensures value { option_map (λ r. chars r.now) result ≡ escape_rest kind (chars following.now) }
     ensures shorter { IfSome result (λ r. length r.now < length following.now) }
 {
-    match split_ascii(following) {
-        Some((b'\n', blanks)) => {
-            if kind.is_string() {
-                Some(skip_class(CharClass::StrictBlank, blanks))
-            } else {
-                None
-            }
+    match split_char(following) {
+        Some(('\n', blanks)) if kind.is_string() => {
+            Some(skip_class(CharClass::StrictBlank, blanks))
         }
-        Some((b'\r', _)) => None,
-        _ => {
+        Some(('\n' | '\r', _)) | None => None,
+        Some(_) => {
             let (_, rest) = escape(kind, following)?;
             Some(rest)
         }
@@ -50,13 +47,14 @@ fn skip_escape(kind: Kind, following: &str) -> Option<&str>
 
 /// The text after the unit at the front, which isn't a character that stands for itself: `None` where no unit stands there.
 #[inline(always)]
+#[tactic(auto, unfolding(crate::specs::Mirrors::StrictAt::unit_rest))]
 fn skip_escaped(kind: Kind, text: &str) -> Option<&str>
     requires { IsFalse (first_passes (λ c. is_strict_unit kind (Itself c)) (chars text.now)) }
     ensures value { option_map (λ r. chars r.now) result ≡ unit_rest kind (chars text.now) }
     ensures shorter { IfSome result (λ r. length r.now < length text.now) }
 {
-    match split_ascii(text) {
-        Some((b'\\', following)) => skip_escape(kind, following),
+    match split_char(text) {
+        Some(('\\', following)) => skip_escape(kind, following),
         _ => None,
     }
 }
