@@ -7,7 +7,7 @@ use crate::rl_forms;
 use crate::rl_reading::{find, is_plain_integer, Body, Found};
 use crate::rl_reasons::limit_flaw;
 use crate::rl_reasons::strict_reading::{
-    front_of, read_digits, read_signed, read_string, Front, Reading,
+    front_of, read_character, read_digits, read_other, read_signed, read_string, Front, Reading,
 };
 use crate::{
     LitBool, LitByte, LitByteStr, LitCStr, LitChar, LitFloat, LitInt, LitStr, LitVerbatim,
@@ -120,18 +120,25 @@ impl<'t> Lit<'t> {
                 Err(flaw) => Err(ParseError::of_flaw(flaw)),
             },
             Front::Bare(c) => Ok(Lit::Char(LitChar::of(borrowed, text.len(), u32::from(c)))),
+            Front::Apostrophe(inside) => match read_character(text, inside) {
+                Ok(single) => {
+                    let suffix_at = single.body.suffix_at;
+                    Ok(Lit::Char(LitChar::of(borrowed, suffix_at, single.unit)))
+                }
+                Err(flaw) => Err(ParseError::of_flaw(flaw)),
+            },
             Front::Digit => match read_digits(text) {
                 Ok(reading) => Lit::read(borrowed, reading),
                 Err(flaw) => Err(ParseError::of_flaw(flaw)),
             },
-            Front::Other => Lit::parse_signed(text),
+            Front::Other => Lit::parse_other(text),
         }
     }
 
-    /// The literal of a text of any beginning.
+    /// The literal of a text that begins with no digit.
     #[inline(never)]
-    fn parse_signed(text: &'t str) -> Result<Lit<'t>, ParseError> {
-        match read_signed(text) {
+    fn parse_other(text: &'t str) -> Result<Lit<'t>, ParseError> {
+        match read_other(text) {
             Ok(reading) => Lit::read(Cow::Borrowed(text), reading),
             Err(flaw) => Err(ParseError::of_flaw(flaw)),
         }

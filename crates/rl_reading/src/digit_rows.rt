@@ -262,6 +262,7 @@ impl Tally {
     }
 
     /// With one more digit.
+    #[inline(always)]
     pub(crate) fn append_digit(self, radix: u32, digit: u32) -> Tally
         requires { (2 ≤ radix) × (digit < radix) }
         ensures { result ≡ append_digit radix self digit }

@@ -5,7 +5,7 @@ use Rattle.std.specs.Str.{chars}
 use Prim.Native.Char.{code}
 use Rattle.rl_forms.specs.Strict.{is_bare_character}
 use Rattle.rl_reasons.specs.declared.strict_reading.Front.{Front}
-use Rattle.rl_reasons.specs.declared.strict_reading.Front.TheVariants.{Quote, Bare, Digit, Other}
+use Rattle.rl_reasons.specs.declared.strict_reading.Front.TheVariants.{Quote, Bare, Apostrophe, Digit, Other}
 use Rattle.rl_text.specs.Texts.{first_passes}
 
 -- The text is this character of ASCII between single quotes, and in the strict grammar it stands for itself.
@@ -15,6 +15,7 @@ IsBare text c = (text ≡ code "'" ∷ c ∷ code "'" ∷ []) × (c < 128) × Is
 abbrev pub IsFront : List ℕ → Front → Type 0
 IsFront text (Quote inside) = chars text ≡ code "\"" ∷ chars inside.now
 IsFront text (Bare c) = IsBare text c
+IsFront text (Apostrophe inside) = (chars text ≡ code "'" ∷ chars inside.now) × ((c : ℕ) → IsBare text c → ⊥)
 IsFront text Digit = IsTrue (first_passes is_ascii_digit (chars text))
 IsFront text Other =
-    IsFalse (first_passes (λ c. c == code "\"" || is_ascii_digit c) (chars text)) × ((c : ℕ) → IsBare text c → ⊥)
+    IsFalse (first_passes (λ c. c == code "\"" || c == code "'" || is_ascii_digit c) (chars text))

@@ -3,20 +3,20 @@
 ghost use Rattle.std.specs.Prelude.{◌≡◌, ◌↔◌, ◌∷◌, None, ℕ, IsTrue, IsFalse, IfOk, IfErr, IfSome, IfNone};
 ghost use Rattle.std.specs.Char.{is_ascii_digit};
 ghost use Rattle.std.specs.Str.{chars};
-ghost use Rattle.rl_forms.specs.declared.kind.Kind.TheVariants.{Str};
+ghost use Rattle.rl_forms.specs.declared.kind.Kind.TheVariants.{Char, Str};
 ghost use Rattle.rl_text.specs.Texts.{IsTail, code, first_passes};
 ghost use Rattle.rl_reading.specs.Mirrors.OpenerAt.{found_opener, opener_at};
 ghost use Rattle.rl_strict.specs.StrictShapes.{IsToken};
 ghost use Rattle.rl_reasons.specs.StrictFlaws.{ExplainsStrictly};
 ghost use Rattle.rl_reasons.specs.SignedFlaws.{ExplainsSigned, IsSignedToken};
 ghost use Rattle.rl_reasons.specs.StrictNumbersRead.{IsNumberRead, suffix_of};
-ghost use Rattle.rl_reasons.specs.declared.strict_reading.Reading.TheVariants.{Text};
+ghost use Rattle.rl_reasons.specs.declared.strict_reading.Reading.TheVariants.{Text, Unit};
 ghost use Rattle.rl_reasons.specs.Fronts.{IsBare, IsFront};
 ghost use Rattle.rl_reasons.specs.StrictRead.{IsFlawAt, IsMinusStop, IsReadAs, IsSignedRead, placed_in};
 
 use crate::flaws::{Flaw, FlawAt, FlawKind, end_flaw};
 use crate::read_numbers::{Number, Stop, read_number};
-use crate::read_quoted::{read_cooked, read_raw, read_single};
+use crate::read_quoted::{Single, read_cooked, read_raw, read_single};
 use crate::strict_flaws::word_flaw;
 use rl_forms::Kind;
 use rl_reading::digit_rows::begins_digit;
@@ -47,9 +47,11 @@ pub enum Front<'t> {
     Quote(&'t str),
     /// The text is this character of ASCII between single quotes, and it stands for itself.
     Bare(u8),
+    /// With `'`: what follows that. [`read_character`] reads the text.
+    Apostrophe(&'t str),
     /// With a digit: [`read_digits`] reads the text.
     Digit,
-    /// Otherwise: [`read_signed`] reads the text.
+    /// Otherwise: [`read_other`] reads the text.
     Other,
 }
 
@@ -80,6 +82,9 @@ pub fn front_of(text: &str) -> Front<'_>
     }
     if let Some(c) = bare_of(text) {
         return Front::Bare(c);
+    }
+    if let Some(inside) = strip_byte(text, b'\'') {
+        return Front::Apostrophe(inside);
     }
     if begins_digit(text) {
         Front::Digit
@@ -211,6 +216,7 @@ fn read_at(text: &str) -> Result<Reading, FlawAt<'_>>
             };
             Ok(Reading::Unit(Kind::Char, body, c as u32))
         }
+        Front::Apostrophe(inside) => unit_at(Kind::Char, text, inside),
         Front::Digit => number_at(text),
         Front::Other => read_rare(text),
     }
@@ -235,6 +241,20 @@ pub fn read_string(text: &str, inside: &str) -> Result<Body, Flaw>
 {
     match read_cooked(Kind::Str, text, inside) {
         Ok(body) => Ok(body),
+        Err(found) => Err(explained(found, text)),
+    }
+}
+
+/// The character that the text is, all of it, by what follows its `'`. Or else why it is no token.
+#[inline(always)]
+pub fn read_character(text: &str, inside: &str) -> Result<Single, Flaw>
+    requires { chars text.now ≡ code "'" ∷ chars inside.now }
+    ensures reads { IfOk result (λ single. IsReadAs text.now (Unit Char single.body single.unit)) }
+    ensures token { IfOk result (λ s. IsToken (chars text.now)) }
+    ensures flaw { IfErr result (ExplainsStrictly (chars text.now)) }
+{
+    match read_single(Kind::Char, text, inside) {
+        Ok(single) => Ok(single),
         Err(found) => Err(explained(found, text)),
     }
 }
@@ -334,6 +354,45 @@ fn read_minus(number: &str) -> Result<Number<'_>, Stop<'_>>
     }
 }
 
+/// A minus and the number after it, or why they are none.
+#[inline(always)]
+fn read_negative(text: &str, number: &str) -> Result<Reading, Flaw>
+    requires text { chars text.now ≡ code "-" ∷ chars number.now }
+    requires following { IsTail text.now number.now }
+    ensures reads { IfOk result (IsSignedRead text.now) }
+    ensures token { IfOk result (λ r. IsSignedToken (chars text.now)) }
+    ensures flaw { IfErr result (ExplainsSigned (chars text.now)) }
+{
+    match read_minus(number) {
+        Ok(read) => Ok(placed(text, read)),
+        Err(stop) => {
+            let flaw = FlawAt {
+                kind: stop.kind,
+                piece: text,
+                rest: stop.rest,
+            };
+            Err(flaw.in_text(text))
+        }
+    }
+}
+
+/// As [`read_signed`], of a text that begins with no digit.
+#[inline(never)]
+pub fn read_other(text: &str) -> Result<Reading, Flaw>
+    requires { IsFalse (first_passes is_ascii_digit (chars text.now)) }
+    ensures reads { IfOk result (IsSignedRead text.now) }
+    ensures token { IfOk result (λ r. IsSignedToken (chars text.now)) }
+    ensures flaw { IfErr result (ExplainsSigned (chars text.now)) }
+{
+    match strip_byte(text, b'-') {
+        Some(number) => read_negative(text, number),
+        None => match read_rare(text) {
+            Ok(reading) => Ok(reading),
+            Err(found) => Err(explained(found, text)),
+        },
+    }
+}
+
 /// As [`read`], but a minus may stand before a number: `-1.5`. No memory is taken.
 ///
 /// # Errors
@@ -345,21 +404,11 @@ pub fn read_signed(text: &str) -> Result<Reading, Flaw>
     ensures token { IfOk result (λ r. IsSignedToken (chars text.now)) }
     ensures flaw { IfErr result (ExplainsSigned (chars text.now)) }
 {
-    let Some(number) = strip_byte(text, b'-') else {
-        return match read(text) {
+    match strip_byte(text, b'-') {
+        Some(number) => read_negative(text, number),
+        None => match read(text) {
             Ok(reading) => Ok(reading),
             Err(flaw) => Err(flaw),
-        };
-    };
-    match read_minus(number) {
-        Ok(number) => Ok(placed(text, number)),
-        Err(stop) => {
-            let flaw = FlawAt {
-                kind: stop.kind,
-                piece: text,
-                rest: stop.rest,
-            };
-            Err(flaw.in_text(text))
-        }
+        },
     }
 }

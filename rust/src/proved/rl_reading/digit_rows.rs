@@ -194,6 +194,7 @@ impl Tally {
     }
 
     /// With one more digit.
+    #[inline(always)]
     pub(crate) fn append_digit(self, radix: u32, digit: u32) -> Tally {
         match self.scale.checked_mul(u64::from(radix)) {
             Some(scale) => Tally {

@@ -3,7 +3,7 @@
 
 use crate::rl_reasons::flaws::{Flaw, FlawAt, FlawKind, end_flaw};
 use crate::rl_reasons::read_numbers::{Number, Stop, read_number};
-use crate::rl_reasons::read_quoted::{read_cooked, read_raw, read_single};
+use crate::rl_reasons::read_quoted::{Single, read_cooked, read_raw, read_single};
 use crate::rl_reasons::strict_flaws::word_flaw;
 use crate::rl_forms::Kind;
 use crate::rl_reading::digit_rows::begins_digit;
@@ -34,9 +34,11 @@ pub enum Front<'t> {
     Quote(&'t str),
     /// The text is this character of ASCII between single quotes, and it stands for itself.
     Bare(u8),
+    /// With `'`: what follows that. [`read_character`] reads the text.
+    Apostrophe(&'t str),
     /// With a digit: [`read_digits`] reads the text.
     Digit,
-    /// Otherwise: [`read_signed`] reads the text.
+    /// Otherwise: [`read_other`] reads the text.
     Other,
 }
 
@@ -62,6 +64,9 @@ pub fn front_of(text: &str) -> Front<'_> {
     }
     if let Some(c) = bare_of(text) {
         return Front::Bare(c);
+    }
+    if let Some(inside) = strip_byte(text, b'\'') {
+        return Front::Apostrophe(inside);
     }
     if begins_digit(text) {
         Front::Digit
@@ -155,6 +160,7 @@ fn read_at(text: &str) -> Result<Reading, FlawAt<'_>> {
             };
             Ok(Reading::Unit(Kind::Char, body, c as u32))
         }
+        Front::Apostrophe(inside) => unit_at(Kind::Char, text, inside),
         Front::Digit => number_at(text),
         Front::Other => read_rare(text),
     }
@@ -171,6 +177,15 @@ fn explained(found: FlawAt<'_>, text: &str) -> Flaw {
 pub fn read_string(text: &str, inside: &str) -> Result<Body, Flaw> {
     match read_cooked(Kind::Str, text, inside) {
         Ok(body) => Ok(body),
+        Err(found) => Err(explained(found, text)),
+    }
+}
+
+/// The character that the text is, all of it, by what follows its `'`. Or else why it is no token.
+#[inline(always)]
+pub fn read_character(text: &str, inside: &str) -> Result<Single, Flaw> {
+    match read_single(Kind::Char, text, inside) {
+        Ok(single) => Ok(single),
         Err(found) => Err(explained(found, text)),
     }
 }
@@ -226,21 +241,11 @@ fn read_minus(number: &str) -> Result<Number<'_>, Stop<'_>> {
     }
 }
 
-/// As [`read`], but a minus may stand before a number: `-1.5`. No memory is taken.
-///
-/// # Errors
-///
-/// The text is no token, nor a minus and a number: the flaw is that of [`explain_signed`](crate::rl_reasons::explain_signed).
+/// A minus and the number after it, or why they are none.
 #[inline(always)]
-pub fn read_signed(text: &str) -> Result<Reading, Flaw> {
-    let Some(number) = strip_byte(text, b'-') else {
-        return match read(text) {
-            Ok(reading) => Ok(reading),
-            Err(flaw) => Err(flaw),
-        };
-    };
+fn read_negative(text: &str, number: &str) -> Result<Reading, Flaw> {
     match read_minus(number) {
-        Ok(number) => Ok(placed(text, number)),
+        Ok(read) => Ok(placed(text, read)),
         Err(stop) => {
             let flaw = FlawAt {
                 kind: stop.kind,
@@ -249,5 +254,33 @@ pub fn read_signed(text: &str) -> Result<Reading, Flaw> {
             };
             Err(flaw.in_text(text))
         }
+    }
+}
+
+/// As [`read_signed`], of a text that begins with no digit.
+#[inline(never)]
+pub fn read_other(text: &str) -> Result<Reading, Flaw> {
+    match strip_byte(text, b'-') {
+        Some(number) => read_negative(text, number),
+        None => match read_rare(text) {
+            Ok(reading) => Ok(reading),
+            Err(found) => Err(explained(found, text)),
+        },
+    }
+}
+
+/// As [`read`], but a minus may stand before a number: `-1.5`. No memory is taken.
+///
+/// # Errors
+///
+/// The text is no token, nor a minus and a number: the flaw is that of [`explain_signed`](crate::rl_reasons::explain_signed).
+#[inline(always)]
+pub fn read_signed(text: &str) -> Result<Reading, Flaw> {
+    match strip_byte(text, b'-') {
+        Some(number) => read_negative(text, number),
+        None => match read(text) {
+            Ok(reading) => Ok(reading),
+            Err(flaw) => Err(flaw),
+        },
     }
 }

@@ -5,7 +5,7 @@ use crate::rl_forms::Kind;
 use crate::rl_reading::units::{escape, split_ascii_run, split_plain};
 use crate::rl_text::classes::{CharClass, skip_class};
 use crate::rl_text::scan::{Marks, split_before};
-use crate::rl_text::text::{after_prefix, split_ascii};
+use crate::rl_text::text::{after_prefix, split_char};
 
 /// What may close a raw C string, and what it doesn't hold.
 const INSIDE_C_STRING: Marks = Marks {
@@ -20,16 +20,12 @@ const INSIDE_C_STRING: Marks = Marks {
 /// But for line breaks the lenient escapes are the strict ones.
 #[inline(always)]
 fn skip_escape(kind: Kind, following: &str) -> Option<&str> {
-    match split_ascii(following) {
-        Some((b'\n', blanks)) => {
-            if kind.is_string() {
-                Some(skip_class(CharClass::StrictBlank, blanks))
-            } else {
-                None
-            }
+    match split_char(following) {
+        Some(('\n', blanks)) if kind.is_string() => {
+            Some(skip_class(CharClass::StrictBlank, blanks))
         }
-        Some((b'\r', _)) => None,
-        _ => {
+        Some(('\n' | '\r', _)) | None => None,
+        Some(_) => {
             let (_, rest) = escape(kind, following)?;
             Some(rest)
         }
@@ -39,8 +35,8 @@ fn skip_escape(kind: Kind, following: &str) -> Option<&str> {
 /// The text after the unit at the front, which isn't a character that stands for itself: `None` where no unit stands there.
 #[inline(always)]
 fn skip_escaped(kind: Kind, text: &str) -> Option<&str> {
-    match split_ascii(text) {
-        Some((b'\\', following)) => skip_escape(kind, following),
+    match split_char(text) {
+        Some(('\\', following)) => skip_escape(kind, following),
         _ => None,
     }
 }
