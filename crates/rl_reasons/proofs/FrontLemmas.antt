@@ -8,7 +8,7 @@ use Rattle.rl_reading.specs.declared.quoted_forms.QuotedForm.TheVariants.{Single
 use Rattle.rl_reading.proofs.BareCharacters.{bare_text}
 use Rattle.rl_reading.proofs.FoundLemmas.{OfUnit}
 use Rattle.rl_reasons.specs.Fronts.{IsBare}
-use Rattle.rl_reasons.specs.StrictRead.{IsReadAs}
+use Rattle.rl_reasons.specs.StrictRead.{IsStrictReading}
 use Rattle.rl_reasons.specs.declared.strict_reading.Reading.TheVariants.{Unit}
 use Rattle.rl_strict.specs.StrictShapes.{ClosesUnits, IsToken}
 use Rattle.rl_strict.proofs.StrictLemmas.{close_token}
@@ -39,7 +39,7 @@ BareBody = record { lo = 1; hi = 2; suffix_at = 3; plain = false }
 no_backslash : (c : ℕ) → is_bare_character c ≡ true → c ≡ 92 → ⊥
 no_backslash c h e = both_ways (is_bare_character 92) refl (ap is_bare_character (sym e) ∙ h)
 
-pub bare_reads : (t : List ℕ) (c : ℕ) → IsUtf8 t → IsBare t c → IsReadAs t (Unit Char BareBody c)
+pub bare_reads : (t : List ℕ) (c : ℕ) → IsUtf8 t → IsBare t c → IsStrictReading t (Unit Char BareBody c)
 bare_reads t c u (text, small, bare) =
     let at : get_or t 1 0 ≡ c = ap (λ z. get_or z 1 0) text in
     bare_text t t (OfUnit Char BareBody c) refl u (omega (arith, ap length text)) (ap (λ z. get_or z 0 0) text)

@@ -20,7 +20,7 @@ use Rattle.rl_reasons.specs.declared.strict_reading.Reading.{Reading}
 use Rattle.rl_reasons.specs.declared.strict_reading.Reading.TheVariants.{Text, Unit, Integer, Float as AFloat, Truth}
 use Rattle.rl_reasons.specs.Limits.{past_at}
 use Rattle.rl_reasons.specs.SignedFlaws.{IsSignedToken}
-use Rattle.rl_reasons.specs.StrictNumbersRead.{held}
+use Rattle.rl_reasons.specs.StrictNumbersRead.{in_128_bits}
 use Rattle.rl_reasons.specs.StrictRead.{IsSignedRead}
 use Rattle.rl_strict.specs.StrictShapes.{IsToken}
 use Rattle.rl_text.proofs.TailLemmas.{cut_boundary, cut_chars}
@@ -138,22 +138,22 @@ minus_read : (t number x : List ℕ) (n : ℕ) → chars t ≡ 45 ∷ number →
 minus_read t number x n text s =
     subst (λ z. IntReads z Minus n x) (sym text) (minus_int number x n (digits_read number x n s))
 
-over : (n : ℕ) → None ≡ held n → limit < n
+over : (n : ℕ) → None ≡ in_128_bits n → limit < n
 over n h = elim (cases_lt limit n) [
   | inl past ↦ past
   | inr small ↦ let some : None ≡ Some n = h ∙ ap (λ b. cond b (Some n) None) (le-leb n limit small) in absurd (cc)
 ]
 
-under : (n m : ℕ) → Some m ≡ held n → n ≤ limit
+under : (n m : ℕ) → Some m ≡ in_128_bits n → n ≤ limit
 under n m h = elim (cases_lt limit n) [
   | inl past ↦ let none : Some m ≡ None = h ∙ ap (λ b. cond b (Some n) None) (lt-leb n limit past) in absurd (cc)
   | inr small ↦ small
 ]
 
-past_of : (t x : List ℕ) (s : Sign) (n : ℕ) → IntReads t s n x → None ≡ held n → (past : IsPast t) × (past.suffix ≡ x)
+past_of : (t x : List ℕ) (s : Sign) (n : ℕ) → IntReads t s n x → None ≡ in_128_bits n → (past : IsPast t) × (past.suffix ≡ x)
 past_of t x s n r h = (record { sign = s; magnitude = n; suffix = x; reads = r; past = over n h }, refl)
 
-within_of : (t x : List ℕ) (s : Sign) (n m : ℕ) → IntReads t s n x → Some m ≡ held n → HasReading t
+within_of : (t x : List ℕ) (s : Sign) (n m : ℕ) → IntReads t s n x → Some m ≡ in_128_bits n → HasReading t
 within_of t x s n m r h =
     let w = within_reads t x n (record { sign = s; reads = r; within = under n m h }) in
     (Int, (w.0, x, w.1))

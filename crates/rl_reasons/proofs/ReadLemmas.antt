@@ -24,7 +24,7 @@ use Rattle.rl_reasons.specs.declared.read_numbers.Number.{Number}
 use Rattle.rl_reasons.specs.declared.read_numbers.Number.TheVariants.{Integer, Float}
 use Rattle.rl_reasons.specs.StrictFlaws.{ExplainsStrictly}
 use Rattle.rl_reasons.specs.StrictNumbersRead.{IsFloatRead, IsIntegerRead, IsNumberRead, IsStop, suffix_of}
-use Rattle.rl_reasons.specs.StrictRead.{IsFlawAt, IsMinusStop, IsReadAs, IsSignedRead, placed_in}
+use Rattle.rl_reasons.specs.StrictRead.{IsFlawAt, IsMinusStop, IsStrictReading, IsSignedRead, placed_in}
 use Rattle.rl_reasons.specs.declared.flaws.FlawKind.TheVariants.{NoNumber, Unfinished}
 use Rattle.rl_reasons.specs.Mirrors.WordFlawAt.{end_flaw_at}
 use Rattle.rl_reasons.specs.Mirrors.UnitFlawAt.{found_flaw}
@@ -81,12 +81,12 @@ minus_alone t k rest n same =
 -- ---- a number by the place of its suffix
 
 pub number_placed : (t : List ℕ) (n : Number) (r : Reading) → r ≡ placed_in t n → IsNumberRead (chars t) n
-    → IsTail t (suffix_of n) → IsReadAs t r
-number_placed t (Integer m x) r e h tail = subst (IsReadAs t) (sym e) (
+    → IsTail t (suffix_of n) → IsStrictReading t r
+number_placed t (Integer m x) r e h tail = subst (IsStrictReading t) (sym e) (
   cut_boundary t x.now tail,
   subst (λ z. IsIntegerRead (chars t) m (chars z)) (sym (cut_drop t x.now tail)) h,
 )
-number_placed t (Float x) r e h tail = subst (IsReadAs t) (sym e) (
+number_placed t (Float x) r e h tail = subst (IsStrictReading t) (sym e) (
   cut_boundary t x.now tail,
   subst (λ z. IsFloatRead (chars t) (chars z)) (sym (cut_drop t x.now tail)) h,
 )

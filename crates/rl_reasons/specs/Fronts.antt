@@ -12,10 +12,10 @@ use Rattle.rl_text.specs.Texts.{first_passes}
 abbrev pub IsBare : List ℕ → ℕ → Type 0
 IsBare text c = (text ≡ code "'" ∷ c ∷ code "'" ∷ []) × (c < 128) × IsTrue (is_bare_character c)
 
-abbrev pub IsFront : List ℕ → Front → Type 0
-IsFront text (Quote inside) = chars text ≡ code "\"" ∷ chars inside.now
-IsFront text (Bare c) = IsBare text c
-IsFront text (Apostrophe inside) = (chars text ≡ code "'" ∷ chars inside.now) × ((c : ℕ) → IsBare text c → ⊥)
-IsFront text Digit = IsTrue (first_passes is_ascii_digit (chars text))
-IsFront text Other =
+abbrev pub BeginsAs : List ℕ → Front → Type 0
+BeginsAs text (Quote inside) = chars text ≡ code "\"" ∷ chars inside.now
+BeginsAs text (Bare c) = IsBare text c
+BeginsAs text (Apostrophe inside) = (chars text ≡ code "'" ∷ chars inside.now) × ((c : ℕ) → IsBare text c → ⊥)
+BeginsAs text Digit = IsTrue (first_passes is_ascii_digit (chars text))
+BeginsAs text Other =
     IsFalse (first_passes (λ c. c == code "\"" || c == code "'" || is_ascii_digit c) (chars text))

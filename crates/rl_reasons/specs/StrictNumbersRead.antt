@@ -13,12 +13,12 @@ use Rattle.rl_reasons.specs.declared.read_numbers.Number.TheVariants.{Integer, F
 use Rattle.rl_strict.specs.StrictShapes.{IsToken}
 
 -- the number, where 128 bits hold it
-abbrev pub held : ℕ → Option ℕ
-held n = if nat_le n limit then Some n else None
+abbrev pub in_128_bits : ℕ → Option ℕ
+in_128_bits n = if nat_le n limit then Some n else None
 
 -- The text is this integer, of any size, with this suffix.
 abbrev pub IsIntegerRead : List ℕ → Option ℕ → List ℕ → Type 0
-IsIntegerRead text magnitude suffix = (n : ℕ) × Strict text Int (Digits (dec n)) suffix × (magnitude ≡ held n)
+IsIntegerRead text magnitude suffix = (n : ℕ) × Strict text Int (Digits (dec n)) suffix × (magnitude ≡ in_128_bits n)
 
 -- The text is a float with this suffix.
 abbrev pub IsFloatRead : List ℕ → List ℕ → Type 0

@@ -16,16 +16,16 @@ use Rattle.rl_reasons.specs.StrictNumbersRead.{IsFloatRead, IsIntegerRead}
 use Rattle.rl_strict.specs.StrictShapes.{IsToken}
 
 -- Of a quoted literal all that `find` finds; of a number its magnitude, and the place of its suffix; the truth value.
-abbrev pub IsReadAs : List ℕ → Reading → Type 0
-IsReadAs text (Text kind body) =
+abbrev pub IsStrictReading : List ℕ → Reading → Type 0
+IsStrictReading text (Text kind body) =
     IsFound text (record { magnitude = 0; body = body; kind = kind; truth = false; unit = 0 })
-IsReadAs text (Unit kind body unit) =
+IsStrictReading text (Unit kind body unit) =
     IsFound text (record { magnitude = 0; body = body; kind = kind; truth = false; unit = unit })
-IsReadAs text (Integer magnitude suffix_at) =
+IsStrictReading text (Integer magnitude suffix_at) =
     IsCharBoundary text suffix_at × IsIntegerRead (chars text) magnitude (chars (drop suffix_at text))
-IsReadAs text (Float suffix_at) =
+IsStrictReading text (Float suffix_at) =
     IsCharBoundary text suffix_at × IsFloatRead (chars text) (chars (drop suffix_at text))
-IsReadAs text (Truth truth) = chars text ≡ truth_text truth
+IsStrictReading text (Truth truth) = chars text ≡ truth_text truth
 
 -- The same of a minus and a number.
 abbrev pub IsMinusRead : List ℕ → Reading → Type 0
@@ -39,7 +39,7 @@ IsMinusRead text reading = ⊥
 
 -- of a token, or of a minus and a number
 abbrev pub IsSignedRead : List ℕ → Reading → Type 0
-IsSignedRead text reading = IsReadAs text reading ⊎ IsMinusRead text reading
+IsSignedRead text reading = IsStrictReading text reading ⊎ IsMinusRead text reading
 
 -- the number, by the place of its suffix in a text that ends with it
 abbrev pub placed_in : List ℕ → Number → Reading

@@ -11,8 +11,8 @@ ghost use Rattle.rl_reasons.specs.StrictFlaws.{ExplainsStrictly};
 ghost use Rattle.rl_reasons.specs.SignedFlaws.{ExplainsSigned, IsSignedToken};
 ghost use Rattle.rl_reasons.specs.StrictNumbersRead.{IsNumberRead, suffix_of};
 ghost use Rattle.rl_reasons.specs.declared.strict_reading.Reading.TheVariants.{Text, Unit};
-ghost use Rattle.rl_reasons.specs.Fronts.{IsBare, IsFront};
-ghost use Rattle.rl_reasons.specs.StrictRead.{IsFlawAt, IsMinusStop, IsReadAs, IsSignedRead, placed_in};
+ghost use Rattle.rl_reasons.specs.Fronts.{IsBare, BeginsAs};
+ghost use Rattle.rl_reasons.specs.StrictRead.{IsFlawAt, IsMinusStop, IsStrictReading, IsSignedRead, placed_in};
 
 use crate::flaws::{Flaw, FlawAt, FlawKind, end_flaw};
 use crate::read_numbers::{Number, Stop, read_number};
@@ -75,7 +75,7 @@ fn bare_of(text: &str) -> Option<u8>
 /// How the text begins.
 #[inline(always)]
 pub fn front_of(text: &str) -> Front<'_>
-    ensures { IsFront text.now result }
+    ensures { BeginsAs text.now result }
 {
     if let Some(inside) = strip_byte(text, b'"') {
         return Front::Quote(inside);
@@ -111,7 +111,7 @@ fn placed(text: &str, number: Number<'_>) -> Reading
 #[inline(always)]
 fn number_at(text: &str) -> Result<Reading, FlawAt<'_>>
     requires { IsTrue (first_passes is_ascii_digit (chars text.now)) }
-    ensures reads { IfOk result (IsReadAs text.now) }
+    ensures reads { IfOk result (IsStrictReading text.now) }
     ensures token { IfOk result (λ r. IsToken (chars text.now)) }
     ensures flaw { IfErr result (λ f. IsFlawAt (chars text.now) f.kind (chars f.piece.now) (chars f.rest.now)) }
 {
@@ -129,7 +129,7 @@ fn number_at(text: &str) -> Result<Reading, FlawAt<'_>>
 #[inline(always)]
 fn text_at<'t>(kind: Kind, text: &'t str, inside: &'t str) -> Result<Reading, FlawAt<'t>>
     requires { opener_at (chars text.now) ≡ found_opener QuotedForm.Cooked kind (chars inside.now) }
-    ensures reads { IfOk result (IsReadAs text.now) }
+    ensures reads { IfOk result (IsStrictReading text.now) }
     ensures token { IfOk result (λ r. IsToken (chars text.now)) }
     ensures flaw { IfErr result (λ f. IsFlawAt (chars text.now) f.kind (chars f.piece.now) (chars f.rest.now)) }
 {
@@ -143,7 +143,7 @@ fn text_at<'t>(kind: Kind, text: &'t str, inside: &'t str) -> Result<Reading, Fl
 #[inline(always)]
 fn unit_at<'t>(kind: Kind, text: &'t str, inside: &'t str) -> Result<Reading, FlawAt<'t>>
     requires { opener_at (chars text.now) ≡ found_opener QuotedForm.Single kind (chars inside.now) }
-    ensures reads { IfOk result (IsReadAs text.now) }
+    ensures reads { IfOk result (IsStrictReading text.now) }
     ensures token { IfOk result (λ r. IsToken (chars text.now)) }
     ensures flaw { IfErr result (λ f. IsFlawAt (chars text.now) f.kind (chars f.piece.now) (chars f.rest.now)) }
 {
@@ -157,7 +157,7 @@ fn unit_at<'t>(kind: Kind, text: &'t str, inside: &'t str) -> Result<Reading, Fl
 #[inline(always)]
 fn raw_at<'t>(kind: Kind, text: &'t str, inside: &'t str) -> Result<Reading, FlawAt<'t>>
     requires { opener_at (chars text.now) ≡ found_opener QuotedForm.Raw kind (chars inside.now) }
-    ensures reads { IfOk result (IsReadAs text.now) }
+    ensures reads { IfOk result (IsStrictReading text.now) }
     ensures token { IfOk result (λ r. IsToken (chars text.now)) }
     ensures flaw { IfErr result (λ f. IsFlawAt (chars text.now) f.kind (chars f.piece.now) (chars f.rest.now)) }
 {
@@ -172,7 +172,7 @@ fn raw_at<'t>(kind: Kind, text: &'t str, inside: &'t str) -> Result<Reading, Fla
 fn word_at(text: &str) -> Result<Reading, FlawAt<'_>>
     requires no_number { IsFalse (first_passes is_ascii_digit (chars text.now)) }
     requires no_opener { opener_at (chars text.now) ≡ None }
-    ensures reads { IfOk result (IsReadAs text.now) }
+    ensures reads { IfOk result (IsStrictReading text.now) }
     ensures token { IfOk result (λ r. IsToken (chars text.now)) }
     ensures flaw { IfErr result (λ f. IsFlawAt (chars text.now) f.kind (chars f.piece.now) (chars f.rest.now)) }
 {
@@ -186,7 +186,7 @@ fn word_at(text: &str) -> Result<Reading, FlawAt<'_>>
 #[inline(never)]
 fn read_rare(text: &str) -> Result<Reading, FlawAt<'_>>
     requires { IsFalse (first_passes is_ascii_digit (chars text.now)) }
-    ensures reads { IfOk result (IsReadAs text.now) }
+    ensures reads { IfOk result (IsStrictReading text.now) }
     ensures token { IfOk result (λ r. IsToken (chars text.now)) }
     ensures flaw { IfErr result (λ f. IsFlawAt (chars text.now) f.kind (chars f.piece.now) (chars f.rest.now)) }
 {
@@ -201,7 +201,7 @@ fn read_rare(text: &str) -> Result<Reading, FlawAt<'_>>
 /// The token that the text is, or the flaw by the texts from its places on.
 #[inline(always)]
 fn read_at(text: &str) -> Result<Reading, FlawAt<'_>>
-    ensures reads { IfOk result (IsReadAs text.now) }
+    ensures reads { IfOk result (IsStrictReading text.now) }
     ensures token { IfOk result (λ r. IsToken (chars text.now)) }
     ensures flaw { IfErr result (λ f. IsFlawAt (chars text.now) f.kind (chars f.piece.now) (chars f.rest.now)) }
 {
@@ -235,7 +235,7 @@ fn explained(found: FlawAt<'_>, text: &str) -> Flaw
 #[inline(always)]
 pub fn read_string(text: &str, inside: &str) -> Result<Body, Flaw>
     requires { chars text.now ≡ code "\"" ∷ chars inside.now }
-    ensures reads { IfOk result (λ body. IsReadAs text.now (Text Str body)) }
+    ensures reads { IfOk result (λ body. IsStrictReading text.now (Text Str body)) }
     ensures token { IfOk result (λ b. IsToken (chars text.now)) }
     ensures flaw { IfErr result (ExplainsStrictly (chars text.now)) }
 {
@@ -249,7 +249,7 @@ pub fn read_string(text: &str, inside: &str) -> Result<Body, Flaw>
 #[inline(always)]
 pub fn read_character(text: &str, inside: &str) -> Result<Single, Flaw>
     requires { chars text.now ≡ code "'" ∷ chars inside.now }
-    ensures reads { IfOk result (λ single. IsReadAs text.now (Unit Char single.body single.unit)) }
+    ensures reads { IfOk result (λ single. IsStrictReading text.now (Unit Char single.body single.unit)) }
     ensures token { IfOk result (λ s. IsToken (chars text.now)) }
     ensures flaw { IfErr result (ExplainsStrictly (chars text.now)) }
 {
@@ -263,7 +263,7 @@ pub fn read_character(text: &str, inside: &str) -> Result<Single, Flaw>
 #[inline(always)]
 pub fn read_digits(text: &str) -> Result<Reading, Flaw>
     requires { IsTrue (first_passes is_ascii_digit (chars text.now)) }
-    ensures reads { IfOk result (IsReadAs text.now) }
+    ensures reads { IfOk result (IsStrictReading text.now) }
     ensures token { IfOk result (λ r. IsToken (chars text.now)) }
     ensures flaw { IfErr result (ExplainsStrictly (chars text.now)) }
 {
@@ -298,7 +298,7 @@ pub fn read_digits(text: &str) -> Result<Reading, Flaw>
 /// ```
 #[inline(always)]
 pub fn read(text: &str) -> Result<Reading, Flaw>
-    ensures reads { IfOk result (IsReadAs text.now) }
+    ensures reads { IfOk result (IsStrictReading text.now) }
     ensures token { IfOk result (λ r. IsToken (chars text.now)) }
     ensures flaw { IfErr result (ExplainsStrictly (chars text.now)) }
 {

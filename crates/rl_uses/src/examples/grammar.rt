@@ -1,6 +1,7 @@
 //! Examples of `rl_grammar`: what a text is, with no memory taken.
 
 use rl_grammar::strict::is_token;
+use rl_grammar::strict::{Reading, read};
 use rl_grammar::{
     Kind, SegmentValue, Segments, explain, explain_in_file, explain_limit, explain_signed,
     explain_value, is_plain, place_of, shape, str_of,
@@ -10,6 +11,14 @@ use std::alloc::Global;
 /// Whether a text is a literal of Rust.
 pub fn is_rust(text: &str) -> bool {
     is_token(text)
+}
+
+/// The integer that a text is, by Rust's own grammar.
+pub fn integer_of(text: &str) -> Option<u128> {
+    match read(text) {
+        Ok(Reading::Integer(magnitude, _)) => magnitude,
+        _ => None,
+    }
 }
 
 /// The suffix of the literal that a text is.

@@ -10,7 +10,7 @@ use crate::rl_reasons::strict_quoted_flaws::{
 use crate::rl_forms::Kind;
 use crate::rl_reading::Body;
 use crate::rl_reading::quoted_forms::{QuotedForm, after_quote, places};
-use crate::rl_reading::units::{Piece, escape, is_bare_character, piece_unit, split_plain, unit};
+use crate::rl_reading::units::{Piece, is_bare_character, piece_unit, split_plain, unit};
 use crate::rl_strict::strict::{after_closer, skip_units};
 use crate::rl_text::text::{before, split_char};
 
@@ -90,7 +90,7 @@ pub struct Single {
 fn split_unit(kind: Kind, text: &str) -> Option<(Piece, &str)> {
     match split_char(text) {
         None => None,
-        Some(('\\', following)) => escape(kind, following),
+        Some(('\\', _)) => unit(kind, text),
         Some((first, _)) => {
             if is_bare_character(first) {
                 unit(kind, text)
