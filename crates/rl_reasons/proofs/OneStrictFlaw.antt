@@ -85,35 +85,35 @@ opener_same t f g k l x y a b =
 -- ---- fronts of words
 
 -- what a word begins with is no number and has no opener
-pub record BeginsAs (front : List ℕ) : Type 0 where
+pub record IsFront (front : List ℕ) : Type 0 where
   pub no_opener : opener_at front ≡ None
   pub no_number : first_passes is_number_front front ≡ false
 
 -- of a truth value
-pub truth_front : (b : Bool) (front more : List ℕ) → truth_text b ≡ front ++ more → BeginsAs front
+pub truth_front : (b : Bool) (front more : List ℕ) → truth_text b ≡ front ++ more → IsFront front
 unfolding opener_at
 truth_front b [] more e = record { no_opener = refl; no_number = refl }
 truth_front true (c ∷ cs) more e =
     let same : 116 ≡ c = cc in
-    subst (λ z. BeginsAs (z ∷ cs)) same (record { no_opener = refl; no_number = refl })
+    subst (λ z. IsFront (z ∷ cs)) same (record { no_opener = refl; no_number = refl })
 truth_front false (c ∷ cs) more e =
     let same : 102 ≡ c = cc in
-    subst (λ z. BeginsAs (z ∷ cs)) same (record { no_opener = refl; no_number = refl })
+    subst (λ z. IsFront (z ∷ cs)) same (record { no_opener = refl; no_number = refl })
 
 -- of `b`
-letter_front : BeginsAs (98 ∷ [])
+letter_front : IsFront (98 ∷ [])
 unfolding opener_at
 letter_front = record { no_opener = refl; no_number = refl }
 
 -- of `c`
-other_front : BeginsAs (99 ∷ [])
+other_front : IsFront (99 ∷ [])
 unfolding opener_at
 other_front = record { no_opener = refl; no_number = refl }
 
 -- of any of these
-pub begins_front : (front : List ℕ) → BeginsWord front → BeginsAs front
-begins_front front (inl e) = subst BeginsAs (sym e) letter_front
-begins_front front (inr (inl e)) = subst BeginsAs (sym e) other_front
+pub begins_front : (front : List ℕ) → BeginsWord front → IsFront front
+begins_front front (inl e) = subst IsFront (sym e) letter_front
+begins_front front (inr (inl e)) = subst IsFront (sym e) other_front
 begins_front front (inr (inr w)) = truth_front w.truth front w.more w.word_is
 
 -- ---- the flaw
@@ -213,17 +213,17 @@ word_is Minus (c ∷ cs) (d ∷ ds) (e, h) = absurd (cc)
 word_is k front rest h = absurd h
 
 -- what stands before the place is the front of a word
-word_front : (k : FlawKind) (front rest : List ℕ) → IsStrictWordFlaw k front rest → BeginsAs front
-word_front Empty front rest (e, h) = subst BeginsAs (sym e)
+word_front : (k : FlawKind) (front rest : List ℕ) → IsStrictWordFlaw k front rest → IsFront front
+word_front Empty front rest (e, h) = subst IsFront (sym e)
     (truth_front true [] (truth_text true) refl)
-word_front Minus front rest (e, h) = subst BeginsAs (sym e)
+word_front Minus front rest (e, h) = subst IsFront (sym e)
     (truth_front true [] (truth_text true) refl)
 word_front Unfinished front rest (w, some, h) = begins_front front w
 word_front NoLiteral front rest (w, some, h) = begins_front front w
 word_front k front rest h = absurd h
 
 -- and begins with no digit
-no_digit : (front : List ℕ) → BeginsAs front → first_passes is_ascii_digit front ≡ false
+no_digit : (front : List ℕ) → IsFront front → first_passes is_ascii_digit front ≡ false
 no_digit [] f = refl
 no_digit (c ∷ cs) f = (or_parts (c == 45) (is_ascii_digit c) f.no_number).1
 
