@@ -131,16 +131,10 @@ impl<'t> Lit<'t> {
                 Ok(reading) => Lit::read(borrowed, reading),
                 Err(flaw) => Err(ParseError::of_flaw(flaw)),
             },
-            Front::Other => Lit::parse_other(text),
-        }
-    }
-
-    /// The literal of a text that begins with no digit.
-    #[inline(never)]
-    fn parse_other(text: &'t str) -> Result<Lit<'t>, ParseError> {
-        match read_other(text) {
-            Ok(reading) => Lit::read(Cow::Borrowed(text), reading),
-            Err(flaw) => Err(ParseError::of_flaw(flaw)),
+            Front::Other => match read_other(text) {
+                Ok(reading) => Lit::read(borrowed, reading),
+                Err(flaw) => Err(ParseError::of_flaw(flaw)),
+            },
         }
     }
 
