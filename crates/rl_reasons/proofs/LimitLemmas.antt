@@ -164,8 +164,11 @@ pub signed_past : (t : List ℕ) (r : Reading) (at : ℕ) → IsSignedRead t r �
 signed_past t (Integer None k) at y e =
     let same : k ≡ at = cc in
     subst (λ z. IsCharBoundary t z × ((past : IsPast (chars t)) × (past.suffix ≡ chars (drop z t)))) same (elim y [
-      | inl u ↦ (u.0, past_of (chars t) (chars (drop k t)) NoSign u.1.0
-          (digits_read (chars t) (chars (drop k t)) u.1.0 u.1.1) u.1.2)
+      | inl u ↦ (
+        u.0,
+        past_of (chars t) (chars (drop k t)) NoSign u.1.0
+            (digits_read (chars t) (chars (drop k t)) u.1.0 u.1.1) u.1.2,
+      )
       | inr m ↦ (
         m.2,
         past_of (chars t) (chars (drop k t)) Minus m.3.0 (minus_read t m.0 (chars (drop k t)) m.3.0 m.1 m.3.1) m.3.2,

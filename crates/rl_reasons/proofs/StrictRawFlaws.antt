@@ -476,6 +476,7 @@ raw_many_hashes k f n t rest q z cs c s few text last is hash kind piece place =
 pub opened_text : (t hashes rest inside : List ℕ) (c : ℕ) → t ≡ hashes ++ rest → rest ≡ c ∷ inside → c ≡ 34 → t ≡ hashes
     ++ (34 ∷ inside)
 opened_text t hashes rest inside c cut first is = cut ∙ ap (λ z. hashes ++ z) (first ∙ ap (λ z. z ∷ inside) is)
+
 -- ---- whether it is closed, by what the code finds
 
 closing_text : (n : ℕ) (hashes rest suffix cs : List ℕ) (c : ℕ) → hashes ≡ replicate n 35 → rest ≡ c ∷ cs → c ≡ 34 → cs

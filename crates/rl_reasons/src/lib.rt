@@ -5,16 +5,16 @@ mod flaws;
 pub mod laws;
 mod limits;
 mod quoted_flaws;
-pub mod strict_reading;
 pub mod read_numbers;
 pub mod read_quoted;
 mod signed_flaws;
 mod strict_flaws;
 mod strict_quoted_flaws;
+pub mod strict_reading;
 
 pub use crate::flaws::{Flaw, FlawKind};
 pub use crate::limits::{explain_limit, explain_value, limit_flaw};
-pub use crate::strict_reading::{Reading, is_token, read, read_signed};
 pub use crate::read_numbers::Number;
 pub use crate::signed_flaws::explain_signed;
 pub use crate::strict_flaws::explain;
+pub use crate::strict_reading::{Reading, is_token, read, read_signed};

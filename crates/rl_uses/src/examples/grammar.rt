@@ -1,7 +1,6 @@
 //! Examples of `rl_grammar`: what a text is, with no memory taken.
 
-use rl_grammar::strict::is_token;
-use rl_grammar::strict::{Reading, read};
+use rl_grammar::strict::{Reading, is_token, read};
 use rl_grammar::{
     Kind, SegmentValue, Segments, explain, explain_in_file, explain_limit, explain_signed,
     explain_value, is_plain, place_of, shape, str_of,

@@ -4,16 +4,16 @@
 mod flaws;
 mod limits;
 mod quoted_flaws;
-pub mod strict_reading;
 pub mod read_numbers;
 pub mod read_quoted;
 mod signed_flaws;
 mod strict_flaws;
 mod strict_quoted_flaws;
+pub mod strict_reading;
 
 pub use crate::rl_reasons::flaws::{Flaw, FlawKind};
 pub use crate::rl_reasons::limits::{explain_limit, explain_value, limit_flaw};
-pub use crate::rl_reasons::strict_reading::{Reading, is_token, read, read_signed};
 pub use crate::rl_reasons::read_numbers::Number;
 pub use crate::rl_reasons::signed_flaws::explain_signed;
 pub use crate::rl_reasons::strict_flaws::explain;
+pub use crate::rl_reasons::strict_reading::{Reading, is_token, read, read_signed};
