@@ -18,6 +18,7 @@ pub mod OneUnitFlaw
 pub mod CodeDigitFlaws
 pub mod LimitLemmas
 pub mod Tails
+pub mod AsciiSuffix
 pub mod ReadNumbers
 pub mod ReadQuoted
 pub mod ReadLemmas

@@ -14,7 +14,7 @@ use Rattle.rl_strict.specs.Mirrors.StrictAt.{ends_digits, ends_dot, ends_power, 
 use Rattle.rl_strict.proofs.StrictNumberLemmas.{front_digits, row_part, sign_split}
 use Rattle.rl_strict.proofs.StrictWordLemmas.{number_suffix_sound}
 use Rattle.rl_reasons.specs.declared.flaws.FlawKind.{FlawKind}
-use Rattle.rl_reasons.specs.declared.flaws.FlawKind.TheVariants.{BasedFloat, DigitOfBase, NoDigits, NoExponentDigit, NoFractionDigit}
+use Rattle.rl_reasons.specs.declared.flaws.FlawKind.TheVariants.{BadSuffix, BasedFloat, DigitOfBase, NoDigits, NoExponentDigit, NoFractionDigit}
 use Rattle.rl_reasons.specs.StrictNumberFlaws.{is_float_mark}
 use Rattle.rl_reasons.specs.Mirrors.StrictFlawAt.{suffix_rest, strict_based_flaw_at, strict_exponent_flaw_at, fraction_flaw_at, number_flaw_at, strict_power_flaw_at, strict_tail_flaw_at, whole_flaw_at}
 use Rattle.rl_reasons.specs.Mirrors.UnitFlawAt.{FoundFlaw, found_flaw}
@@ -89,6 +89,22 @@ pub empty_end : (t : List ℕ) → is_some_text t ≡ false → ended t ≡ suff
 unfolding suffix_end_at suffix_rest
 empty_end [] h = refl
 empty_end (c ∷ cs) h = absurd (both_ways true h refl)
+
+pub fraction_empty : (t : List ℕ) → is_some_text t ≡ false → ended t ≡ fraction_end_at t
+unfolding fraction_end_at
+fraction_empty [] h = refl
+fraction_empty (c ∷ cs) h = absurd (both_ways true h refl)
+
+pub fraction_stops : (t : List ℕ) → is_some_text t ≡ true → first_passes is_ascii_digit t ≡ false
+    → stopped NoFractionDigit t ≡ fraction_end_at t
+unfolding fraction_end_at
+fraction_stops [] some h = absurd (both_ways true (sym some) refl)
+fraction_stops (c ∷ cs) some h = sym (ap (λ b. cond b (digits_end_at (after_digits 10 (c ∷ cs)))
+    (stopped NoFractionDigit (c ∷ cs))) h)
+
+pub word_end : (t : List ℕ) → suffix_rest t ≡ [] → ended t ≡ suffix_end_at t
+unfolding suffix_end_at
+word_end t h = sym (ap (λ z. cond (is_some_text z) (stopped BadSuffix z) (ended t)) h)
 
 no_mark : (test : ℕ → Bool) (t : List ℕ) → first_passes (is_row_part test) t ≡ false → first_passes is_underscore t
     ≡ false

@@ -1,14 +1,16 @@
 //! Numbers of the strict grammar, in one walk: what one is, or where and why the text stops being the front of one.
 
-ghost use Rattle.std.specs.Prelude.{◌≡◌, ◌≤◌, ◌||◌, IsTrue, IfOk, IfErr};
+ghost use Rattle.std.specs.Prelude.{◌≡◌, ◌≤◌, ◌||◌, [], IsTrue, IfOk, IfErr};
 ghost use Rattle.std.specs.Char.{is_ascii_digit};
 ghost use Rattle.rl_strict.specs.StrictShapes.{IsToken};
 ghost use Rattle.rl_reasons.specs.StrictNumbersRead.{IsNumberRead, IsStop, suffix_of};
+ghost use Rattle.std.specs.List.{list_all};
 ghost use Rattle.std.specs.Str.{chars};
 ghost use Rattle.rl_text.specs.Texts.{IsTail, first_passes};
 ghost use Rattle.rl_reading.specs.Mirrors.NumberAt.{after_power_sign, capped, magnitude_at};
 ghost use Rattle.rl_reasons.specs.StrictNumberFlaws.{is_float_mark};
 ghost use Rattle.rl_reasons.specs.Mirrors.StrictFlawAt.{suffix_rest};
+ghost use Rattle.rl_reasons.specs.Mirrors.SuffixRead.{is_word_byte};
 ghost use Rattle.rl_reasons.specs.Mirrors.NumberRead.{based_read_at, digits_end_at, fraction_end_at, number_outcome, number_read_at, outcome, power_end_at, suffix_end_at, whole_read_at};
 
 use crate::flaws::FlawKind;
@@ -46,6 +48,34 @@ pub(crate) fn skip_suffix(text: &str) -> &str
     }
 }
 
+/// Whether the byte is a letter, a digit or an underscore of ASCII.
+#[inline(always)]
+fn is_word_byte(byte: &u8) -> bool
+    ensures { result ≡ is_word_byte byte.now }
+{
+    byte.is_ascii_alphanumeric() || *byte == b'_'
+}
+
+/// Whether all bytes are such.
+#[inline(always)]
+fn are_word_bytes(bytes: &[u8]) -> bool
+    ensures { result ≡ list_all is_word_byte bytes.now }
+{
+    bytes.iter().all(is_word_byte)
+}
+
+/// Whether the text is a letter of ASCII, and letters, digits and underscores of ASCII after it.
+#[inline(always)]
+fn is_ascii_word(text: &str) -> bool
+    ensures { IsTrue result → suffix_rest (chars text.now) ≡ [] }
+{
+    let bytes = text.as_bytes();
+    if bytes.is_empty() || !bytes[0].is_ascii_alphabetic() {
+        return false;
+    }
+    are_word_bytes(bytes)
+}
+
 /// The suffix that all of the text is.
 #[inline(always)]
 #[tactic(auto, using(rl_reading::proofs::CutLemmas::some_text, rl_text::proofs::TailLemmas::tail_self), unfolding(crate::specs::Mirrors::NumberRead::suffix_end_at))]
@@ -54,6 +84,10 @@ fn read_suffix(text: &str) -> Result<&str, Stop<'_>>
     ensures following { IfOk result (λ x. IsTail text.now x.now) }
 {
     if text.is_empty() {
+        return Ok(text);
+    }
+    // What most suffixes are takes no call.
+    if is_ascii_word(text) {
         return Ok(text);
     }
     let rest = skip_suffix(text);
@@ -118,13 +152,15 @@ fn read_fraction(text: &str) -> Result<&str, Stop<'_>>
     ensures value { outcome (λ x. chars x.now) result ≡ fraction_end_at (chars text.now) }
     ensures following { IfOk result (λ x. IsTail text.now x.now) }
 {
-    match split_char(text) {
-        None => Ok(text),
-        Some(('0'..='9', _)) => read_exponent(skip_row(text).rest),
-        Some(_) => Err(Stop {
+    if text.is_empty() {
+        Ok(text)
+    } else if begins_digit(text) {
+        read_exponent(skip_row(text).rest)
+    } else {
+        Err(Stop {
             kind: FlawKind::NoFractionDigit,
             rest: text,
-        }),
+        })
     }
 }
 

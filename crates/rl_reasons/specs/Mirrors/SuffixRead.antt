@@ -1,11 +1,16 @@
 -- A mirror of the code, for proofs alone: what follows the closer of a quoted literal, a suffix or a flaw.
-use Rattle.std.specs.Prelude.{ℕ, ◌==◌, Bool, false, List, [], ◌∷◌, Option, Some, None, if◌then◌else◌}
+use Rattle.std.specs.Prelude.{ℕ, ◌==◌, ◌||◌, Bool, false, List, [], ◌∷◌, Option, Some, None, if◌then◌else◌}
+use Rattle.std.specs.Char.{is_ascii_alphanumeric}
 use Prim.Native.Char.{code}
 use Rattle.rl_reading.specs.declared.quoted_forms.QuotedForm.{QuotedForm}
 use Rattle.rl_reading.specs.Mirrors.PlainAt.{is_some_text}
 use Rattle.rl_reasons.specs.declared.flaws.FlawKind.TheVariants.{ExtraHash, UnderscoreSuffix}
 use Rattle.rl_reasons.specs.Mirrors.StrictFlawAt.{begins_hash, suffix_end_flaw_at, suffix_rest}
 use Rattle.rl_reasons.specs.Mirrors.UnitFlawAt.{FoundFlaw, found_flaw}
+
+-- what a word of ASCII goes on with
+abbrev pub is_word_byte : ℕ → Bool
+is_word_byte b = is_ascii_alphanumeric b || b == code "_"
 
 -- `_` alone
 abbrev pub is_lone : List ℕ → Bool

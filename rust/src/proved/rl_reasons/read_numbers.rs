@@ -33,10 +33,22 @@ pub(crate) fn skip_suffix(text: &str) -> &str {
     }
 }
 
+/// Whether the text is a letter of ASCII, and letters, digits and underscores of ASCII after it.
+#[inline(always)]
+fn is_ascii_word(text: &str) -> bool {
+    let bytes = text.as_bytes();
+    !bytes.is_empty()
+        && bytes[0].is_ascii_alphabetic()
+        && bytes
+            .iter()
+            .all(|byte| byte.is_ascii_alphanumeric() || *byte == b'_')
+}
+
 /// The suffix that all of the text is.
 #[inline(always)]
 fn read_suffix(text: &str) -> Result<&str, Stop<'_>> {
-    if text.is_empty() {
+    // What most numbers have takes no call.
+    if text.is_empty() || is_ascii_word(text) {
         return Ok(text);
     }
     let rest = skip_suffix(text);
@@ -85,13 +97,15 @@ fn read_exponent(text: &str) -> Result<&str, Stop<'_>> {
 /// The suffix of the float, from what follows its dot.
 #[inline(always)]
 fn read_fraction(text: &str) -> Result<&str, Stop<'_>> {
-    match split_char(text) {
-        None => Ok(text),
-        Some(('0'..='9', _)) => read_exponent(skip_row(text).rest),
-        Some(_) => Err(Stop {
+    if text.is_empty() {
+        Ok(text)
+    } else if begins_digit(text) {
+        read_exponent(skip_row(text).rest)
+    } else {
+        Err(Stop {
             kind: FlawKind::NoFractionDigit,
             rest: text,
-        }),
+        })
     }
 }
 
