@@ -33,22 +33,36 @@ pub(crate) fn skip_suffix(text: &str) -> &str {
     }
 }
 
+/// Whether the byte is a letter, a digit or an underscore of ASCII.
+#[inline(always)]
+fn is_word_byte(byte: &u8) -> bool {
+    byte.is_ascii_alphanumeric() || *byte == b'_'
+}
+
+/// Whether all bytes are such.
+#[inline(always)]
+fn are_word_bytes(bytes: &[u8]) -> bool {
+    bytes.iter().all(is_word_byte)
+}
+
 /// Whether the text is a letter of ASCII, and letters, digits and underscores of ASCII after it.
 #[inline(always)]
 fn is_ascii_word(text: &str) -> bool {
     let bytes = text.as_bytes();
-    !bytes.is_empty()
-        && bytes[0].is_ascii_alphabetic()
-        && bytes
-            .iter()
-            .all(|byte| byte.is_ascii_alphanumeric() || *byte == b'_')
+    if bytes.is_empty() || !bytes[0].is_ascii_alphabetic() {
+        return false;
+    }
+    are_word_bytes(bytes)
 }
 
 /// The suffix that all of the text is.
 #[inline(always)]
 fn read_suffix(text: &str) -> Result<&str, Stop<'_>> {
-    // What most numbers have takes no call.
-    if text.is_empty() || is_ascii_word(text) {
+    if text.is_empty() {
+        return Ok(text);
+    }
+    // What most suffixes are takes no call.
+    if is_ascii_word(text) {
         return Ok(text);
     }
     let rest = skip_suffix(text);
