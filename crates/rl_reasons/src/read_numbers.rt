@@ -10,7 +10,7 @@ ghost use Rattle.rl_text.specs.Texts.{IsTail, first_passes};
 ghost use Rattle.rl_reading.specs.Mirrors.NumberAt.{after_power_sign, capped, magnitude_at};
 ghost use Rattle.rl_reasons.specs.StrictNumberFlaws.{is_float_mark};
 ghost use Rattle.rl_reasons.specs.Mirrors.StrictFlawAt.{suffix_rest};
-ghost use Rattle.rl_reasons.specs.Mirrors.SuffixRead.{is_word_byte};
+ghost use Rattle.rl_reasons.specs.Mirrors.SuffixRead.{is_suffix_byte};
 ghost use Rattle.rl_reasons.specs.Mirrors.NumberRead.{based_read_at, digits_end_at, fraction_end_at, number_outcome, number_read_at, outcome, power_end_at, suffix_end_at, whole_read_at};
 
 use crate::flaws::FlawKind;
@@ -50,18 +50,18 @@ pub(crate) fn skip_suffix(text: &str) -> &str
 
 /// Whether the byte is a letter, a digit or an underscore of ASCII.
 #[inline(always)]
-fn is_word_byte(byte: &u8) -> bool
-    ensures { result ≡ is_word_byte byte.now }
+fn is_suffix_byte(byte: &u8) -> bool
+    ensures { result ≡ is_suffix_byte byte.now }
 {
     byte.is_ascii_alphanumeric() || *byte == b'_'
 }
 
 /// Whether all bytes are such.
 #[inline(always)]
-fn are_word_bytes(bytes: &[u8]) -> bool
-    ensures { result ≡ list_all is_word_byte bytes.now }
+fn are_suffix_bytes(bytes: &[u8]) -> bool
+    ensures { result ≡ list_all is_suffix_byte bytes.now }
 {
-    bytes.iter().all(is_word_byte)
+    bytes.iter().all(is_suffix_byte)
 }
 
 /// Whether the text is a letter of ASCII, and letters, digits and underscores of ASCII after it.
@@ -73,7 +73,7 @@ fn is_ascii_word(text: &str) -> bool
     if bytes.is_empty() || !bytes[0].is_ascii_alphabetic() {
         return false;
     }
-    are_word_bytes(bytes)
+    are_suffix_bytes(bytes)
 }
 
 /// The suffix that all of the text is.

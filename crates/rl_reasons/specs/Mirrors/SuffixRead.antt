@@ -9,8 +9,8 @@ use Rattle.rl_reasons.specs.Mirrors.StrictFlawAt.{begins_hash, suffix_end_flaw_a
 use Rattle.rl_reasons.specs.Mirrors.UnitFlawAt.{FoundFlaw, found_flaw}
 
 -- what a word of ASCII goes on with
-abbrev pub is_word_byte : ℕ → Bool
-is_word_byte b = is_ascii_alphanumeric b || b == code "_"
+abbrev pub is_suffix_byte : ℕ → Bool
+is_suffix_byte b = is_ascii_alphanumeric b || b == code "_"
 
 -- `_` alone
 abbrev pub is_lone : List ℕ → Bool

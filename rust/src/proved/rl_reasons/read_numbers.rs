@@ -35,14 +35,14 @@ pub(crate) fn skip_suffix(text: &str) -> &str {
 
 /// Whether the byte is a letter, a digit or an underscore of ASCII.
 #[inline(always)]
-fn is_word_byte(byte: &u8) -> bool {
+fn is_suffix_byte(byte: &u8) -> bool {
     byte.is_ascii_alphanumeric() || *byte == b'_'
 }
 
 /// Whether all bytes are such.
 #[inline(always)]
-fn are_word_bytes(bytes: &[u8]) -> bool {
-    bytes.iter().all(is_word_byte)
+fn are_suffix_bytes(bytes: &[u8]) -> bool {
+    bytes.iter().all(is_suffix_byte)
 }
 
 /// Whether the text is a letter of ASCII, and letters, digits and underscores of ASCII after it.
@@ -52,7 +52,7 @@ fn is_ascii_word(text: &str) -> bool {
     if bytes.is_empty() || !bytes[0].is_ascii_alphabetic() {
         return false;
     }
-    are_word_bytes(bytes)
+    are_suffix_bytes(bytes)
 }
 
 /// The suffix that all of the text is.
