@@ -26,7 +26,7 @@ WRONG = [Wrong(*row) for row in [
     ('lit.rs', "        let reading = read_signed(&text).map_err(ParseError::of_flaw)?;\n        Lit::read(Cow::Owned(text), reading)",
      "        Ok(Lit::new(text))",
      'a text that is handed over needs no literal of Rust, but one of `syn`'),
-    ('lit.rs', "Front::Other => Lit::parse_other(text),", "Front::Other => Lit::parse_other(text.trim_start_matches('-')),",
+    ('lit.rs', "Front::Other => match read_other(text) {", "Front::Other => match read_other(text.trim_start_matches('-')) {",
      'the minus of a number is lost, and one before a string'),
     ('lit.rs', "LitChar::of(borrowed, text.len(), u32::from(c))", "LitChar::of(borrowed, 2, u32::from(c))",
      'the closing quote of a character is its suffix'),
