@@ -1,8 +1,9 @@
 //! What the four takers of a buffer take, and a minus and a number of two files.
 
-use crate::tell::{append, at, tell_error, tell_spanned, tell_trees, trees_of};
+use crate::literals::call_of;
+use crate::tell::{append, at, tell_error, tell_trees, trees_of};
 use rl_refusing::Page;
-use rl_tokens::{Error, Literal, ParseBuffer, Punct, Span, TokenStream, TokenTree};
+use rl_tokens::{Literal, ParseBuffer, Punct, Span, TokenStream, TokenTree};
 use rust_literals::Lit;
 use std::alloc::Global;
 
@@ -80,16 +81,5 @@ fn two_trees(number: Literal, out: &mut Page) {
     append(TokenTree::Literal(number), &mut stream, out);
     tell_trees(stream.trees(), out);
     let mut input = ParseBuffer::new(stream.trees(), Span::call_site());
-    tell_first(input.parse::<Lit>(alloc), out)
-}
-
-/// The literal in front, and its span.
-fn tell_first(first: Result<Lit, Error>, out: &mut Page) {
-    match first {
-        Ok(literal) => {
-            tell_spanned(&literal, "\n", out);
-            drop(literal)
-        }
-        Err(error) => tell_error(error, out),
-    }
+    call_of(input.parse::<Lit>(alloc), "spanned", out)
 }
