@@ -78,12 +78,17 @@ fn tell_copy<T: ToRow + PartialEq + Drop>(copy: Result<T, Error>, literal: &T, o
 /// The trees of a literal, and what is parsed of them.
 fn appended(alloc: Global, literal: &Lit, out: &mut Page) {
     let mut stream = TokenStream::new(alloc);
-    if literal.to_tokens(alloc, &mut stream).is_err() {
-        out.fail();
+    match literal.to_tokens(alloc, &mut stream) {
+        Ok(()) => tell_stream(&stream, out),
+        Err(_) => out.fail(),
     }
+}
+
+/// Trees, and what is parsed of them.
+fn tell_stream(stream: &TokenStream, out: &mut Page) {
     tell_trees(stream.trees(), out);
     let mut input = ParseBuffer::new(stream.trees(), THERE);
-    tell(input.parse::<Lit>(alloc), out)
+    tell(input.parse::<Lit>(out.alloc()), out)
 }
 
 /// The text's number or token as it is displayed.

@@ -26,11 +26,16 @@ pub(crate) fn tell_number(literal: &Lit, out: &mut Page) {
 fn tell_parts(kind: &str, digits: &str, suffix: &str, out: &mut Page) {
     out.say(kind, " ");
     tell_brief(digits, out);
+    tell_suffix(suffix, out);
+    out.put("\n")
+}
+
+/// Prints a suffix after a space, where there is one.
+fn tell_suffix(suffix: &str, out: &mut Page) {
     if !suffix.is_empty() {
         out.put(" ");
-        tell_brief(suffix, out);
+        tell_brief(suffix, out)
     }
-    out.put("\n")
 }
 
 /// Prints a text of up to forty bytes; of a longer one its first eight, its last eight, and how many they are.

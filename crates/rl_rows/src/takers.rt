@@ -25,15 +25,30 @@ pub(crate) fn takers(alloc: Global, text: &str, out: &mut Page) {
 fn take_next(input: &mut ParseBuffer<'_>, out: &mut Page) {
     tell_left(input, out);
     tell_forks(input, out);
-    if let Some(ident) = input.ident() {
-        return out.say(ident.text(), "\n");
+    match input.ident() {
+        Some(ident) => out.say(ident.text(), "\n"),
+        None => take_mark(input, out),
     }
-    if let Some(punct) = input.punct() {
-        return out.show(&punct.as_char(), "\n");
+}
+
+/// Takes a mark, or what else stands next.
+fn take_mark(input: &mut ParseBuffer<'_>, out: &mut Page) {
+    match input.punct() {
+        Some(punct) => out.show(&punct.as_char(), "\n"),
+        None => take_literal(input, out),
     }
-    if let Some(literal) = input.literal() {
-        return out.say(literal.text(), "\n");
+}
+
+/// Takes a literal, or what else stands next.
+fn take_literal(input: &mut ParseBuffer<'_>, out: &mut Page) {
+    match input.literal() {
+        Some(literal) => out.say(literal.text(), "\n"),
+        None => take_group(input, out),
     }
+}
+
+/// Takes a group, if one stands next.
+fn take_group(input: &mut ParseBuffer<'_>, out: &mut Page) {
     match input.group() {
         Some(group) => out.show(&group.stream().trees().len(), " inside\n"),
         None => out.put("nothing\n"),

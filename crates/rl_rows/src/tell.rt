@@ -80,15 +80,20 @@ pub(crate) fn tell_error(error: Error, out: &mut Page) {
 /// Prints a tree's form, and its text.
 pub(crate) fn tell_form(tree: &TokenTree, out: &mut Page) {
     match tree {
-        TokenTree::Group(group) => out.put_debug(&group.delimiter()),
-        TokenTree::Ident(ident) => out.say("Ident ", ident.text()),
+        TokenTree::Group(group) => out.debug(&group.delimiter(), " "),
+        TokenTree::Ident(ident) => tell_token("Ident ", ident.text(), out),
         TokenTree::Punct(punct) => {
             out.put("Punct ");
-            out.put_char(punct.as_char())
+            out.show(&punct.as_char(), " ")
         }
-        TokenTree::Literal(literal) => out.say("Literal ", literal.text()),
+        TokenTree::Literal(literal) => tell_token("Literal ", literal.text(), out),
     }
-    out.put(" ")
+}
+
+/// Prints what a token is, and its text.
+fn tell_token(form: &str, text: &str, out: &mut Page) {
+    out.put(form);
+    out.say(text, " ")
 }
 
 /// Prints trees: each one's form, text and span.

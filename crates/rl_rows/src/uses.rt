@@ -69,17 +69,22 @@ fn attributes(alloc: Global, text: &str, out: &mut Page) {
 impl ToRow for ItemList {
     fn put_in(&self, out: &mut Page) {
         for item in self.items.as_slice() {
-            match item {
-                Item::Int(literal) => tell_item("int ", literal.span(), out),
-                Item::Str(literal) => tell_item("str ", literal.span(), out),
-            }
+            tell_item(item, out);
         }
         out.put("\n")
     }
 }
 
 /// An item's kind and span.
-fn tell_item(kind: &str, span: Span, out: &mut Page) {
+fn tell_item(item: &Item, out: &mut Page) {
+    match item {
+        Item::Int(literal) => tell_kind("int ", literal.span(), out),
+        Item::Str(literal) => tell_kind("str ", literal.span(), out),
+    }
+}
+
+/// What an item is, and its span.
+fn tell_kind(kind: &str, span: Span, out: &mut Page) {
     out.put(kind);
     at(span, ";", out)
 }
@@ -154,14 +159,14 @@ fn tell_counts(alloc: Global, counts: &HashMap<Lit, usize>, text: &str, out: &mu
         Ok(literals) => tell_counted(counts, literals.as_slice(), out),
         Err(error) => tell_error(error, out),
     }
-    out.show(&counts.len(), "\n")
 }
 
-/// Of each literal the first that equals it, and how often it stands in the text.
+/// Of each literal the first that equals it, and how often it stands in the text; and how many there are.
 fn tell_counted(counts: &HashMap<Lit, usize>, literals: &[Lit], out: &mut Page) {
     for literal in literals {
         tell_count(counts.get_key_value(literal), out);
     }
+    out.show(&counts.len(), "\n")
 }
 
 /// The first literal that equals another one, and how often it stands in the text.

@@ -34,20 +34,19 @@ pub(crate) fn put_list<T: Lines + Drop>(read: Result<T, Error>, out: &mut Page) 
         Ok(list) => put_lines(list.lines(out.alloc()), out),
         Err(error) => put_error(error, out),
     }
-    out.put(".\n")
 }
 
-/// Prints lines.
+/// Prints lines, and one with a point.
 fn put_lines(lines: Result<String, AllocError>, out: &mut Page) {
     match lines {
-        Ok(lines) => out.put(lines.as_str()),
+        Ok(lines) => out.say(lines.as_str(), ".\n"),
         Err(_) => out.fail(),
     }
 }
 
-/// Prints the line of an error.
+/// Prints the line of an error, and one with a point.
 fn put_error(error: Error, out: &mut Page) {
-    out.show(&Refusal(&error), "\n");
+    out.show(&Refusal(&error), "\n.\n");
     drop(error)
 }
 
@@ -58,16 +57,21 @@ pub(crate) fn put_spans(alloc: Global, text: &str, out: &mut Page) {
         Ok(literals) => put_each_span(literals.as_slice(), out),
         Err(error) => put_error(error, out),
     }
+}
+
+/// Prints of each literal its kind, the bytes where it stands, and its text, a line each, and a line with a point.
+fn put_each_span(literals: &[Lit], out: &mut Page) {
+    for literal in literals {
+        put_span(literal, out);
+    }
     out.put(".\n")
 }
 
-/// Prints of each literal its kind, the bytes where it stands, and its text, a line each.
-fn put_each_span(literals: &[Lit], out: &mut Page) {
-    for literal in literals {
-        out.say(label_of(literal.kind()), " ");
-        place(literal.span(), out);
-        put_token(Literal::string(out.alloc(), literal.text()), out);
-    }
+/// Prints a literal's kind, the bytes where it stands, and its text.
+fn put_span(literal: &Lit, out: &mut Page) {
+    out.say(label_of(literal.kind()), " ");
+    place(literal.span(), out);
+    put_token(Literal::string(out.alloc(), literal.text()), out)
 }
 
 /// Prints the line of a token.

@@ -8,11 +8,16 @@ use std::alloc::Global;
 pub(crate) fn put_source(alloc: Global, text: &str, out: &mut Page) {
     let mut lines = Vec::new(alloc);
     let answer = scan(alloc, Options::default(), text, &mut lines);
-    match std::str::from_utf8(lines.as_slice()) {
-        Ok(lines) => out.put(lines),
+    put_bytes(lines.as_slice(), out);
+    put_end(answer, out)
+}
+
+/// Prints the text that bytes are.
+fn put_bytes(bytes: &[u8], out: &mut Page) {
+    match std::str::from_utf8(bytes) {
+        Ok(text) => out.put(text),
         Err(_) => out.fail(),
     }
-    put_end(answer, out)
 }
 
 /// Prints what stands after the lines of a source's literals: the line of its error, where it has one, and a line with a point.
