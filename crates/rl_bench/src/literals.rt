@@ -1,6 +1,7 @@
 //! What literals weigh by way of `Lit`.
 
 use crate::sums::Weigh;
+use crate::value_refs::value_ref_weight;
 use crate::values::value_weight;
 use crate::weights::weight;
 use rl_grammar::Kind;
@@ -66,12 +67,47 @@ pub(crate) fn c_string_weight(alloc: Global, literal: &LitCStr) -> Result<u64, A
 /// The literal that the text reads as.
 pub(crate) fn literal_of(alloc: Global, text: &str) -> Result<Lit, AllocError> {
     let span = Span::new(0, 0, text.len());
-    let Ok(token) = Literal::from_text(alloc, text, span) else {
-        return Err(AllocError);
-    };
-    match Lit::new(alloc, token) {
-        Ok(literal) => Ok(literal),
+    match Literal::from_text(alloc, text, span) {
+        Ok(token) => made_of(Lit::new(alloc, token)),
         Err(_) => Err(AllocError),
+    }
+}
+
+/// What was made, or that an allocation failed.
+fn made_of<T, E: Drop>(made: Result<T, E>) -> Result<T, AllocError> {
+    match made {
+        Ok(value) => Ok(value),
+        Err(_) => Err(AllocError),
+    }
+}
+
+/// What has a weight.
+pub(crate) trait Weighed {
+    /// Its weight by kind, value or digits, and suffix.
+    fn weight(&self, alloc: Global) -> Result<u64, AllocError>;
+
+    /// The same, of values that are borrowed where they can be.
+    fn lent_weight(&self, alloc: Global) -> Result<u64, AllocError>;
+}
+
+impl Weighed for Lit {
+    fn weight(&self, alloc: Global) -> Result<u64, AllocError> {
+        literal_weight(alloc, self)
+    }
+
+    fn lent_weight(&self, alloc: Global) -> Result<u64, AllocError> {
+        value_ref_weight(alloc, self)
+    }
+}
+
+/// The weight of what was made.
+fn weight_of<T: Weighed + Drop>(
+    alloc: Global,
+    made: Result<T, AllocError>,
+) -> Result<u64, AllocError> {
+    match made {
+        Ok(value) => value.weight(alloc),
+        Err(error) => Err(error),
     }
 }
 
@@ -82,9 +118,6 @@ impl Weigh for ByLiteral {
     type Error = AllocError;
 
     fn weigh(alloc: Global, text: &str) -> Result<u64, AllocError> {
-        let literal = literal_of(alloc, text)?;
-        let weight = literal_weight(alloc, &literal);
-        drop(literal);
-        weight
+        weight_of(alloc, literal_of(alloc, text))
     }
 }

@@ -1,7 +1,7 @@
 //! What literals weigh whose values are borrowed where they can be.
 
 use crate::literals::{
-    byte_string_weight, c_string_weight, literal_of, literal_weight, string_weight,
+    Weighed, byte_string_weight, c_string_weight, literal_of, literal_weight, string_weight,
 };
 use crate::sums::Weigh;
 use crate::values::value_weight;
@@ -11,7 +11,7 @@ use std::alloc::{AllocError, Global};
 
 /// The weight of a literal by its kind, value or digits, and suffix. A value is borrowed, and made
 /// where it can't be.
-fn value_ref_weight(alloc: Global, literal: &Lit) -> Result<u64, AllocError> {
+pub(crate) fn value_ref_weight(alloc: Global, literal: &Lit) -> Result<u64, AllocError> {
     match literal {
         Lit::Str(string) => match string.value_ref() {
             Some(value) => Ok(value_weight(Kind::Str, value.len(), string.suffix())),
@@ -29,6 +29,17 @@ fn value_ref_weight(alloc: Global, literal: &Lit) -> Result<u64, AllocError> {
     }
 }
 
+/// The weight of what was made, of values that are borrowed where they can be.
+fn lent_weight_of<T: Weighed + Drop>(
+    alloc: Global,
+    made: Result<T, AllocError>,
+) -> Result<u64, AllocError> {
+    match made {
+        Ok(value) => value.lent_weight(alloc),
+        Err(error) => Err(error),
+    }
+}
+
 /// By kind, value or digits, and suffix, by way of `Lit::new` and what it borrows.
 pub(crate) struct ByValueRef;
 
@@ -36,9 +47,6 @@ impl Weigh for ByValueRef {
     type Error = AllocError;
 
     fn weigh(alloc: Global, text: &str) -> Result<u64, AllocError> {
-        let literal = literal_of(alloc, text)?;
-        let weight = value_ref_weight(alloc, &literal);
-        drop(literal);
-        weight
+        lent_weight_of(alloc, literal_of(alloc, text))
     }
 }

@@ -13,19 +13,22 @@ use rust_literals::{Lit, LitBool, Number, NumberKind};
 pub const NO_CALL: &str = "no such call";
 
 /// A value that calls borrow.
-pub trait Held<A: Scarce> {
+pub trait Held<A: Scarce>: Sized {
+    /// The value that the text is, if it is one.
+    fn of_text(trial: &Trial<'_, A>, text: &str) -> Option<Self>;
+
     /// Makes the call of this name, and puts its answer last.
     fn call(&self, name: &str, trial: &Trial<'_, A>, page: &mut Page);
 }
 
-/// The call of this name of a value, if the text is one, and what is left of the value.
+/// The call of this name of the value that the text is, and what is left of the value.
 pub fn run_held<T: Held<A> + Tell + Drop, A: Scarce>(
-    value: Option<T>,
     name: &str,
     trial: &Trial<'_, A>,
+    text: &str,
     page: &mut Page,
 ) {
-    match value {
+    match T::of_text(trial, text) {
         Some(value) => {
             let before = trial.lends(&value);
             value.call(name, trial, page);
@@ -37,6 +40,10 @@ pub fn run_held<T: Held<A> + Tell + Drop, A: Scarce>(
 }
 
 impl<A: Scarce> Held<A> for Literal<A> {
+    fn of_text(trial: &Trial<'_, A>, text: &str) -> Option<Literal<A>> {
+        trial.token(text)
+    }
+
     fn call(&self, name: &str, trial: &Trial<'_, A>, page: &mut Page) {
         match name {
             "clone" => trial.ends(self.clone(trial.begins()), page),
@@ -46,19 +53,15 @@ impl<A: Scarce> Held<A> for Literal<A> {
     }
 }
 
-/// The quoted literal that the text is, if it is one of the kind.
-pub fn quoted_of<K: QuotedKind, A: Scarce>(
-    trial: &Trial<'_, A>,
-    text: &str,
-) -> Option<Quoted<K, A>> {
-    let token = trial.token(text)?;
-    match shape(token.text()) {
-        Some(parts) if parts.kind == K::KIND => Some(Quoted::of_token(token)),
-        _ => None,
-    }
-}
-
 impl<K: QuotedKind, A: Scarce> Held<A> for Quoted<K, A> {
+    fn of_text(trial: &Trial<'_, A>, text: &str) -> Option<Quoted<K, A>> {
+        let token = trial.token(text)?;
+        match shape(token.text()) {
+            Some(parts) if parts.kind == K::KIND => Some(Quoted::of_token(token)),
+            _ => None,
+        }
+    }
+
     fn call(&self, name: &str, trial: &Trial<'_, A>, page: &mut Page) {
         match name {
             "clone" => trial.ends(self.clone(trial.begins()), page),
@@ -69,16 +72,14 @@ impl<K: QuotedKind, A: Scarce> Held<A> for Quoted<K, A> {
     }
 }
 
-/// The number that the text is, if it is one of the kind.
-pub fn number_of<K: NumberKind, A: Scarce>(
-    trial: &Trial<'_, A>,
-    text: &str,
-) -> Option<Number<K, A>> {
-    let token = trial.token(text)?;
-    Number::from_token(trial.scant, token).ok()
-}
-
 impl<K: NumberKind, A: Scarce> Held<A> for Number<K, A> {
+    fn of_text(trial: &Trial<'_, A>, text: &str) -> Option<Number<K, A>> {
+        match trial.token(text) {
+            Some(token) => Number::from_token(trial.scant, token).ok(),
+            None => None,
+        }
+    }
+
     fn call(&self, name: &str, trial: &Trial<'_, A>, page: &mut Page) {
         match name {
             "clone" => trial.ends(self.clone(trial.begins()), page),
@@ -90,7 +91,12 @@ impl<K: NumberKind, A: Scarce> Held<A> for Number<K, A> {
     }
 }
 
+/// True where the text is `true`.
 impl<A: Scarce> Held<A> for LitBool {
+    fn of_text(_trial: &Trial<'_, A>, text: &str) -> Option<LitBool> {
+        Some(LitBool::new(text == "true", HERE))
+    }
+
     fn call(&self, name: &str, trial: &Trial<'_, A>, page: &mut Page) {
         match name {
             "clone" => trial.ends(self.clone(trial.begins()), page),
@@ -101,13 +107,14 @@ impl<A: Scarce> Held<A> for LitBool {
     }
 }
 
-/// The literal that the text is.
-pub fn literal_of<A: Scarce>(trial: &Trial<'_, A>, text: &str) -> Option<Lit<A>> {
-    let token = trial.token(text)?;
-    Lit::new(trial.scant, token).ok()
-}
-
 impl<A: Scarce> Held<A> for Lit<A> {
+    fn of_text(trial: &Trial<'_, A>, text: &str) -> Option<Lit<A>> {
+        match trial.token(text) {
+            Some(token) => Lit::new(trial.scant, token).ok(),
+            None => None,
+        }
+    }
+
     fn call(&self, name: &str, trial: &Trial<'_, A>, page: &mut Page) {
         match name {
             "clone" => trial.ends(self.clone(trial.begins()), page),

@@ -10,6 +10,7 @@ use rl_refusing::Page;
 use rl_tokens::{Error, Kept, Literal, Span, lex, whitespace};
 use rust_literals::{Lit, read_all};
 use std::alloc::Global;
+use std::fmt::Display;
 
 /// Lines longer than this are told by their lengths.
 const LONGEST: usize = 100;
@@ -33,16 +34,22 @@ fn put_line(line: &str, page: &mut Page) {
 /// Puts last the kind that a line begins with, and how many bytes it has.
 fn put_length(line: &str, page: &mut Page) {
     let (kind, _) = line.split_once(' ').unwrap_or((line, ""));
-    page.put(kind);
-    page.put(" in a line of ");
+    page.say(kind, " in a line of ");
     page.put_number(line.len());
 }
 
-/// Puts a literal's line last.
-fn tell_line(alloc: Global, literal: &Lit, page: &mut Page) {
-    match line_of(alloc, literal) {
-        Ok(line) => put_line(line.as_str(), page),
-        Err(_) => page.put(NO_MEMORY),
+/// What has a line.
+trait Lined {
+    /// Puts its line last.
+    fn tell_line(&self, page: &mut Page);
+}
+
+impl Lined for Lit {
+    fn tell_line(&self, page: &mut Page) {
+        match line_of(page.alloc(), self) {
+            Ok(line) => put_line(line.as_str(), page),
+            Err(_) => page.put(NO_MEMORY),
+        }
     }
 }
 
@@ -55,12 +62,9 @@ fn tell_literal(alloc: Global, text: &str, page: &mut Page) {
 }
 
 /// Puts last what `Lit::new` answered.
-fn tell_new(made: Result<Lit, Kept<Literal>>, page: &mut Page) {
+fn tell_new<T: Lined + Drop>(made: Result<T, Kept<Literal>>, page: &mut Page) {
     match made {
-        Ok(literal) => {
-            tell_line(page.alloc(), &literal, page);
-            drop(literal);
-        }
+        Ok(literal) => literal.tell_line(page),
         Err(kept) => page.put_shown(&kept.error),
     }
 }
@@ -76,35 +80,46 @@ fn tell_trees(alloc: Global, text: &str, page: &mut Page) {
 /// Puts last what `read_all` answers: how many literals, the first of them and their places, or an error and its places.
 fn tell_read(alloc: Global, text: &str, page: &mut Page) {
     match read_all(alloc, text, 0) {
-        Ok(literals) => tell_literals(alloc, literals.as_slice(), page),
+        Ok(literals) => tell_literals(literals.as_slice(), page),
         Err(error) => {
             page.put_shown(&error);
             tell_places(error.span, page);
+            drop(error);
         }
     }
 }
 
 /// Puts last how many literals there are, and the first of them and their places.
-fn tell_literals(alloc: Global, literals: &[Lit], page: &mut Page) {
+fn tell_literals(literals: &[Lit], page: &mut Page) {
     page.put_number(literals.len());
     for literal in literals.get(..MOST).unwrap_or(literals) {
-        page.put(", ");
-        tell_line(alloc, literal, page);
-        tell_places(literal.span(), page);
+        tell_listed(literal, page);
+    }
+}
+
+/// Puts a literal of a list last, and its places.
+fn tell_listed(literal: &Lit, page: &mut Page) {
+    page.put(", ");
+    literal.tell_line(page);
+    tell_places(literal.span(), page);
+}
+
+/// What is told of a token of the strict grammar.
+fn token_note(text: &str) -> &'static str {
+    if strict::is_token(text) {
+        "; token"
+    } else {
+        ""
     }
 }
 
 /// Puts a line last: how long the text is, and what the five calls answer.
 fn tell_text(alloc: Global, text: &str, page: &mut Page) {
     page.put("  ");
-    page.put_number(text.len());
-    page.put(": skip ");
-    page.put_number(whitespace::skip(text).len());
-    page.put("; lex ");
+    page.show(&text.len(), ": skip ");
+    page.show(&whitespace::skip(text).len(), "; lex ");
     tell_trees(alloc, text, page);
-    if strict::is_token(text) {
-        page.put("; token");
-    }
+    page.put(token_note(text));
     page.put("; read ");
     tell_read(alloc, text, page);
     page.put("; new ");
@@ -145,6 +160,12 @@ pub fn cuts(alloc: Global, text: &str, page: &mut Page) {
     tell_cuts(alloc, whole.text(), page);
 }
 
+/// Puts a part last: a number, a space, and a piece that stands so many times.
+fn put_part(part: &str, text: &mut Page) {
+    let (count, piece) = part.split_once(' ').unwrap_or(("", part));
+    put_times(count.parse::<u32>().unwrap_or(1), piece, text);
+}
+
 /// Puts the piece last, so many times.
 fn put_times(count: u32, piece: &str, text: &mut Page) {
     for _ in 0..count {
@@ -157,8 +178,7 @@ fn put_times(count: u32, piece: &str, text: &mut Page) {
 pub fn long(alloc: Global, parts: &str, page: &mut Page) {
     let mut whole = page.another();
     for part in parts.split('\t') {
-        let (count, piece) = part.split_once(' ').unwrap_or(("", part));
-        put_times(count.parse::<u32>().unwrap_or(1), piece, &mut whole);
+        put_part(part, &mut whole);
     }
     tell_text(alloc, whole.text(), page);
 }
@@ -182,12 +202,16 @@ fn put_settings(count: usize, front: &str, text: &mut Page) {
 
 /// Puts a line last: how many attributes were read, or why none were.
 fn tell_attributes(answer: Result<Attrs, Error>, page: &mut Page) {
-    page.put("  ");
     match answer {
-        Ok(attrs) => page.put_number(attrs.entries().len()),
-        Err(error) => page.put_shown(&Refusal(&error)),
+        Ok(attrs) => put_row(&attrs.entries().len(), page),
+        Err(error) => put_row(&Refusal(&error), page),
     }
-    page.put("\n");
+}
+
+/// Puts a line last.
+fn put_row<T: Display>(value: &T, page: &mut Page) {
+    page.put("  ");
+    page.show(value, "\n");
 }
 
 /// Puts last how many attributes are read whose names are a front and a number each, and then what comes of them with

@@ -27,21 +27,25 @@ use std::io::Write;
 /// What is printed for a line of input.
 fn answer(alloc: Global, line: &str) -> Result<String, AllocError> {
     let mut page = Page::new(alloc);
-    page.put(line);
-    page.put("\n");
+    page.say(line, "\n");
     let (of, rest) = line.split_once(' ').unwrap_or((line, ""));
+    put_answer(alloc, of, rest, &mut page);
+    page.finished()
+}
+
+/// Puts last what is printed for the first word of a line and its rest.
+fn put_answer(alloc: Global, of: &str, rest: &str, page: &mut Page) {
     match of {
-        "cut" => hostile::cuts(alloc, rest, &mut page),
-        "long" => hostile::long(alloc, rest, &mut page),
-        "names" => hostile::names(alloc, rest, &mut page),
-        "run" => runs::of_command(alloc, rest, &mut page),
-        "attributes" => runs::attributes(alloc, rest, &mut page),
+        "cut" => hostile::cuts(alloc, rest, page),
+        "long" => hostile::long(alloc, rest, page),
+        "names" => hostile::names(alloc, rest, page),
+        "run" => runs::of_command(alloc, rest, page),
+        "attributes" => runs::attributes(alloc, rest, page),
         _ => {
             let (call, text) = rest.split_once(' ').unwrap_or((rest, ""));
-            rows::answer(alloc, Row { of, call, text }, &mut page);
+            rows::answer(alloc, Row { of, call, text }, page);
         }
     }
-    page.finished()
 }
 
 /// Writes what is printed for a line of input.

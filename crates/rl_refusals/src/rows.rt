@@ -1,14 +1,15 @@
 //! Calls whose allocations fail: whose call it is, the call's name, and a text, with a space between.
 
-use crate::held::{Held, NO_CALL, literal_of, number_of, quoted_of, run_held};
+use crate::held::{Held, NO_CALL, run_held};
 use crate::tell::Tell;
 use crate::tokens::parsed;
-use crate::trial::{HERE, Scarce, Trial};
+use crate::trial::{Scarce, Trial};
 use crate::{grammar, made, sources, tokens};
-use rl_quoted::{ByteKind, ByteStrKind, CStrKind, CharKind, StrKind};
 use rl_refusing::{Failing, Page};
 use rl_tokens::{Parse, lex};
-use rust_literals::{FloatKind, IntKind, LitBool, read_all};
+use rust_literals::{
+    Lit, LitBool, LitByte, LitByteStr, LitCStr, LitChar, LitFloat, LitInt, LitStr, read_all,
+};
 use std::alloc::Global;
 use std::cell::Cell;
 
@@ -27,7 +28,6 @@ fn run_free<A: Scarce>(call: &str, trial: &Trial<'_, A>, text: &str, page: &mut 
 
 /// Runs a call of a literal of one type, of which the text may be one.
 fn run_type<T: Held<A> + Parse<A> + Tell + Drop, A: Scarce>(
-    value: Option<T>,
     call: &str,
     trial: &Trial<'_, A>,
     text: &str,
@@ -36,70 +36,22 @@ fn run_type<T: Held<A> + Parse<A> + Tell + Drop, A: Scarce>(
     if call == "Parse::parse" {
         parsed::<T, A>(trial, text, page);
     } else {
-        run_held(value, call, trial, page);
+        run_held::<T, A>(call, trial, text, page);
     }
 }
 
 /// Runs a call of a literal of this type; a truth value is true where the text is `true`.
 fn run_literal<A: Scarce>(of: &str, call: &str, trial: &Trial<'_, A>, text: &str, page: &mut Page) {
     match of {
-        "LitInt" => run_type(
-            number_of::<IntKind, A>(trial, text),
-            call,
-            trial,
-            text,
-            page,
-        ),
-        "LitFloat" => run_type(
-            number_of::<FloatKind, A>(trial, text),
-            call,
-            trial,
-            text,
-            page,
-        ),
-        "LitBool" => run_type(
-            Some(LitBool::new(text == "true", HERE)),
-            call,
-            trial,
-            text,
-            page,
-        ),
-        "LitStr" => run_type(
-            quoted_of::<StrKind, A>(trial, text),
-            call,
-            trial,
-            text,
-            page,
-        ),
-        "LitByteStr" => run_type(
-            quoted_of::<ByteStrKind, A>(trial, text),
-            call,
-            trial,
-            text,
-            page,
-        ),
-        "LitCStr" => run_type(
-            quoted_of::<CStrKind, A>(trial, text),
-            call,
-            trial,
-            text,
-            page,
-        ),
-        "LitByte" => run_type(
-            quoted_of::<ByteKind, A>(trial, text),
-            call,
-            trial,
-            text,
-            page,
-        ),
-        "LitChar" => run_type(
-            quoted_of::<CharKind, A>(trial, text),
-            call,
-            trial,
-            text,
-            page,
-        ),
-        _ => run_type(literal_of(trial, text), call, trial, text, page),
+        "LitInt" => run_type::<LitInt<A>, A>(call, trial, text, page),
+        "LitFloat" => run_type::<LitFloat<A>, A>(call, trial, text, page),
+        "LitBool" => run_type::<LitBool, A>(call, trial, text, page),
+        "LitStr" => run_type::<LitStr<A>, A>(call, trial, text, page),
+        "LitByteStr" => run_type::<LitByteStr<A>, A>(call, trial, text, page),
+        "LitCStr" => run_type::<LitCStr<A>, A>(call, trial, text, page),
+        "LitByte" => run_type::<LitByte<A>, A>(call, trial, text, page),
+        "LitChar" => run_type::<LitChar<A>, A>(call, trial, text, page),
+        _ => run_type::<Lit<A>, A>(call, trial, text, page),
     }
 }
 
@@ -109,7 +61,7 @@ fn run_named<A: Scarce>(of: &str, call: &str, trial: &Trial<'_, A>, text: &str, 
         "new" => made::new(of, trial, text, page),
         "from_token" => made::from_token(of, trial, text, page),
         "value" | "parse" | "parse_with" | "parse_in_file" => {
-            run_held(literal_of(trial, text), call, trial, page);
+            run_held::<Lit<A>, A>(call, trial, text, page);
         }
         _ => run_literal(of, call, trial, text, page),
     }
@@ -149,10 +101,13 @@ fn tried(alloc: Global, row: Row<'_>, first: u64, last: u64, asked: &Cell<u64>) 
         asked,
     };
     run(row.of, row.call, &trial, row.text, &mut page);
-    if failing.held() > 0 {
-        page.put("; kept memory");
-    }
+    page.put(memory_note(failing.held()));
     page
+}
+
+/// What is told where so many blocks were kept.
+fn memory_note(held: u64) -> &'static str {
+    if held > 0 { "; kept memory" } else { "" }
 }
 
 /// Whether it is told that memory is wanted, and that all is left as it was.
@@ -165,12 +120,17 @@ fn judge(told: &str, ample: &str, page: &mut Page) {
     if told == ample {
         page.put("  failed: the same answer\n");
     } else {
-        page.put(if is_failure(told) {
-            "  failed: "
-        } else {
-            "  OTHER: "
-        });
+        page.put(judgement(told));
         page.say(told, "\n");
+    }
+}
+
+/// How it is judged that a call told something else than with ample memory.
+fn judgement(told: &str) -> &'static str {
+    if is_failure(told) {
+        "  failed: "
+    } else {
+        "  OTHER: "
     }
 }
 

@@ -10,6 +10,7 @@ use rl_program::Refusal;
 use rl_refusing::{Failing, Page};
 use rl_tokens::{Error, Parse, ParseBuffer, Span, lex};
 use std::alloc::{Allocator, Global};
+use std::fmt::Display;
 
 /// Puts last what comes of a run, with ample memory, and then with each allocation and all after it failing. A row is the
 /// command's name, a space and the input.
@@ -40,14 +41,18 @@ fn put_run<A: Scarce>(
     let answer = run(failing, command, &mut text.as_bytes(), &mut written);
     let asked = failing.succeed();
     page.put("  ");
+    put_ended(answer, page);
+    page.put(", ");
+    page.show(&written.len(), " written\n");
+    asked
+}
+
+/// Puts last that a run is done, or why it is not.
+fn put_ended<E: Display + Drop>(answer: Result<(), E>, page: &mut Page) {
     match answer {
         Ok(()) => page.put("done"),
         Err(error) => page.put_shown(&error),
     }
-    page.put(", ");
-    page.put_number(written.len());
-    page.put(" written\n");
-    asked
 }
 
 /// Puts last what comes of the parser of attributes, with ample memory, and then with each allocation failing, alone and with
@@ -75,18 +80,14 @@ fn put_parsed<A: Scarce>(failing: A, first: u64, last: u64, text: &str, page: &m
     page.put("  ");
     put_answer(answer, page);
     page.put(", ");
-    page.put_number(input.rest().len());
-    page.put(" left\n");
+    page.show(&input.rest().len(), " left\n");
     asked
 }
 
 /// Puts last how many attributes were parsed, or why none were.
 fn put_answer<A: Allocator>(answer: Result<Attrs<A>, Error<A>>, page: &mut Page) {
     match answer {
-        Ok(attrs) => {
-            page.put_number(attrs.entries().len());
-            page.put(" taken");
-        }
+        Ok(attrs) => page.show(&attrs.entries().len(), " taken"),
         Err(error) => page.put_shown(&Refusal(&error)),
     }
 }

@@ -18,26 +18,22 @@ pub trait Tell {
 /// Puts a span's places last.
 pub fn tell_places(span: Span, page: &mut Page) {
     page.put(" ");
-    page.put_number(span.lo);
-    page.put("..");
-    page.put_number(span.hi);
+    page.show(&span.lo, "..");
+    page.put_shown(&span.hi);
 }
 
 /// Puts a span last: its file and its places.
 fn tell_span(span: Span, page: &mut Page) {
     page.put(" ");
-    page.put_number(span.file as usize);
-    page.put(":");
-    page.put_number(span.lo);
-    page.put("..");
-    page.put_number(span.hi);
+    page.show(&span.file, ":");
+    page.show(&span.lo, "..");
+    page.put_shown(&span.hi);
 }
 
 /// Puts a token last.
 fn tell_token(text: &str, span: Span, page: &mut Page) {
     page.put("`");
-    page.put(text);
-    page.put("`");
+    page.say(text, "`");
     tell_span(span, page);
 }
 
@@ -149,9 +145,8 @@ impl<A: Allocator> Tell for Error<A> {
 
 impl Tell for LexError {
     fn tell(&self, page: &mut Page) {
-        page.put_shown(&self.kind);
-        page.put(" ");
-        page.put_number(self.at);
+        page.show(&self.kind, " ");
+        page.put_shown(&self.at);
     }
 }
 

@@ -32,7 +32,7 @@ fn literal_of_value<A: Scarce>(name: &str, trial: &Trial<'_, A>, text: &str, pag
             Literal::character(trial.begins(), first_character(text)),
             page,
         ),
-        _ => run_held(trial.token(text), name, trial, page),
+        _ => run_held::<Literal<A>, A>(name, trial, text, page),
     }
 }
 

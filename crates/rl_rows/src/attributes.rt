@@ -5,9 +5,27 @@ use rl_attributes::{Attrs, Setting, SettingError, read};
 use rl_program::Refusal;
 use rl_refusing::Page;
 use rl_tokens::Error;
-use rust_literals::LitStr;
+use rust_literals::{Lit, LitStr};
 use std::alloc::Global;
 use std::fmt::Display;
+
+/// A string.
+const NAME: Setting = Setting {
+    name: "name",
+    expected: "a string",
+};
+
+/// A number of 16 bits.
+const PORT: Setting = Setting {
+    name: "port",
+    expected: "an integer from 0 to 65535",
+};
+
+/// A truth value.
+const VERBOSE: Setting = Setting {
+    name: "verbose",
+    expected: "`true` or `false`",
+};
 
 /// How many they are.
 impl ToRow for Attrs {
@@ -28,7 +46,10 @@ pub(crate) fn inside(alloc: Global, text: &str, page: &mut Page) {
 fn tell_inside(answer: Result<Attrs, Error>, page: &mut Page) {
     match answer {
         Ok(attrs) => put(attrs, page),
-        Err(error) => page.show(&Refusal(&error), "\n"),
+        Err(error) => {
+            page.show(&Refusal(&error), "\n");
+            drop(error)
+        }
     }
 }
 
@@ -44,10 +65,15 @@ pub(crate) fn values(alloc: Global, row: &str, page: &mut Page) {
 /// The line of what each of these names is set to.
 fn put_values(alloc: Global, attrs: &Attrs, names: &str, page: &mut Page) {
     for name in names.split(',') {
-        match attrs.get(name) {
-            Some(value) => tell_line(alloc, value, page),
-            None => page.put("none\n"),
-        }
+        put_value(alloc, attrs.get(name), page);
+    }
+}
+
+/// The line of what a name is set to, where it is.
+fn put_value(alloc: Global, value: Option<&Lit>, page: &mut Page) {
+    match value {
+        Some(value) => tell_line(alloc, value, page),
+        None => page.put("none\n"),
     }
 }
 
@@ -63,12 +89,15 @@ pub(crate) fn many(alloc: Global, count: &str, page: &mut Page) {
 /// Puts so many attributes last.
 fn put_many(count: usize, text: &mut Page) {
     for number in 0..count {
-        text.put("a");
-        text.put_number(number);
-        text.put("=");
-        text.put_number(number);
-        text.put(",");
+        put_attribute(number, text);
     }
+}
+
+/// Puts an attribute of this number last.
+fn put_attribute(number: usize, text: &mut Page) {
+    text.put("a");
+    text.show(&number, "=");
+    text.show(&number, ",")
 }
 
 /// What a string, a number of 16 bits and a truth value are set to, or why they aren't, and what is reported of each that isn't set.
@@ -81,46 +110,28 @@ pub(crate) fn settings(alloc: Global, text: &str, page: &mut Page) {
 
 /// What the three are set to.
 fn put_settings(alloc: Global, attrs: &Attrs, page: &mut Page) {
-    let name = Setting {
-        name: "name",
-        expected: "a string",
-    };
-    let port = Setting {
-        name: "port",
-        expected: "an integer from 0 to 65535",
-    };
-    let verbose = Setting {
-        name: "verbose",
-        expected: "`true` or `false`",
-    };
-    put_setting(attrs.string(alloc, name), attrs.missing(name), page);
-    put_setting(attrs.number::<u16>(alloc, port), attrs.missing(port), page);
-    put_setting(attrs.truth(verbose), attrs.missing(verbose), page);
+    put_setting(attrs.string(alloc, NAME), attrs.missing(NAME), page);
+    put_setting(attrs.number::<u16>(alloc, PORT), attrs.missing(PORT), page);
+    put_setting(attrs.truth(VERBOSE), attrs.missing(VERBOSE), page)
 }
 
-/// What a setting is set to; else the error, or that it is missing, with its place.
-fn put_setting<T: Display + Drop>(
-    value: Result<Option<T>, SettingError>,
-    missing: SettingError,
+/// What a setting is set to; else the error, or that it is missing.
+fn put_setting<T: Display + Drop, E: ToRow + Drop>(
+    value: Result<Option<T>, E>,
+    missing: E,
     page: &mut Page,
 ) {
     match value {
-        Ok(Some(value)) => {
-            page.show(&value, "\n");
-            drop(value);
-            drop(missing)
-        }
-        Ok(None) => put_setting_error(missing, page),
-        Err(error) => {
-            drop(missing);
-            put_setting_error(error, page)
-        }
+        Ok(Some(value)) => page.show(&value, "\n"),
+        Ok(None) => missing.put_in(page),
+        Err(error) => error.put_in(page),
     }
 }
 
 /// An error of a setting, after its place.
-fn put_setting_error(error: SettingError, page: &mut Page) {
-    place(error.span(), page);
-    page.show(&error, "\n");
-    drop(error)
+impl ToRow for SettingError {
+    fn put_in(&self, page: &mut Page) {
+        place(self.span(), page);
+        page.show(self, "\n")
+    }
 }

@@ -2,13 +2,10 @@
 //! them of many texts at once.
 
 mod answer;
-mod attributes;
-mod command;
-mod ending;
 mod flaws;
 mod lent;
-mod literal;
+mod lists;
 mod sources;
-mod spans;
 
-pub(crate) use answer::{answer, parts_of};
+pub(crate) use answer::{is_command, told};
+pub(crate) use lent::put_lent;

@@ -1,13 +1,14 @@
 //! Calls that take bytes: literals of them, and their values again.
 
+use crate::runs;
 use crate::tell::{HERE, ToRow, at, put, tell, tell_debug, tell_error};
 use rl_refusing::Page;
 use rl_tokens::{CString, Error, Literal, NulError};
 use rust_literals::{Lit, LitByte, LitByteStr, LitCStr};
 use std::alloc::Global;
 
-/// Prints what a call of this name answers; false where there is none.
-pub(crate) fn told(alloc: Global, name: &str, bytes: &[u8], out: &mut Page) -> bool {
+/// Prints what a call of this name answers; any other name is for `runs`.
+pub(crate) fn told(alloc: Global, name: &str, bytes: &[u8], out: &mut Page) {
     match name {
         "bytes" => each_byte(alloc, bytes, out),
         "byte_string" => {
@@ -15,9 +16,8 @@ pub(crate) fn told(alloc: Global, name: &str, bytes: &[u8], out: &mut Page) -> b
             byte_string(LitByteStr::new(alloc, bytes, HERE), out)
         }
         "c_string" => c_string(alloc, bytes, out),
-        _ => return false,
+        _ => runs::told(alloc, name, bytes, out),
     }
-    true
 }
 
 /// Each byte as a literal, and its value again.

@@ -1,6 +1,7 @@
 //! Lists of literals: where each stands, and pairs of them with a gap between.
 
-use crate::tell::{ToRow, literal_of, place, tell, tell_error, tell_line, tell_spanned};
+use crate::literals::{Called, call_of};
+use crate::tell::{Spanned, ToRow, literal_of, place, tell_line};
 use rl_refusing::Page;
 use rl_tokens::{Error, Span};
 use rust_literals::{Lit, Literals, read_all};
@@ -17,39 +18,30 @@ pub(crate) fn places(alloc: Global, text: &str, out: &mut Page) {
 /// An error's bytes and message.
 fn tell_refused(error: Error, out: &mut Page) {
     place(error.span, out);
-    out.show(&error, "\n")
+    out.show(&error, "\n");
+    drop(error)
 }
 
 /// Each literal's bytes and line.
 fn tell_places(alloc: Global, literals: &[Lit], out: &mut Page) {
     for literal in literals {
-        place(literal.span(), out);
-        tell_line(alloc, literal, out);
+        tell_placed(alloc, literal, out);
     }
+}
+
+/// A literal's bytes and line.
+pub(crate) fn tell_placed(alloc: Global, literal: &Lit, out: &mut Page) {
+    place(literal.span(), out);
+    tell_line(alloc, literal, out)
 }
 
 /// Each literal as it is printed to programmers, with its span.
 impl ToRow for Vec<Lit> {
     fn put_in(&self, out: &mut Page) {
         for literal in self.as_slice() {
-            tell_spanned(literal, "\n", out);
+            literal.put_spanned("\n", out);
         }
     }
-}
-
-/// The line of a text as one literal, after the bytes where it stands in a list.
-fn tell_placed(alloc: Global, text: &str, span: Span, out: &mut Page) {
-    place(span, out);
-    match literal_of(alloc, text, span) {
-        Ok(literal) => tell_own_line(literal, out),
-        Err(error) => tell_error(error, out),
-    }
-}
-
-/// The line of a literal that is let go.
-fn tell_own_line(literal: Lit, out: &mut Page) {
-    tell_line(out.alloc(), &literal, out);
-    drop(literal)
 }
 
 /// Whether two texts with a gap between them read as each reads by itself.
@@ -60,8 +52,10 @@ fn agrees(alloc: Global, first: &str, gap: &str, second: &str) -> bool {
     whole.put(second);
     let end = whole.text().len();
     let mut wanted = whole.another();
-    tell_placed(alloc, first, Span::new(0, 0, first.len()), &mut wanted);
-    tell_placed(alloc, second, Span::new(0, at, end), &mut wanted);
+    let span = Span::new(0, 0, first.len());
+    call_of(literal_of(alloc, first, span), "placed", &mut wanted);
+    let span = Span::new(0, at, end);
+    call_of(literal_of(alloc, second, span), "placed", &mut wanted);
     let mut found = whole.another();
     places(alloc, whole.text(), &mut found);
     found.text() == wanted.text()
@@ -98,19 +92,18 @@ fn agreeing(alloc: Global, first: &str, gap: &str, backs: &str, out: &mut Page) 
 pub(crate) fn one_by_one(alloc: Global, text: &str, out: &mut Page) {
     let mut literals = Literals::new(alloc, text, 0);
     for _ in 0..=text.len() {
-        if !put_next(&mut literals, out) {
+        if !put_next(literals.next(), out) {
             break;
         }
     }
-    put_next(&mut literals, out);
+    put_next(literals.next(), out);
 }
 
 /// The next literal, and true; else that there is none, or the error.
-fn put_next(literals: &mut Literals<'_>, out: &mut Page) -> bool {
-    match literals.next() {
-        Ok(Some(literal)) => {
-            place(literal.span(), out);
-            tell_own_line(literal, out);
+fn put_next<T: Called + Drop>(next: Result<Option<T>, Error>, out: &mut Page) -> bool {
+    match next {
+        Ok(Some(mut literal)) => {
+            literal.call("placed", out);
             true
         }
         Ok(None) => {

@@ -1,50 +1,63 @@
 //! Calls on the literal that a text is.
 
+use crate::bulk::put_lent;
 use crate::inside::{group, inside};
-use crate::tell::{HERE, THERE, ToRow, at, literal_of, put, tell, tell_error, tell_trees};
+use crate::lists::tell_placed;
+use crate::long::tell_number;
+use crate::padded::padded;
+use crate::tell::{
+    HERE, Spanned, THERE, ToRow, at, literal_of, put, tell, tell_error, tell_line, tell_trees,
+};
 use crate::uses::anew;
 use rl_refusing::Page;
-use rl_tokens::{Ident, ParseBuffer, ToTokens, TokenStream};
-use rust_literals::{Lit, LitBool};
+use rl_tokens::{Error, ParseBuffer, ToTokens, TokenStream};
+use rust_literals::Lit;
 use std::alloc::Global;
 
-/// Prints what a call of this name answers about the literal that the text is; false where there is none.
-pub(crate) fn told(alloc: Global, name: &str, text: &str, out: &mut Page) -> bool {
-    match literal_of(alloc, text, HERE) {
-        Ok(mut literal) => {
-            let is_call = told_of(alloc, name, &mut literal, out);
-            drop(literal);
-            is_call
-        }
-        Err(error) => {
-            tell_error(error, out);
-            true
-        }
+/// A value that calls are made of by their names.
+pub(crate) trait Called {
+    /// Prints what a call of this name answers, or that there is none.
+    fn call(&mut self, name: &str, out: &mut Page);
+}
+
+/// Prints what a call of this name answers about a value, or why there is no value.
+pub(crate) fn call_of<T: Called + Drop>(made: Result<T, Error>, name: &str, out: &mut Page) {
+    match made {
+        Ok(mut value) => value.call(name, out),
+        Err(error) => tell_error(error, out),
     }
 }
 
-/// Prints what a call of this name answers about the literal; false where there is none.
-fn told_of(alloc: Global, name: &str, literal: &mut Lit, out: &mut Page) -> bool {
-    match name {
-        "literal" => moved(alloc, literal, out),
-        "truth" => {
-            truth(alloc, false, out);
-            truth(alloc, true, out)
+/// Prints what a call of this name answers about the literal that the text is, or that there is none.
+pub(crate) fn told(alloc: Global, name: &str, text: &str, out: &mut Page) {
+    call_of(literal_of(alloc, text, HERE), name, out)
+}
+
+impl Called for Lit {
+    fn call(&mut self, name: &str, out: &mut Page) {
+        let alloc = out.alloc();
+        match name {
+            "text" => tell_line(alloc, self, out),
+            "value" => put_lent(self, out),
+            "literal" => moved(alloc, self, out),
+            "brief" => tell_number(self, out),
+            "placed" => tell_placed(alloc, self, out),
+            "spanned" => self.put_spanned("\n", out),
+            "padded" => padded(alloc, self, out),
+            "shown" => shown(self, out),
+            "lends" => lends(self, out),
+            "inside" => inside(alloc, self, out),
+            "group" => group(alloc, self, out),
+            "anew" => anew(alloc, self, out),
+            _ => out.put("error: no call\n"),
         }
-        "shown" => shown(literal, out),
-        "lends" => lends(literal, out),
-        "inside" => inside(alloc, literal, out),
-        "group" => group(alloc, literal, out),
-        "anew" => anew(alloc, literal, out),
-        _ => return false,
     }
-    true
 }
 
 /// The literal, its copy, its trees, what is parsed of them, and its suffix; then it is moved.
 fn moved(alloc: Global, literal: &mut Lit, out: &mut Page) {
     literal.put_in(out);
-    push_copy(alloc, literal, out);
+    tell_copy(literal.clone(alloc), literal, out);
     appended(alloc, literal, out);
     out.debug(&literal.suffix(), " ");
     literal.set_span(THERE);
@@ -52,8 +65,8 @@ fn moved(alloc: Global, literal: &mut Lit, out: &mut Page) {
 }
 
 /// A copy, and whether it is equal.
-fn push_copy(alloc: Global, literal: &Lit, out: &mut Page) {
-    match literal.clone(alloc) {
+fn tell_copy<T: ToRow + PartialEq + Drop>(copy: Result<T, Error>, literal: &T, out: &mut Page) {
+    match copy {
         Ok(copy) => {
             out.show(&(copy == *literal), " ");
             put(copy, out)
@@ -65,29 +78,17 @@ fn push_copy(alloc: Global, literal: &Lit, out: &mut Page) {
 /// The trees of a literal, and what is parsed of them.
 fn appended(alloc: Global, literal: &Lit, out: &mut Page) {
     let mut stream = TokenStream::new(alloc);
-    if literal.to_tokens(alloc, &mut stream).is_err() {
-        return out.fail();
+    match literal.to_tokens(alloc, &mut stream) {
+        Ok(()) => tell_stream(&stream, out),
+        Err(_) => out.fail(),
     }
+}
+
+/// Trees, and what is parsed of them.
+fn tell_stream(stream: &TokenStream, out: &mut Page) {
     tell_trees(stream.trees(), out);
     let mut input = ParseBuffer::new(stream.trees(), THERE);
-    tell(input.parse::<Lit>(alloc), out)
-}
-
-/// A truth value: made, moved, and as a token.
-fn truth(alloc: Global, value: bool, out: &mut Page) {
-    let mut literal = LitBool::new(value, HERE);
-    out.show(&literal.value(), " ");
-    at(literal.span(), " ", out);
-    literal.set_span(THERE);
-    tell(literal.token(alloc), out)
-}
-
-/// Its text and span.
-impl ToRow for Ident {
-    fn put_in(&self, out: &mut Page) {
-        out.say(self.text(), " ");
-        at(self.span(), "\n", out)
-    }
+    tell(input.parse::<Lit>(out.alloc()), out)
 }
 
 /// The text's number or token as it is displayed.

@@ -1,5 +1,6 @@
 //! Numbers of one text: what the structs of numbers make of it, and numbers by base ten.
 
+use crate::rejected;
 use crate::tell::{HERE, THERE, at, instead, put, tell, tell_debug, tell_error};
 use rl_refusing::Page;
 use rl_tokens::{Error, ErrorKind, Kept, Literal};
@@ -8,8 +9,8 @@ use std::alloc::Global;
 use std::fmt::Display;
 use std::str::FromStr;
 
-/// Prints what a call of this name answers; false where there is none.
-pub(crate) fn told(alloc: Global, name: &str, text: &str, out: &mut Page) -> bool {
+/// Prints what a call of this name answers; any other name is for `rejected`.
+pub(crate) fn told(alloc: Global, name: &str, text: &str, out: &mut Page) {
     match name {
         "integer" => number(Number::<IntKind, Global>::new(alloc, text, HERE), out),
         "real" => number(Number::<FloatKind, Global>::new(alloc, text, HERE), out),
@@ -17,9 +18,8 @@ pub(crate) fn told(alloc: Global, name: &str, text: &str, out: &mut Page) -> boo
         "across" => across(alloc, text, out),
         "numbers" => numbers(alloc, text, out),
         "float_byte" => float_byte(alloc, text, out),
-        _ => return false,
+        _ => rejected::told(alloc, name, text, out),
     }
-    true
 }
 
 /// A number, or why there is none.
@@ -113,40 +113,40 @@ where
 
 /// Where a number is rejected.
 fn refused_number(error: Error, out: &mut Page) {
-    match error.kind {
+    match &error.kind {
         ErrorKind::Number(_) => {
             out.put("at ");
             at(error.span, "", out)
         }
         _ => out.fail(),
     }
+    drop(error)
 }
 
 /// The numbers of every size that the text makes.
 fn numbers(alloc: Global, text: &str, out: &mut Page) {
     match LitInt::new(alloc, text, HERE) {
-        Ok(literal) => numbers_of(literal, out),
+        Ok(literal) => numbers_of(&literal, out),
         Err(error) => instead(error, "no integer\n", out),
     }
 }
 
 /// The numbers of every size that a literal makes: those of up to 32 bits, and those of more.
-fn numbers_of(literal: LitInt, out: &mut Page) {
-    made::<u8>(&literal, out);
-    made::<i8>(&literal, out);
-    made::<u16>(&literal, out);
-    made::<i16>(&literal, out);
-    made::<u32>(&literal, out);
-    made::<i32>(&literal, out);
+fn numbers_of(literal: &LitInt, out: &mut Page) {
+    made::<u8>(literal, out);
+    made::<i8>(literal, out);
+    made::<u16>(literal, out);
+    made::<i16>(literal, out);
+    made::<u32>(literal, out);
+    made::<i32>(literal, out);
     out.put("\n");
-    made::<u64>(&literal, out);
-    made::<i64>(&literal, out);
-    made::<usize>(&literal, out);
-    made::<isize>(&literal, out);
-    made::<u128>(&literal, out);
-    made::<i128>(&literal, out);
-    out.put("\n");
-    drop(literal)
+    made::<u64>(literal, out);
+    made::<i64>(literal, out);
+    made::<usize>(literal, out);
+    made::<isize>(literal, out);
+    made::<u128>(literal, out);
+    made::<i128>(literal, out);
+    out.put("\n")
 }
 
 /// The byte that the text makes as a float.

@@ -1,29 +1,14 @@
 //! Literals that are printed with a width.
 
-use crate::tell::{HERE, literal_of, tell_error};
 use rl_refusing::Page;
 use rust_literals::Lit;
 use std::alloc::Global;
 use std::fmt::Display;
 
-/// The literal that a text is, and the one of its own type, each with a width three times: at its end, with stars at its front, and of
-/// its first three characters in the middle.
-pub(crate) fn padded(alloc: Global, text: &str, out: &mut Page) {
-    match literal_of(alloc, text, HERE) {
-        Ok(literal) => put_both(alloc, literal, out),
-        Err(error) => tell_error(error, out),
-    }
-}
-
-/// A literal, and the one of its own type.
-fn put_both(alloc: Global, literal: Lit, out: &mut Page) {
-    put(alloc, &literal, out);
-    put_own(alloc, &literal, out);
-    drop(literal)
-}
-
-/// The literal of its own type.
-fn put_own(alloc: Global, literal: &Lit, out: &mut Page) {
+/// The literal, and the one of its own type, each with a width three times: at its end, with stars at its front, and of its first
+/// three characters in the middle.
+pub(crate) fn padded(alloc: Global, literal: &Lit, out: &mut Page) {
+    put(alloc, literal, out);
     match literal {
         Lit::Str(own) => put(alloc, own, out),
         Lit::ByteStr(own) => put(alloc, own, out),

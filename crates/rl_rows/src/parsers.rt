@@ -3,6 +3,7 @@
 use crate::takers::{takers, two_files};
 use crate::tell::{at, tell_error, trees_of};
 use crate::turns::{Sign, turns};
+use crate::uses;
 use rl_refusing::Page;
 use rl_tokens::{Error, Parse, ParseBuffer, Span, Token};
 use rust_literals::{
@@ -10,8 +11,8 @@ use rust_literals::{
 };
 use std::alloc::Global;
 
-/// Prints what a call of this name answers; false where there is none.
-pub(crate) fn told(alloc: Global, name: &str, text: &str, out: &mut Page) -> bool {
+/// Prints what a call of this name answers; any other name is for `uses`.
+pub(crate) fn told(alloc: Global, name: &str, text: &str, out: &mut Page) {
     match name {
         "LitStr" => parsed_as::<LitStr>(alloc, text, out),
         "LitByteStr" => parsed_as::<LitByteStr>(alloc, text, out),
@@ -27,9 +28,8 @@ pub(crate) fn told(alloc: Global, name: &str, text: &str, out: &mut Page) -> boo
         "Sign" => parsed_as::<Sign>(alloc, text, out),
         "two_files" => two_files(alloc, out),
         "mark" => mark(alloc, text, out),
-        _ => return false,
+        _ => uses::told(alloc, name, text, out),
     }
-    true
 }
 
 /// The type's name in messages, whether such a token stands at the front, what its parser answers, and where the buffer

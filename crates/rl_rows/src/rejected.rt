@@ -2,27 +2,42 @@
 
 use crate::runs::put_often;
 use crate::tell::{HERE, at, literal_of};
+use crate::trees;
 use rl_refusing::{Failing, Page};
 use rl_tokens::{Error, Kept, Literal};
 use rust_literals::{Lit, LitStr};
 use std::alloc::{Allocator, Global};
 
-/// A borrowed allocator that fails where it is asked to.
-type Lent<'a> = &'a Failing<Global>;
+/// Memory whose allocations can fail.
+trait Scarce: Allocator + Copy {
+    /// The allocations from this one on fail.
+    fn fail_from(&self, first: u64);
 
-/// Prints what a call of this name answers to a text; false where there is none.
-pub(crate) fn told(alloc: Global, name: &str, text: &str, out: &mut Page) -> bool {
-    let failing = Failing::new(alloc);
-    match name {
-        "all_refused" => all_refused(&failing, text, out),
-        "second_refused" => second_refused(&failing, text, out),
-        _ => return false,
+    /// None fails from now on.
+    fn succeed(&self);
+}
+
+impl Scarce for &Failing<Global> {
+    fn fail_from(&self, first: u64) {
+        Failing::fail(self, first, u64::MAX);
     }
-    true
+
+    fn succeed(&self) {
+        Failing::succeed(self);
+    }
+}
+
+/// Prints what a call of this name answers to a text; any other name is for `trees`.
+pub(crate) fn told(alloc: Global, name: &str, text: &str, out: &mut Page) {
+    match name {
+        "all_refused" => all_refused(&Failing::new(alloc), text, out),
+        "second_refused" => second_refused(&Failing::new(alloc), text, out),
+        _ => trees::told(alloc, name, text, out),
+    }
 }
 
 /// The literal of a token, with every allocation failing.
-fn all_refused(failing: Lent<'_>, text: &str, out: &mut Page) {
+fn all_refused<A: Scarce>(failing: A, text: &str, out: &mut Page) {
     match Literal::from_text(failing, text, HERE) {
         Ok(token) => refused_literal(failing, token, out),
         Err(error) => failed(error, out),
@@ -30,12 +45,29 @@ fn all_refused(failing: Lent<'_>, text: &str, out: &mut Page) {
 }
 
 /// What a token is with every allocation failing, or why not, and the token that comes back.
-fn refused_literal<'a>(failing: Lent<'a>, token: Literal<Lent<'a>>, out: &mut Page) {
-    failing.fail(1, u64::MAX);
+fn refused_literal<A: Scarce>(failing: A, token: Literal<A>, out: &mut Page) {
+    failing.fail_from(1);
     let answer = Lit::new(failing, token);
     failing.succeed();
+    tell_answer(answer, out)
+}
+
+/// A value that is told in brief, or that a call is made of.
+trait Tried<A> {
+    /// Prints its digits, and its suffix.
+    fn tell_number(&self, out: &mut Page);
+
+    /// Prints its value with all allocations but the first failing.
+    fn try_value(&self, failing: A, out: &mut Page);
+}
+
+/// Prints a value, or why there is none, and what comes back.
+fn tell_answer<T: Tried<A> + Drop, A: Allocator>(
+    answer: Result<T, Kept<Literal<A>, A>>,
+    out: &mut Page,
+) {
     match answer {
-        Ok(literal) => tell_number(literal, out),
+        Ok(value) => value.tell_number(out),
         Err(kept) => tell_kept(kept, out),
     }
 }
@@ -49,19 +81,21 @@ fn tell_kept<A: Allocator>(kept: Kept<Literal<A>, A>, out: &mut Page) {
     drop(kept)
 }
 
-/// Prints the digits of a number, and its suffix.
-fn tell_number<A: Allocator>(literal: Lit<A>, out: &mut Page) {
-    tell_digits(&literal, out);
-    out.say(literal.suffix(), "\n");
-    drop(literal)
-}
+impl<A: Scarce> Tried<A> for Lit<A> {
+    fn tell_number(&self, out: &mut Page) {
+        match self {
+            Lit::Int(number) => tell_pair("Int ", number.base10_digits(), out),
+            Lit::Float(number) => tell_pair("Float ", number.base10_digits(), out),
+            other => out.say(other.text(), " "),
+        }
+        out.say(self.suffix(), "\n")
+    }
 
-/// Prints the digits of a number, after what it is; the text of another literal.
-fn tell_digits<A: Allocator>(literal: &Lit<A>, out: &mut Page) {
-    match literal {
-        Lit::Int(number) => tell_pair("Int ", number.base10_digits(), out),
-        Lit::Float(number) => tell_pair("Float ", number.base10_digits(), out),
-        other => out.say(other.text(), " "),
+    fn try_value(&self, failing: A, out: &mut Page) {
+        match self {
+            Lit::Str(string) => refused_value(failing, string, out),
+            _ => out.put("no string\n"),
+        }
     }
 }
 
@@ -72,30 +106,30 @@ fn tell_pair(kind: &str, digits: &str, out: &mut Page) {
 }
 
 /// The value of a string whose contents are the text ten thousand times over, with all allocations but the first failing.
-fn second_refused(failing: Lent<'_>, text: &str, out: &mut Page) {
+fn second_refused<A: Scarce>(failing: A, text: &str, out: &mut Page) {
     let mut quoted = out.another();
     quoted.put("\"");
     put_often(10_000, text, &mut quoted);
     quoted.put("\"");
-    match literal_of(failing, quoted.text(), HERE) {
-        Ok(literal) => refused_string(failing, literal, out),
+    try_made(literal_of(failing, quoted.text(), HERE), failing, out)
+}
+
+/// The value of what was made, with all allocations but the first failing.
+fn try_made<T: Tried<A> + Drop, A: Allocator>(
+    made: Result<T, Error<A>>,
+    failing: A,
+    out: &mut Page,
+) {
+    match made {
+        Ok(value) => value.try_value(failing, out),
         Err(error) => failed(error, out),
     }
 }
 
-/// The value of a string, with all allocations but the first failing.
-fn refused_string<'a>(failing: Lent<'a>, literal: Lit<Lent<'a>>, out: &mut Page) {
-    match &literal {
-        Lit::Str(string) => refused_value(failing, string, out),
-        _ => out.put("no string\n"),
-    }
-    drop(literal)
-}
-
 /// Whether the string borrows its value, and what it answers with all allocations but the first failing.
-fn refused_value<'a>(failing: Lent<'a>, literal: &LitStr<Lent<'a>>, out: &mut Page) {
+fn refused_value<A: Scarce>(failing: A, literal: &LitStr<A>, out: &mut Page) {
     out.show(&literal.value_ref().is_some(), " ");
-    failing.fail(2, u64::MAX);
+    failing.fail_from(2);
     let value = literal.value(failing);
     failing.succeed();
     match value {

@@ -1,6 +1,7 @@
 //! Calls of the program for texts, lists and attributes. A US (0x1F) parts its words from its input, and what its streams
 //! are like from the words. Between the words stands a LF.
 
+use crate::calls;
 use crate::streams::{Input, Output, Streams};
 use rl_commands::{Fault, call};
 use rl_program::{Ending, RunError};
@@ -8,15 +9,14 @@ use rl_refusing::Page;
 use rl_tokens::{Error, ErrorKind, Span};
 use std::alloc::{AllocError, Global};
 
-/// Prints what a call of this name answers; false where there is none.
-pub(crate) fn told(alloc: Global, name: &str, bytes: &[u8], out: &mut Page) -> bool {
+/// Prints what a call of this name answers; any other name is for `calls`.
+pub(crate) fn told(alloc: Global, name: &str, bytes: &[u8], out: &mut Page) {
     match name {
         "call" => called(alloc, bytes, out),
         "call_by" => called_by(alloc, bytes, out),
         "endings" => endings(out),
-        _ => return false,
+        _ => calls::of_bytes(alloc, name, bytes, out),
     }
-    true
 }
 
 /// The bytes before the first US, and those after it.
@@ -65,9 +65,14 @@ fn called_by(alloc: Global, bytes: &[u8], out: &mut Page) {
 /// Puts pieces last that a character parts, each after how often it stands there, as `3*a`.
 pub(crate) fn put_pieces(pieces: &str, between: char, text: &mut Page) {
     for part in pieces.split(between) {
-        let (count, piece) = part.split_once('*').unwrap_or(("1", part));
-        put_often(count.parse::<u32>().unwrap_or(0), piece, text);
+        put_piece(part, text);
     }
+}
+
+/// Puts a piece last, after how often it stands there.
+fn put_piece(part: &str, text: &mut Page) {
+    let (count, piece) = part.split_once('*').unwrap_or(("1", part));
+    put_often(count.parse::<u32>().unwrap_or(0), piece, text)
 }
 
 /// Puts a piece last so many times.

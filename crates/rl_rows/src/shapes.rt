@@ -1,6 +1,7 @@
 //! What the grammars answer of one text.
 
 use crate::tell::{tell, tell_debug, tell_error};
+use crate::tokens;
 use rl_grammar::{
     Kind, Parts, byte_of, bytes_of, char_of, digits_of, float_shape, int_shape, is_plain, shape,
     shape_negative, str_of,
@@ -9,8 +10,8 @@ use rl_refusing::Page;
 use rl_tokens::{Error, whitespace};
 use std::alloc::Global;
 
-/// Prints what a call of this name answers; false where there is none.
-pub(crate) fn told(alloc: Global, name: &str, text: &str, out: &mut Page) -> bool {
+/// Prints what a call of this name answers; any other name is for `tokens`.
+pub(crate) fn told(alloc: Global, name: &str, text: &str, out: &mut Page) {
     match name {
         "shape" => tell_parts(shape(text), out),
         "int_shape" => integer(text, out),
@@ -19,9 +20,8 @@ pub(crate) fn told(alloc: Global, name: &str, text: &str, out: &mut Page) -> boo
         "skipped" => out.say(whitespace::skip(text), "\n"),
         "contents" => contents(alloc, text, out),
         "plain" => plain(text, out),
-        _ => return false,
+        _ => tokens::told(alloc, name, text, out),
     }
-    true
 }
 
 /// Prints a kind, and body and suffix with a point between, or that there is none.

@@ -1,6 +1,6 @@
 //! Streams over memory that pass few bytes a call, and fail or end after some.
 
-use crate::bulk::parts_of;
+use crate::row::parts_of;
 use std::io::{self, ErrorKind, Read, Write};
 
 /// How the streams of a call behave.

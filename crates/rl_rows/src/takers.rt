@@ -1,8 +1,9 @@
 //! What the four takers of a buffer take, and a minus and a number of two files.
 
-use crate::tell::{append, at, tell_error, tell_spanned, tell_trees, trees_of};
+use crate::literals::call_of;
+use crate::tell::{append, at, tell_error, tell_trees, trees_of};
 use rl_refusing::Page;
-use rl_tokens::{Error, Literal, ParseBuffer, Punct, Span, TokenStream, TokenTree};
+use rl_tokens::{Literal, ParseBuffer, Punct, Span, TokenStream, TokenTree};
 use rust_literals::Lit;
 use std::alloc::Global;
 
@@ -24,15 +25,30 @@ pub(crate) fn takers(alloc: Global, text: &str, out: &mut Page) {
 fn take_next(input: &mut ParseBuffer<'_>, out: &mut Page) {
     tell_left(input, out);
     tell_forks(input, out);
-    if let Some(ident) = input.ident() {
-        return out.say(ident.text(), "\n");
+    match input.ident() {
+        Some(ident) => out.say(ident.text(), "\n"),
+        None => take_mark(input, out),
     }
-    if let Some(punct) = input.punct() {
-        return out.show(&punct.as_char(), "\n");
+}
+
+/// Takes a mark, or what else stands next.
+fn take_mark(input: &mut ParseBuffer<'_>, out: &mut Page) {
+    match input.punct() {
+        Some(punct) => out.show(&punct.as_char(), "\n"),
+        None => take_literal(input, out),
     }
-    if let Some(literal) = input.literal() {
-        return out.say(literal.text(), "\n");
+}
+
+/// Takes a literal, or what else stands next.
+fn take_literal(input: &mut ParseBuffer<'_>, out: &mut Page) {
+    match input.literal() {
+        Some(literal) => out.say(literal.text(), "\n"),
+        None => take_group(input, out),
     }
+}
+
+/// Takes a group, if one stands next.
+fn take_group(input: &mut ParseBuffer<'_>, out: &mut Page) {
     match input.group() {
         Some(group) => out.show(&group.stream().trees().len(), " inside\n"),
         None => out.put("nothing\n"),
@@ -80,16 +96,5 @@ fn two_trees(number: Literal, out: &mut Page) {
     append(TokenTree::Literal(number), &mut stream, out);
     tell_trees(stream.trees(), out);
     let mut input = ParseBuffer::new(stream.trees(), Span::call_site());
-    tell_first(input.parse::<Lit>(alloc), out)
-}
-
-/// The literal in front, and its span.
-fn tell_first(first: Result<Lit, Error>, out: &mut Page) {
-    match first {
-        Ok(literal) => {
-            tell_spanned(&literal, "\n", out);
-            drop(literal)
-        }
-        Err(error) => tell_error(error, out),
-    }
+    call_of(input.parse::<Lit>(alloc), "spanned", out)
 }

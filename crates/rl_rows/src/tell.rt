@@ -2,7 +2,7 @@
 
 use rl_lines::line_of;
 use rl_refusing::Page;
-use rl_tokens::{Error, Literal, Span, TokenStream, TokenTree, lex};
+use rl_tokens::{Error, Kept, Literal, Span, TokenStream, TokenTree, lex};
 use rust_literals::Lit;
 use std::alloc::{Allocator, Global};
 use std::fmt::Debug;
@@ -73,21 +73,27 @@ pub(crate) fn place(span: Span, out: &mut Page) {
 pub(crate) fn tell_error(error: Error, out: &mut Page) {
     at(error.span, " ", out);
     out.debug(&error.kind, ": ");
-    out.show(&error, "\n")
+    out.show(&error, "\n");
+    drop(error)
 }
 
 /// Prints a tree's form, and its text.
 pub(crate) fn tell_form(tree: &TokenTree, out: &mut Page) {
     match tree {
-        TokenTree::Group(group) => out.put_debug(&group.delimiter()),
-        TokenTree::Ident(ident) => out.say("Ident ", ident.text()),
+        TokenTree::Group(group) => out.debug(&group.delimiter(), " "),
+        TokenTree::Ident(ident) => tell_token("Ident ", ident.text(), out),
         TokenTree::Punct(punct) => {
             out.put("Punct ");
-            out.put_char(punct.as_char())
+            out.show(&punct.as_char(), " ")
         }
-        TokenTree::Literal(literal) => out.say("Literal ", literal.text()),
+        TokenTree::Literal(literal) => tell_token("Literal ", literal.text(), out),
     }
-    out.put(" ")
+}
+
+/// Prints what a token is, and its text.
+fn tell_token(form: &str, text: &str, out: &mut Page) {
+    out.put(form);
+    out.say(text, " ")
 }
 
 /// Prints trees: each one's form, text and span.
@@ -107,16 +113,23 @@ pub(crate) fn tell_line(alloc: Global, literal: &Lit, out: &mut Page) {
     }
 }
 
-/// Prints a literal as it is printed to programmers, with its span.
-pub(crate) fn tell_spanned(literal: &Lit, ending: &str, out: &mut Page) {
-    out.debug(literal, " ");
-    at(literal.span(), ending, out)
+/// A value that is printed with its span.
+pub(crate) trait Spanned {
+    /// Prints it as it is printed to programmers, its span, and what ends it.
+    fn put_spanned(&self, ending: &str, out: &mut Page);
+}
+
+impl Spanned for Lit {
+    fn put_spanned(&self, ending: &str, out: &mut Page) {
+        out.debug(self, " ");
+        at(self.span(), ending, out)
+    }
 }
 
 /// As it is printed to programmers, with its span and its line.
 impl ToRow for Lit {
     fn put_in(&self, out: &mut Page) {
-        tell_spanned(self, " ", out);
+        self.put_spanned(" ", out);
         tell_line(out.alloc(), self, out)
     }
 }
@@ -136,15 +149,15 @@ pub(crate) fn literal_of<A: Allocator + Copy>(
     span: Span,
 ) -> Result<Lit<A>, Error<A>> {
     match Literal::from_text(alloc, text, span) {
-        Ok(token) => literal_of_token(alloc, token),
+        Ok(token) => made_of(Lit::new(alloc, token)),
         Err(error) => Err(error),
     }
 }
 
-/// The literal that a token is.
-fn literal_of_token<A: Allocator + Copy>(alloc: A, token: Literal<A>) -> Result<Lit<A>, Error<A>> {
-    match Lit::new(alloc, token) {
-        Ok(literal) => Ok(literal),
+/// What a call made of a value, or its error alone: a value that it hands back is let go.
+fn made_of<T, V: Drop, A: Allocator>(made: Result<T, Kept<V, A>>) -> Result<T, Error<A>> {
+    match made {
+        Ok(value) => Ok(value),
         Err(kept) => Err(Error::from(kept)),
     }
 }

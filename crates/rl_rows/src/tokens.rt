@@ -1,14 +1,15 @@
 //! Spans, words, tokens, and what writers make of texts.
 
-use crate::tell::{HERE, THERE, at, tell, tell_as_literal, tell_error};
+use crate::numbers;
+use crate::tell::{HERE, THERE, ToRow, at, tell, tell_as_literal, tell_error};
 use rl_refusing::Page;
 use rl_tokens::ident::xid_ok;
 use rl_tokens::{Ident, Literal, Span};
-use rust_literals::{LitChar, LitStr};
+use rust_literals::{LitBool, LitChar, LitStr};
 use std::alloc::Global;
 
-/// Prints what a call of this name answers; false where there is none.
-pub(crate) fn told(alloc: Global, name: &str, text: &str, out: &mut Page) -> bool {
+/// Prints what a call of this name answers; any other name is for `numbers`.
+pub(crate) fn told(alloc: Global, name: &str, text: &str, out: &mut Page) {
     match name {
         "joined" => spans(out),
         "word" => one_word(alloc, text, out),
@@ -18,9 +19,12 @@ pub(crate) fn told(alloc: Global, name: &str, text: &str, out: &mut Page) -> boo
             tell_as_literal(LitStr::new(alloc, text, HERE), out)
         }
         "characters" => characters(alloc, text, out),
-        _ => return false,
+        "truth" => {
+            truth(alloc, false, out);
+            truth(alloc, true, out)
+        }
+        _ => numbers::told(alloc, name, text, out),
     }
-    true
 }
 
 /// A span's parts, and a span joined with two more.
@@ -77,5 +81,22 @@ fn characters(alloc: Global, text: &str, out: &mut Page) {
     for c in text.chars() {
         tell(Literal::character(alloc, c), out);
         tell_as_literal(LitChar::new(alloc, c, HERE), out);
+    }
+}
+
+/// A truth value: made, moved, and as a token.
+fn truth(alloc: Global, value: bool, out: &mut Page) {
+    let mut literal = LitBool::new(value, HERE);
+    out.show(&literal.value(), " ");
+    at(literal.span(), " ", out);
+    literal.set_span(THERE);
+    tell(literal.token(alloc), out)
+}
+
+/// Its text and span.
+impl ToRow for Ident {
+    fn put_in(&self, out: &mut Page) {
+        out.say(self.text(), " ");
+        at(self.span(), "\n", out)
     }
 }

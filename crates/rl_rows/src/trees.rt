@@ -1,19 +1,19 @@
 //! The trees of a text, and why it is cut into none.
 
+use crate::parsers;
 use crate::tell::{HERE, append, place, tell_error, tell_form};
 use rl_refusing::Page;
 use rl_tokens::{Delimiter, Group, LexKind, Literal, Span, TokenStream, TokenTree, Tokens, lex};
 use std::alloc::Global;
 
-/// Prints what a call of this name answers; false where there is none.
-pub(crate) fn told(alloc: Global, name: &str, text: &str, out: &mut Page) -> bool {
+/// Prints what a call of this name answers; any other name is for `parsers`.
+pub(crate) fn told(alloc: Global, name: &str, text: &str, out: &mut Page) {
     match name {
         "lex" => cut(alloc, text, out),
         "lent" => lent(text, out),
         "built" => built(alloc, out),
-        _ => return false,
+        _ => parsers::told(alloc, name, text, out),
     }
-    true
 }
 
 /// Prints each tree with its bytes: a group as its delimiter, with the trees inside between angle brackets.

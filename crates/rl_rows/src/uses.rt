@@ -1,9 +1,11 @@
 //! What the small callers of `rl_uses` make of a text.
 
+use crate::calls;
 use crate::parsers::{tell_next, tell_parsed};
-use crate::tell::{ToRow, at, put, tell, tell_debug, tell_error, tell_spanned, trees_of};
+use crate::tell::{Spanned, ToRow, at, put, tell, tell_debug, tell_error, trees_of};
+use rl_attributes::SettingError;
 use rl_refusing::Page;
-use rl_tokens::{ParseBuffer, Span, parse_all};
+use rl_tokens::{Error, ParseBuffer, Span, parse_all};
 use rl_uses::{
     Attribute, Config, Item, ItemList, Reason, backslash_in_path, bad_literals, control_strings,
     count_literals, format, read_attribute, read_config, read_number, rewritten,
@@ -15,8 +17,8 @@ use std::collections::HashMap;
 /// The file that spans name.
 const FILE: u32 = 7;
 
-/// Prints what a call of this name answers; false where there is none.
-pub(crate) fn told(alloc: Global, name: &str, text: &str, out: &mut Page) -> bool {
+/// Prints what a call of this name answers; any other name is for `calls`.
+pub(crate) fn told(alloc: Global, name: &str, text: &str, out: &mut Page) {
     match name {
         "attribute" => tell(read_attribute(alloc, text, FILE), out),
         "attributes" => attributes(alloc, text, out),
@@ -30,11 +32,10 @@ pub(crate) fn told(alloc: Global, name: &str, text: &str, out: &mut Page) -> boo
             tell_debug(read_number::<u16, Global>(alloc, text, FILE), "\n", out);
             tell_debug(read_number::<i64, Global>(alloc, text, FILE), "\n", out)
         }
-        "config" => config(alloc, text, out),
-        "path" => path(alloc, text, out),
-        _ => return false,
+        "config" => tell_settings(read_config(alloc, text, FILE), out),
+        "path" => tell_settings(backslash_in_path(alloc, text, FILE), out),
+        _ => calls::of_several(alloc, name, text, out),
     }
-    true
 }
 
 /// An attribute's name and value, each after its bytes.
@@ -68,17 +69,22 @@ fn attributes(alloc: Global, text: &str, out: &mut Page) {
 impl ToRow for ItemList {
     fn put_in(&self, out: &mut Page) {
         for item in self.items.as_slice() {
-            match item {
-                Item::Int(literal) => tell_item("int ", literal.span(), out),
-                Item::Str(literal) => tell_item("str ", literal.span(), out),
-            }
+            tell_item(item, out);
         }
         out.put("\n")
     }
 }
 
 /// An item's kind and span.
-fn tell_item(kind: &str, span: Span, out: &mut Page) {
+fn tell_item(item: &Item, out: &mut Page) {
+    match item {
+        Item::Int(literal) => tell_kind("int ", literal.span(), out),
+        Item::Str(literal) => tell_kind("str ", literal.span(), out),
+    }
+}
+
+/// What an item is, and its span.
+fn tell_kind(kind: &str, span: Span, out: &mut Page) {
     out.put(kind);
     at(span, ";", out)
 }
@@ -125,11 +131,15 @@ impl ToRow for String {
 /// The literal, moved, written anew, and whether it equals what it was.
 pub(crate) fn anew(alloc: Global, literal: &mut Lit, out: &mut Page) {
     literal.set_span(Span::new(3, 5, 9));
-    match rewritten(alloc, literal) {
+    tell_anew(rewritten(alloc, literal), literal, out)
+}
+
+/// A literal that was written anew, and whether it equals what it was.
+fn tell_anew<T: Spanned + PartialEq + Drop>(anew: Result<T, Error>, literal: &T, out: &mut Page) {
+    match anew {
         Ok(anew) => {
-            tell_spanned(&anew, " ", out);
-            out.show(&(anew == *literal), "\n");
-            drop(anew)
+            anew.put_spanned(" ", out);
+            out.show(&(anew == *literal), "\n")
         }
         Err(error) => tell_error(error, out),
     }
@@ -149,27 +159,42 @@ fn tell_counts(alloc: Global, counts: &HashMap<Lit, usize>, text: &str, out: &mu
         Ok(literals) => tell_counted(counts, literals.as_slice(), out),
         Err(error) => tell_error(error, out),
     }
+}
+
+/// Of each literal the first that equals it, and how often it stands in the text; and how many there are.
+fn tell_counted(counts: &HashMap<Lit, usize>, literals: &[Lit], out: &mut Page) {
+    for literal in literals {
+        tell_count(counts.get_key_value(literal), out);
+    }
     out.show(&counts.len(), "\n")
 }
 
-/// Of each literal the first that equals it, and how often it stands in the text.
-fn tell_counted(counts: &HashMap<Lit, usize>, literals: &[Lit], out: &mut Page) {
-    for literal in literals {
-        if let Some((first, times)) = counts.get_key_value(literal) {
-            at(first.span(), " ", out);
-            out.show(times, "\n")
-        }
+/// The first literal that equals another one, and how often it stands in the text.
+fn tell_count(count: Option<(&Lit, &usize)>, out: &mut Page) {
+    if let Some((first, times)) = count {
+        at(first.span(), " ", out);
+        out.show(times, "\n")
     }
 }
 
-/// The text as a server's settings, or why there are none, and where.
-fn config(alloc: Global, text: &str, out: &mut Page) {
-    match read_config(alloc, text, FILE) {
-        Ok(config) => put(config, out),
-        Err(error) => {
-            at(error.span(), " ", out);
-            out.show(&error, "\n")
-        }
+/// An error that is reported with its file.
+trait Reported {
+    /// Prints its span, and its message.
+    fn put_reported(&self, out: &mut Page);
+}
+
+impl Reported for SettingError {
+    fn put_reported(&self, out: &mut Page) {
+        at(self.span(), " ", out);
+        out.show(self, "\n")
+    }
+}
+
+/// What settings are read as, or why there are none.
+fn tell_settings<T: ToRow + Drop, E: Reported + Drop>(settings: Result<T, E>, out: &mut Page) {
+    match settings {
+        Ok(settings) => put(settings, out),
+        Err(error) => error.put_reported(out),
     }
 }
 
@@ -182,13 +207,9 @@ impl ToRow for Config {
     }
 }
 
-/// What in the text gives the first backslash of the path that is set, or why there are no settings, and where.
-fn path(alloc: Global, text: &str, out: &mut Page) {
-    match backslash_in_path(alloc, text, FILE) {
-        Ok(found) => out.debug(&found, "\n"),
-        Err(error) => {
-            at(error.span(), " ", out);
-            out.show(&error, "\n")
-        }
+/// What in the text gives the first backslash of a path that is set.
+impl ToRow for Option<Span> {
+    fn put_in(&self, out: &mut Page) {
+        out.debug(self, "\n")
     }
 }

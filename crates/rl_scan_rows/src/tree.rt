@@ -2,8 +2,8 @@
 
 use crate::writers::Narrow;
 use rl_files::{PathError, Tree};
-use rl_program::Ending;
-use rl_reports::{CallError, Console, call};
+use rl_program::{Ending, RunError};
+use rl_reports::{Console, call};
 use std::alloc::{AllocError, Allocator, Global};
 use std::io;
 use std::io::Write;
@@ -33,31 +33,48 @@ const JSON: &str = "\"\\u{e0041}\u{e0041}\u{202e}\x7f\\0\\x1f/é😀\" '\\u{1f60
 '\\\\' c\"\\xff\\\"\" b'\\xff' b\"\\\\a\" b\"\" \"\"
 1_000.5e-3_f64 0b1111_0000 340282366920938463463374607431768211455 \"a\"b false r\"\\ \t\" \"\\q\"";
 
+/// Literals that hold `ab`, in one spelling or another, and some that don't.
+const HELD: &str = "\"\\u{61}b\" b\"ab\" c\"\\x61b\" 'a' b'a'
+\"x\\
+   ab\" r#\"ab\"# \"äab\" \"\\\\u{61}\" // \"ab\"
+\"ba\" 'b'";
+
+/// Characters that aren't seen, in literals and out of them.
+const HIDES: &str = "\"a\\u{202e}b\" \"a\u{202e}b\"
+'\u{200b}' r\"ä\u{feff}\" b\"\u{202e}\" // \"\u{202e}\"
+\"a\tb\" 1";
+
+/// What a file of the tree holds that is a text.
+fn text_at(path: &str) -> Option<&'static str> {
+    match path {
+        "-" => Some("f(\"a\\n\", '\\q', 0xFF_u8)"),
+        "./a.rs" => Some("let x = 1;\n\"a b\"q true"),
+        "./b/c.rs" => Some("2 '\\u{d800}' \"\\u{202e}\" \""),
+        "./t\n.rs" => Some("3.5"),
+        "./none.rs" => Some("fn f() {}"),
+        "eq.rs" => Some("\"a=b\" '='"),
+        "alone" => Some("b'é' /*"),
+        "bad.rs" => Some(BAD),
+        "crlf.rs" => Some("\"a\r\nb\" \"a\r\n\\q\" \"c\r\nd\re\" \"\\\r\n x\""),
+        "held" => Some(HELD),
+        "json" => Some(JSON),
+        "hides" => Some(HIDES),
+        "./.git/x.rs" => Some("4"),
+        "./target/x.rs" => Some("5"),
+        _ => None,
+    }
+}
+
 /// What a file of the tree holds.
 fn bytes_at(path: &str) -> Result<&'static [u8], PathError> {
     match path {
-        "-" => Ok(b"f(\"a\\n\", '\\q', 0xFF_u8)".as_slice()),
-        "./a.rs" => Ok(b"let x = 1;\n\"a b\"q true".as_slice()),
         "./b.rs" => Err(PathError::ReadFailed),
-        "./b/c.rs" => Ok(b"2 '\\u{d800}' \"\\u{202e}\" \"".as_slice()),
-        "./n.rs" => Ok(b"1 \"a\xff\"".as_slice()),
-        "./t\n.rs" => Ok(b"3.5".as_slice()),
-        "./none.rs" => Ok(b"fn f() {}".as_slice()),
-        "eq.rs" => Ok(b"\"a=b\" '='".as_slice()),
-        "alone" => Ok(b"b'\xc3\xa9' /*".as_slice()),
-        "bad.rs" => Ok(BAD.as_bytes()),
-        "crlf.rs" => Ok(b"\"a\r\nb\" \"a\r\n\\q\" \"c\r\nd\re\" \"\\\r\n x\"".as_slice()),
-        "held" => Ok(
-            b"\"\\u{61}b\" b\"ab\" c\"\\x61b\" 'a' b'a'\n\"x\\\n   ab\" r#\"ab\"# \"\xc3\xa4ab\" \"\\\\u{61}\" // \"ab\"\n\"ba\" 'b'".as_slice(),
-        ),
-        "json" => Ok(JSON.as_bytes()),
-        "hides" => Ok(
-            b"\"a\\u{202e}b\" \"a\xe2\x80\xaeb\"\n'\xe2\x80\x8b' r\"\xc3\xa4\xef\xbb\xbf\" b\"\xe2\x80\xae\" // \"\xe2\x80\xae\"\n\"a\tb\" 1".as_slice(),
-        ),
         "long.rs" => Err(PathError::TooLong),
-        "./.git/x.rs" => Ok(b"4".as_slice()),
-        "./target/x.rs" => Ok(b"5".as_slice()),
-        _ => Err(PathError::NotFound),
+        "./n.rs" => Ok(b"1 \"a\xff\"".as_slice()),
+        _ => match text_at(path) {
+            Some(text) => Ok(text.as_bytes()),
+            None => Err(PathError::NotFound),
+        },
     }
 }
 
@@ -123,53 +140,77 @@ impl Tree for Sample {
     }
 }
 
-/// Calls the program over the tree, with the words of a line.
-fn call_over(
-    alloc: Global,
-    has_colors: bool,
-    line: &str,
-    out: &mut Narrow,
-    err: &mut Vec<u8>,
-) -> Result<Ending<CallError>, AllocError> {
-    let mut all = String::from_str(alloc, "rl_scan")?;
-    if !line.is_empty() {
-        all.push(' ')?;
-        all.push_str(line)?;
+/// The words of a call: the program's name, and those of a line.
+fn words_of(alloc: Global, line: &str) -> Result<Vec<String>, AllocError> {
+    if line.is_empty() {
+        pieces(alloc, "rl_scan", ' ')
+    } else {
+        let all = format!(in alloc; "rl_scan {line}")?;
+        pieces(alloc, all.as_str(), ' ')
     }
-    let words = pieces(alloc, all.as_str(), ' ')?;
-    let console = Console {
-        input_is_terminal: false,
-        has_colors,
-    };
-    Ok(call(alloc, words.as_slice(), console, &Sample, out, err))
 }
 
-/// Writes what a call writes, and how it ends.
+/// Calls the program over the tree, with the words of a line, and writes what it writes, and how it ends.
 fn show<W: Write>(
     alloc: Global,
     has_colors: bool,
     line: &str,
+    narrow: Narrow,
+    page: &mut W,
+) -> io::Result<()> {
+    let words = words_of(alloc, line)?;
+    show_call(alloc, has_colors, words.as_slice(), narrow, page)
+}
+
+/// Calls the program over the tree, and writes what it writes, and how it ends.
+fn show_call<W: Write>(
+    alloc: Global,
+    has_colors: bool,
+    words: &[String],
     mut narrow: Narrow,
     page: &mut W,
 ) -> io::Result<()> {
     let mut err = Vec::new(alloc);
-    let ending = call_over(alloc, has_colors, line, &mut narrow, &mut err)?;
-    page.write_all(narrow.held.as_slice())?;
-    page.write_all(b"--\n".as_slice())?;
-    page.write_all(err.as_slice())?;
+    let console = Console {
+        input_is_terminal: false,
+        has_colors,
+    };
+    let ending = call(alloc, words, console, &Sample, &mut narrow, &mut err);
+    put_ended(alloc, narrow.held.as_slice(), err.as_slice(), ending, page)
+}
+
+/// Writes what a call wrote, and how it ended.
+fn put_ended<E: RunError + Drop, W: Write>(
+    alloc: Global,
+    held: &[u8],
+    err: &[u8],
+    ending: Ending<E>,
+    page: &mut W,
+) -> io::Result<()> {
     let end = format!(in alloc; "status {} {ending}\n", ending.status())?;
+    page.write_all(held)?;
+    page.write_all(b"--\n".as_slice())?;
+    page.write_all(err)?;
     page.write_all(end.as_bytes())
 }
 
 /// Writes a line of input and the answer to it.
 pub(crate) fn answer<W: Write>(alloc: Global, line: &str, page: &mut W) -> io::Result<()> {
-    page.write_all(b"== ".as_slice())?;
-    page.write_all(line.as_bytes())?;
-    page.write_all(b"\n".as_slice())?;
-    let (has_colors, words) = match line.strip_prefix("^ ") {
-        Some(words) => (true, words),
-        None => (false, line),
-    };
+    let head = format!(in alloc; "== {line}\n")?;
+    page.write_all(head.as_bytes())?;
+    match line.strip_prefix("^ ") {
+        Some(words) => answer_words(alloc, true, words, page),
+        None => answer_words(alloc, false, line, page),
+    }
+}
+
+/// Writes the answer to the words of a line.
+fn answer_words<W: Write>(
+    alloc: Global,
+    has_colors: bool,
+    words: &str,
+    page: &mut W,
+) -> io::Result<()> {
     let (front, rest) = words.split_once(' ').unwrap_or((words, ""));
     match Narrow::of_word(alloc, front) {
         Some(narrow) => show(alloc, has_colors, rest, narrow, page),

@@ -25,13 +25,18 @@ impl Narrow {
 
     /// The one that a word is of: `@20` is closed after 20 bytes, and `!20` fails then.
     pub(crate) fn of_word(alloc: Global, word: &str) -> Option<Narrow> {
-        let (kind, digits) = match word.strip_prefix('@') {
-            Some(digits) => (ErrorKind::BrokenPipe, digits),
-            None => (ErrorKind::StorageFull, word.strip_prefix('!')?),
-        };
+        match word.strip_prefix('@') {
+            Some(digits) => Narrow::of_digits(alloc, digits, ErrorKind::BrokenPipe),
+            None => Narrow::of_digits(alloc, word.strip_prefix('!')?, ErrorKind::StorageFull),
+        }
+    }
+
+    /// One that takes as many bytes as digits say.
+    fn of_digits(alloc: Global, digits: &str, kind: ErrorKind) -> Option<Narrow> {
+        let left = digits.parse::<usize>().ok()?;
         Some(Narrow {
             held: Vec::new(alloc),
-            left: digits.parse::<usize>().ok()?,
+            left,
             kind,
         })
     }

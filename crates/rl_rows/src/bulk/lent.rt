@@ -1,10 +1,10 @@
 //! What a literal borrows of its text.
 
-use super::literal::literal_of;
+use super::lists::put_token;
 use rl_grammar::{Kind, is_plain};
+use rl_refusing::Page;
 use rl_tokens::Literal;
 use rust_literals::{Lit, LitStr};
-use std::alloc::{AllocError, Global};
 
 /// What a string stands for, where that is its body, byte for byte.
 fn lent_text(literal: &LitStr) -> Option<&[u8]> {
@@ -35,27 +35,10 @@ fn lent(literal: &Lit) -> Option<&[u8]> {
     }
 }
 
-/// The line of borrowed bytes: they are written as a byte string.
-fn lent_line(alloc: Global, bytes: &[u8]) -> Result<String, AllocError> {
-    let Ok(shown) = Literal::byte_string(alloc, bytes) else {
-        return Err(AllocError);
-    };
-    let text = shown.text();
-    format!(in alloc; "{text}\n")
-}
-
-/// What the text stands for as a literal, where that is its body, byte for byte, written as a byte string; else `None`.
-pub(crate) fn value_answer(alloc: Global, text: &str) -> Result<String, AllocError> {
-    let literal = literal_of(alloc, text)?;
-    match lent(&literal) {
-        Some(bytes) => {
-            let line = lent_line(alloc, bytes);
-            drop(literal);
-            line
-        }
-        None => {
-            drop(literal);
-            String::from_str(alloc, "None\n")
-        }
+/// Prints what the literal stands for, where that is its body, byte for byte, written as a byte string; else `None`.
+pub(crate) fn put_lent(literal: &Lit, out: &mut Page) {
+    match lent(literal) {
+        Some(bytes) => put_token(Literal::byte_string(out.alloc(), bytes), out),
+        None => out.put("None\n"),
     }
 }

@@ -1,28 +1,34 @@
 //! The literals of a whole source.
 
+use rl_refusing::Page;
 use rl_sources::{Options, ScanError, scan};
-use std::alloc::{AllocError, Global};
-use std::fmt::Write as _;
+use std::alloc::Global;
 
-/// What stands after the lines of a source's literals: the line of its error, where it has one, and
-/// a line with a point.
-fn last_lines(alloc: Global, answer: Result<bool, ScanError>) -> Result<String, AllocError> {
-    match answer {
-        Ok(_) => String::from_str(alloc, ".\n"),
-        Err(ScanError::Source(place, kind)) => format!(in alloc; "error at {place}: {kind}\n.\n"),
-        Err(ScanError::Fault(_)) => Err(AllocError),
+/// Prints the lines of the source's literals, each after its place; at an error its line; and one with a point.
+pub(crate) fn put_source(alloc: Global, text: &str, out: &mut Page) {
+    let mut lines = Vec::new(alloc);
+    let answer = scan(alloc, Options::default(), text, &mut lines);
+    put_bytes(lines.as_slice(), out);
+    put_end(answer, out)
+}
+
+/// Prints the text that bytes are.
+fn put_bytes(bytes: &[u8], out: &mut Page) {
+    match std::str::from_utf8(bytes) {
+        Ok(text) => out.put(text),
+        Err(_) => out.fail(),
     }
 }
 
-/// The lines of the source's literals, each after its place; at an error its line; and one with a
-/// point.
-pub(crate) fn source_answer(alloc: Global, text: &str) -> Result<String, AllocError> {
-    let mut lines = Vec::new(alloc);
-    let answer = scan(alloc, Options::default(), text, &mut lines);
-    let last = last_lines(alloc, answer)?;
-    lines.extend_from_slice(last.as_bytes())?;
-    match String::from_utf8(lines) {
-        Ok(lines) => Ok(lines),
-        Err(_) => Err(AllocError),
+/// Prints what stands after the lines of a source's literals: the line of its error, where it has one, and a line with a point.
+fn put_end(answer: Result<bool, ScanError>, out: &mut Page) {
+    match answer {
+        Ok(_) => out.put(".\n"),
+        Err(ScanError::Source(place, kind)) => {
+            out.put("error at ");
+            out.show(&place, ": ");
+            out.show(&kind, "\n.\n")
+        }
+        Err(ScanError::Fault(_)) => out.fail(),
     }
 }

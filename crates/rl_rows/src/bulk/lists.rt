@@ -1,0 +1,83 @@
+//! Answers of several lines: the literals of a list, where they stand, and attributes. They end in a line with a point.
+
+use crate::tell::place;
+use rl_attributes::Attrs;
+use rl_commands::entry_lines;
+use rl_lines::{label_of, lines_of};
+use rl_program::Refusal;
+use rl_refusing::Page;
+use rl_tokens::{Error, Literal};
+use rust_literals::{Lit, read_all};
+use std::alloc::{AllocError, Global};
+
+/// What has lines.
+pub(crate) trait Lines {
+    /// Its lines.
+    fn lines(&self, alloc: Global) -> Result<String, AllocError>;
+}
+
+impl Lines for Vec<Lit> {
+    fn lines(&self, alloc: Global) -> Result<String, AllocError> {
+        lines_of(alloc, self.as_slice())
+    }
+}
+
+impl Lines for Attrs {
+    fn lines(&self, alloc: Global) -> Result<String, AllocError> {
+        entry_lines(alloc, self.entries())
+    }
+}
+
+/// Prints the lines of a list, or that of its error, and one with a point.
+pub(crate) fn put_list<T: Lines + Drop>(read: Result<T, Error>, out: &mut Page) {
+    match read {
+        Ok(list) => put_lines(list.lines(out.alloc()), out),
+        Err(error) => put_error(error, out),
+    }
+}
+
+/// Prints lines, and one with a point.
+fn put_lines(lines: Result<String, AllocError>, out: &mut Page) {
+    match lines {
+        Ok(lines) => out.say(lines.as_str(), ".\n"),
+        Err(_) => out.fail(),
+    }
+}
+
+/// Prints the line of an error, and one with a point.
+fn put_error(error: Error, out: &mut Page) {
+    out.show(&Refusal(&error), "\n.\n");
+    drop(error)
+}
+
+/// Prints of each of the text's literals its kind, the bytes where it stands, and its text, a line each, or the line of its
+/// error; and one with a point.
+pub(crate) fn put_spans(alloc: Global, text: &str, out: &mut Page) {
+    match read_all(alloc, text, 0) {
+        Ok(literals) => put_each_span(literals.as_slice(), out),
+        Err(error) => put_error(error, out),
+    }
+}
+
+/// Prints of each literal its kind, the bytes where it stands, and its text, a line each, and a line with a point.
+fn put_each_span(literals: &[Lit], out: &mut Page) {
+    for literal in literals {
+        put_span(literal, out);
+    }
+    out.put(".\n")
+}
+
+/// Prints a literal's kind, the bytes where it stands, and its text.
+fn put_span(literal: &Lit, out: &mut Page) {
+    out.say(label_of(literal.kind()), " ");
+    place(literal.span(), out);
+    put_token(Literal::string(out.alloc(), literal.text()), out)
+}
+
+/// Prints the line of a token.
+pub(crate) fn put_token(made: Result<Literal, Error>, out: &mut Page) {
+    match made {
+        Ok(token) => out.say(token.text(), "\n"),
+        Err(_) => out.fail(),
+    }
+}
