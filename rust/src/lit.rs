@@ -486,19 +486,42 @@ mod tests {
         let mut parsed = 0;
         let mut each = |fronts: &[&str], characters: &str, most| {
             for front in fronts {
-                each_text(front, characters, most, &mut |text| check(text, &mut parsed));
+                each_text(front, characters, most, &mut |text| {
+                    check(text, &mut parsed)
+                });
             }
         };
         each(&[""], "019_.eE+-xbu8f", 4);
         each(
-            &["1.5", "1e5", "0x", "0b1", "-1.", "1_", "1f3", "1.0f3", "1e+", "12345.6E+"],
+            &[
+                "1.5",
+                "1e5",
+                "0x",
+                "0b1",
+                "-1.",
+                "1_",
+                "1f3",
+                "1.0f3",
+                "1e+",
+                "12345.6E+",
+            ],
             "1_.e+-2fé",
             3,
         );
         let largest = "340282366920938463463374607431768211455";
-        each(&[largest, "0xFFFFFFFFFFFFFFFFFFFFFFFFFFFFFFFF", "-34028236692093846346337460743176821145"], "0_ef6", 3);
         each(
-            &["", "r", "b", "c", "br", "cr#", "r#\"", "b'", "\"\\u{1", "'\\u{", "c\"\\x4"],
+            &[
+                largest,
+                "0xFFFFFFFFFFFFFFFFFFFFFFFFFFFFFFFF",
+                "-34028236692093846346337460743176821145",
+            ],
+            "0_ef6",
+            3,
+        );
+        each(
+            &[
+                "", "r", "b", "c", "br", "cr#", "r#\"", "b'", "\"\\u{1", "'\\u{", "c\"\\x4",
+            ],
             "\"'\\\r\n\tnxé#_ ",
             3,
         );

@@ -1,8 +1,8 @@
 //! Why a text is no literal, and where.
 
 use crate::kind::Kind;
-use crate::rl_reasons::{explain_value, Flaw};
 pub use crate::rl_reasons::FlawKind;
+use crate::rl_reasons::{explain_value, Flaw};
 use core::fmt;
 use core::ops::Range;
 
