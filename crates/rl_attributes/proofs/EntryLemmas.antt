@@ -23,7 +23,8 @@ use Rattle.rl_tokens.proofs.TreeRests.{rest_self}
 use Rattle.rust_literals.specs.Parsing.{RunsLit, IsLitFront}
 use Rattle.rl_grammar.specs.Fronts.{IsFront}
 use Rattle.rust_literals.specs.declared.lit.Lit.{Lit}
-use Rattle.rust_literals.specs.Literals.{kind_of, token_of, IsReadAs}
+use Rattle.rl_forms.specs.Reading.{IsReadAs}
+use Rattle.rust_literals.specs.Literals.{kind_of, token_of}
 use Rattle.rust_literals.proofs.ReadLemmas.{lex_memory}
 use Rattle.rl_attributes.specs.declared.attributes.Entry.{Entry}
 use Rattle.rl_attributes.specs.declared.attributes.Attrs.{Attrs}

@@ -1,7 +1,8 @@
 -- What entries hold: attributes, each with its literal as it reads.
 use Rattle.std.specs.Prelude.{◌≡◌, ℕ, List, map, string_bytes}
 use Rattle.std.specs.Str.{chars}
-use Rattle.rust_literals.specs.Literals.{kind_of, token_of, IsReadAs}
+use Rattle.rl_forms.specs.Reading.{IsReadAs}
+use Rattle.rust_literals.specs.Literals.{kind_of, token_of}
 use Rattle.rl_attributes.specs.declared.attributes.Entry.{Entry}
 use Rattle.rl_attributes.specs.Attributes.{Attribute, NamesDiffer}
 

@@ -3,9 +3,10 @@ use Rattle.rl_text.proofs.Common.{List, [], ap, append_assoc, chars, refl, strin
 use Rattle.std.specs.Prelude.{All}
 use Rattle.std.proofs.lemmas.List.Elements.{All-head, All-tail}
 use Rattle.rust_literals.specs.Literals.{token_of}
-use Rattle.rl_lines.specs.Lines.{IsLineOf, IsLineOfLit, Appends}
+use Rattle.rl_lines.specs.Lines.{IsLineOf, Appends}
+use Rattle.rl_commands.specs.LitLines.{IsLineOfLit}
 use Rattle.rl_lines.proofs.LineLemmas.{space}
-use Rattle.rl_lines.proofs.TextLemmas.{line_of_text}
+use Rattle.rl_commands.proofs.LitLineLemmas.{line_of_text}
 use Rattle.rl_attributes.specs.declared.attributes.Entry.{Entry}
 use Rattle.rl_attributes.specs.Attributes.{AreAttributesOf}
 use Rattle.rl_attributes.specs.Entries.{attributes_of, IsReadEntry}

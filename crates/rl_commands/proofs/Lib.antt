@@ -1,3 +1,5 @@
 pub mod RunLemmas
 pub mod ListLemmas
 pub mod EntryLineLemmas
+pub mod LitLineLemmas
+pub mod TokenLines

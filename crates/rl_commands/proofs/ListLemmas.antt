@@ -7,9 +7,9 @@ use Rattle.rust_literals.specs.declared.lit.Lit.{Lit}
 use Rattle.rust_literals.specs.Parsing.{AreRead}
 use Rattle.rust_literals.specs.declared.literals.Literals.{Literals}
 use Rattle.rust_literals.specs.Iterating.{HasReturned}
-use Rattle.rl_lines.specs.Lines.{IsLineOfLit, AreLinesOfLits}
 use Rattle.rl_lines.proofs.JoinLemmas.{joins_more}
-use Rattle.rl_lines.proofs.ListLemmas.{lines_of_text}
+use Rattle.rl_commands.specs.LitLines.{IsLineOfLit, AreLinesOfLits}
+use Rattle.rl_commands.proofs.TokenLines.{lines_of_text}
 use Rattle.rl_commands.specs.declared.command.Command.TheVariants.{Read}
 use Rattle.rl_program.specs.declared.fault.Fault.{Fault}
 use Rattle.rl_program.specs.declared.fault.Fault.TheVariants.{Memory}

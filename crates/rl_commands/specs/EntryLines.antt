@@ -3,7 +3,8 @@
 use Rattle.std.specs.Prelude.{◌≡◌, ℕ, List, ◌∷◌, ◌++◌, string_bytes}
 use Prim.Native.Char.{code}
 use Rattle.std.specs.Str.{chars}
-use Rattle.rl_lines.specs.Lines.{IsLineOf, IsLineOfLit, Joins}
+use Rattle.rl_lines.specs.Lines.{IsLineOf, Joins}
+use Rattle.rl_commands.specs.LitLines.{IsLineOfLit}
 use Rattle.rl_attributes.specs.declared.attributes.Entry.{Entry}
 use Rattle.rl_attributes.specs.Attributes.{Attribute, AreAttributesOf}
 

@@ -1,4 +1,5 @@
 pub mod Runs
+pub mod LitLines
 pub mod Lists
 pub mod EntryLines
 pub mod Commands

@@ -4,7 +4,8 @@ use Rattle.std.specs.Str.{chars}
 use Rattle.rust_literals.specs.declared.lit.Lit.{Lit}
 use Rattle.rust_literals.specs.declared.literals.Literals.{Literals}
 use Rattle.rust_literals.specs.Iterating.{HasReturned}
-use Rattle.rl_lines.specs.Lines.{IsLineOfLit, AreLinesOfLits, Appends}
+use Rattle.rl_lines.specs.Lines.{Appends}
+use Rattle.rl_commands.specs.LitLines.{IsLineOfLit, AreLinesOfLits}
 
 -- the literal's line stands after the lines
 abbrev pub Lengthens : {A : Type 0} → Option (String A) → Lit A → String A → Type 0

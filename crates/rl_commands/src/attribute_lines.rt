@@ -8,7 +8,7 @@ ghost use Rattle.rl_commands.specs.EntryLines.{IsLineOfEntry, AreLinesOfEntries}
 ghost use Rattle.rl_commands.specs.Runs.{Shows, IsRejectionOf};
 
 use crate::attr::{Entry, read};
-use rl_lines::push_literal;
+use crate::lit_line::push_literal;
 use rl_program::Fault;
 use std::alloc::{AllocError, Allocator};
 

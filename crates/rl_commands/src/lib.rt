@@ -7,9 +7,11 @@ mod attribute_lines;
 mod command;
 mod ending;
 mod list;
+mod lit_line;
 pub mod run;
 
 pub use crate::attribute_lines::entry_lines;
 pub use crate::command::Command;
 pub use crate::ending::call;
+pub use crate::lit_line::{line_of, push_literal};
 pub use rl_program::{Ending, Fault};

@@ -6,7 +6,7 @@ ghost use Rattle.rl_commands.specs.declared.command.Command.TheVariants.{Read};
 ghost use Rattle.rl_commands.specs.Runs.{Shows, IsRejectionOf};
 ghost use Rattle.rl_commands.specs.Lists.{Lengthens};
 
-use rl_lines::push_literal;
+use crate::lit_line::push_literal;
 use rl_program::Fault;
 use rust_literals::{Lit, Literals};
 use std::alloc::Allocator;

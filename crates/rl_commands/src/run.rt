@@ -11,7 +11,7 @@ ghost use Rattle.rl_commands.specs.Runs.{whole_token, Shows, Prints, IsLiteralEr
 use crate::attribute_lines::attribute_lines;
 use crate::command::Command;
 use crate::list::literal_lines;
-use rl_lines::line_of;
+use crate::lit_line::line_of;
 use rl_program::{Fault, read_whole, text_of, write_whole};
 use rl_tokens::{Literal, Span};
 use rust_literals::Lit;

@@ -1,6 +1,6 @@
 -- The one reading of a text as a literal: that of `Lit::new` in `syn` 3.0.9, src/lit.rs, an integer
 -- before a float.
-use Rattle.std.specs.Prelude.{◌≡◌, ◌⊎◌, ℕ, ◌≤◌, Bool, true, false, List, [], ◌++◌, codes, ◌<◌}
+use Rattle.std.specs.Prelude.{◌≡◌, ◌⊎◌, ℕ, ◌≤◌, Bool, true, false, List, [], ◌++◌, codes, Option, Some, None, ◌<◌}
 use Rattle.std.specs.Fmt.{decimal}
 use Rattle.rl_forms.specs.declared.kind.Kind.{Kind}
 use Rattle.rl_forms.specs.declared.kind.Kind.TheVariants.{Str, Char, Int, Float, Bool as BoolKind}
@@ -98,3 +98,8 @@ HasNoReading text =
 -- the text is no truth value
 abbrev pub HasNoTruth : List ℕ → Type 0
 HasNoTruth text = (contents : Contents) (suffix : List ℕ) → ReadsBool text contents suffix → ⊥
+
+-- the text reads as this kind; for none, it has no reading
+abbrev pub IsReadAs : Option Kind → List ℕ → Type 0
+IsReadAs (Some kind) text = ReadsAs kind text
+IsReadAs None text = HasNoReading text

@@ -1,3 +1,4 @@
 pub mod FileTextLemmas
 pub mod FrontLemmas
 pub mod NumberFoundLemmas
+pub mod ByteContents

@@ -10,7 +10,6 @@ use Rattle.rl_reading.specs.NumberShapes.{AreDigits}
 use Rattle.rl_reading.proofs.FoundContents.{unit_of}
 use Rattle.rl_lines.specs.FoundLines.{IsShownOf}
 use Rattle.rl_lines.specs.Lines.{line, kind_label, payload, literal_line, IsLineOfKind, Appends}
-use Rattle.rl_quoted.proofs.PlaceLemmas.{found_kind}
 use Rattle.rl_lines.proofs.PrintLemmas.{prints_kind}
 
 -- the line of what is shown
@@ -26,11 +25,6 @@ pub string_line : (text value suffix old new : List ℕ) → HasContents Str tex
     → Appends (IsLineOfKind Str text) old new
 string_line text value suffix old new has s e = shows_line Str text old new (written_text Str (chars value)) suffix
     (Characters (chars value), has, refl) s e
-
--- the kind of what was found in a text is that of any suffix that the text has
-pub kind_of_suffix : (kind : Kind) (text same suffix : List ℕ) {found : Found} → IsFound text found → text ≡ same
-    → HasSuffix kind (chars same) suffix → found.kind ≡ kind
-kind_of_suffix kind text same suffix {found} f e s = found_kind kind text found (rw e (s.0, _, s.1)) f
 
 -- what is written of the contents is shown
 pub written_shown : {E : Type 0} (r : Result SpannedText E) (kind other : Kind) (text value : List ℕ)

@@ -1,10 +1,9 @@
 -- A literal's line, from its contents and its suffix.
-use Rattle.rl_reading.proofs.Names.{Byte, ByteStr, CStr, Char, Contents, Digits, Float, FloatReads, HasContents, HasSuffix, Int, Kind, Reads, Str, float_digits, truth_text}
+use Rattle.rl_reading.proofs.Names.{Byte, ByteStr, CStr, Char, Contents, Float, HasContents, HasSuffix, Int, Kind, Reads, Str, truth_text}
 use Rattle.rl_text.proofs.Common.{Bool, List, [], ap, chars, codes, false, refl, subst, true, ℕ, ◌++◌, ◌∙◌, ◌≡◌}
 use Rattle.rl_forms.specs.declared.kind.Kind.TheVariants.{Bool as BoolKind}
 use Rattle.rl_forms.proofs.OneReading.{one_reading}
-use Rattle.rl_forms.proofs.OneNumber.{float_once}
-use Rattle.rl_lines.specs.Lines.{line, kind_label, payload, literal_line, IsLineOfKind, IsLineOfFloat, Appends}
+use Rattle.rl_lines.specs.Lines.{line, kind_label, payload, literal_line, IsLineOfKind, Appends}
 
 -- a kind's word, by its characters
 pub word_chars : (kind : Kind) → chars (kind_label kind) ≡ kind_label kind
@@ -41,18 +40,6 @@ prints_kind kind text old new shown suffix contents c s e h =
       (contents, suffix, subst (λ x. Reads text kind contents x) one.2 c.1, refl),
       h
           ∙ ap (λ z. old ++ line (kind_label kind) z suffix) e,
-    )
-
--- the same of a float
-pub prints_float : (text old new shown suffix : List ℕ) → ((n x : List ℕ) × FloatReads text n x
-    × (shown ≡ float_digits n)) → ((n : List ℕ) × FloatReads text n suffix) → new ≡ old
-    ++ line (kind_label Float) shown suffix → Appends (IsLineOfFloat text) old new
-prints_float text old new shown suffix d s h =
-    let one = float_once text d.0 s.0 d.1 suffix d.2 s.1 in (
-      literal_line Float (Digits (float_digits s.0)) suffix,
-      (s.0, suffix, s.1, refl),
-      h
-          ∙ ap (λ z. old ++ line (kind_label Float) z suffix) (d.3 ∙ ap float_digits one.0),
     )
 
 -- an equation's right side after what stood there

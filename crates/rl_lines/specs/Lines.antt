@@ -8,12 +8,8 @@ use Rattle.rl_text.specs.Texts.{xid_ok, SpannedText}
 use Rattle.rl_tokens.specs.Trees.{Tree}
 use Rattle.rl_tokens.specs.Lexing.{Lexes}
 use Rattle.rl_grammar.specs.Fronts.{IsFront}
-use Rattle.rl_forms.specs.Numbers.{FloatReads, float_digits}
-use Rattle.rl_forms.specs.Reading.{Contents, Characters, Bytes, Digits, Truth, truth_text, Reads, HasNoReading}
+use Rattle.rl_forms.specs.Reading.{Contents, Characters, Bytes, Digits, Truth, truth_text, Reads, HasNoReading, IsReadAs}
 use Rattle.rl_forms.specs.Written.{written_text}
-use Rattle.rust_literals.specs.Literals.{IsReadAs}
-use Rattle.rust_literals.specs.declared.lit.Lit.{Lit}
-use Rattle.rust_literals.specs.declared.lit.Lit.TheVariants.{Str as StrLit, ByteStr as ByteStrLit, CStr as CStrLit, Byte as ByteLit, Char as CharLit, Int as IntLit, Float as FloatLit, Bool as BoolLit, Verbatim}
 
 -- a kind's word
 abbrev pub kind_label : Kind → List ℕ
@@ -93,35 +89,11 @@ pub record AreLinesOfText (text shown : List ℕ) : Type 0 where
   pub used : ReadsTokens trees tokens
   pub lines : AreLinesOf tokens shown
 
--- ---- literals that are held
-
 -- the line of a text's reading of the kind
 abbrev pub IsLineOfKind : Kind → List ℕ → List ℕ → Type 0
 IsLineOfKind kind text shown =
     (contents : Contents) × (suffix : List ℕ) × Reads text kind contents suffix
     × (shown ≡ literal_line kind contents suffix)
-
--- the line of a text's reading as a float, by the float rule alone
-abbrev pub IsLineOfFloat : List ℕ → List ℕ → Type 0
-IsLineOfFloat text shown =
-    (numeral : List ℕ) × (suffix : List ℕ) × FloatReads text numeral suffix
-    × (shown ≡ literal_line Float (Digits (float_digits numeral)) suffix)
-
--- a literal's line
-abbrev pub IsLineOfLit : {A : Type 0} → Lit A → List ℕ → Type 0
-IsLineOfLit (StrLit l) shown = IsLineOfKind Str (chars l.text) shown
-IsLineOfLit (ByteStrLit l) shown = IsLineOfKind ByteStr (chars l.text) shown
-IsLineOfLit (CStrLit l) shown = IsLineOfKind CStr (chars l.text) shown
-IsLineOfLit (ByteLit l) shown = IsLineOfKind Byte (chars l.text) shown
-IsLineOfLit (CharLit l) shown = IsLineOfKind Char (chars l.text) shown
-IsLineOfLit (IntLit l) shown = IsLineOfKind Int (chars l.text) shown
-IsLineOfLit (FloatLit l) shown = IsLineOfFloat (chars l.text) shown
-IsLineOfLit (BoolLit l) shown = shown ≡ literal_line Bool (Truth l.value) []
-IsLineOfLit (Verbatim l) shown = shown ≡ verbatim_line (chars l.text)
-
--- the lines of literals, one after another
-abbrev pub AreLinesOfLits : {A : Type 0} → List (Lit A) → List ℕ → Type 0
-AreLinesOfLits literals shown = Joins IsLineOfLit literals shown
 
 -- such a piece stands after what stood there
 abbrev pub Appends : (List ℕ → Type 0) → List ℕ → List ℕ → Type 0

@@ -5,9 +5,7 @@
 mod digits;
 mod found_line;
 mod line;
-mod print;
 
 pub use crate::digits::decoded;
-pub use crate::found_line::push_found;
-pub use crate::line::{are_bare, bare_value, label_of, push_bare};
-pub use crate::print::{line_of, lines_of, push_literal, push_literals};
+pub use crate::found_line::{push_found, truth_word};
+pub use crate::line::{are_bare, bare_value, label_of, push_bare, push_kind, push_verbatim};

@@ -1,18 +1,12 @@
 -- The places of parts, as reading finds them, and what stands there.
-use Rattle.rl_reading.proofs.Names.{ByteStr, Bytes, CStr, HasContents, Kind, ReadsAs, is_single, is_string}
-use Rattle.rl_text.proofs.Common.{Bool, Err, IsUtf8, List, Ok, Result, Some, chars, or_left, or_right, refl, subst, sym, true, ℕ, ◌∙◌, ◌≡◌, ◌⊎◌}
-use Rattle.std.specs.Prelude.{IfErr, position}
-use Rattle.std.specs.Result.{IsOk}
-use Rattle.rl_forms.specs.Agreeing.{has_no_zero, is_zero}
+use Rattle.rl_reading.proofs.Names.{Byte, Char, Kind, ReadsAs, is_single, is_string}
+use Rattle.rl_text.proofs.Common.{IsUtf8, List, chars, or_left, or_right, false, subst, true, ℕ, ◌≡◌}
 use Rattle.rl_forms.proofs.OneReading.{one_reading}
-use Rattle.rl_tokens.proofs.CStringLemmas.{zero_is_found}
-use Rattle.rl_forms.proofs.CStringContents.{c_string_no_zero}
 use Rattle.rl_reading.specs.declared.found.Body.{Body}
 use Rattle.rl_reading.specs.declared.found.Found.{Found}
 use Rattle.rl_reading.specs.Bodies.{HasBody, HasSingleBody}
-use Rattle.rl_reading.specs.Founds.{IsFound, body_in}
-use Rattle.rl_reading.proofs.BodyContents.{bytes_of_has}
-use Rattle.rl_reading.proofs.ContentLemmas.{plain_bytes}
+use Rattle.rl_reading.specs.Founds.{IsFound, IsUnitOf, body_in, is_quoted}
+use Rattle.rl_reading.proofs.FoundLemmas.{quoted_found_of}
 use Rattle.rl_reading.proofs.SingleBodies.{single_at}
 use Rattle.rl_quoted.specs.Places.{StandsAt}
 
@@ -39,19 +33,9 @@ pub single_body : (kind : Kind) (t : List ℕ) (body : Body) → is_single kind 
     → HasSingleBody kind (chars t) (body_in t body)
 single_body kind t body s at = single_at kind t body s (at.quoted (or_right (is_string kind) (is_single kind) s))
 
--- the bytes of a C string hold no zero
-pub no_zero_of : (text bytes : List ℕ) → HasContents CStr text (Bytes bytes) → has_no_zero bytes ≡ true
-no_zero_of text bytes r = c_string_no_zero text bytes r.0 r.1
-
--- of bytes without a zero a C string is made
-pub is_made : {S E : Type 0} (r : Result S E) (bytes : List ℕ) (place : E → ℕ) → has_no_zero bytes ≡ true
-    → IfErr r (λ e. position is_zero bytes ≡ Some (place e)) → IsOk r
-is_made (Ok s) bytes place none first = refl
-is_made (Err e) bytes place none first = absurd (zero_is_found bytes (place e) none first)
-
--- a plain body is the contents of what holds bytes
-pub plain_contents_bytes : (kind : Kind) (t body : List ℕ) (plain : Bool) → (kind ≡ ByteStr) ⊎ (kind ≡ CStr) → plain
-    ≡ true → HasBody kind (chars t) body plain → IsUtf8 body → HasContents kind (chars t) (Bytes body)
-plain_contents_bytes kind t body plain which is has u =
-    bytes_of_has kind (chars t) body body plain which has (plain_bytes (chars t) has.form kind has.value body has.suffix
-    (sym has.plain_is ∙ is) u has.parts)
+-- what reading finds, from the places that are held
+pub held_found : (kind : Kind) (t : List ℕ) (body : Body) (n : ℕ) (found : Found) → IsUtf8 t → is_quoted kind ≡ true
+    → StandsAt kind t body → (is_single kind ≡ true → IsUnitOf kind (chars t) n)
+    → ((kind ≡ Byte → ⊥) → (kind ≡ Char → ⊥) → n ≡ 0)
+    → found ≡ record { kind = kind; body = body; magnitude = 0; truth = false; unit = n } → IsFound t found
+held_found kind t body n found u h at unit none is = quoted_found_of t kind body n found u (at.quoted h) unit none is

@@ -23,7 +23,9 @@ ghost use Rattle.rl_quoted.specs.Suffixes.{HasSomeSuffix};
 ghost use Rattle.rl_forms.specs.Words.{kind_name};
 
 use crate::written::written_body;
-use rl_grammar::{Body, Found, Kind, Segments, find, next_is, take_kind};
+use rl_grammar::{
+    Body, Found, Kind, Segments, byte_of_body, char_of_body, find, next_is, take_kind,
+};
 use rl_tokens::{
     Error, Literal, Parse, ParseBuffer, Span, ToTokens, Token, TokenStream, append_literal,
 };
@@ -126,6 +128,26 @@ impl<K: QuotedKind, A: Allocator> Quoted<K, A> {
     {
         let body = self.body;
         &self.token.text()[body.lo..body.hi]
+    }
+
+    /// What reading the token's text finds, as [`find`] does, by the places that are kept: nothing is looked for again.
+    pub fn found(&self) -> Found
+        requires { IsTrue (is_quoted K.KIND) }
+        ensures found { IsFound self.now.text result }
+        ensures kind { result.kind ≡ K.KIND }
+    {
+        let unit = match K::KIND {
+            Kind::Byte => byte_of_body(self.single_body()) as u32,
+            Kind::Char => char_of_body(self.single_body()) as u32,
+            _ => 0,
+        };
+        Found {
+            magnitude: 0,
+            body: self.body,
+            kind: K::KIND,
+            truth: false,
+            unit,
+        }
     }
 
     /// The segments of what stands between the quotes: each piece, where it stands in the token's text, and what it stands

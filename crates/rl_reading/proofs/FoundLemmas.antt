@@ -15,7 +15,7 @@ use Rattle.rl_reading.specs.declared.found.Found.{Found}
 use Rattle.rl_reading.specs.Bodies.{IsUnitValue}
 use Rattle.rl_reading.specs.Forms.{PartsAre, form_opener, front_len, is_plain_body}
 use Rattle.rl_reading.specs.Mirrors.OpenerAt.{found_opener, opener_at}
-use Rattle.rl_reading.specs.Founds.{IsFound, IsFoundFloat, IsQuotedAt, StandsIn, body_in, suffix_in, is_quoted}
+use Rattle.rl_reading.specs.Founds.{IsFound, IsFoundFloat, IsQuotedAt, IsUnitOf, StandsIn, body_in, suffix_in, is_quoted}
 use Rattle.rl_reading.specs.NumberShapes.{HasMagnitude}
 use Rattle.rl_reading.specs.Mirrors.PlainAt.{is_plain_integer, is_plain_float}
 use Rattle.rl_reading.specs.Shapes.{IsQuotedSplit}
@@ -108,9 +108,10 @@ quoted_whole t Byte body u q = record { reads = (_, quoted_reads Byte t body q);
 quoted_whole t Char body u q = record { reads = (_, quoted_reads Char t body q); cut = quoted_cut Char t body u q; plain = single_plain Char t body refl (λ p. p.reads) q }
 quoted_whole t kind body u q = absurd (no_form kind t body refl refl q)
 
-pub quoted_found : (t : List ℕ) (kind : Kind) (body : Body) (n : ℕ) (found : Found) → IsUtf8 t
-    → (q : IsQuotedAt kind t body) → IsUnitValue kind q.value n → found ≡ OfUnit kind body n → IsFound t found
-quoted_found t kind body n found u q h is =
+pub quoted_found_of : (t : List ℕ) (kind : Kind) (body : Body) (n : ℕ) (found : Found) → IsUtf8 t
+    → (q : IsQuotedAt kind t body) → (is_single kind ≡ true → IsUnitOf kind (chars t) n)
+    → ((kind ≡ Byte → ⊥) → (kind ≡ Char → ⊥) → n ≡ 0) → found ≡ OfUnit kind body n → IsFound t found
+quoted_found_of t kind body n found u q unit none is =
     let w = quoted_whole t kind body u q in
     subst (IsFound t) (sym is) (record {
       reads = w.reads;
@@ -122,10 +123,14 @@ quoted_found t kind body n found u q h is =
       no_magnitude = λ e. refl;
       truth = λ e. absurd (no_form kind t body (ap is_string e) (ap is_single e) q);
       no_truth = λ e. refl;
-      unit = λ s. unit_reads q.form kind (chars t) q.value (chars (body_in t body)) (chars (suffix_in t body)) n s
-          q.parts h;
-      no_unit = h.none;
+      unit = unit;
+      no_unit = none;
     })
+
+pub quoted_found : (t : List ℕ) (kind : Kind) (body : Body) (n : ℕ) (found : Found) → IsUtf8 t
+    → (q : IsQuotedAt kind t body) → IsUnitValue kind q.value n → found ≡ OfUnit kind body n → IsFound t found
+quoted_found t kind body n found u q h is = quoted_found_of t kind body n found u q (λ s. unit_reads q.form kind
+    (chars t) q.value (chars (body_in t body)) (chars (suffix_in t body)) n s q.parts h) h.none is
 
 -- from the parts of the literal after its opener
 abbrev pub form_at : (form : QuotedForm) (kind : Kind) (t inside v suffix : List ℕ) (body : Body) → opener_at (chars t)

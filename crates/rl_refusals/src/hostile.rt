@@ -3,8 +3,8 @@
 
 use crate::tell::{Tell, tell_places};
 use rl_attributes::Attrs;
+use rl_commands::line_of;
 use rl_grammar::strict;
-use rl_lines::line_of;
 use rl_program::Refusal;
 use rl_refusing::Page;
 use rl_tokens::{Error, Kept, Literal, Span, lex, whitespace};

@@ -1,6 +1,6 @@
 //! How texts, values, spans, errors, trees and literals are printed.
 
-use rl_lines::line_of;
+use rl_commands::line_of;
 use rl_refusing::Page;
 use rl_tokens::{Error, Kept, Literal, Span, TokenStream, TokenTree, lex};
 use rust_literals::Lit;

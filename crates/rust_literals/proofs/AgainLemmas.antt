@@ -13,7 +13,8 @@ use Rattle.rl_tokens.proofs.CutTrees.{IsCutTree, lexed_trees}
 use Rattle.rl_tokens.proofs.PrintedLaws.{reprinted_lexes}
 use Rattle.rl_reading.proofs.MinusLemmas.{minus_chars}
 use Rattle.rust_literals.specs.declared.lit.Lit.{Lit}
-use Rattle.rust_literals.specs.Literals.{kind_of, token_of, IsReadAs, IsReadFrom}
+use Rattle.rl_forms.specs.Reading.{IsReadAs}
+use Rattle.rust_literals.specs.Literals.{kind_of, token_of, IsReadFrom}
 use Rattle.rust_literals.specs.LitParts.{IsSameAt}
 use Rattle.rust_literals.specs.Parsing.{IsLitFront, ReadsLiterals, AreRead}
 use Rattle.rust_literals.specs.ReadBack.{HoldsOrMemory}

@@ -14,7 +14,8 @@ use Rattle.rl_lexer.proofs.TruthWords.{truth_chars}
 use Rattle.rl_reading.proofs.MinusLemmas.{minus_chars}
 use Rattle.rust_literals.specs.declared.lit.Lit.{Lit}
 use Rattle.rust_literals.specs.declared.lit.Lit.TheVariants.{Str, ByteStr, CStr, Byte, Char, Int, Float, Bool, Verbatim}
-use Rattle.rust_literals.specs.Literals.{kind_of, token_of, IsReadAs, IsReadFrom}
+use Rattle.rl_forms.specs.Reading.{IsReadAs}
+use Rattle.rust_literals.specs.Literals.{kind_of, token_of, IsReadFrom}
 use Rattle.rust_literals.specs.LitParts.{ReadsPlain}
 
 -- ---- kind and token determine a literal

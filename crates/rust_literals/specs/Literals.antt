@@ -4,7 +4,7 @@ use Rattle.std.specs.Str.{chars}
 use Rattle.rl_text.specs.Texts.{SpannedText}
 use Rattle.rl_forms.specs.declared.kind.Kind.TheVariants.{Str as StrKind, ByteStr as ByteStrKind, CStr as CStrKind, Byte as ByteKind, Char as CharKind, Int as IntKind, Float as FloatKind, Bool as BoolKind}
 use Rattle.rl_forms.specs.declared.kind.Kind.{Kind}
-use Rattle.rl_forms.specs.Reading.{ReadsAs, truth_text, HasNoReading, Contents, Reads}
+use Rattle.rl_forms.specs.Reading.{truth_text, Contents, Reads, IsReadAs}
 use Rattle.rust_literals.specs.declared.lit.Lit.{Lit}
 use Rattle.rust_literals.specs.declared.lit.Lit.TheVariants.{Str, ByteStr, CStr, Byte, Char, Int, Float, Bool, Verbatim}
 
@@ -31,11 +31,6 @@ token_of (Int l) = l
 token_of (Float l) = l
 token_of (Bool l) = record { text = truth_text l.value; span = l.span }
 token_of (Verbatim l) = l
-
--- the text reads as this kind; for none, it has no reading
-abbrev pub IsReadAs : Option Kind → List ℕ → Type 0
-IsReadAs (Some kind) text = ReadsAs kind text
-IsReadAs None text = HasNoReading text
 
 -- The literal keeps the token, whose text reads as the literal's kind; `Verbatim` where the text
 -- has no reading.

@@ -2,8 +2,8 @@
 
 use crate::tell::place;
 use rl_attributes::Attrs;
-use rl_commands::entry_lines;
-use rl_lines::{label_of, lines_of};
+use rl_commands::{entry_lines, push_literal};
+use rl_lines::label_of;
 use rl_program::Refusal;
 use rl_refusing::Page;
 use rl_tokens::{Error, Literal};
@@ -18,7 +18,11 @@ pub(crate) trait Lines {
 
 impl Lines for Vec<Lit> {
     fn lines(&self, alloc: Global) -> Result<String, AllocError> {
-        lines_of(alloc, self.as_slice())
+        let mut lines = String::new(alloc);
+        for literal in self {
+            push_literal(alloc, &mut lines, literal)?;
+        }
+        Ok(lines)
     }
 }
 

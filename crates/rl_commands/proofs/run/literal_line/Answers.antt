@@ -1,5 +1,5 @@
 use Rattle.rl_text.proofs.Common.{ap, chars, string_bytes}
-use Rattle.rl_lines.proofs.TextLemmas.{line_of_text}
+use Rattle.rl_commands.proofs.LitLineLemmas.{line_of_text}
 use Rattle.rl_commands.proofs.run.literal_line.Goals as goal
 
 pub returns-clause-line : goal.returns-clause-line

@@ -1,4 +1,4 @@
--- A whole text's line.
+-- The line of a literal that is held, and of the text that it was read from.
 use Rattle.rl_reading.proofs.Names.{Byte, ByteStr, CStr, Char, Digits, Float, Int, Kind, Reads, ReadsAs, SpannedText, Str, Truth, float_digits, truth_text}
 use Rattle.rl_text.proofs.Common.{List, [], ap, chars, inl, inr, subst, sym, ℕ, ◌∙◌, ◌≡◌}
 use Rattle.rl_forms.specs.declared.kind.Kind.TheVariants.{Bool}
@@ -7,7 +7,8 @@ use Rattle.rust_literals.specs.declared.lit.Lit.{Lit}
 use Rattle.rust_literals.specs.declared.lit.Lit.TheVariants.{Str as StrLit, ByteStr as ByteStrLit, CStr as CStrLit, Byte as ByteLit, Char as CharLit, Int as IntLit, Float as FloatLit, Bool as BoolLit, Verbatim}
 use Rattle.rust_literals.specs.Literals.{IsReadFrom}
 use Rattle.rust_literals.proofs.LitLemmas.{truth_reads}
-use Rattle.rl_lines.specs.Lines.{literal_line, verbatim_line, IsLineOf, IsLineOfKind, IsLineOfFloat, IsLineOfLit}
+use Rattle.rl_lines.specs.Lines.{line, kind_label, literal_line, verbatim_line, Appends, IsLineOf, IsLineOfKind}
+use Rattle.rl_commands.specs.LitLines.{IsLineOfFloat, IsLineOfLit}
 
 -- the token's characters, where the literal keeps the token
 same_text : (l token : SpannedText) (t : List ℕ) → l ≡ token → token.text ≡ t → chars l.text ≡ chars t
@@ -56,3 +57,15 @@ line_of_text token (BoolLit l) t shown r k p =
 line_of_text token (Verbatim l) t shown r k p =
     let same : chars l.text ≡ chars t = same_text l token t r.0 k in
     inr (rw (ap chars (sym k)) r.1, p ∙ ap verbatim_line same)
+
+-- the same of a float
+pub prints_float : (text old new shown suffix : List ℕ) → ((n x : List ℕ) × FloatReads text n x
+    × (shown ≡ float_digits n)) → ((n : List ℕ) × FloatReads text n suffix) → new ≡ old
+    ++ line (kind_label Float) shown suffix → Appends (IsLineOfFloat text) old new
+prints_float text old new shown suffix d s h =
+    let one = float_once text d.0 s.0 d.1 suffix d.2 s.1 in (
+      literal_line Float (Digits (float_digits s.0)) suffix,
+      (s.0, suffix, s.1, refl),
+      h
+          ∙ ap (λ z. old ++ line (kind_label Float) z suffix) (d.3 ∙ ap float_digits one.0),
+    )

@@ -2,8 +2,9 @@ use Rattle.rl_text.proofs.Common.{[], ap, chars, on_ok_weaker, refl, ◌∙◌, 
 use Rattle.rl_forms.specs.declared.kind.Kind.TheVariants.{Int, Bool}
 use Rattle.rl_forms.specs.Reading.{Digits, Truth, truth_text}
 use Rattle.rl_lines.specs.Lines.{literal_line}
-use Rattle.rl_lines.proofs.PrintLemmas.{prints_kind, prints_float, truth_chars, no_chars, appends_is}
-use Rattle.rl_lines.proofs.print.push_literal.Goals as goal
+use Rattle.rl_lines.proofs.PrintLemmas.{prints_kind, truth_chars, no_chars, appends_is}
+use Rattle.rl_commands.proofs.LitLineLemmas.{prints_float}
+use Rattle.rl_commands.proofs.lit_line.push_literal.Goals as goal
 
 pub returns-in-Int : goal.returns-in-Int
 returns-in-Int g c =

@@ -1,29 +1,28 @@
-//! Literals as lines.
+//! The line of a literal that is held.
 
-ghost use Rattle.std.specs.Prelude.{OnOk, IfOk, string_bytes};
+ghost use Rattle.std.specs.Prelude.{IfOk, IsTrue, OnOk, string_bytes};
 ghost use Rattle.std.specs.Str.{chars};
-ghost use Rattle.rl_lines.specs.Lines.{IsLineOfKind, IsLineOfLit, AreLinesOfLits, Appends};
+ghost use Rattle.rl_lines.specs.Lines.{IsLineOfKind, Appends};
+ghost use Rattle.rl_reading.specs.Founds.{is_quoted};
+ghost use Rattle.rl_commands.specs.LitLines.{IsLineOfLit};
 
-use crate::found_line::{push_read, truth_word};
-use crate::line::{push_kind, push_verbatim};
-use rl_grammar::find;
+use rl_lines::{push_found, push_kind, push_verbatim, truth_word};
 use rl_quoted::{Quoted, QuotedKind};
 use rl_tokens::Kind;
 use rust_literals::Lit;
 use std::alloc::{AllocError, Allocator};
 
-/// Appends the line of a quoted literal, of what its text reads as.
+/// Appends the line of a quoted literal, by the places that it keeps.
 fn push_quoted_literal<K: QuotedKind, A: Allocator + Copy>(
     alloc: A,
     out: &mut String<A>,
     literal: &Quoted<K, A>,
 ) -> Result<(), AllocError>
+    requires { IsTrue (is_quoted K.KIND) }
     ensures { OnOk result (Appends (IsLineOfKind K.KIND (chars literal.now.text))
         (chars (string_bytes out.old)) (chars (string_bytes out.new))) }
 {
-    let (text, suffix) = (literal.text(), literal.suffix());
-    let found = find(text).unwrap();
-    push_read(alloc, out, text, &found, suffix)
+    push_found(alloc, out, literal.text(), Some(literal.found()))
 }
 
 /// Appends a literal's line.
@@ -52,25 +51,6 @@ pub fn push_literal<A: Allocator + Copy>(
     }
 }
 
-/// Appends the lines of the literals, one after another.
-///
-/// # Errors
-///
-/// An allocation failure, as std reports it. Some of the lines may stand there then.
-pub fn push_literals<A: Allocator + Copy>(
-    alloc: A,
-    out: &mut String<A>,
-    literals: &[Lit<A>],
-) -> Result<(), AllocError>
-    ensures { OnOk result (Appends (AreLinesOfLits literals.now)
-        (chars (string_bytes out.old)) (chars (string_bytes out.new))) }
-{
-    for literal in literals {
-        push_literal(alloc, out, literal)?;
-    }
-    Ok(())
-}
-
 /// The line of a literal: its kind, its contents as they are written, and its suffix, with LF after it.
 ///
 /// # Errors
@@ -82,17 +62,4 @@ pub fn line_of<A: Allocator + Copy>(alloc: A, literal: &Lit<A>) -> Result<String
     let mut line = String::new(alloc);
     push_literal(alloc, &mut line, literal)?;
     Ok(line)
-}
-
-/// The lines of literals, one after another.
-///
-/// # Errors
-///
-/// An allocation failure, as std reports it, with no place.
-pub fn lines_of<A: Allocator + Copy>(alloc: A, literals: &[Lit<A>]) -> Result<String<A>, AllocError>
-    ensures { IfOk result (λ lines. AreLinesOfLits literals.now (chars (string_bytes lines))) }
-{
-    let mut lines = String::new(alloc);
-    push_literals(alloc, &mut lines, literals)?;
-    Ok(lines)
 }

@@ -4,8 +4,9 @@ use Rattle.rl_text.specs.Texts.{SpannedText}
 use Rattle.rl_tokens.specs.Trees.{Tree}
 use Rattle.rust_literals.specs.declared.lit.Lit.{Lit}
 use Rattle.rust_literals.specs.Parsing.{ReadsLiterals, AreRead}
-use Rattle.rl_lines.specs.Lines.{AreLinesOf, ReadsTokens, AreLinesOfText, AreLinesOfLits}
-use Rattle.rl_lines.proofs.TextLemmas.{line_of_text}
+use Rattle.rl_lines.specs.Lines.{AreLinesOf, ReadsTokens, AreLinesOfText}
+use Rattle.rl_commands.specs.LitLines.{AreLinesOfLits}
+use Rattle.rl_commands.proofs.LitLineLemmas.{line_of_text}
 
 -- The tokens that literals were read from, and their lines.
 record TokenLines (trees : List Tree) (shown : List ℕ) : Type 0 where
