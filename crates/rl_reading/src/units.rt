@@ -1,7 +1,7 @@
 //! The units that stand between the quotes of a literal: characters and escapes.
 
 ghost use Rattle.std.specs.Prelude.{◌≡◌, ◌<◌, ◌≤◌, ◌∷◌, [], ℕ, length, option_map, IfSome, IsTrue, IsFalse, ◌+◌, ◌++◌, drop, map, ◌≢◌, List, not, IfNone};
-ghost use Rattle.std.specs.Str.{chars};
+ghost use Rattle.std.specs.Str.{chars, IsCharBoundary};
 ghost use Rattle.rl_text.specs.Texts.{begins_char, first_passes, IsTail, code};
 ghost use Rattle.rl_forms.specs.Quoted.{holds_characters, is_plain, is_single, allows_code, may_be_hex, has_unicode, is_string};
 ghost use Rattle.rl_forms.specs.Strict.{is_bare_character};
@@ -15,7 +15,7 @@ ghost use Rattle.rl_reading.specs.Mirrors.Classes.{is_in_run};
 use rl_forms::Kind;
 use rl_text::classes::{CharClass, skip_class};
 use rl_text::scan::{Marks, ascii_len_before, len_before};
-use rl_text::text::{split_ascii, split_char};
+use rl_text::text::{ascii_at, split_char};
 
 /// No mark: a byte that is none of ASCII.
 const NO_MARK: Marks = Marks {
@@ -119,30 +119,35 @@ fn named_value(kind: Kind, letter: u8) -> Option<u8>
     Some(value)
 }
 
-/// A hexadecimal digit at the front, and the text after it.
+/// A hexadecimal digit at a place of the text, and the place after it.
 #[tactic(auto, using(crate::proofs::AsciiLemmas::no_digit))]
 #[inline(always)]
-fn digit(text: &str) -> Option<(u32, &str)>
-    ensures value { option_map (λ p. (p.0, chars p.1.now)) result ≡ digit_at (chars text.now) }
-    ensures shorter { IfSome result (λ p. (p.0 < 16) × (length p.1.now < length text.now)) }
+fn digit(text: &str, at: usize) -> Option<(u32, usize)>
+    requires { IsCharBoundary text.now at }
+    ensures value { option_map (λ p. (p.0, chars (drop p.1 text.now))) result ≡ digit_at (chars (drop at text.now)) }
+    ensures small { IfSome result (λ p. p.0 < 16) }
+    ensures place { IfSome result (λ p. IsCharBoundary text.now p.1) }
+    ensures after { IfSome result (λ p. (at < p.1) × (p.1 ≤ length text.now)) }
 {
-    let (first, rest) = split_ascii(text)?;
-    Some(((first as char).to_digit(16)?, rest))
+    let (byte, after) = ascii_at(text, at)?;
+    Some(((byte as char).to_digit(16)?, after))
 }
 
-/// The number of the two digits of `\x`, and the text after them.
+/// The number of the two digits of `\x`, and the place after them.
 #[tactic(auto, unfolding(crate::specs::Mirrors::UnitAt::hex_at))]
 #[inline(always)]
-fn hex_escape(kind: Kind, text: &str) -> Option<(u8, &str)>
-    ensures value { option_map (λ p. (p.0, chars p.1.now)) result ≡ hex_at kind (chars text.now) }
+fn hex_escape(kind: Kind, text: &str, at: usize) -> Option<(u8, usize)>
+    requires { IsCharBoundary text.now at }
+    ensures value { option_map (λ p. (p.0, chars (drop p.1 text.now))) result ≡ hex_at kind (chars (drop at text.now)) }
     ensures ascii { IfSome result (λ p. IsTrue (holds_characters kind) → p.0 < 128) }
-    ensures shorter { IfSome result (λ p. length p.1.now < length text.now) }
+    ensures place { IfSome result (λ p. IsCharBoundary text.now p.1) }
+    ensures after { IfSome result (λ p. (at < p.1) × (p.1 ≤ length text.now)) }
 {
-    let (high, rest) = digit(text)?;
-    let (low, rest) = digit(rest)?;
+    let (high, after) = digit(text, at)?;
+    let (low, after) = digit(text, after)?;
     let code = high * 16 + low;
     if may_be_hex(kind, code) {
-        Some((code as u8, rest))
+        Some((code as u8, after))
     } else {
         None
     }
@@ -150,91 +155,102 @@ fn hex_escape(kind: Kind, text: &str) -> Option<(u8, &str)>
 
 /// The digits of `\u{..}`, with underscores between and after them.
 #[derive(Clone, Copy)]
-pub struct CodeDigits<'t> {
+pub struct CodeDigits {
     /// The number that they spell.
     pub value: u32,
     /// How many they are, at most six.
     pub count: u32,
-    /// The text from the last of them on.
-    pub last: &'t str,
-    /// The text after the digits and underscores.
-    pub rest: &'t str,
+    /// The place of the last of them.
+    pub last: usize,
+    /// The place after the digits and underscores.
+    pub end: usize,
 }
 
-/// The digits of a number up to the sixth, and underscores: `first` stands at the front of `from`, the others in the text
-/// after it.
+/// The digits of a number up to the sixth, and underscores: `first` stands at the place `from`, the others from the place after
+/// it on.
 #[tactic(auto, unfolding(crate::specs::Mirrors::UnitAt::code_digits_at))]
 #[inline(always)]
-fn more_digits<'t>(first: u32, from: &'t str, text: &'t str) -> CodeDigits<'t>
-    requires { first < 16 }
-    ensures value { code_digits result.value result.count (chars result.last.now) (chars result.rest.now)
-        ≡ code_digits_at first 1 (chars from.now) (chars text.now) }
-    ensures shorter { length result.rest.now ≤ length text.now }
+fn more_digits(first: u32, text: &str, from: usize, after: usize) -> CodeDigits
+    requires first { first < 16 }
+    requires from { IsCharBoundary text.now from }
+    requires after { IsCharBoundary text.now after }
+    ensures value { code_digits result.value result.count (chars (drop result.last text.now)) (chars (drop result.end text.now))
+        ≡ code_digits_at first 1 (chars (drop from text.now)) (chars (drop after text.now)) }
+    ensures last { IsCharBoundary text.now result.last }
+    ensures end { IsCharBoundary text.now result.end }
+    ensures after { after ≤ result.end }
 {
     let mut value = first;
     let mut count = 1_u32;
     let mut last = from;
-    let mut rest = text;
-    while let Some((next, after)) = split_ascii(rest) {
+    let mut at = after;
+    while let Some((next, following)) = ascii_at(text, at) {
         if let Some(digit) = (next as char).to_digit(16) {
             if count == 6 {
                 break;
             }
             value = value * 16 + digit;
             count += 1;
-            last = rest;
+            last = at;
         } else if next != b'_' {
             break;
         }
-        rest = after;
+        at = following;
     }
     CodeDigits {
         value,
         count,
         last,
-        rest,
+        end: at,
     }
 }
 
-/// The digits after `\u{`, if one stands there.
+/// The digits after `\u{`, if one stands at that place.
 #[inline(always)]
-pub fn code_digits(text: &str) -> Option<CodeDigits<'_>>
-    ensures value { option_map (λ d. code_digits d.value d.count (chars d.last.now) (chars d.rest.now)) result
-        ≡ first_code_digits_at (chars text.now) }
-    ensures shorter { IfSome result (λ d. length d.rest.now < length text.now) }
+pub fn code_digits(text: &str, from: usize) -> Option<CodeDigits>
+    requires { IsCharBoundary text.now from }
+    ensures value { option_map (λ d. code_digits d.value d.count (chars (drop d.last text.now)) (chars (drop d.end text.now)))
+        result ≡ first_code_digits_at (chars (drop from text.now)) }
+    ensures last { IfSome result (λ d. IsCharBoundary text.now d.last) }
+    ensures end { IfSome result (λ d. IsCharBoundary text.now d.end) }
+    ensures after { IfSome result (λ d. from < d.end) }
 {
-    let (first, after) = digit(text)?;
-    Some(more_digits(first, text, after))
+    let (first, after) = digit(text, from)?;
+    Some(more_digits(first, text, from, after))
 }
 
-/// The character of the digits, and the text after the brace that closes them.
+/// The character of the digits, and the place after the brace that closes them.
 #[tactic(auto, using(crate::proofs::AsciiLemmas::no_close))]
 #[inline(always)]
-fn closed_code(digits: CodeDigits<'_>) -> Option<(char, &str)>
-    ensures value { option_map (λ p. (p.0, chars p.1.now)) result
-        ≡ closed_at (code_digits digits.entry.value digits.entry.count (chars digits.entry.last.now) (chars digits.entry.rest.now)) }
-    ensures shorter { IfSome result (λ p. length p.1.now < length digits.entry.rest.now) }
+fn closed_code(text: &str, digits: CodeDigits) -> Option<(char, usize)>
+    requires { IsCharBoundary text.now digits.end }
+    ensures value { option_map (λ p. (p.0, chars (drop p.1 text.now))) result
+        ≡ closed_at (code_digits digits.value digits.count (chars (drop digits.last text.now)) (chars (drop digits.end text.now))) }
+    ensures place { IfSome result (λ p. IsCharBoundary text.now p.1) }
+    ensures after { IfSome result (λ p. (digits.end < p.1) × (p.1 ≤ length text.now)) }
 {
-    let Some((b'}', rest)) = split_ascii(digits.rest) else {
+    let Some((b'}', after)) = ascii_at(text, digits.end) else {
         return None;
     };
-    Some((char::from_u32(digits.value)?, rest))
+    Some((char::from_u32(digits.value)?, after))
 }
 
-/// The character of `\u{..}` from its brace on, and the text after it.
+/// The character of `\u{..}` from its brace on, and the place after it.
 #[tactic(auto, unfolding(crate::specs::Mirrors::UnitAt::unicode_at), using(crate::proofs::AsciiLemmas::no_brace))]
 #[inline(always)]
-fn unicode_escape(kind: Kind, text: &str) -> Option<(char, &str)>
-    ensures value { option_map (λ p. (p.0, chars p.1.now)) result
-        ≡ unicode_at kind (chars text.now) }
-    ensures shorter { IfSome result (λ p. length p.1.now < length text.now) }
+fn unicode_escape(kind: Kind, text: &str, at: usize) -> Option<(char, usize)>
+    requires { IsCharBoundary text.now at }
+    ensures value { option_map (λ p. (p.0, chars (drop p.1 text.now))) result
+        ≡ unicode_at kind (chars (drop at text.now)) }
+    ensures place { IfSome result (λ p. IsCharBoundary text.now p.1) }
+    ensures after { IfSome result (λ p. (at < p.1) × (p.1 ≤ length text.now)) }
 {
-    let Some((b'{', inside)) = split_ascii(text) else {
+    let Some((b'{', inside)) = ascii_at(text, at) else {
         return None;
     };
-    let (c, rest) = closed_code(code_digits(inside)?)?;
+    let (c, after) = closed_code(text, code_digits(text, inside)?)?;
     if has_unicode(kind) && allows_code(kind, c as u32) {
-        Some((c, rest))
+        Some((c, after))
     } else {
         None
     }
@@ -248,35 +264,36 @@ fn skip_blanks(text: &str) -> &str
     skip_class(CharClass::Blank, text)
 }
 
-/// What the escape stands for whose backslash stands before the text, and the text after it.
+/// What the escape stands for whose backslash stands before the place, and the text after it.
 #[tactic(auto, unfolding(crate::specs::Mirrors::UnitAt::escape_at), using(crate::proofs::AsciiLemmas::no_escape))]
 #[inline(always)]
-pub fn escape(kind: Kind, text: &str) -> Option<(Piece, &str)>
+pub fn escape(kind: Kind, text: &str, at: usize) -> Option<(Piece, &str)>
+    requires { IsCharBoundary text.now at }
     ensures value { option_map (λ p. (piece_value kind p.0, chars p.1.now)) result
-        ≡ escape_at kind (chars text.now) }
+        ≡ escape_at kind (chars (drop at text.now)) }
     ensures piece { IfSome result (λ p. IsHeldBy kind p.0) }
-    ensures shorter { IfSome result (λ p. length p.1.now < length text.now) }
+    ensures shorter { IfSome result (λ p. length p.1.now + at < length text.now) }
 {
-    let (letter, rest) = split_ascii(text)?;
+    let (letter, after) = ascii_at(text, at)?;
     match letter {
         b'x' => {
-            let (code, rest) = hex_escape(kind, rest)?;
-            Some((Piece::Byte(code), rest))
+            let (code, end) = hex_escape(kind, text, after)?;
+            Some((Piece::Byte(code), &text[end..]))
         }
         b'u' => {
-            let (c, rest) = unicode_escape(kind, rest)?;
-            Some((Piece::Character(c), rest))
+            let (c, end) = unicode_escape(kind, text, after)?;
+            Some((Piece::Character(c), &text[end..]))
         }
         b'\n' | b'\r' => {
             if kind.is_string() {
-                Some((Piece::Nothing, skip_blanks(rest)))
+                Some((Piece::Nothing, skip_blanks(&text[after..])))
             } else {
                 None
             }
         }
         _ => {
             let code = named_value(kind, letter)?;
-            Some((Piece::Byte(code), rest))
+            Some((Piece::Byte(code), &text[after..]))
         }
     }
 }
@@ -310,8 +327,8 @@ pub fn unit(kind: Kind, text: &str) -> Option<(Piece, &str)>
     ensures piece { IfSome result (λ p. IsHeldBy kind p.0) }
     ensures shorter { IfSome result (λ p. length p.1.now < length text.now) }
 {
-    match split_ascii(text) {
-        Some((b'\\', rest)) => escape(kind, rest),
+    match ascii_at(text, 0) {
+        Some((b'\\', at)) => escape(kind, text, at),
         _ => character(kind, text),
     }
 }

@@ -1,7 +1,7 @@
 //! Why no unit of a quoted literal stands at the front of a text: its escapes, and its characters.
 
-ghost use Rattle.std.specs.Prelude.{◌≡◌};
-ghost use Rattle.std.specs.Str.{chars};
+ghost use Rattle.std.specs.Prelude.{◌≡◌, drop};
+ghost use Rattle.std.specs.Str.{chars, IsCharBoundary};
 ghost use Rattle.rl_reasons.specs.Mirrors.UnitFlawAt.{character_flaw_of, code_flaw_of, code_flaw_at, escape_flaw_at, first_digit_flaw_at, found_flaw, hex_flaw_at, is_code, low_digit_flaw_at, unicode_flaw_at, spoiled_flaw_of};
 ghost use Rattle.rl_reading.specs.Mirrors.UnitAt.{code_digits};
 
@@ -57,21 +57,22 @@ fn code_flaw(code: u32) -> FlawKind
 }
 
 /// The flaw of the digits of `\u{..}`, or the first one after them.
-fn digits_flaw<'t>(kind: Kind, digits: CodeDigits<'t>) -> FlawAt<'t>
+fn digits_flaw(kind: Kind, text: &str, digits: CodeDigits) -> FlawAt<'_>
+    requires last { IsCharBoundary text.now digits.last }
+    requires end { IsCharBoundary text.now digits.end }
     ensures { found_flaw result.kind (chars result.rest.now)
-        ≡ code_flaw_at kind (code_digits digits.entry.value digits.entry.count (chars digits.entry.last.now)
-        (chars digits.entry.rest.now)) }
+        ≡ code_flaw_at kind (code_digits digits.value digits.count (chars (drop digits.last text.now))
+        (chars (drop digits.end text.now))) }
 {
     if digits.count == 6 && !is_code(kind, digits.value) {
-        return make_flaw(code_flaw(digits.value), digits.last);
+        return make_flaw(code_flaw(digits.value), &text[digits.last..]);
     }
-    match split_char(digits.rest) {
-        None => make_flaw(FlawKind::Unclosed, digits.rest),
-        Some(('}', _)) => make_flaw(code_flaw(digits.value), digits.rest),
-        Some((next, _)) if next.is_ascii_hexdigit() => {
-            make_flaw(FlawKind::TooManyDigits, digits.rest)
-        }
-        Some(_) => make_flaw(FlawKind::NoHexDigit, digits.rest),
+    let rest = &text[digits.end..];
+    match split_char(rest) {
+        None => make_flaw(FlawKind::Unclosed, rest),
+        Some(('}', _)) => make_flaw(code_flaw(digits.value), rest),
+        Some((next, _)) if next.is_ascii_hexdigit() => make_flaw(FlawKind::TooManyDigits, rest),
+        Some(_) => make_flaw(FlawKind::NoHexDigit, rest),
     }
 }
 
@@ -81,8 +82,8 @@ fn first_digit_flaw(kind: Kind, text: &str) -> FlawAt<'_>
     ensures { found_flaw result.kind (chars result.rest.now)
         ≡ first_digit_flaw_at kind (chars text.now) }
 {
-    if let Some(digits) = code_digits(text) {
-        return digits_flaw(kind, digits);
+    if let Some(digits) = code_digits(text, 0) {
+        return digits_flaw(kind, text, digits);
     }
     match split_char(text) {
         None => make_flaw(FlawKind::Unclosed, text),

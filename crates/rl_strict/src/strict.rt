@@ -1,7 +1,7 @@
 //! Inside quoted literals of the strict grammar, that of the Rust Reference: what follows the units, or what a raw string holds.
 
-ghost use Rattle.std.specs.Prelude.{◌↔◌, IsTrue, ◌≡◌, ◌≤◌, ◌<◌, IfSome, length, option_map, ◌==◌, ◌&&◌, ◌++◌, IfNone, IsFalse, List, None, ℕ};
-ghost use Rattle.std.specs.Str.{chars};
+ghost use Rattle.std.specs.Prelude.{◌↔◌, IsTrue, ◌≡◌, ◌≤◌, ◌<◌, ◌+◌, drop, IfSome, length, option_map, ◌==◌, ◌&&◌, ◌++◌, IfNone, IsFalse, List, None, ℕ};
+ghost use Rattle.std.specs.Str.{chars, IsCharBoundary};
 ghost use Rattle.std.specs.List.{list_all};
 ghost use Rattle.rl_forms.specs.Quoted.{is_string};
 ghost use Rattle.rl_forms.specs.Strict.{Itself, is_strict_unit};
@@ -14,7 +14,7 @@ use rl_forms::Kind;
 use rl_reading::units::{escape, split_ascii_run, split_plain};
 use rl_text::classes::{CharClass, skip_class};
 use rl_text::scan::{Marks, split_before};
-use rl_text::text::{after_prefix, split_char};
+use rl_text::text::{after_prefix, ascii_at};
 
 /// What may close a raw C string, and what it doesn't hold.
 const INSIDE_C_STRING: Marks = Marks {
@@ -24,22 +24,23 @@ const INSIDE_C_STRING: Marks = Marks {
     fourth: 0,
 };
 
-/// The text after an escape, by the text after its backslash.
+/// The text after an escape, by the place after its backslash.
 ///
 /// But for line breaks the lenient escapes are the strict ones.
 #[inline(always)]
-#[tactic(auto, unfolding(rl_reading::specs::Mirrors::UnitAt::unit_at))]
-fn skip_escape(kind: Kind, following: &str) -> Option<&str>
-    ensures value { option_map (λ r. chars r.now) result ≡ escape_rest kind (chars following.now) }
-    ensures shorter { IfSome result (λ r. length r.now < length following.now) }
+#[tactic(auto, unfolding(rl_reading::specs::Mirrors::UnitAt::unit_at), using(crate::proofs::PlaceUnits::no_escape_rest))]
+fn skip_escape(kind: Kind, text: &str, at: usize) -> Option<&str>
+    requires { IsCharBoundary text.now at }
+    ensures value { option_map (λ r. chars r.now) result ≡ escape_rest kind (chars (drop at text.now)) }
+    ensures shorter { IfSome result (λ r. length r.now + at < length text.now) }
 {
-    match split_char(following) {
-        Some(('\n', blanks)) if kind.is_string() => {
-            Some(skip_class(CharClass::StrictBlank, blanks))
+    match ascii_at(text, at) {
+        Some((b'\n', after)) if kind.is_string() => {
+            Some(skip_class(CharClass::StrictBlank, &text[after..]))
         }
-        Some(('\n' | '\r', _)) | None => None,
+        Some((b'\n' | b'\r', _)) | None => None,
         Some(_) => {
-            let (_, rest) = escape(kind, following)?;
+            let (_, rest) = escape(kind, text, at)?;
             Some(rest)
         }
     }
@@ -47,14 +48,14 @@ fn skip_escape(kind: Kind, following: &str) -> Option<&str>
 
 /// The text after the unit at the front, which isn't a character that stands for itself: `None` where no unit stands there.
 #[inline(always)]
-#[tactic(auto, unfolding(crate::specs::Mirrors::StrictAt::unit_rest))]
+#[tactic(auto, unfolding(crate::specs::Mirrors::StrictAt::unit_rest), using(crate::proofs::PlaceUnits::no_escaped, crate::proofs::PlaceUnits::no_escaped_past))]
 fn skip_escaped(kind: Kind, text: &str) -> Option<&str>
     requires { IsFalse (first_passes (λ c. is_strict_unit kind (Itself c)) (chars text.now)) }
     ensures value { option_map (λ r. chars r.now) result ≡ unit_rest kind (chars text.now) }
     ensures shorter { IfSome result (λ r. length r.now < length text.now) }
 {
-    match split_char(text) {
-        Some(('\\', following)) => skip_escape(kind, following),
+    match ascii_at(text, 0) {
+        Some((b'\\', at)) => skip_escape(kind, text, at),
         _ => None,
     }
 }

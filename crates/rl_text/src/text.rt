@@ -1,8 +1,8 @@
 //! Walking a text by its characters, and what it begins with.
 
-ghost use Rattle.std.specs.Prelude.{◌≡◌, ◌<◌, ◌==◌, ◌++◌, ◌∷◌, ◌≢◌, ℕ, List, [], length, drop, encode_utf8, MatchOption, IfSome, IfNone, IsFalse};
+ghost use Rattle.std.specs.Prelude.{◌≡◌, ◌<◌, ◌≤◌, ◌==◌, ◌++◌, ◌∷◌, ◌≢◌, ℕ, List, [], length, drop, encode_utf8, MatchOption, IfSome, IfNone, IsFalse};
 ghost use Rattle.std.specs.Char.{is_ascii};
-ghost use Rattle.std.specs.Str.{chars};
+ghost use Rattle.std.specs.Str.{chars, IsCharBoundary};
 ghost use Rattle.rl_text.specs.Texts.{first_passes, IsTail, begins_char};
 
 /// The first character, and the text after it: `None` where the text is empty.
@@ -34,6 +34,25 @@ pub fn split_ascii(text: &str) -> Option<(u8, &str)>
         return None;
     }
     Some((bytes[0], &text[1..]))
+}
+
+/// The character of ASCII at a place of the text, as its byte, and the place after it.
+///
+/// What goes on by places makes no rest of the text, which takes a test each time where what is proved isn't known.
+#[inline(always)]
+pub fn ascii_at(text: &str, at: usize) -> Option<(u8, usize)>
+    requires { IsCharBoundary text.now at }
+    ensures some { IfSome result (λ p. chars (drop at text.now) ≡ p.0 ∷ chars (drop p.1 text.now)) }
+    ensures ascii { IfSome result (λ p. p.0 < 128) }
+    ensures none { IfNone result (IsFalse (first_passes is_ascii (chars (drop at text.now)))) }
+    ensures place { IfSome result (λ p. IsCharBoundary text.now p.1) }
+    ensures after { IfSome result (λ p. (at < p.1) × (p.1 ≤ length text.now)) }
+{
+    let bytes = text.as_bytes();
+    if at >= bytes.len() || bytes[at] >= 128 {
+        return None;
+    }
+    Some((bytes[at], at + 1))
 }
 
 /// Whether the text begins with a character.

@@ -4,7 +4,7 @@
 use crate::rl_forms::Kind;
 use crate::rl_text::classes::{CharClass, skip_class};
 use crate::rl_text::scan::{Marks, ascii_len_before, len_before};
-use crate::rl_text::text::{split_ascii, split_char};
+use crate::rl_text::text::{ascii_at, split_char};
 
 /// No mark: a byte that is none of ASCII.
 const NO_MARK: Marks = Marks {
@@ -90,21 +90,21 @@ fn named_value(kind: Kind, letter: u8) -> Option<u8> {
     Some(value)
 }
 
-/// A hexadecimal digit at the front, and the text after it.
+/// A hexadecimal digit at a place of the text, and the place after it.
 #[inline(always)]
-fn digit(text: &str) -> Option<(u32, &str)> {
-    let (first, rest) = split_ascii(text)?;
-    Some(((first as char).to_digit(16)?, rest))
+fn digit(text: &str, at: usize) -> Option<(u32, usize)> {
+    let (byte, after) = ascii_at(text, at)?;
+    Some(((byte as char).to_digit(16)?, after))
 }
 
-/// The number of the two digits of `\x`, and the text after them.
+/// The number of the two digits of `\x`, and the place after them.
 #[inline(always)]
-fn hex_escape(kind: Kind, text: &str) -> Option<(u8, &str)> {
-    let (high, rest) = digit(text)?;
-    let (low, rest) = digit(rest)?;
+fn hex_escape(kind: Kind, text: &str, at: usize) -> Option<(u8, usize)> {
+    let (high, after) = digit(text, at)?;
+    let (low, after) = digit(text, after)?;
     let code = high * 16 + low;
     if may_be_hex(kind, code) {
-        Some((code as u8, rest))
+        Some((code as u8, after))
     } else {
         None
     }
@@ -112,71 +112,71 @@ fn hex_escape(kind: Kind, text: &str) -> Option<(u8, &str)> {
 
 /// The digits of `\u{..}`, with underscores between and after them.
 #[derive(Clone, Copy)]
-pub struct CodeDigits<'t> {
+pub struct CodeDigits {
     /// The number that they spell.
     pub value: u32,
     /// How many they are, at most six.
     pub count: u32,
-    /// The text from the last of them on.
-    pub last: &'t str,
-    /// The text after the digits and underscores.
-    pub rest: &'t str,
+    /// The place of the last of them.
+    pub last: usize,
+    /// The place after the digits and underscores.
+    pub end: usize,
 }
 
-/// The digits of a number up to the sixth, and underscores: `first` stands at the front of `from`, the others in the text
-/// after it.
+/// The digits of a number up to the sixth, and underscores: `first` stands at the place `from`, the others from the place after
+/// it on.
 #[inline(always)]
-fn more_digits<'t>(first: u32, from: &'t str, text: &'t str) -> CodeDigits<'t> {
+fn more_digits(first: u32, text: &str, from: usize, after: usize) -> CodeDigits {
     let mut value = first;
     let mut count = 1_u32;
     let mut last = from;
-    let mut rest = text;
-    while let Some((next, after)) = split_ascii(rest) {
+    let mut at = after;
+    while let Some((next, following)) = ascii_at(text, at) {
         if let Some(digit) = (next as char).to_digit(16) {
             if count == 6 {
                 break;
             }
             value = value * 16 + digit;
             count += 1;
-            last = rest;
+            last = at;
         } else if next != b'_' {
             break;
         }
-        rest = after;
+        at = following;
     }
     CodeDigits {
         value,
         count,
         last,
-        rest,
+        end: at,
     }
 }
 
-/// The digits after `\u{`, if one stands there.
+/// The digits after `\u{`, if one stands at that place.
 #[inline(always)]
-pub fn code_digits(text: &str) -> Option<CodeDigits<'_>> {
-    let (first, after) = digit(text)?;
-    Some(more_digits(first, text, after))
+pub fn code_digits(text: &str, from: usize) -> Option<CodeDigits> {
+    let (first, after) = digit(text, from)?;
+    Some(more_digits(first, text, from, after))
 }
 
-/// The character of the digits, and the text after the brace that closes them.
+/// The character of the digits, and the place after the brace that closes them.
 #[inline(always)]
-fn closed_code(digits: CodeDigits<'_>) -> Option<(char, &str)> {
-    let Some((b'}', rest)) = split_ascii(digits.rest) else {
+fn closed_code(text: &str, digits: CodeDigits) -> Option<(char, usize)> {
+    let Some((b'}', after)) = ascii_at(text, digits.end) else {
         return None;
     };
-    Some((char::from_u32(digits.value)?, rest))
+    Some((char::from_u32(digits.value)?, after))
 }
 
-/// The character of `\u{..}` from its brace on, and the text after it.
+/// The character of `\u{..}` from its brace on, and the place after it.
 #[inline(always)]
-fn unicode_escape(kind: Kind, text: &str) -> Option<(char, &str)> {
-    let Some((b'{', inside)) = split_ascii(text) else {
+fn unicode_escape(kind: Kind, text: &str, at: usize) -> Option<(char, usize)> {
+    let Some((b'{', inside)) = ascii_at(text, at) else {
         return None;
     };
-    let (c, rest) = closed_code(code_digits(inside)?)?;
+    let (c, after) = closed_code(text, code_digits(text, inside)?)?;
     if has_unicode(kind) && allows_code(kind, c as u32) {
-        Some((c, rest))
+        Some((c, after))
     } else {
         None
     }
@@ -187,29 +187,29 @@ fn skip_blanks(text: &str) -> &str {
     skip_class(CharClass::Blank, text)
 }
 
-/// What the escape stands for whose backslash stands before the text, and the text after it.
+/// What the escape stands for whose backslash stands before the place, and the text after it.
 #[inline(always)]
-pub fn escape(kind: Kind, text: &str) -> Option<(Piece, &str)> {
-    let (letter, rest) = split_ascii(text)?;
+pub fn escape(kind: Kind, text: &str, at: usize) -> Option<(Piece, &str)> {
+    let (letter, after) = ascii_at(text, at)?;
     match letter {
         b'x' => {
-            let (code, rest) = hex_escape(kind, rest)?;
-            Some((Piece::Byte(code), rest))
+            let (code, end) = hex_escape(kind, text, after)?;
+            Some((Piece::Byte(code), &text[end..]))
         }
         b'u' => {
-            let (c, rest) = unicode_escape(kind, rest)?;
-            Some((Piece::Character(c), rest))
+            let (c, end) = unicode_escape(kind, text, after)?;
+            Some((Piece::Character(c), &text[end..]))
         }
         b'\n' | b'\r' => {
             if kind.is_string() {
-                Some((Piece::Nothing, skip_blanks(rest)))
+                Some((Piece::Nothing, skip_blanks(&text[after..])))
             } else {
                 None
             }
         }
         _ => {
             let code = named_value(kind, letter)?;
-            Some((Piece::Byte(code), rest))
+            Some((Piece::Byte(code), &text[after..]))
         }
     }
 }
@@ -230,8 +230,8 @@ fn character(kind: Kind, text: &str) -> Option<(Piece, &str)> {
 /// What the unit at the front stands for, and the text after it: `None` where no unit of the kind stands there.
 #[inline(always)]
 pub fn unit(kind: Kind, text: &str) -> Option<(Piece, &str)> {
-    match split_ascii(text) {
-        Some((b'\\', rest)) => escape(kind, rest),
+    match ascii_at(text, 0) {
+        Some((b'\\', at)) => escape(kind, text, at),
         _ => character(kind, text),
     }
 }

@@ -44,24 +44,23 @@ fn code_flaw(code: u32) -> FlawKind {
 }
 
 /// The flaw of the digits of `\u{..}`, or the first one after them.
-fn digits_flaw<'t>(kind: Kind, digits: CodeDigits<'t>) -> FlawAt<'t> {
+fn digits_flaw(kind: Kind, text: &str, digits: CodeDigits) -> FlawAt<'_> {
     if digits.count == 6 && !is_code(kind, digits.value) {
-        return make_flaw(code_flaw(digits.value), digits.last);
+        return make_flaw(code_flaw(digits.value), &text[digits.last..]);
     }
-    match split_char(digits.rest) {
-        None => make_flaw(FlawKind::Unclosed, digits.rest),
-        Some(('}', _)) => make_flaw(code_flaw(digits.value), digits.rest),
-        Some((next, _)) if next.is_ascii_hexdigit() => {
-            make_flaw(FlawKind::TooManyDigits, digits.rest)
-        }
-        Some(_) => make_flaw(FlawKind::NoHexDigit, digits.rest),
+    let rest = &text[digits.end..];
+    match split_char(rest) {
+        None => make_flaw(FlawKind::Unclosed, rest),
+        Some(('}', _)) => make_flaw(code_flaw(digits.value), rest),
+        Some((next, _)) if next.is_ascii_hexdigit() => make_flaw(FlawKind::TooManyDigits, rest),
+        Some(_) => make_flaw(FlawKind::NoHexDigit, rest),
     }
 }
 
 /// The first flaw after `\u{`.
 fn first_digit_flaw(kind: Kind, text: &str) -> FlawAt<'_> {
-    if let Some(digits) = code_digits(text) {
-        return digits_flaw(kind, digits);
+    if let Some(digits) = code_digits(text, 0) {
+        return digits_flaw(kind, text, digits);
     }
     match split_char(text) {
         None => make_flaw(FlawKind::Unclosed, text),

@@ -5,7 +5,7 @@ use crate::rl_forms::Kind;
 use crate::rl_reading::units::{escape, split_ascii_run, split_plain};
 use crate::rl_text::classes::{CharClass, skip_class};
 use crate::rl_text::scan::{Marks, split_before};
-use crate::rl_text::text::{after_prefix, split_char};
+use crate::rl_text::text::{after_prefix, ascii_at};
 
 /// What may close a raw C string, and what it doesn't hold.
 const INSIDE_C_STRING: Marks = Marks {
@@ -15,18 +15,18 @@ const INSIDE_C_STRING: Marks = Marks {
     fourth: 0,
 };
 
-/// The text after an escape, by the text after its backslash.
+/// The text after an escape, by the place after its backslash.
 ///
 /// But for line breaks the lenient escapes are the strict ones.
 #[inline(always)]
-fn skip_escape(kind: Kind, following: &str) -> Option<&str> {
-    match split_char(following) {
-        Some(('\n', blanks)) if kind.is_string() => {
-            Some(skip_class(CharClass::StrictBlank, blanks))
+fn skip_escape(kind: Kind, text: &str, at: usize) -> Option<&str> {
+    match ascii_at(text, at) {
+        Some((b'\n', after)) if kind.is_string() => {
+            Some(skip_class(CharClass::StrictBlank, &text[after..]))
         }
-        Some(('\n' | '\r', _)) | None => None,
+        Some((b'\n' | b'\r', _)) | None => None,
         Some(_) => {
-            let (_, rest) = escape(kind, following)?;
+            let (_, rest) = escape(kind, text, at)?;
             Some(rest)
         }
     }
@@ -35,8 +35,8 @@ fn skip_escape(kind: Kind, following: &str) -> Option<&str> {
 /// The text after the unit at the front, which isn't a character that stands for itself: `None` where no unit stands there.
 #[inline(always)]
 fn skip_escaped(kind: Kind, text: &str) -> Option<&str> {
-    match split_char(text) {
-        Some(('\\', following)) => skip_escape(kind, following),
+    match ascii_at(text, 0) {
+        Some((b'\\', at)) => skip_escape(kind, text, at),
         _ => None,
     }
 }

@@ -18,6 +18,18 @@ pub fn split_ascii(text: &str) -> Option<(u8, &str)> {
     Some((bytes[0], crate::slices::after_first!(text)))
 }
 
+/// The character of ASCII at a place of the text, as its byte, and the place after it.
+///
+/// What goes on by places makes no rest of the text, which takes a test each time where what is proved isn't known.
+#[inline(always)]
+pub fn ascii_at(text: &str, at: usize) -> Option<(u8, usize)> {
+    let bytes = text.as_bytes();
+    if at >= bytes.len() || bytes[at] >= 128 {
+        return None;
+    }
+    Some((bytes[at], at + 1))
+}
+
 /// Whether the text begins with a character.
 pub fn begins_with(text: &str, c: char) -> bool {
     match split_char(text) {

@@ -3,7 +3,7 @@
 
 use crate::rattle_std::prelude::{String};
 use crate::rl_commands::attr::{Entry, read};
-use crate::rl_lines::push_literal;
+use crate::rl_commands::lit_line::push_literal;
 use crate::rl_program::Fault;
 use crate::rattle_std::alloc::{AllocError, Allocator};
 

@@ -2,7 +2,7 @@
 //! The lines of a list, made as its literals are read: each literal is let go when its line stands.
 
 use crate::rattle_std::prelude::{String};
-use crate::rl_lines::push_literal;
+use crate::rl_commands::lit_line::push_literal;
 use crate::rl_program::Fault;
 use crate::rust_literals::{Lit, Literals};
 use crate::rattle_std::alloc::Allocator;

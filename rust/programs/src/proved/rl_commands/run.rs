@@ -5,7 +5,7 @@ use crate::rattle_std::prelude::{String, Vec};
 use crate::rl_commands::attribute_lines::attribute_lines;
 use crate::rl_commands::command::Command;
 use crate::rl_commands::list::literal_lines;
-use crate::rl_lines::line_of;
+use crate::rl_commands::lit_line::line_of;
 use crate::rl_program::{Fault, read_whole, text_of, write_whole};
 use crate::rl_tokens::{Literal, Span};
 use crate::rust_literals::Lit;

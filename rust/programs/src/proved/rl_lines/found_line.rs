@@ -96,12 +96,12 @@ fn push_number<A: Allocator>(
 }
 
 /// The word of a truth value.
-pub(crate) fn truth_word(value: bool) -> &'static str {
+pub fn truth_word(value: bool) -> &'static str {
     if value { "true" } else { "false" }
 }
 
 /// Appends the line of the literal that was found in the text, which has this suffix.
-pub(crate) fn push_read<A: Allocator + Copy>(
+fn push_read<A: Allocator + Copy>(
     alloc: A,
     out: &mut String<A>,
     text: &str,

@@ -91,8 +91,12 @@ pub fn label_of(kind: Option<Kind>) -> &'static str {
     }
 }
 
-/// Appends the line of a literal of the kind.
-pub(crate) fn push_kind<A: Allocator>(
+/// Appends the line of a literal of the kind, which is shown so, and has this suffix.
+///
+/// # Errors
+///
+/// An allocation failure, as std reports it. A part of the line may have been appended then.
+pub fn push_kind<A: Allocator>(
     out: &mut String<A>,
     kind: Kind,
     shown: &str,
@@ -143,6 +147,10 @@ pub(crate) fn push_text<A: Allocator>(
 }
 
 /// Appends the line of a text that is no literal.
-pub(crate) fn push_verbatim<A: Allocator>(out: &mut String<A>, text: &str) -> Result<(), AllocError> {
+///
+/// # Errors
+///
+/// An allocation failure, as std reports it. A part of the line may have been appended then.
+pub fn push_verbatim<A: Allocator>(out: &mut String<A>, text: &str) -> Result<(), AllocError> {
     push_quoted(out, "Verbatim", text, "")
 }

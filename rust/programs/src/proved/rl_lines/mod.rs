@@ -5,9 +5,7 @@
 mod digits;
 mod found_line;
 mod line;
-mod print;
 
 pub use crate::rl_lines::digits::decoded;
-pub use crate::rl_lines::found_line::push_found;
-pub use crate::rl_lines::line::{are_bare, bare_value, label_of, push_bare};
-pub use crate::rl_lines::print::{line_of, lines_of, push_literal, push_literals};
+pub use crate::rl_lines::found_line::{push_found, truth_word};
+pub use crate::rl_lines::line::{are_bare, bare_value, label_of, push_bare, push_kind, push_verbatim};

@@ -2,7 +2,9 @@
 //! What the five have in common: a token, its kind, and the places of its parts.
 
 use crate::rl_quoted::written::written_body;
-use crate::rl_grammar::{Body, Found, Kind, Segments, find, next_is, take_kind};
+use crate::rl_grammar::{
+    Body, Found, Kind, Segments, byte_of_body, char_of_body, find, next_is, take_kind,
+};
 use crate::rl_tokens::{
     Error, Literal, Parse, ParseBuffer, Span, ToTokens, Token, TokenStream, append_literal,
 };
@@ -69,6 +71,22 @@ impl<K: QuotedKind, A: Allocator> Quoted<K, A> {
     pub(crate) fn single_body(&self) -> &str {
         let body = self.body;
         &self.token.text()[body.lo..body.hi]
+    }
+
+    /// What reading the token's text finds, as [`find`] does, by the places that are kept: nothing is looked for again.
+    pub fn found(&self) -> Found {
+        let unit = match K::KIND {
+            Kind::Byte => byte_of_body(self.single_body()) as u32,
+            Kind::Char => char_of_body(self.single_body()) as u32,
+            _ => 0,
+        };
+        Found {
+            magnitude: 0,
+            body: self.body,
+            kind: K::KIND,
+            truth: false,
+            unit,
+        }
     }
 
     /// The segments of what stands between the quotes: each piece, where it stands in the token's text, and what it stands
