@@ -62,6 +62,7 @@ fn stops_among<const HIGH: bool, const N: usize>(marks: Marks, bytes: &[u8], at:
 }
 
 /// Whether the walk stops at the byte.
+#[inline(always)]
 fn is_stop<const HIGH: bool>(marks: Marks, byte: u8) -> bool
     ensures { result ≡ stops HIGH marks byte }
 {

@@ -10,17 +10,30 @@ use core::ops::{BitAnd, BitOr, Sub};
 /// What moves the highest bits into the highest byte, in their order.
 const GATHER: u64 = 0x0002_0408_1020_4081;
 
-/// The numbers that hold N lanes, each made of its index. The loop counts by itself, which costs least where nothing is optimized.
+/// The numbers that hold N lanes, each made of its index. It is written out, without a loop, an index that is tested or a number
+/// that is made in vain, which costs least where nothing is optimized.
 macro_rules! eights {
-    ($lanes:ident, $at:ident => $eight:expr) => {{
-        let mut eights = [0; 8];
-        let mut $at = 0;
-        while $at < $lanes / 8 {
-            eights[$at] = $eight;
-            $at += 1;
+    ($lanes:ident, $at:ident => $eight:expr) => {
+        [
+            eights!($lanes, $at, 0, $eight),
+            eights!($lanes, $at, 1, $eight),
+            eights!($lanes, $at, 2, $eight),
+            eights!($lanes, $at, 3, $eight),
+            eights!($lanes, $at, 4, $eight),
+            eights!($lanes, $at, 5, $eight),
+            eights!($lanes, $at, 6, $eight),
+            eights!($lanes, $at, 7, $eight),
+        ]
+    };
+    ($lanes:ident, $at:ident, $index:literal, $eight:expr) => {
+        if $lanes > 8 * $index {
+            #[allow(non_upper_case_globals)]
+            const $at: usize = $index;
+            $eight
+        } else {
+            0
         }
-        eights
-    }};
+    };
 }
 
 /// N lanes of bytes, the first of these; N is 8, 16 or more by eights, up to 64.
@@ -52,7 +65,8 @@ impl<const N: usize> Simd<u8, N> {
     /// The byte in each lane.
     #[inline(always)]
     pub(crate) fn splat(byte: u8) -> Self {
-        Simd([byte as u64 * LOWEST; 8], PhantomData)
+        let eight = byte as u64 * LOWEST;
+        Simd(eights!(N, at => eight), PhantomData)
     }
 
     /// Where the lanes of both are equal: where nothing is left of their difference, so that no carry reaches the highest bit.

@@ -49,6 +49,7 @@ fn stops_among<const HIGH: bool, const N: usize>(marks: Marks, bytes: &[u8], at:
 }
 
 /// Whether the walk stops at the byte.
+#[inline(always)]
 fn is_stop<const HIGH: bool>(marks: Marks, byte: u8) -> bool {
     let is_mark = byte == marks.first
         || byte == marks.second
