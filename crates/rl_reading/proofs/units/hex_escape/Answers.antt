@@ -6,10 +6,6 @@ pub returns-in_err-low-clause-ascii : goal.returns-in_err-low-clause-ascii
 unfolding hex_at
 returns-in_err-low-clause-ascii c = grind (arith, common_steps) steps 200000
 
-pub returns-in_err-low-clause-shorter : goal.returns-in_err-low-clause-shorter
-unfolding hex_at
-returns-in_err-low-clause-shorter c = grind (arith, common_steps) steps 200000
-
 pub overflow_mul-code : goal.overflow_mul-code
 unfolding hex_at
 overflow_mul-code c = grind (arith, common_steps) steps 200000
@@ -25,10 +21,6 @@ overflow_cast-result c = grind (arith, common_steps) steps 200000
 pub returns-then-may_be_hex-clause-value : goal.returns-then-may_be_hex-clause-value
 unfolding hex_at
 returns-then-may_be_hex-clause-value c = grind (arith, common_steps) steps 200000
-
-pub returns-then-may_be_hex-clause-shorter : goal.returns-then-may_be_hex-clause-shorter
-unfolding hex_at
-returns-then-may_be_hex-clause-shorter c = grind (arith, common_steps) steps 200000
 
 pub returns-else-may_be_hex-clause-value : goal.returns-else-may_be_hex-clause-value
 unfolding hex_at
