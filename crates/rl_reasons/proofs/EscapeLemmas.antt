@@ -1,9 +1,10 @@
 -- What the readers of the units of quoted literals give at each character, and how a text is completed.
-use Rattle.rl_text.proofs.Common.{◌≡◌, ℕ, suc, ◌+◌, ◌*◌, ◌^◌, ◌<◌, ◌≤◌, ◌||◌, ◌&&◌, Bool, true, false, not, cond, eqb, ltb, List, [], ◌∷◌, ◌++◌, Option, Some, None, refl, sym, ap, subst, ◌∙◌, ◌⊎◌, inl, inr, arith, option_and_then, AllByRecursion, digit_value, scalar, and_from, and_parts, both_ways, cases_Bool, eqb-true, ltb-true, ltb-false, lt-ltb, eq-eqb, ne_eqb, or_right}
-use Rattle.rl_reading.proofs.Names.{IsScalar, pow-suc, and_right, le-ltb, Kind, CStr, first_passes, content_of, is_blank, is_hex_digit, holds_characters, is_string, is_single, is_line_end, allows_code, may_be_hex, has_unicode}
+use Rattle.rl_text.proofs.Common.{◌≡◌, ℕ, suc, ◌+◌, ◌*◌, ◌^◌, ◌<◌, ◌≤◌, ◌||◌, ◌&&◌, Bool, true, false, not, cond, eqb, ltb, List, [], ◌∷◌, ◌++◌, Option, Some, None, refl, sym, ap, subst, ◌∙◌, ◌⊎◌, inl, inr, arith, option_and_then, digit_value, scalar, and_from, and_parts, both_ways, cases_Bool, eqb-true, ltb-true, ltb-false, lt-ltb, eq-eqb, ne_eqb, or_right}
+use Rattle.rl_reading.proofs.Names.{IsScalar, pow-suc, and_right, le-ltb, Kind, CStr, content_of, is_hex_digit, holds_characters, is_string, is_single, is_line_end, allows_code, may_be_hex, has_unicode}
 use Rattle.std.proofs.Common.{leb}
 use Rattle.std.proofs.Math.Nat.{pow-le-pow_right}
 use Rattle.std.proofs.lemmas.Bool.{le-leb, leb-false}
+use Rattle.rl_reasons.specs.Flaws.{IsCompletable}
 use Rattle.rl_reading.specs.Mirrors.UnitAt.{found, number_if, digit_at, hex_at, unicode_at, after_blanks, named_in, named_at, escape_at, unit_at}
 use Rattle.rl_reasons.specs.Mirrors.UnitFlawAt.{is_code}
 use Rattle.rl_reading.proofs.UnitLemmas.{holds_more, unicode_sound}
@@ -18,24 +19,27 @@ Reader V = List ℕ → Option (V × List ℕ)
 abbrev pub given : {V : Type 0} → V → List ℕ → Option (V × List ℕ)
 given v rest = Some (v, rest)
 
--- An ending with which the front is read, whatever follows. What begins so is no blank.
-pub record Completes {V : Type 0} (reader : Reader V) (front : List ℕ) : Type 0 where
-  pub ending : List ℕ
-  pub value : V
-  pub are_characters : AllByRecursion IsScalar ending
-  pub no_blank : (r : List ℕ) → front ≡ [] → first_passes is_blank (ending ++ r) ≡ false
-  pub reads : (r : List ℕ) → reader (front ++ (ending ++ r)) ≡ given value r
+-- the text is read, whatever follows
+abbrev pub Closes : {V : Type 0} → Reader V → List ℕ → Type 0
+Closes {V} reader t = (value : V) × ((r : List ℕ) → reader (t ++ r) ≡ given value r)
+
+-- nothing is read at its front
+abbrev pub Fails : {V : Type 0} → Reader V → List ℕ → Type 0
+Fails reader t = reader t ≡ None
+
+-- something is read that begins with nothing before it
+abbrev pub Completes : {V : Type 0} → Reader V → Type 0
+Completes reader = IsCompletable (Closes reader) []
 
 -- one character, then whatever follows
-ends_by : {V : Type 0} (reader : Reader V) (front : List ℕ) (value : V) (c : ℕ) → IsScalar c → is_blank c ≡ false
-    → ((r : List ℕ) → reader (front ++ (c ∷ r)) ≡ given value r) → Completes reader front
-ends_by reader front value c is no_blank h = record { ending = c ∷ []; value = value; are_characters = (is, tt); no_blank = λ r g. no_blank; reads = h }
+ends_by : {V : Type 0} (reader : Reader V) (value : V) (c : ℕ) → IsScalar c
+    → ((r : List ℕ) → reader (c ∷ r) ≡ given value r) → Completes reader
+ends_by reader value c is h = record { ending = c ∷ []; are_characters = (is, tt); is_taken = (value, h) }
 
 -- two of them
-ends_by_two : {V : Type 0} (reader : Reader V) (front : List ℕ) (value : V) (c d : ℕ) → IsScalar c → IsScalar d
-    → is_blank c ≡ false → ((r : List ℕ) → reader (front ++ (c ∷ d ∷ r)) ≡ given value r) → Completes reader front
-ends_by_two reader front value c d is js no_blank h = record
-    { ending = c ∷ d ∷ []; value = value; are_characters = (is, (js, tt)); no_blank = λ r g. no_blank; reads = h }
+ends_by_two : {V : Type 0} (reader : Reader V) (value : V) (c d : ℕ) → IsScalar c → IsScalar d
+    → ((r : List ℕ) → reader (c ∷ d ∷ r) ≡ given value r) → Completes reader
+ends_by_two reader value c d is js h = record { ending = c ∷ d ∷ []; are_characters = (is, (js, tt)); is_taken = (value, h) }
 
 -- an inner reader that gives nothing, by the outer one
 pub inner_none : {V W : Type 0} (o : Option (V × List ℕ)) (f : V → W) → option_and_then (λ p. given (f p.0) p.1) o
@@ -64,11 +68,11 @@ pub hex_read : (kind : Kind) (c d : ℕ) (r : List ℕ) → is_hex_digit c ≡ t
 unfolding hex_at
 hex_read kind c d r a b = rw (a, b) refl
 
-pub hex_one : (kind : Kind) → Completes (hex_at kind) []
+pub hex_one : (kind : Kind) → Completes (hex_at kind)
 hex_one kind =
     let allowed : may_be_hex kind 65 ≡ true = and_from (allows_code kind 65) (not (holds_characters kind) || true)
     (holds_more kind 65 refl) (or_right (not (holds_characters kind)) true refl) in
-    ends_by_two (hex_at kind) [] 65 52 49 refl refl refl (λ r. hex_read kind 52 49 r refl refl
+    ends_by_two (hex_at kind) 65 52 49 refl refl (λ r. hex_read kind 52 49 r refl refl
     ∙ ap (λ b. number_if b 65 r) allowed)
 
 -- after the first one
@@ -80,13 +84,13 @@ low_allowed false v h small = refl
 low_allowed true v h small = lt-ltb (v * 16 + 1) 128 (let few : v ≤ 7 = ltb-false 7 v h in omega arith)
 
 pub hex_second : (kind : Kind) (c : ℕ) → is_hex_digit c ≡ true → (holds_characters kind && ltb 7 (digit_value c))
-    ≡ false → Completes (second kind c) []
+    ≡ false → Completes (second kind c)
 hex_second kind c h low =
     let v = digit_value c in
     let allowed : may_be_hex kind (v * 16 + 1) ≡ true = and_from (allows_code kind (v * 16 + 1))
     (not (holds_characters kind) || ltb (v * 16 + 1) 128) (holds_more kind (v * 16 + 1) (not_zero (v * 16)))
     (low_allowed (holds_characters kind) v low (ltb-true v 16 h)) in
-    ends_by (second kind c) [] (v * 16 + 1) 49 refl refl (λ r. hex_read kind c 49 r h refl
+    ends_by (second kind c) (v * 16 + 1) 49 refl (λ r. hex_read kind c 49 r h refl
     ∙ ap (λ b. number_if b (v * 16 + 1) r) allowed)
 
 -- a number that isn't allowed isn't, whatever follows
@@ -238,14 +242,14 @@ one_more kind v n s bad = and_from (scalar (v * 16 + 1)) (allows_code kind (v * 
     whether true true e g = absurd (both_ways (is_code kind v) bad (and_from (scalar v) (allows_code kind v) e g))
     whether true false e g = ap (λ x. scalar (x * 16 + 1)) (only_zero kind v g)
 
-pub closing : (kind : Kind) (v n : ℕ) → Spelled kind v n → Completes (coded kind v n) []
+pub closing : (kind : Kind) (v n : ℕ) → Spelled kind v n → Completes (coded kind v n)
 closing kind v n s = go (is_code kind v) refl
   where
-    go : (b : Bool) → is_code kind v ≡ b → Completes (coded kind v n) []
-    go true e = ends_by (coded kind v n) [] v 125 refl refl (λ r. closed_code kind v n r s.unicode e)
+    go : (b : Bool) → is_code kind v ≡ b → Completes (coded kind v n)
+    go true e = ends_by (coded kind v n) v 125 refl (λ r. closed_code kind v n r s.unicode e)
     go false e =
         let few = room kind v n s e in
-        ends_by_two (coded kind v n) [] (v * 16 + 1) 49 125 refl refl refl
+        ends_by_two (coded kind v n) (v * 16 + 1) 49 125 refl refl
         (λ r. digit_on kind v n 49 (125 ∷ r) refl (omega (arith, few))
         ∙ closed_code kind (v * 16 + 1) (n + 1) r s.unicode (one_more kind v n s e))
 
@@ -287,8 +291,8 @@ pub first_spelled : (kind : Kind) (c : ℕ) → has_unicode kind ≡ true → is
     → Spelled kind (digit_value c) 1
 first_spelled kind c u h = record { unicode = u; few = omega arith; small = (let small : digit_value c < 16 = ltb-true (digit_value c) 16 h in small); full = λ e. absurd (cc) }
 
-pub braced_one : (kind : Kind) → has_unicode kind ≡ true → Completes (braced kind) []
-braced_one kind u = ends_by_two (braced kind) [] 1 49 125 refl refl refl
+pub braced_one : (kind : Kind) → has_unicode kind ≡ true → Completes (braced kind)
+braced_one kind u = ends_by_two (braced kind) 1 49 125 refl refl
     (λ r. closed_code kind 1 1 r u (holds_more kind 1 refl))
 
 pub unicode_on : (kind : Kind) (t : List ℕ) → unicode_at kind (123 ∷ t) ≡ braced kind t
@@ -298,13 +302,11 @@ pub no_unicode_brace : (kind : Kind) (c : ℕ) (t : List ℕ) → eqb c 123 ≡ 
 unfolding unicode_at
 no_unicode_brace kind c t h = rw h refl
 
-pub unicode_one : (kind : Kind) → has_unicode kind ≡ true → Completes (unicode_at kind) []
+pub unicode_one : (kind : Kind) → has_unicode kind ≡ true → Completes (unicode_at kind)
 unicode_one kind u = record {
   ending = 123 ∷ 49 ∷ 125 ∷ [];
-  value = 1;
   are_characters = (refl, (refl, (refl, tt)));
-  no_blank = λ r g. refl;
-  reads = λ r. unicode_on kind (49 ∷ 125 ∷ r) ∙ closed_code kind 1 1 r u (holds_more kind 1 refl);
+  is_taken = (1, λ r. unicode_on kind (49 ∷ 125 ∷ r) ∙ closed_code kind 1 1 r u (holds_more kind 1 refl));
 }
 
 -- without \u no text after the letter does
@@ -322,8 +324,8 @@ escaped_n : (kind : Kind) (r : List ℕ) → escape_at kind (110 ∷ r) ≡ foun
 unfolding escape_at
 escaped_n kind r = rw (holds_more kind 10 refl) refl
 
-pub escape_n : (kind : Kind) → Completes (escape_at kind) []
-escape_n kind = ends_by (escape_at kind) [] (10 ∷ []) 110 refl refl (λ r. escaped_n kind r)
+pub escape_n : (kind : Kind) → Completes (escape_at kind)
+escape_n kind = ends_by (escape_at kind) (10 ∷ []) 110 refl (λ r. escaped_n kind r)
 
 pub by_hex : (kind : Kind) (r : List ℕ) → escape_at kind (120 ∷ r)
     ≡ option_and_then (λ p. found (p.0 ∷ []) p.1) (hex_at kind r)

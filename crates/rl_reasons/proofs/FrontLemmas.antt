@@ -1,6 +1,6 @@
 -- A character of ASCII between single quotes, which stands for itself, by the bytes of its text.
-use Rattle.rl_text.proofs.Common.{◌≡◌, ◌<◌, ◌≤◌, ◌||◌, ◌&&◌, ◌==◌, ℕ, suc, zero, Bool, true, false, not, List, [], ◌∷◌, length, get_or, refl, sym, ap, subst, ◌∙◌, arith, inl, inr, and_from, both_ways, eqb-true, cases_Bool, is_ascii_digit, IsAscii, IsUtf8, chars}
-use Rattle.rl_reading.proofs.Names.{Char, first_passes}
+use Rattle.rl_text.proofs.Common.{◌≡◌, ◌<◌, ℕ, suc, zero, true, false, List, [], ◌∷◌, length, get_or, refl, sym, ap, subst, ◌∙◌, arith, inl, and_from, both_ways, IsAscii, IsUtf8, chars}
+use Rattle.rl_reading.proofs.Names.{Char}
 use Rattle.std.proofs.lemmas.Str.{chars-IsAscii}
 use Rattle.rl_forms.specs.Strict.{Itself, is_bare_character, is_strict_unit}
 use Rattle.rl_reading.specs.declared.found.Body.{Body}
@@ -12,24 +12,6 @@ use Rattle.rl_reasons.specs.StrictRead.{IsStrictReading}
 use Rattle.rl_reasons.specs.declared.strict_reading.Reading.TheVariants.{Unit}
 use Rattle.rl_strict.specs.StrictShapes.{ClosesUnits, IsToken}
 use Rattle.rl_strict.proofs.StrictLemmas.{close_token}
-
--- ---- by its bytes
-
-pub bare_bytes : (t b : List ℕ) → b ≡ t → length t ≡ 3 → get_or b 0 0 ≡ 39 → get_or b 2 0 ≡ 39 → get_or b 1 0 < 128
-    → is_bare_character (get_or b 1 0) ≡ true → IsBare t (get_or b 1 0)
-bare_bytes t b same long first last small bare = (sym same ∙ three b (ap length same ∙ long) first last, small, bare)
-  where
-    three : (b : List ℕ) → length b ≡ 3 → get_or b 0 0 ≡ 39 → get_or b 2 0 ≡ 39 → b ≡ 39 ∷ get_or b 1 0 ∷ 39 ∷ []
-    three [] n f l = absurd (omega (arith, n))
-    three (x ∷ []) n f l = absurd (omega (arith, n))
-    three (x ∷ y ∷ []) n f l = absurd (omega (arith, n))
-    three (x ∷ y ∷ z ∷ []) n f l = ap (λ v. v ∷ y ∷ z ∷ []) f ∙ ap (λ v. 39 ∷ y ∷ v ∷ []) l
-    three (x ∷ y ∷ z ∷ w ∷ ws) n f l = absurd (omega (arith, n))
-
--- where its bytes are others, the text is none
-pub no_bare : (t b : List ℕ) (P : Type 0) → b ≡ t → ((c : ℕ) → b ≡ 39 ∷ c ∷ 39 ∷ [] → c < 128
-    → is_bare_character c ≡ true → P) → (c : ℕ) → IsBare t c → P
-no_bare t b P same h c y = h c (same ∙ y.0) y.1 y.2
 
 -- ---- it is a token, and what it stands for
 

@@ -8,6 +8,9 @@ pub mod StrictRawFlaws
 pub mod StrictTokens
 pub mod StrictWordFlaws
 pub mod StrictExplainLemmas
+pub mod Stops
+pub mod NumberEnds
+pub mod NumberTokens
 pub mod StrictNumberFlaws
 pub mod StrictNumberKinds
 pub mod OneStrictUnit

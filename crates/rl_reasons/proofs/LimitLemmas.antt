@@ -1,5 +1,5 @@
 -- Integers past the limit: their place, and that a token which is none has a reading.
-use Rattle.rl_text.proofs.Common.{◌≡◌, ℕ, ◌+◌, ◌-◌, ◌<◌, ◌≤◌, ◌⊎◌, ◌||◌, ◌==◌, Bool, true, false, cond, List, [], ◌∷◌, ◌++◌, length, take, IfNone, Option, Some, None, refl, sym, ap, subst, ◌∙◌, inl, inr, arith, cases_Bool, cases_lt, is_ascii_digit, IsUtf8, IsUtf8-take, chars}
+use Rattle.rl_text.proofs.Common.{◌≡◌, ℕ, ◌+◌, ◌-◌, ◌<◌, ◌≤◌, ◌⊎◌, ◌||◌, ◌==◌, Bool, true, false, cond, List, [], ◌∷◌, ◌++◌, length, take, IfNone, Option, Some, None, refl, sym, ap, subst, ◌∙◌, inl, inr, cases_Bool, cases_lt, is_ascii_digit, IsUtf8, IsUtf8-take, chars}
 use Rattle.rl_reading.proofs.Names.{Int, Float, Contents, Digits, Minus, NoSign, Sign, first_passes, limit, HasNoReading, HasReading, IsPast, byte_len}
 use Rattle.std.specs.Prelude.{drop}
 use Rattle.std.specs.Str.{IsCharBoundary}
@@ -27,7 +27,6 @@ use Rattle.rl_text.proofs.TailLemmas.{cut_boundary, cut_chars}
 use Rattle.rl_reading.proofs.IntegerLemmas.{within_reads}
 use Rattle.rl_reasons.proofs.StrictExplainLemmas.{cut_bytes}
 use Rattle.rl_reasons.proofs.StrictTokens.{token_number, token_reads, truth_no_digit}
-use Rattle.rl_strict.proofs.StrictNumberLemmas.{number_sound}
 
 -- ---- the place
 
@@ -68,7 +67,7 @@ float_minus t x v s = (Float, (_, x, signed_float Minus t x v (strict_float t x 
 unsigned_reads : (t : List ℕ) → IsToken t → HasReading t ⊎ IsPast t
 unsigned_reads t y = elim (cases_Bool (first_passes is_ascii_digit t)) [
   | inl digit ↦
-      let (contents, suffix, strict) = number_sound t (token_number t digit y) in
+      let (contents, suffix, strict) = token_number t digit y in
       elim strict [
         | inl s ↦ either_int t suffix contents s
         | inr s ↦ inl (Float, (contents, suffix, float_strict_reads t suffix contents s))
@@ -79,7 +78,7 @@ unsigned_reads t y = elim (cases_Bool (first_passes is_ascii_digit t)) [
 minus_reads : (number : List ℕ) → first_passes is_ascii_digit number ≡ true → IsToken number
     → HasReading (45 ∷ number) ⊎ IsPast (45 ∷ number)
 minus_reads number digit y =
-    let (contents, suffix, strict) = number_sound number (token_number number digit y) in
+    let (contents, suffix, strict) = token_number number digit y in
     elim strict [
       | inl s ↦ either_minus number suffix contents s
       | inr s ↦ inl (float_minus number suffix contents s)
@@ -150,7 +149,8 @@ under n m h = elim (cases_lt limit n) [
   | inr small ↦ small
 ]
 
-past_of : (t x : List ℕ) (s : Sign) (n : ℕ) → IntReads t s n x → None ≡ in_128_bits n → (past : IsPast t) × (past.suffix ≡ x)
+past_of : (t x : List ℕ) (s : Sign) (n : ℕ) → IntReads t s n x → None ≡ in_128_bits n → (past : IsPast t)
+    × (past.suffix ≡ x)
 past_of t x s n r h = (record { sign = s; magnitude = n; suffix = x; reads = r; past = over n h }, refl)
 
 within_of : (t x : List ℕ) (s : Sign) (n m : ℕ) → IntReads t s n x → Some m ≡ in_128_bits n → HasReading t

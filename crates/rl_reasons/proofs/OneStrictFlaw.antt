@@ -1,7 +1,6 @@
 -- A text has one flaw at most in the strict grammar.
-use Rattle.rl_text.proofs.Common.{◌≡◌, ℕ, ◌+◌, ◌||◌, true, false, ◌==◌, cond, List, [], ◌∷◌, ◌++◌, None, refl, sym, ap, subst, ◌∙◌, inl, inr, append_assoc, append_cancel_right, and_from, both_ways, or_parts, is_ascii_digit, Bool, Some}
+use Rattle.rl_text.proofs.Common.{◌≡◌, ℕ, ◌+◌, true, false, ◌==◌, cond, List, [], ◌∷◌, ◌++◌, None, refl, sym, ap, subst, ◌∙◌, inl, inr, append_assoc, append_cancel_right, both_ways, or_parts, is_ascii_digit, Bool, Some}
 use Rattle.rl_reading.proofs.Names.{Kind, byte_len, first_passes, truth_text}
-use Rattle.rl_text.proofs.Basics.{digit_is_ten}
 use Rattle.rl_reasons.specs.declared.flaws.FlawKind.{FlawKind}
 use Rattle.rl_reasons.specs.declared.flaws.FlawKind.TheVariants.{BadSuffix, Empty, Minus, NoLiteral, Unfinished}
 use Rattle.rl_reading.specs.declared.quoted_forms.QuotedForm.{QuotedForm}
@@ -13,16 +12,16 @@ use Rattle.rl_reasons.specs.StrictFlawKinds.{HasStrictQuotedFlaw, StrictQuotedFl
 use Rattle.rl_reasons.specs.StrictFlaws.{IsStrictFlawOf}
 use Rattle.rl_reasons.specs.StrictNumberFlaws.{BeginsWord, IsStrictNumberFlaw, IsStrictWordFlaw}
 use Rattle.rl_strict.specs.StrictShapes.{IsToken}
-use Rattle.rl_reading.specs.Mirrors.NumberAt.{after_digits, radix_at}
 use Rattle.rl_reading.specs.Mirrors.OpenerAt.{found_opener, opener_at}
-use Rattle.rl_strict.specs.Mirrors.StrictAt.{ends_whole, is_decimal, is_strict_number}
 use Rattle.rl_reading.proofs.FormLemmas.{front_complete}
 use Rattle.rl_reasons.proofs.OneStrictRaw.{raw_once}
 use Rattle.rl_reasons.proofs.OneStrictUnit.{cooked_once, single_once}
 use Rattle.rl_reading.proofs.ReadingLemmas.{front_not_quoted}
 use Rattle.rl_reasons.proofs.StrictExplainLemmas.{quoted_cut}
 use Rattle.rl_reasons.proofs.StrictNumberKinds.{digit_kind}
-use Rattle.rl_reasons.proofs.StrictTokens.{digit_front, number_is_token}
+use Rattle.rl_reasons.proofs.StrictTokens.{digit_front}
+use Rattle.rl_reasons.specs.Mirrors.NumberRead.{Ending}
+use Rattle.rl_reasons.proofs.ReadNumbers.{goes_on}
 use Rattle.rl_reasons.specs.declared.flaws.Flaw.{Flaw}
 use Rattle.rl_reading.specs.WholeShapes.{is_number_front}
 
@@ -170,22 +169,10 @@ number_once : (k l : FlawKind) (front rest : List ℕ) → IsStrictNumberFlaw k 
 number_once BadSuffix BadSuffix front rest p q = refl
 number_once BadSuffix l front rest p q = absurd (p.2 l q)
 number_once k BadSuffix front rest p q = absurd (q.2 k p)
-number_once k l front rest p q = sym (digit_kind k front rest p) ∙ digit_kind l front rest q
-
--- a digit is a number
-pub one_digit : (c : ℕ) → is_ascii_digit c ≡ true → IsToken (c ∷ [])
-unfolding is_strict_number radix_at is_decimal
-one_digit c h =
-    let row : after_digits 10 (c ∷ []) ≡ [] = ap (λ b. cond (b || (c == 95)) [] (c ∷ [])) (sym (digit_is_ten c) ∙ h) in
-    number_is_token (c ∷ []) (and_from (is_ascii_digit c) (ends_whole (after_digits 10 (c ∷ []))) h (ap ends_whole row))
-
--- a number isn't stuck at its first character
-pub goes_on : (t front rest : List ℕ) → t ≡ front ++ rest → ((c : ℕ) (cs e : List ℕ) → rest ≡ c ∷ cs
-    → IsToken (front ++ (c ∷ e)) → ⊥) → first_passes is_ascii_digit t ≡ true → first_passes is_ascii_digit front ≡ true
-goes_on t (c ∷ cs) rest e stuck h = sym (ap (first_passes is_ascii_digit) e) ∙ h
-goes_on t [] [] e stuck h = absurd (both_ways false refl (sym (ap (first_passes is_ascii_digit) e) ∙ h))
-goes_on t [] (c ∷ cs) e stuck h = absurd
-    (stuck c cs [] refl (one_digit c (sym (ap (first_passes is_ascii_digit) e) ∙ h)))
+number_once k l front rest p q =
+    let same : Some k ≡ Some l = ap (λ (e : Ending). e.0) (sym (digit_kind k front rest p) ∙ digit_kind l front rest q)
+    in
+    cc
 
 -- ---- words
 

@@ -15,8 +15,8 @@ use Rattle.rl_strict.specs.Mirrors.StrictAt.{is_raw_character}
 use Rattle.rl_reasons.specs.Mirrors.StrictFlawAt.{raw_stop, held_flaw_of}
 use Rattle.rl_reasons.specs.Mirrors.UnitFlawAt.{spoiled_flaw_of}
 use Rattle.rl_reasons.proofs.OneStrictUnit.{suffix_once}
-use Rattle.rl_reasons.proofs.StrictRawFlaws.{ends_at, many_hashes, no_closer_at, walk_halt}
-use Rattle.rl_strict.proofs.StrictRawLemmas.{NoCloser, inside_allowed}
+use Rattle.rl_reasons.proofs.StrictRawFlaws.{ends_at, many_hashes, walk_halt}
+use Rattle.rl_strict.proofs.StrictRawLemmas.{NoCloser, inside_allowed, no_closer_at}
 
 -- after the hashes stands a quote
 abbrev pub HasQuote : List ℕ → Type 0

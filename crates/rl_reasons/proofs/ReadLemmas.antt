@@ -1,6 +1,6 @@
 -- What reading a text finds is what the grammars say of the whole text.
-use Rattle.rl_text.proofs.Common.{◌≡◌, ◌≢◌, ℕ, Bool, true, false, List, [], ◌∷◌, None, Some, refl, sym, ap, subst, ◌∙◌, inl, inr, both_ways, is_ascii_digit, IsTrue, IsUtf8}
-use Rattle.rl_reading.proofs.Names.{◌↔◌, Kind, Str, Char, first_passes, truth_text, is_string}
+use Rattle.rl_text.proofs.Common.{◌≡◌, ℕ, Bool, true, false, List, ◌∷◌, refl, sym, ap, subst, ◌∙◌, inl, inr, both_ways, is_ascii_digit, IsTrue, IsUtf8}
+use Rattle.rl_reading.proofs.Names.{◌↔◌, Kind, Str, Char, first_passes, is_string}
 use Rattle.std.specs.Prelude.{Result, Ok, Err, IfOk, IfErr, is_ok}
 use Rattle.std.specs.Str.{chars}
 use Rattle.rl_text.specs.Texts.{IsTail}
@@ -16,7 +16,6 @@ use Rattle.rl_reading.proofs.SingleBodies.{no_unit}
 use Rattle.rl_strict.specs.StrictShapes.{ClosesForm, IsToken}
 use Rattle.rl_strict.proofs.StrictLemmas.{close_token, told_token}
 use Rattle.rl_reasons.specs.declared.flaws.FlawKind.{FlawKind}
-use Rattle.rl_reasons.specs.Flaws.{HasKind}
 use Rattle.rl_reasons.specs.QuotedRead.{StopsIn}
 use Rattle.rl_reasons.specs.declared.flaws.Flaw.{Flaw}
 use Rattle.rl_reasons.specs.declared.strict_reading.Reading.{Reading}
@@ -57,10 +56,6 @@ form_flaw t form kind inside k piece rest h s =
       says = inl (strict_quoted_has t form kind inside k piece rest h s.has);
     }
 
-pub number_flaw_at : (t : List ℕ) (k : FlawKind) (rest : List ℕ) → first_passes is_ascii_digit t ≡ true → IsStop t k rest
-    → IsFlawAt t k t rest
-number_flaw_at t k rest d s = record { none = s.none; stops = s.stops; says = inr (inl (d, s.kind, refl)) }
-
 -- the string that was found
 pub text_found : (t : List ℕ) (kind : Kind) (body : Body) → is_string kind ≡ true → IsUtf8 t → IsQuotedAt kind t body
     → IsFound t (OfUnit kind body 0)
@@ -76,7 +71,7 @@ pub minus_alone : (t : List ℕ) (k : FlawKind) (rest : List ℕ) → first_pass
     → found_flaw k rest ≡ end_flaw_at Unfinished NoNumber t → IsMinusStop t k rest
 minus_alone t k rest n same =
     let flaw = no_digit t (found_flaw k rest) n same in
-    record { none = λ y. both_ways (first_passes is_ascii_digit t) n (number_of t y).0; stops = flaw.stops; says = flaw.kind }
+    record { none = λ y. both_ways (first_passes is_ascii_digit t) n (number_of t y).0; stops = flaw.stops; says = flaw.has }
 
 -- ---- a number by the place of its suffix
 

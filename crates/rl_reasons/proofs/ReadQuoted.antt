@@ -1,12 +1,9 @@
 -- What the walk over a quoted literal finds is what the grammars say.
-use Rattle.rl_text.proofs.Common.{◌≡◌, ◌≢◌, ◌+◌, ℕ, ◌&&◌, ◌||◌, Bool, true, false, not, ◌==◌, cond, List, [], ◌∷◌, ◌++◌, length, Option, Some, None, refl, sym, ap, subst, ◌∙◌, arith, append_assoc, and_from, and_parts, both_ways, cases_Bool, eqb-true, inl, inr, flat_map, list_all, AllByRecursion, IsUtf8, or_from}
-use Rattle.rl_reading.proofs.Names.{cond_both, after_run, first_passes, is_blank, is_string, Kind, StrictUnit, Itself, QuoteEscape, PlainEscape, AsciiEscape, ByteEscape, UnicodeEscape, LineBreak, strict_text, is_dropped_blank, is_strict_unit, is_plain, is_single}
-use Rattle.std.proofs.lemmas.Bool.{and_left}
+use Rattle.rl_text.proofs.Common.{◌≡◌, ◌≢◌, ◌+◌, ℕ, ◌&&◌, Bool, true, false, not, ◌==◌, cond, List, [], ◌∷◌, ◌++◌, length, Option, Some, None, refl, sym, ap, subst, ◌∙◌, arith, and_parts, both_ways, eqb-true, inl, inr, flat_map, list_all, AllByRecursion, IsUtf8, or_from}
+use Rattle.rl_reading.proofs.Names.{after_run, first_passes, is_blank, is_string, Kind, StrictUnit, Itself, QuoteEscape, PlainEscape, AsciiEscape, ByteEscape, UnicodeEscape, LineBreak, strict_text, is_dropped_blank, is_strict_unit, is_plain, is_single}
 use Rattle.std.specs.Str.{chars}
-use Rattle.rl_text.specs.Texts.{is_continue, is_start, is_white}
-use Rattle.rl_text.proofs.Common.{is_xid_start}
-use Rattle.unicode_ident.proofs.IdentLemmas.{is_xid_start-ascii}
-use Rattle.rl_forms.specs.Quoted.{QuotedUnit, EndsBefore, IsUnit, texts, values}
+use Rattle.rl_text.specs.Texts.{is_continue, is_start}
+use Rattle.rl_forms.specs.Quoted.{QuotedUnit, IsUnit, texts, values}
 use Rattle.rl_forms.proofs.StrictQuoted.{MayFollow, is_return, no_return, stands}
 use Rattle.rl_reading.specs.declared.found.Body.{Body}
 use Rattle.rl_reading.specs.declared.quoted_forms.QuotedForm.{QuotedForm}
@@ -23,7 +20,7 @@ use Rattle.rl_reading.proofs.FrontLenLemmas.{opener_lo}
 use Rattle.rl_strict.specs.StrictShapes.{ClosesUnits}
 use Rattle.rl_strict.specs.Mirrors.StrictAt.{ends_quoted, is_strict_suffix, unit_rest}
 use Rattle.rl_strict.proofs.StrictRowLemmas.{bare_run, one_end, one_none, units_end}
-use Rattle.rl_strict.proofs.StrictUnitRows.{breaks_to, row_closes, row_none, row_run}
+use Rattle.rl_strict.proofs.StrictUnitRows.{row_closes, row_none, row_run}
 use Rattle.rl_reasons.specs.declared.flaws.FlawKind.{FlawKind}
 use Rattle.rl_reasons.specs.declared.flaws.FlawKind.TheVariants.{ExtraHash, TwoCharacters, Unclosed, UnderscoreSuffix}
 use Rattle.rl_reasons.specs.Mirrors.WordFlawAt.{end_flaw_at}
@@ -48,15 +45,15 @@ use Rattle.rl_reading.proofs.FrontLenLemmas.{raw_lo}
 use Rattle.rl_reasons.specs.Mirrors.StrictFlawAt.{begins_hash, closed_flaw_at, strict_unit_flaw_at, suffix_end_flaw_at, suffix_rest}
 use Rattle.rl_reasons.specs.Mirrors.SuffixRead.{is_lone, suffix_end_read, suffix_read_at}
 use Rattle.rl_reasons.specs.Mirrors.UnitFlawAt.{FoundFlaw, found_flaw}
-use Rattle.rl_reasons.proofs.ReadNumbers.{all_run}
+use Rattle.rl_reasons.proofs.NumberEnds.{all_run}
 use Rattle.std.specs.Prelude.{option_map, ◌⊎◌, nat_lt}
 use Rattle.rl_reading.proofs.Names.{Byte, Char, and_right}
 use Rattle.rl_forms.specs.Quoted.{content_of, is_line_end}
 use Rattle.rl_forms.specs.Strict.{is_bare_character}
 use Rattle.rl_reading.specs.Mirrors.UnitAt.{escape_at, line_feed_at, unit_at}
 use Rattle.rl_strict.specs.Mirrors.StrictAt.{escape_rest}
-use Rattle.rl_reasons.proofs.StrictCookedFlaws.{cooked_unclosed, no_front, single_closed, single_open, single_unclosed, string_closed, string_open}
-use Rattle.rl_reasons.proofs.StrictSuffixFlaws.{no_start_no_suffix, same_piece}
+use Rattle.rl_reasons.proofs.StrictCookedFlaws.{cooked_unclosed, no_front, single_closed, single_open, single_unclosed, string_closed, string_open, unquoted_ends}
+use Rattle.rl_reasons.proofs.StrictSuffixFlaws.{hash_no_start, no_start_no_suffix, same_flaw}
 
 -- ---- a suffix
 
@@ -64,9 +61,8 @@ hash_no_suffix : (form : QuotedForm) (t : List ℕ) → begins_hash form t ≡ t
 hash_no_suffix form [] h = absurd (both_ways false refl (and_parts (is_raw_form form) false h).1)
 hash_no_suffix form (c ∷ cs) h =
     let At : ℕ → Type 0 = λ z. is_start z ≡ false in
-    let hash : is_start 35 ≡ false = and_left (35 == 95 || is_xid_start 35) (not (is_white 35))
-    (is_xid_start-ascii 35 (omega arith)) in
-    no_start_no_suffix c cs (subst At (sym (eqb-true c 35 (and_parts (is_raw_form form) (c == 35) h).1)) hash)
+    no_start_no_suffix c cs
+    (subst At (sym (eqb-true c 35 (and_parts (is_raw_form form) (c == 35) h).1)) hash_no_start)
 
 -- the tests of the definition and of the code, by what they ask
 same_tests : (q start some all : Bool) → (q ≡ true → start ≡ true) → (cond q some start && all)
@@ -164,19 +160,15 @@ pub cooked_open : (k : Kind) (f : FlawKind) (t closing piece rest : List ℕ) �
     → BeginsStrictUnits k t closing → unit_rest k closing ≡ None → ((x : List ℕ) → closing ≢ 34 ∷ x) → found_flaw f rest
     ≡ strict_unit_flaw_at k closing → piece ≡ closing → StopsIn CookedForm k f t piece rest
 cooked_open k f t closing piece rest s r stuck unquoted same is =
-    let flaw = same_piece CookedForm k f t closing piece rest is
+    let flaw = same_flaw CookedForm k f f t closing piece rest rest refl is refl
     (string_open k f t closing rest s r stuck unquoted same) in
     record {
-      none = λ c. not_quoted closing (no_front 34 closing unquoted)
+      none = λ c. both_ways (ends_quoted 34 closing) (unquoted_ends 34 closing (no_front 34 closing unquoted))
           ((units_end k (ends_quoted 34 closing) closing closing s stuck ((λ c. c), (λ c. c)) refl).1
           ((row_closes k r.units closing s r.each r.ends).1 (subst (ClosesUnits k) r.text_is c)));
       stops = flaw.stops;
       has = flaw.has;
     }
-  where
-    not_quoted : (z : List ℕ) → first_passes (λ d. d == 34) z ≡ false → ends_quoted 34 z ≡ true → ⊥
-    not_quoted [] n h = absurd (cc)
-    not_quoted (c ∷ cs) n h = both_ways (c == 34) n (and_parts (c == 34) (is_strict_suffix cs) h).0
 
 -- ---- the lenient reading of strict units
 
@@ -371,15 +363,11 @@ pub single_unquoted_stops : (k : Kind) (f : FlawKind) (t closing piece rest : Li
 single_unquoted_stops k f t closing piece rest s u none same is =
     let flaw = single_unclosed k f t closing piece rest s u none same is in
     record {
-      none = λ c. not_quoted closing (no_front 39 closing none)
+      none = λ c. both_ways (ends_quoted 39 closing) (unquoted_ends 39 closing (no_front 39 closing none))
           ((one_end k (ends_quoted 39 closing) t closing s u refl).1 c);
       stops = flaw.stops;
       has = flaw.has;
     }
-  where
-    not_quoted : (z : List ℕ) → first_passes (λ d. d == 39) z ≡ false → ends_quoted 39 z ≡ true → ⊥
-    not_quoted [] n h = absurd (cc)
-    not_quoted (c ∷ cs) n h = both_ways (c == 39) n (and_parts (c == 39) (is_strict_suffix cs) h).0
 
 pub single_open_stops : (k : Kind) (f : FlawKind) (t piece rest : List ℕ) → is_single k ≡ true → unit_rest k t ≡ None
     → found_flaw f rest ≡ strict_unit_flaw_at k t → piece ≡ t → StopsIn SingleForm k f t piece rest

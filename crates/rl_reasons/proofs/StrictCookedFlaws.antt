@@ -1,11 +1,11 @@
 -- Flaws of strings with escapes, of characters and of bytes, in the strict grammar.
-use Rattle.rl_text.proofs.Common.{◌≡◌, ◌≢◌, ℕ, ◌||◌, true, false, ◌==◌, List, [], ◌∷◌, ◌++◌, Some, None, refl, sym, ap, subst, ◌∙◌, inl, inr, append_assoc, and_parts, both_ways, eqb-true, or_parts, flat_map, AllByRecursion}
-use Rattle.rl_reading.proofs.Names.{false_from_ne_true, IsScalar, Kind, Byte, Char, first_passes, is_blank, is_single, is_string, StrictUnit, Itself, QuoteEscape, PlainEscape, AsciiEscape, ByteEscape, UnicodeEscape, LineBreak, strict_text, is_dropped_blank, is_strict_unit}
+use Rattle.rl_text.proofs.Common.{◌≡◌, ◌≢◌, ℕ, true, false, ◌==◌, List, [], ◌∷◌, ◌++◌, Some, None, refl, sym, ap, subst, ◌∙◌, inl, inr, append_assoc, both_ways, eqb-true, flat_map, AllByRecursion}
+use Rattle.rl_reading.proofs.Names.{false_from_ne_true, IsScalar, Kind, Byte, Char, first_passes, is_single, is_string, StrictUnit, Itself, QuoteEscape, PlainEscape, AsciiEscape, ByteEscape, UnicodeEscape, LineBreak, strict_text, is_dropped_blank, is_strict_unit}
 use Rattle.std.proofs.lemmas.Bool.{and_left}
 use Rattle.rl_reasons.specs.declared.flaws.FlawKind.{FlawKind}
 use Rattle.rl_reasons.specs.declared.flaws.FlawKind.TheVariants.{Unclosed, TwoCharacters}
 use Rattle.rl_reading.specs.declared.quoted_forms.QuotedForm.TheVariants.{Cooked as CookedForm, Single as SingleForm}
-use Rattle.rl_reasons.specs.Flaws.{StopsBefore}
+use Rattle.rl_reasons.specs.Flaws.{IsCompletable, StopsBefore}
 use Rattle.rl_reading.specs.StrictUnits.{BeginsStrictUnit, BeginsStrictUnits, BreakEnds, HasNoStrictUnit}
 use Rattle.rl_reasons.specs.StrictFlawKinds.{suffix_piece}
 use Rattle.rl_strict.specs.StrictShapes.{ClosesForm, ClosesUnits}
@@ -14,7 +14,7 @@ use Rattle.rl_reasons.specs.Mirrors.StrictFlawAt.{strict_unit_flaw_at, closed_fl
 use Rattle.rl_reasons.specs.Mirrors.UnitFlawAt.{FoundFlaw, found_flaw}
 use Rattle.rl_strict.proofs.StrictRowLemmas.{one_end, one_none, quote_stops, quoted_single, units_end, units_step}
 use Rattle.rl_reasons.proofs.StrictSuffixFlaws.{Closer, FlawInside, closed_flaw}
-use Rattle.rl_reasons.proofs.StrictUnitFlaws.{HasStrictUnitFlaw, left_none, left_some, strict_unit_spoils}
+use Rattle.rl_reasons.proofs.StrictUnitFlaws.{HasStrictUnitFlaw, IsUnitText, strict_unit_spoils}
 use Rattle.rl_strict.proofs.StrictUnitLemmas.{StrictFront, unit_rest_complete, unit_rest_sound}
 use Rattle.rl_strict.proofs.StrictUnitRows.{breaks_to, row_closes}
 use Rattle.rl_reading.proofs.TestLemmas.{goes_on}
@@ -35,6 +35,11 @@ no_unit k t none r u =
 pub no_front : (q : ℕ) (t : List ℕ) → ((x : List ℕ) → t ≢ q ∷ x) → first_passes (λ c. c == q) t ≡ false
 no_front q [] n = refl
 no_front q (c ∷ cs) n = false_from_ne_true (c == q) (λ h. n cs (ap (λ z. z ∷ cs) (eqb-true c q h)))
+
+-- so nothing is closed there
+pub unquoted_ends : (q : ℕ) (t : List ℕ) → first_passes (λ c. c == q) t ≡ false → ends_quoted q t ≡ false
+unquoted_ends q [] n = refl
+unquoted_ends q (c ∷ cs) n = and_left (c == q) (is_strict_suffix cs) n
 
 -- ---- a closed string
 
@@ -91,18 +96,10 @@ string_closed k f t closing suffix piece rest s r e none same spoiled =
 
 -- ---- an open string
 
--- what a run of blanks takes is blank
-blank_more : (t : List ℕ) → first_passes is_blank t ≡ false → first_passes is_dropped_blank t ≡ false
-blank_more [] h = refl
-blank_more (c ∷ cs) h =
-    let p = or_parts (c == 32 || c == 9 || c == 10) (c == 13) h in
-    p.0
-
--- what is completed after a front begins as the text does, or with no blank
-opens : (piece front rest after : List ℕ) → piece ≡ front ++ rest → (front ≡ [] → first_passes is_blank after ≡ false)
-    → first_passes is_dropped_blank piece ≡ false → first_passes is_dropped_blank (front ++ after) ≡ false
-opens piece [] rest after e new h = blank_more after (new refl)
-opens piece (c ∷ cs) rest after e new h = sym (ap (first_passes is_dropped_blank) e) ∙ h
+-- characters, and one more
+one_more : (q : ℕ) (e : List ℕ) → IsScalar q → AllByRecursion IsScalar e → AllByRecursion IsScalar (e ++ (q ∷ []))
+one_more q [] s a = (s, tt)
+one_more q (c ∷ cs) s a = (a.0, one_more q cs s a.1)
 
 pub string_open : (k : Kind) (f : FlawKind) (t piece rest : List ℕ) → is_string k ≡ true → BeginsStrictUnits k t piece
     → unit_rest k piece ≡ None → ((x : List ℕ) → piece ≢ 34 ∷ x) → found_flaw f rest
@@ -113,44 +110,49 @@ string_open k f t piece rest s r none unquoted same =
     let h : HasStrictUnitFlaw k piece (f, rest) = subst (HasStrictUnitFlaw k piece) (sym same)
     (strict_unit_spoils k piece (inl s) (λ y. no_quote) none) in
     let st = h.stops in
-    let done = st.completes in
     let before : List ℕ = flat_map strict_text r.units in
-    let closing : List ℕ = done.ending ++ (34 ∷ []) in
-    let moves = λ (z : List ℕ) (opened : first_passes is_dropped_blank piece ≡ false
-    → first_passes is_dropped_blank z ≡ false). row_closes k r.units z s r.each
-    (breaks_to r.units piece z opened r.ends) in
     record {
       stops = record {
         front = before ++ st.front;
         text_is = r.text_is ∙ ap (λ z. before ++ z) st.text_is ∙ sym (append_assoc before st.front rest);
-        begins = record {
-          ending = closing;
-          are_characters = characters done.ending done.are_characters;
-          is_taken = subst (ClosesUnits k) (sym (append_assoc before st.front closing))
-              ((moves (st.front ++ closing) (opens piece st.front rest closing st.text_is (done.no_blank (34 ∷ [])))).0
-              ((units_step k (st.front ++ closing) (34 ∷ []) (st.front ++ closing) s
-              (left_some (unit_rest k (st.front ++ closing)) done.value (34 ∷ []) (done.reads (34 ∷ []))) (
-                (λ c. c),
-                (λ c. c),
-              )).0 (quote_closes k (34 ∷ []) s (quote_stops k [] s) refl)));
-        };
+        begins = begins st.front st.text_is st.begins;
         stuck = λ c cs e at y.
             let z : List ℕ = st.front ++ (c ∷ e) in
-            let inner = (moves z (λ b. goes_on is_dropped_blank st.front rest piece c cs e st.text_is at b)).1
+            let opened = goes_on is_dropped_blank st.front rest piece c cs e st.text_is at in
+            let inner = (row_closes k r.units z s r.each (breaks_to r.units piece z opened r.ends)).1
             (subst (ClosesUnits k) (append_assoc before st.front (c ∷ e)) y) in
-            not_quoted z (goes_on (λ d. d == 34) st.front rest piece c cs e st.text_is at no_quote) (closed_quote k z s
-            (left_none (unit_rest k z) (st.stuck c cs e at)) inner);
+            both_ways (ends_quoted 34 z)
+            (unquoted_ends 34 z (goes_on (λ d. d == 34) st.front rest piece c cs e st.text_is at no_quote))
+            (closed_quote k z s (st.stuck c cs e at) inner);
       };
       has = inl (r, no_unit k piece none, h.has, no_quote);
     }
   where
-    characters : (e : List ℕ) → AllByRecursion IsScalar e → AllByRecursion IsScalar (e ++ (34 ∷ []))
-    characters [] a = (refl, tt)
-    characters (c ∷ cs) a = (a.0, characters cs a.1)
+    quoted : (z : List ℕ) → (first_passes is_dropped_blank piece ≡ false → first_passes is_dropped_blank z ≡ false)
+        → ClosesUnits k z → ClosesUnits k (flat_map strict_text r.units ++ z)
+    quoted z opened c = (row_closes k r.units z s r.each (breaks_to r.units piece z opened r.ends)).0 c
 
-    not_quoted : (z : List ℕ) → first_passes (λ d. d == 34) z ≡ false → ends_quoted 34 z ≡ true → ⊥
-    not_quoted [] n h = absurd (cc)
-    not_quoted (c ∷ cs) n h = both_ways (c == 34) n (and_parts (c == 34) (is_strict_suffix cs) h).0
+    -- the unit is completed, or none has begun, and a quote closes the string
+    begins : (front : List ℕ) → piece ≡ front ++ rest → IsCompletable (IsUnitText k) front
+        → IsCompletable (ClosesUnits k) (flat_map strict_text r.units ++ front)
+    begins [] text done = record {
+      ending = 34 ∷ [];
+      are_characters = (refl, tt);
+      is_taken = subst (ClosesUnits k) (sym (append_assoc (flat_map strict_text r.units) [] (34 ∷ [])))
+          (quoted (34 ∷ []) (λ b. refl) (quote_closes k (34 ∷ []) s (quote_stops k [] s) refl));
+    }
+    begins (x ∷ f) text done =
+        let closing : List ℕ = done.ending ++ (34 ∷ []) in
+        let unit : unit_rest k ((x ∷ f) ++ closing) ≡ Some (34 ∷ []) = ap (unit_rest k)
+        (sym (append_assoc (x ∷ f) done.ending (34 ∷ []))) ∙ done.is_taken (34 ∷ []) in
+        record {
+          ending = closing;
+          are_characters = one_more 34 done.ending refl done.are_characters;
+          is_taken = subst (ClosesUnits k) (sym (append_assoc (flat_map strict_text r.units) (x ∷ f) closing))
+              (quoted ((x ∷ f) ++ closing) (λ b. sym (ap (first_passes is_dropped_blank) text) ∙ b)
+              ((units_step k ((x ∷ f) ++ closing) (34 ∷ []) ((x ∷ f) ++ closing) s unit ((λ c. c), (λ c. c))).0
+              (quote_closes k (34 ∷ []) s (quote_stops k [] s) refl)));
+        }
 
 -- ---- a character or a byte
 
@@ -239,21 +241,20 @@ single_open k f t piece rest s none same whole =
     let h : HasStrictUnitFlaw k t (f, rest) = subst (HasStrictUnitFlaw k t) (sym same)
     (strict_unit_spoils k t (inr s) (λ y. absurd (not_both k y s)) none) in
     let st = h.stops in
-    let done = st.completes in
-    let closing : List ℕ = done.ending ++ (39 ∷ []) in
+    let closing : List ℕ = st.begins.ending ++ (39 ∷ []) in
     record {
       stops = record {
         front = st.front;
         text_is = st.text_is;
         begins = record {
           ending = closing;
-          are_characters = characters done.ending done.are_characters;
-          is_taken = (one_end k true (st.front ++ closing) (39 ∷ []) s (left_some (unit_rest k (st.front ++ closing))
-              done.value (39 ∷ []) (done.reads (39 ∷ []))) refl).0 refl;
+          are_characters = one_more 39 st.begins.ending refl st.begins.are_characters;
+          is_taken = (one_end k true (st.front ++ closing) (39 ∷ []) s (ap (unit_rest k)
+              (sym (append_assoc st.front st.begins.ending (39 ∷ []))) ∙ st.begins.is_taken (39 ∷ [])) refl).0 refl;
         };
         stuck = λ c cs e at y.
             let z : List ℕ = st.front ++ (c ∷ e) in
-            both_ways false refl ((one_none k z s (left_none (unit_rest k z) (st.stuck c cs e at))).1 y);
+            both_ways false refl ((one_none k z s (st.stuck c cs e at)).1 y);
       };
       has = inl (inl (no_unit k t none, h.has), whole);
     }
@@ -262,7 +263,3 @@ single_open k f t piece rest s none same whole =
     not_both Byte a b = absurd (cc)
     not_both Char a b = absurd (cc)
     not_both kind a b = absurd (cc)
-
-    characters : (e : List ℕ) → AllByRecursion IsScalar e → AllByRecursion IsScalar (e ++ (39 ∷ []))
-    characters [] a = (refl, tt)
-    characters (c ∷ cs) a = (a.0, characters cs a.1)

@@ -1,6 +1,6 @@
 -- Places of flaws of the strict grammar, in bytes.
-use Rattle.rl_text.proofs.Common.{◌≡◌, ℕ, false, Bool, List, [], ◌∷◌, ◌+◌, ◌++◌, length, replicate, refl, sym, ap, ◌∙◌, inl, inr, append_assoc, both_ways, flat_map, IsTrue, IsUtf8, encode_utf8_all, encodes-append, encodes-chars}
-use Rattle.rl_reading.proofs.Names.{◌↔◌, byte_len, Kind, strict_text}
+use Rattle.rl_text.proofs.Common.{◌≡◌, ℕ, List, [], ◌∷◌, ◌+◌, ◌++◌, length, replicate, refl, sym, ap, ◌∙◌, inl, inr, append_assoc, flat_map, IsUtf8, encode_utf8_all, encodes-append, encodes-chars}
+use Rattle.rl_reading.proofs.Names.{byte_len, Kind, strict_text}
 use Rattle.std.specs.Str.{chars}
 use Rattle.rl_reasons.specs.declared.flaws.FlawKind.{FlawKind}
 use Rattle.rl_reasons.specs.declared.flaws.FlawKind.TheVariants.{Unfinished, NoQuote, Unclosed, Nul, NotAscii, TwoCharacters, TooManyHashes, CarriageReturn, EarlyQuote, ExtraHash}
@@ -23,10 +23,6 @@ cut_bytes t rest front ut ur cut =
     ∙ ap length (encodes-append front (chars rest))
     ∙ length-append (encode_utf8_all front) (encode_utf8_all (chars rest))
     ∙ ap (λ z. byte_len front + length z) (encodes-chars rest ur)
-
--- what the code's test rejects is no token
-pub never_token : (t : List ℕ) (b : Bool) → IsTrue b ↔ IsToken t → b ≡ false → IsToken t → ⊥
-never_token t b same h c = both_ways b h (same.1 c)
 
 -- a front's bytes, and those of what follows it
 pub front_bytes : (t rest : List ℕ) → IsUtf8 t → IsUtf8 rest → (s : StopsBefore IsToken (chars t) (chars rest))

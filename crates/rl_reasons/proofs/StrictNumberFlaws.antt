@@ -1,78 +1,32 @@
--- Where a text that begins with a digit stops being the front of a strict number, and why.
-use Rattle.rl_text.proofs.Common.{◌≡◌, ◌≢◌, ℕ, suc, ◌⊎◌, ◌||◌, ◌&&◌, Bool, true, false, not, ◌==◌, cond, List, [], ◌∷◌, ◌++◌, length, refl, sym, ap, subst, ◌∙◌, inl, inr, arith, append_assoc, append-nil, and_from, and_parts, both_ways, eqb-true, not-true, not_from_false, or_cases, or_parts, or_right, is_ascii_digit, AllByRecursion, list_all, list_all-append, list_any, is_xid_start, or_from}
-use Rattle.rl_reading.proofs.Names.{and_right, cond_both, false_from_ne_true, IsScalar, first_passes, is_row_part, is_underscore, IsSuffix, Base, Binary, Octal, Decimal, Hexadecimal, radix, prefix, is_exponent_letter}
-use Rattle.std.proofs.lemmas.Bool.{and_left, or_left}
+-- What the walk over a strict number gives: a number, or where the text stops being the front of one, and why.
+use Rattle.rl_text.proofs.Common.{◌≡◌, ◌≢◌, ℕ, ◌⊎◌, ◌||◌, ◌&&◌, Bool, true, false, not, ◌==◌, cond, List, [], ◌∷◌, ◌++◌, Option, Some, None, refl, sym, ap, subst, ◌∙◌, inl, inr, arith, append_assoc, append-nil, and_from, and_parts, both_ways, eqb-true, not_from_false, or_parts, or_right, is_ascii_digit, is_ascii_hexdigit, list_all, list_all-append, list_any}
+use Rattle.rl_reading.proofs.Names.{and_right, cond_both, first_passes, is_underscore, Base, Binary, Octal, Decimal, Hexadecimal, radix, prefix, IsAfterPrefix, is_exponent_letter, Contents, Digits}
+use Rattle.std.proofs.lemmas.Bool.{or_left}
 use Rattle.std.proofs.lemmas.List.Folds.{list_any-append}
 use Rattle.std.specs.Prelude.{⊤}
-use Rattle.rl_text.specs.Texts.{is_continue, is_start, is_white}
+use Rattle.rl_text.specs.Texts.{is_continue, is_start}
 use Rattle.rl_forms.specs.Numbers.{is_power_sign}
-use Rattle.rl_forms.specs.Strict.{IsDigits}
-use Rattle.unicode_ident.proofs.IdentLemmas.{is_xid_start-ascii}
-use Rattle.rl_text.proofs.Basics.{apart, digit_is_ten}
-use Rattle.rl_forms.proofs.StrictNumbers.{letter_no_part, suffix_no_part}
+use Rattle.rl_forms.specs.Strict.{bare, dec, spelled_number, IsDigits, IsDecimalText, IsNumberSuffix, BasedPrefix, StrictInt, IsStrictExponent, IsDotAlone, IsPointed, IsScientific, StrictFloat}
+use Rattle.rl_forms.proofs.StrictNumbers.{same_value}
+use Rattle.rl_text.proofs.Basics.{digit_is_ten, hex_is_sixteen, passes_same}
+use Rattle.rl_reading.specs.Mirrors.NumberAt.{after_digits, after_power_sign, capped, digit_row_at, has_digit_at, has_value, magnitude_at, radix_at}
+use Rattle.rl_reading.specs.Mirrors.PlainAt.{is_some_text}
+use Rattle.rl_reading.proofs.IntegerLemmas.{based, hex_stops, not_based}
+use Rattle.rl_reading.proofs.RunLemmas.{run_all, run_ends, run_join}
+use Rattle.rl_reading.proofs.TestLemmas.{front_passes, goes_on}
+use Rattle.rl_strict.specs.Mirrors.StrictAt.{is_number_suffix, is_strict_suffix}
+use Rattle.rl_strict.specs.StrictShapes.{IsToken}
+use Rattle.rl_strict.proofs.StrictLemmas.{number_token}
+use Rattle.rl_strict.proofs.StrictWordLemmas.{number_suffix_sound}
 use Rattle.rl_reasons.specs.declared.flaws.FlawKind.{FlawKind}
 use Rattle.rl_reasons.specs.declared.flaws.FlawKind.TheVariants.{NoExponentDigit, BadSuffix, NoDigits, DigitOfBase, BasedFloat, NoFractionDigit}
 use Rattle.rl_reasons.specs.StrictFlawKinds.{goes_on_with_suffix, is_suffix_front}
 use Rattle.rl_reasons.specs.StrictNumberFlaws.{IsBasedRow, IsDigitFlaw, IsStrictFraction, is_float_mark}
-use Rattle.rl_reading.specs.Mirrors.NumberAt.{after_digits, after_power_sign, digit_row_at, has_digit_at, has_value, radix_at, radix_of}
-use Rattle.rl_strict.specs.Mirrors.StrictAt.{ends_digits, ends_dot, ends_power, ends_whole, is_based, is_decimal, is_number_suffix, is_strict_number, is_strict_suffix}
-use Rattle.rl_reading.specs.Mirrors.PlainAt.{is_some_text}
-use Rattle.rl_reasons.specs.Mirrors.StrictFlawAt.{suffix_rest, strict_based_flaw_at, strict_exponent_flaw_at, fraction_flaw_at, number_flaw_at, strict_power_flaw_at, strict_tail_flaw_at, whole_flaw_at}
-use Rattle.rl_reasons.specs.Mirrors.UnitFlawAt.{FoundFlaw, found_flaw}
-use Rattle.rl_reading.proofs.IntegerLemmas.{based}
-use Rattle.rl_reading.proofs.RunLemmas.{run_all, run_ends, run_join, run_past}
-use Rattle.rl_strict.proofs.StrictNumberLemmas.{front_digits, row_part, sign_off, sign_split}
-use Rattle.rl_reasons.proofs.StrictSuffixFlaws.{goes_on_first, no_start_no_suffix, suffix_cut, suffix_stuck}
-use Rattle.rl_reading.proofs.TestLemmas.{front_passes, goes_on, passes_more}
-
--- ---- base ten
-
--- a letter that names a base after this whole part
-abbrev pub names : List ℕ → ℕ → Bool
-names [] c = false
-names (a ∷ []) c = a == 48 && not (radix_of c == 10)
-names (a ∷ b ∷ ws) c = false
-
-not_named : (b : Bool) (r : ℕ) (cs u : List ℕ) → (cond {A = ℕ × List ℕ} (b && not (r == 10)) (r, cs) (10, u)).0 ≡ 10
-    → (b && not (r == 10)) ≡ false
-not_named false r cs u h = refl
-not_named true r cs u h = go (r == 10) refl h
-  where
-    go : (d : Bool) → (r == 10) ≡ d → (cond {A = ℕ × List ℕ} (not d) (r, cs) (10, u)).0 ≡ 10 → not d ≡ false
-    go true e k = refl
-    go false e k = let same : false ≡ true = sym e ∙ ap (λ z. z == 10) k in absurd (cc)
-
--- what follows the whole part of a number in base ten names no base
-pub names_none : (w z : List ℕ) → (radix_at (w ++ z)).0 ≡ 10 → first_passes (names w) z ≡ false
-unfolding radix_at
-names_none w [] h = refl
-names_none [] (c ∷ cs) h = refl
-names_none (a ∷ []) (c ∷ cs) h = not_named (a == 48) (radix_of c) cs (a ∷ c ∷ cs) h
-names_none (a ∷ b ∷ ws) (c ∷ cs) h = refl
-
--- and where no base is named, the number is in base ten
-pub ten_stays : (w z x : List ℕ) → first_passes is_ascii_digit w ≡ true → (radix_at (w ++ z)).0 ≡ 10
-    → first_passes (names w) x ≡ false → radix_at (w ++ x) ≡ (10, w ++ x)
-unfolding radix_at
-ten_stays [] z x d h k = absurd (cc)
-ten_stays (a ∷ []) z [] d h k = refl
-ten_stays (a ∷ []) z (c ∷ cs) d h k = ap (λ b. cond {A = ℕ × List ℕ} b (radix_of c, cs) (10, a ∷ c ∷ cs)) k
-ten_stays (a ∷ b ∷ ws) z x d h k = ap (λ t. cond {A = ℕ × List ℕ} t (radix_of b, ws ++ x) (10, a ∷ b ∷ (ws ++ x)))
-    (not_named (a == 48) (radix_of b) (ws ++ z) (a ∷ b ∷ (ws ++ z)) h)
-
--- what may follow the whole part
-abbrev pub ten_first : List ℕ → ℕ → Bool
-ten_first w c = is_row_part (has_value 10) c || names w c
-
-pub both_fail : (f g : ℕ → Bool) (z : List ℕ) → first_passes f z ≡ false → first_passes g z ≡ false
-    → first_passes (λ c. f c || g c) z ≡ false
-both_fail f g [] h k = refl
-both_fail f g (c ∷ cs) h k = or_from (f c) (g c) h k
-
-pub each_fails : (f g : ℕ → Bool) (z : List ℕ) → first_passes (λ c. f c || g c) z ≡ false → (first_passes f z ≡ false)
-    × (first_passes g z ≡ false)
-each_fails f g [] h = (refl, refl)
-each_fails f g (c ∷ cs) h = or_parts (f c) (g c) h
+use Rattle.rl_reasons.specs.Mirrors.StrictFlawAt.{suffix_rest}
+use Rattle.rl_reasons.specs.Mirrors.NumberRead.{Ending, NumberRead, as_float, as_integer, based_read_at, digits_end_at, fraction_end_at, number_read_at, power_end_at, stopped, suffix_end_at, whole_read_at}
+use Rattle.rl_reasons.proofs.NumberEnds.{Fails, IsSign, Passes, SignCut, based_is, both_fail, digits_plain, digits_power, each_fails, end_of, fraction_is, fraction_none, front_digits, in_base, in_row, is_read, is_sign, names, names_none, number_end_at, of_base, part_row, power_is, row_bare, row_part, row_plain, row_tail, sign_cut, some_value, suffix_reads, suffix_whole, ten_first, ten_is, whole_digits, whole_dot, whole_end_at, whole_plain}
+use Rattle.rl_reasons.proofs.Stops.{Stops, lifted}
+use Rattle.rl_reasons.proofs.StrictSuffixFlaws.{goes_on_first, suffix_cut, suffix_stuck}
 
 -- ---- a flaw after some front of a number
 
@@ -81,53 +35,68 @@ abbrev pub Says : FlawKind → List ℕ → List ℕ → Type 0
 Says BadSuffix front rest = ⊤
 Says k front rest = IsDigitFlaw k front rest
 
--- After the text before, what the test passes stops there, and has that flaw.
-pub record TailFlaw (d : List ℕ → Bool) (before t : List ℕ) (flaw : FoundFlaw) : Type 0 where
-  pub front : List ℕ
-  pub text_is : t ≡ front ++ flaw.1
-  pub ending : List ℕ
-  pub are_characters : AllByRecursion IsScalar ending
-  pub fits : front ≡ [] → ending ≡ []
-  pub completes : d (front ++ ending) ≡ true
-  pub stuck : (c : ℕ) (cs e : List ℕ) → flaw.1 ≡ c ∷ cs → d (front ++ (c ∷ e)) ≡ false
-  pub whole : flaw.0 ≡ BadSuffix → (d front ≡ true) × (flaw.1 ≢ [])
-  pub says : Says flaw.0 (before ++ front) flaw.1
+-- After the text before, the walk stops there, and finds that flaw.
+pub record TailFlaw (read : List ℕ → Ending) (before t : List ℕ) (k : FlawKind) (rest : List ℕ) : Type 0 where
+  pub stops : Stops (Passes read) (Fails read) t rest
+  pub fits : stops.front ≡ [] → stops.begins.ending ≡ []
+  pub whole : k ≡ BadSuffix → Passes read stops.front × (rest ≢ [])
+  pub says : Says k (before ++ stops.front) rest
 
-at_text : (d : List ℕ → Bool) (before t u : List ℕ) (flaw : FoundFlaw) → t ≡ u → TailFlaw d before u flaw
-    → TailFlaw d before t flaw
-at_text d before t u flaw e f = subst (λ z. TailFlaw d before z flaw) (sym e) f
+-- This is said of the suffix where the walk comes to the end, else there is a flaw.
+abbrev pub Judged : (List ℕ → Type 0) → (List ℕ → Ending) → List ℕ → List ℕ → Ending → Type 0
+Judged good read before t (None, x) = good x
+Judged good read before t (Some k, rest) = TailFlaw read before t k rest
 
 no_end : (a b : List ℕ) → a ++ b ≡ [] → b ≡ []
 no_end [] b e = e
 no_end (c ∷ cs) b e = absurd (cc)
 
 -- what is completed begins as the text does, or is nothing
-opens : (first : ℕ → Bool) (front rest ending t : List ℕ) → t ≡ front ++ rest → (front ≡ [] → ending ≡ [])
+begins_so : (first : ℕ → Bool) (front rest ending t : List ℕ) → t ≡ front ++ rest → (front ≡ [] → ending ≡ [])
     → first_passes first t ≡ false → first_passes first (front ++ ending) ≡ false
-opens first [] rest ending t e fits h = ap (first_passes first) (fits refl)
-opens first (x ∷ xs) rest ending t e fits h = sym (ap (first_passes first) e) ∙ h
+begins_so first [] rest ending t e fits h = ap (first_passes first) (fits refl)
+begins_so first (x ∷ xs) rest ending t e fits h = sym (ap (first_passes first) e) ∙ h
 
 -- with some text before it
-lifted : (inner outer : List ℕ → Bool) (first : ℕ → Bool) (before pre t : List ℕ) (flaw : FoundFlaw)
+tail_lifted : (inner outer : List ℕ → Ending) (first : ℕ → Bool) (before pre t : List ℕ) (k : FlawKind) (rest : List ℕ)
     → first_passes first t ≡ false → ((x : List ℕ) → first_passes first x ≡ false → outer (pre ++ x) ≡ inner x)
-    → TailFlaw inner (before ++ pre) t flaw → TailFlaw outer before (pre ++ t) flaw
-lifted inner outer first before pre t flaw ok same k = record {
-  front = pre ++ k.front;
-  text_is = ap (λ z. pre ++ z) k.text_is ∙ sym (append_assoc pre k.front flaw.1);
-  ending = k.ending;
-  are_characters = k.are_characters;
-  fits = λ e. k.fits (no_end pre k.front e);
-  completes = ap outer (append_assoc pre k.front k.ending) ∙ same (k.front ++ k.ending)
-      (opens first k.front flaw.1 k.ending t k.text_is k.fits ok) ∙ k.completes;
-  stuck = λ c cs e h. ap outer (append_assoc pre k.front (c ∷ e)) ∙ same (k.front ++ (c ∷ e))
-      (goes_on first k.front flaw.1 t c cs e k.text_is h ok) ∙ k.stuck c cs e h;
-  whole = λ e.
-      let w = k.whole e in
-      (same k.front (front_passes first k.front flaw.1 t k.text_is ok) ∙ w.0, w.1);
-  says = subst (λ z. Says flaw.0 z flaw.1) (append_assoc before pre k.front) k.says;
-}
+    → TailFlaw inner (before ++ pre) t k rest → TailFlaw outer before (pre ++ t) k rest
+unfolding lifted
+tail_lifted inner outer first before pre t k rest ok same f =
+    let s = f.stops in
+    let passes : (x : List ℕ) → first_passes first x ≡ false → is_read (outer (pre ++ x)) ≡ is_read (inner x)
+    = λ x h. ap is_read (same x h) in
+    record {
+      stops = lifted pre t rest s
+          (λ y. passes (s.front ++ s.begins.ending)
+          (begins_so first s.front rest s.begins.ending t s.text_is f.fits ok) ∙ y)
+          (λ c cs e h y. passes (s.front ++ (c ∷ e)) (goes_on first s.front rest t c cs e s.text_is h ok) ∙ y);
+      fits = λ e. f.fits (no_end pre s.front e);
+      whole = λ e.
+          let w = f.whole e in
+          (passes s.front (front_passes first s.front rest t s.text_is ok) ∙ w.0, w.1);
+      says = subst (λ z. Says k z rest) (append_assoc before pre s.front) f.says;
+    }
+
+-- the same of either
+through : (good more : List ℕ → Type 0) (inner outer : List ℕ → Ending) (first : ℕ → Bool) (before pre t u : List ℕ)
+    (e : Ending) → u ≡ pre ++ t → first_passes first t ≡ false
+    → ((x : List ℕ) → first_passes first x ≡ false → outer (pre ++ x) ≡ inner x) → ((x : List ℕ) → good x → more x)
+    → Judged good inner (before ++ pre) t e → Judged more outer before u e
+through good more inner outer first before pre t u (None, x) text ok same says h = says x h
+through good more inner outer first before pre t u (Some k, rest) text ok same says h =
+    subst (λ z. TailFlaw outer before z k rest) (sym text)
+    (tail_lifted inner outer first before pre t k rest ok same h)
+
+judged_more : (good more : List ℕ → Type 0) (read : List ℕ → Ending) (before t : List ℕ) (e : Ending)
+    → ((x : List ℕ) → good x → more x) → Judged good read before t e → Judged more read before t e
+judged_more good more read before t (None, x) says h = says x h
+judged_more good more read before t (Some k, rest) says h = h
 
 -- ---- a suffix
+
+abbrev SuffixOf : List ℕ → List ℕ → Type 0
+SuffixOf t x = IsNumberSuffix x × (t ≡ x)
 
 front_suffix : (x : List ℕ) → is_suffix_front x ≡ true → first_passes is_underscore x ≡ false → is_number_suffix x
     ≡ true
@@ -138,148 +107,108 @@ front_suffix (c ∷ cs) h u =
     and_from (not (c == 95)) (is_strict_suffix (c ∷ cs)) (not_from_false (c == 95) u)
     (ap (λ b. cond b (is_some_text cs) (is_start c) && list_all is_continue cs) u ∙ h)
 
-tail_spoils : (before t : List ℕ) → first_passes is_underscore t ≡ false → is_number_suffix t ≡ false
-    → TailFlaw is_number_suffix before t (strict_tail_flaw_at t)
-tail_spoils before t u h =
+suffix_flaw : (before t : List ℕ) → first_passes is_underscore t ≡ false → is_some_text (suffix_rest t) ≡ true
+    → TailFlaw suffix_end_at before t BadSuffix (suffix_rest t)
+suffix_flaw before t u some =
     let k = suffix_cut t in
-    let whole : is_number_suffix k.front ≡ true = front_suffix k.front k.is_front
-    (front_passes is_underscore k.front (suffix_rest t) t k.text_is u) in
+    let no_mark = front_passes is_underscore k.front (suffix_rest t) t k.text_is u in
+    let passes : Passes suffix_end_at k.front = suffix_reads k.front no_mark
+    ∙ front_suffix k.front k.is_front no_mark in
     record {
-      front = k.front;
-      text_is = k.text_is;
-      ending = [];
-      are_characters = tt;
+      stops = record {
+        front = k.front;
+        text_is = k.text_is;
+        begins = record { ending = []; are_characters = tt; is_taken = subst (Passes suffix_end_at) (sym (append-nil k.front)) passes };
+        stuck = λ c cs e at.
+            let z : List ℕ = k.front ++ (c ∷ e) in
+            suffix_reads z (goes_on is_underscore k.front (suffix_rest t) t c cs e k.text_is at u)
+            ∙ and_right (not (first_passes is_underscore z)) (is_strict_suffix z) (suffix_stuck k.front c e
+            (goes_on_first k.front cs e c (ap (goes_on_with_suffix k.front) (sym at) ∙ k.ends)));
+      };
       fits = λ e. refl;
-      completes = ap is_number_suffix (append-nil k.front) ∙ whole;
-      stuck = λ c cs e at. and_right (not (first_passes is_underscore (k.front ++ (c ∷ e))))
-          (is_strict_suffix (k.front ++ (c ∷ e))) (suffix_stuck k.front c e (goes_on_first k.front cs e c
-          (ap (goes_on_with_suffix k.front) (sym at) ∙ k.ends)));
-      whole = λ e. (
-        whole,
-        λ n. both_ways (is_number_suffix t) h
-            (ap is_number_suffix (k.text_is ∙ ap (λ z. k.front ++ z) n ∙ append-nil k.front) ∙ whole),
-      );
+      whole = λ e. (passes, λ n. both_ways (is_some_text (suffix_rest t)) (ap is_some_text n) some);
       says = tt;
     }
 
+suffix_judged : (before t : List ℕ) → first_passes is_underscore t ≡ false
+    → Judged (SuffixOf t) suffix_end_at before t (suffix_end_at t)
+unfolding suffix_end_at
+suffix_judged before t u = cond_both (is_some_text (suffix_rest t)) _ _ (Judged (SuffixOf t) suffix_end_at before t)
+    (suffix_flaw before t u) (λ none. (number_suffix_sound t (suffix_whole t u ∙ ap not none), refl))
+
+-- after a row no underscore follows
+no_mark : (test : ℕ → Bool) (t : List ℕ) → first_passes (λ c. test c || is_underscore c) t ≡ false
+    → first_passes is_underscore t ≡ false
+no_mark test t h = (each_fails test is_underscore t h).1
+
 -- ---- an exponent
 
-abbrev pub is_sign : ℕ → Bool
-is_sign c = is_power_sign (c ∷ [])
+-- digits after which an exponent may stand
+record BeforePower (before : List ℕ) : Type 0 where
+  digits : List ℕ
+  fraction : List ℕ
+  is_whole : IsDigits digits
+  is_fraction : IsStrictFraction fraction
+  before_is : before ≡ digits ++ fraction
 
-abbrev pub IsSign : List ℕ → Type 0
-IsSign sign = (sign ≡ []) ⊎ ((sign ≡ 43 ∷ []) ⊎ (sign ≡ 45 ∷ []))
+-- the letter and what follows it are an exponent and a suffix
+abbrev PowerOf : List ℕ → List ℕ → Type 0
+PowerOf t x = (e : List ℕ) × IsStrictExponent e × IsNumberSuffix x × (t ≡ e ++ x)
 
 sign_passes : (sign : List ℕ) → IsSign sign → is_power_sign sign ≡ true
 sign_passes sign (inl e) = ap is_power_sign e
 sign_passes sign (inr (inl e)) = ap is_power_sign e
 sign_passes sign (inr (inr e)) = ap is_power_sign e
 
--- where none is taken off, none stands
-unsigned : (t : List ℕ) → t ≡ after_power_sign t → first_passes is_sign t ≡ false
-unsigned [] h = refl
-unsigned (c ∷ cs) h = go (is_sign c) refl h
-  where
-    go : (b : Bool) → is_sign c ≡ b → c ∷ cs ≡ cond b cs (c ∷ cs) → is_sign c ≡ false
-    go true e h = let long : suc (length cs) ≡ length cs = ap length h in absurd (omega (arith, long))
-    go false e h = e
-
--- a sign is taken off what begins with none
-pub sign_past : (sign z : List ℕ) → IsSign sign → (sign ≡ [] → first_passes is_sign z ≡ false)
-    → after_power_sign (sign ++ z)
-    ≡ z
-sign_past sign z (inl e) n = ap (λ s. after_power_sign (s ++ z)) e ∙ bare z (n e)
-  where
-    bare : (z : List ℕ) → first_passes is_sign z ≡ false → after_power_sign z ≡ z
-    bare [] h = refl
-    bare (c ∷ cs) h = ap (λ b. cond b cs (c ∷ cs)) h
-sign_past sign z (inr (inl e)) n = ap (λ s. after_power_sign (s ++ z)) e
-sign_past sign z (inr (inr e)) n = ap (λ s. after_power_sign (s ++ z)) e
-
-abbrev pub in_row : ℕ → Bool
-in_row = is_row_part (has_value 10)
-
--- a row with a digit, and what ends it
-power_is : (sign row x : List ℕ) → IsSign sign → list_all in_row row ≡ true → list_any (has_value 10) row ≡ true
-    → first_passes in_row x ≡ false → ends_power (sign ++ (row ++ x)) ≡ is_number_suffix x
-unfolding ends_power
-power_is sign row x s each some stops =
-    let p = run_past in_row row x each stops in
-    ap (λ z. has_digit_at 10 z && is_number_suffix (after_digits 10 z)) (sign_off sign row x s each some)
-    ∙ ap (λ b. b && is_number_suffix (after_digits 10 (row ++ x))) (ap (list_any (has_value 10)) p.0 ∙ some)
-    ∙ ap is_number_suffix p.1
-
--- a row without
-power_none : (sign row x : List ℕ) → IsSign sign → (sign ≡ [] → first_passes is_sign (row ++ x) ≡ false)
-    → list_all in_row row ≡ true → list_any (has_value 10) row ≡ false → first_passes in_row x ≡ false
-    → ends_power (sign ++ (row ++ x)) ≡ false
-unfolding ends_power
-power_none sign row x s n each none stops =
-    let p = run_past in_row row x each stops in
-    ap (λ z. has_digit_at 10 z && is_number_suffix (after_digits 10 z)) (sign_past sign (row ++ x) s n)
-    ∙ and_left (has_digit_at 10 (row ++ x)) (is_number_suffix (after_digits 10 (row ++ x)))
-    (ap (list_any (has_value 10)) p.0 ∙ none)
-
 -- a row of a base without a digit is underscores
-underscores : (r : ℕ) (row : List ℕ) → list_all (is_row_part (has_value r)) row ≡ true → list_any (has_value r) row
-    ≡ false → list_all is_underscore row ≡ true
+underscores : (r : ℕ) (row : List ℕ) → list_all (λ c. has_value r c || is_underscore c) row ≡ true
+    → list_any (has_value r) row ≡ false → list_all is_underscore row ≡ true
 underscores r [] each none = refl
 underscores r (c ∷ cs) each none =
-    let p = and_parts (is_row_part (has_value r) c) (list_all (is_row_part (has_value r)) cs) each in
+    let p = and_parts (has_value r c || is_underscore c) (list_all (λ c. has_value r c || is_underscore c) cs) each in
     let n = or_parts (has_value r c) (list_any (has_value r) cs) none in
     and_from (is_underscore c) (list_all is_underscore cs) (sym (ap (λ b. b || is_underscore c) n.0) ∙ p.0)
     (underscores r cs p.1 n.1)
 
--- digits after which an exponent may stand
-pub record BeforePower (before : List ℕ) : Type 0 where
-  pub digits : List ℕ
-  pub fraction : List ℕ
-  pub is_whole : IsDigits digits
-  pub is_fraction : IsStrictFraction fraction
-  pub before_is : before ≡ digits ++ fraction
-
--- the letter, a sign, and a row
-letter_parts : (before digits fraction sign row : List ℕ) (c : ℕ) → before ≡ digits ++ fraction
-    → before ++ (c ∷ (sign ++ row)) ≡ digits ++ (fraction ++ (c ∷ (sign ++ row)))
-letter_parts before digits fraction sign row c e = ap (λ z. z ++ (c ∷ (sign ++ row))) e
-    ∙ append_assoc digits fraction (c ∷ (sign ++ row))
-
 -- a row before its end begins as what stands behind the sign
-row_sign : (row y z : List ℕ) (c : ℕ) (cs e : List ℕ) → y ≡ c ∷ cs → first_passes is_sign (row ++ y) ≡ false
+row_sign : (row y : List ℕ) (c : ℕ) (cs e : List ℕ) → y ≡ c ∷ cs → first_passes is_sign (row ++ y) ≡ false
     → first_passes is_sign (row ++ (c ∷ e)) ≡ false
-row_sign [] y z c cs e h n = sym (ap (first_passes is_sign) h) ∙ n
-row_sign (d ∷ ds) y z c cs e h n = n
+row_sign [] y c cs e h n = sym (ap (first_passes is_sign) h) ∙ n
+row_sign (d ∷ ds) y c cs e h n = n
 
--- a digit ends the exponent
-one_digit : (row : List ℕ) → list_all in_row row ≡ true → (list_all in_row (row ++ (49 ∷ [])) ≡ true)
-    × (list_any (has_value 10) (row ++ (49 ∷ [])) ≡ true)
-one_digit row each = (
-  list_all-append in_row row (49 ∷ []) ∙ and_from (list_all in_row row) true each refl,
-  list_any-append (has_value 10) row (49 ∷ []) ∙ or_right (list_any (has_value 10) row) true refl,
-)
+empty_sign : (sign row y : List ℕ) → sign ++ row ≡ [] → (sign ≡ [] → first_passes is_sign (row ++ y) ≡ false)
+    → first_passes is_sign y ≡ false
+empty_sign [] [] y n h = h refl
+empty_sign [] (r ∷ rs) y n h = absurd (cc)
+empty_sign (s ∷ ss) row y n h = absurd (cc)
 
 -- no digit after the letter
 power_empty : (before cs sign row y : List ℕ) (c : ℕ) → BeforePower before → is_exponent_letter c ≡ true → IsSign sign
-    → list_all in_row row ≡ true → list_any (has_value 10) row ≡ false → first_passes in_row y ≡ false → cs
-    ≡ sign ++ (row ++ y) → (sign ≡ [] → first_passes is_sign (row ++ y) ≡ false)
-    → TailFlaw ends_digits before (c ∷ cs) (found_flaw NoExponentDigit y)
-unfolding ends_digits is_strict_suffix
+    → list_all in_row row ≡ true → list_any (has_value 10) row ≡ false → first_passes in_row y ≡ false
+    → cs ≡ sign ++ (row ++ y) → (sign ≡ [] → first_passes is_sign (row ++ y) ≡ false)
+    → TailFlaw digits_end_at before (c ∷ cs) NoExponentDigit y
+unfolding suffix_end_at suffix_rest
 power_empty before cs sign row y c b l s each none stops text bare =
-    let powers : (z : List ℕ) → ends_digits (c ∷ z) ≡ ends_power z = λ z. ap
-    (λ q. cond q (ends_power z) (is_number_suffix (c ∷ z))) l in
-    let one = one_digit row each in
+    let row_one : List ℕ = row ++ (49 ∷ []) in
+    let all : list_all in_row row_one ≡ true = list_all-append in_row row (49 ∷ [])
+    ∙ and_from (list_all in_row row) true each refl in
+    let some : list_any (has_value 10) row_one ≡ true = list_any-append (has_value 10) row (49 ∷ [])
+    ∙ or_right (list_any (has_value 10) row) true refl in
+    let one : digits_end_at (c ∷ ((sign ++ row) ++ (49 ∷ []))) ≡ suffix_end_at [] = digits_power c
+    ((sign ++ row) ++ (49 ∷ [])) l ∙ ap power_end_at (append_assoc sign row (49 ∷ [])
+    ∙ ap (λ z. sign ++ z) (sym (append-nil row_one)))
+    ∙ power_is sign row_one [] true s (λ e. row_bare row_one [] all some) all some refl in
     record {
-      front = c ∷ (sign ++ row);
-      text_is = ap (λ z. c ∷ z) (text ∙ sym (append_assoc sign row y));
-      ending = 49 ∷ [];
-      are_characters = (refl, tt);
+      stops = record {
+        front = c ∷ (sign ++ row);
+        text_is = ap (λ z. c ∷ z) (text ∙ sym (append_assoc sign row y));
+        begins = record { ending = 49 ∷ []; are_characters = (refl, tt); is_taken = ap is_read one };
+        stuck = λ d ds e h. ap is_read (digits_power c ((sign ++ row) ++ (d ∷ e)) l
+            ∙ ap power_end_at (append_assoc sign row (d ∷ e))
+            ∙ power_is sign row (d ∷ e) false s (λ n. row_sign row y d ds e h (bare n)) each none
+            (sym (ap (first_passes in_row) h) ∙ stops));
+      };
       fits = λ e. absurd (cc);
-      completes = powers ((sign ++ row) ++ (49 ∷ [])) ∙ ap ends_power (append_assoc sign row (49 ∷ [])
-          ∙ ap (λ z. sign ++ z) (sym (append-nil (row ++ (49 ∷ [])))))
-          ∙ power_is sign (row ++ (49 ∷ [])) [] s one.0 one.1 refl;
-      stuck = λ d ds e h. powers ((sign ++ row) ++ (d ∷ e)) ∙ ap ends_power (append_assoc sign row (d ∷ e))
-          ∙ power_none sign row (d ∷ e) s (λ n. row_sign row y y d ds e h (bare n)) each none
-          (sym (ap (first_passes in_row) h) ∙ stops);
       whole = λ e. absurd (cc);
       says = (
         record {
@@ -293,234 +222,282 @@ power_empty before cs sign row y c b l s each none stops text bare =
           is_letter = l;
           is_sign = sign_passes sign s;
           all_underscores = underscores 10 row each none;
-          front_is = letter_parts before b.digits b.fraction sign row c b.before_is;
+          front_is = ap (λ z. z ++ (c ∷ (sign ++ row))) b.before_is
+              ∙ append_assoc b.digits b.fraction (c ∷ (sign ++ row));
         },
         stops,
         λ n. empty_sign sign row y n bare,
       );
     }
-  where
-    empty_sign : (sign row y : List ℕ) → sign ++ row ≡ [] → (sign ≡ [] → first_passes is_sign (row ++ y) ≡ false)
-        → first_passes is_sign y ≡ false
-    empty_sign [] [] y n h = h refl
-    empty_sign [] (r ∷ rs) y n h = absurd (cc)
-    empty_sign (s ∷ ss) row y n h = absurd (cc)
 
 -- the letter, and what follows it
-power_spoils : (before cs : List ℕ) (c : ℕ) → BeforePower before → is_exponent_letter c ≡ true → ends_digits (c ∷ cs)
-    ≡ false → TailFlaw ends_digits before (c ∷ cs) (strict_power_flaw_at cs)
-unfolding strict_power_flaw_at ends_digits
-power_spoils before cs c b l h =
-    let s = sign_split cs in
-    let u : List ℕ = after_power_sign cs in
-    let row : List ℕ = digit_row_at 10 u in
-    let y : List ℕ = after_digits 10 u in
-    let each = run_all in_row u in
-    let stops = run_ends in_row u in
-    let text : cs ≡ s.0 ++ (row ++ y) = s.2 ∙ ap (λ z. s.0 ++ z) (run_join in_row u) in
-    let bare : s.0 ≡ [] → first_passes is_sign (row ++ y) ≡ false = λ e. ap (first_passes is_sign)
-    (sym (run_join in_row u) ∙ sym (s.2 ∙ ap (λ z. z ++ u) e)) ∙ unsigned cs (s.2 ∙ ap (λ z. z ++ u) e) in
-    let powers : (z : List ℕ) → ends_digits (c ∷ z) ≡ ends_power z = λ z. ap
-    (λ q. cond q (ends_power z) (is_number_suffix (c ∷ z))) l in
-    cond_both (has_digit_at 10 u) _ _ (TailFlaw ends_digits before (c ∷ cs))
-    (λ some.
-    let same : (x : List ℕ) → first_passes in_row x ≡ false → ends_digits ((c ∷ (s.0 ++ row)) ++ x)
-    ≡ is_number_suffix x = λ x k. powers ((s.0 ++ row) ++ x) ∙ ap ends_power (append_assoc s.0 row x)
-    ∙ power_is s.0 row x s.1 each some k in
-    let joined : c ∷ cs ≡ (c ∷ (s.0 ++ row)) ++ y = ap (λ z. c ∷ z) (text ∙ sym (append_assoc s.0 row y)) in
-    at_text ends_digits before (c ∷ cs) ((c ∷ (s.0 ++ row)) ++ y) (strict_tail_flaw_at y) joined
-    (lifted is_number_suffix ends_digits in_row before (c ∷ (s.0 ++ row)) y (strict_tail_flaw_at y) stops same
-    (tail_spoils (before ++ (c ∷ (s.0 ++ row))) y (no_mark y stops)
-    (sym (same y stops) ∙ ap ends_digits (sym joined) ∙ h))))
-    (λ none. power_empty before cs s.0 row y c b l s.1 each none stops text bare)
+power_judged : (before cs : List ℕ) (c : ℕ) → BeforePower before → is_exponent_letter c ≡ true
+    → Judged (PowerOf (c ∷ cs)) digits_end_at before (c ∷ cs) (power_end_at cs)
+unfolding power_end_at
+power_judged before cs c b l = cond_both (has_digit_at 10 u) _ _
+    (Judged (PowerOf (c ∷ cs)) digits_end_at before (c ∷ cs))
+    digits (λ none. power_empty before cs s.sign row y c b l s.is_sign_of each none stops text bare)
   where
-    no_mark : (y : List ℕ) → first_passes in_row y ≡ false → first_passes is_underscore y ≡ false
-    no_mark [] h = refl
-    no_mark (d ∷ ds) h = (or_parts (has_value 10 d) (is_underscore d) h).1
+    u : List ℕ
+    u = after_power_sign cs
 
--- a suffix where no exponent begins
-ends_plain : (x : List ℕ) → first_passes is_exponent_letter x ≡ false → ends_digits x ≡ is_number_suffix x
-unfolding ends_digits
-ends_plain [] h = refl
-ends_plain (c ∷ cs) h = ap (λ b. cond b (ends_power cs) (is_number_suffix (c ∷ cs))) h
+    s : SignCut cs u
+    s = sign_cut cs
 
--- after digits
-exponent_spoils : (before t : List ℕ) → BeforePower before → first_passes in_row t ≡ false → ends_digits t ≡ false
-    → TailFlaw ends_digits before t (strict_exponent_flaw_at t)
-unfolding strict_exponent_flaw_at ends_digits is_strict_suffix
-exponent_spoils before [] b stops h = absurd (cc)
-exponent_spoils before (c ∷ cs) b stops h = cond_both (is_exponent_letter c) _ _ (TailFlaw ends_digits before (c ∷ cs))
-    (λ l. power_spoils before cs c b l h)
-    (λ n. lifted is_number_suffix ends_digits is_exponent_letter before [] (c ∷ cs) (strict_tail_flaw_at (c ∷ cs)) n
-    ends_plain (tail_spoils (before ++ []) (c ∷ cs) (or_parts (has_value 10 c) (is_underscore c) stops).1
-    (sym (ends_plain (c ∷ cs) n) ∙ h)))
+    row : List ℕ
+    row = digit_row_at 10 u
 
--- ---- a fraction
+    y : List ℕ
+    y = after_digits 10 u
 
-dot_is : (f x : List ℕ) → IsDigits f → first_passes in_row x ≡ false → ends_dot (f ++ x) ≡ ends_digits x
-unfolding ends_dot
-dot_is [] x d stops = absurd (both_ways false refl d.0)
-dot_is (c ∷ cs) x d stops =
-    ap (λ b. b && ends_digits (after_digits 10 (c ∷ (cs ++ x)))) d.0
-    ∙ ap ends_digits (run_past in_row (c ∷ cs) x (row_part (c ∷ cs) d.1) stops).1
+    each : list_all in_row row ≡ true
+    each = run_all in_row u
+
+    stops : first_passes in_row y ≡ false
+    stops = run_ends in_row u
+
+    text : cs ≡ s.sign ++ (row ++ y)
+    text = s.text_is ∙ ap (λ z. s.sign ++ z) (run_join in_row u)
+
+    bare : s.sign ≡ [] → first_passes is_sign (row ++ y) ≡ false
+    bare e = ap (first_passes is_sign) (sym (run_join in_row u)) ∙ s.bare e
+
+    front : List ℕ
+    front = c ∷ (s.sign ++ row)
+
+    joined : c ∷ cs ≡ front ++ y
+    joined = ap (λ z. c ∷ z) (text ∙ sym (append_assoc s.sign row y))
+
+    digits : has_digit_at 10 u ≡ true → Judged (PowerOf (c ∷ cs)) digits_end_at before (c ∷ cs) (suffix_end_at y)
+    digits some = through (SuffixOf y) (PowerOf (c ∷ cs)) suffix_end_at digits_end_at in_row before front y (c ∷ cs)
+        (suffix_end_at y) joined stops
+        (λ x k. digits_power c ((s.sign ++ row) ++ x) l ∙ ap power_end_at (append_assoc s.sign row x)
+        ∙ power_is s.sign row x true s.is_sign_of (λ e. row_bare row x each some) each some k)
+        (λ x h. (
+          front,
+          record { letter = c; sign = s.sign; row = row; is_letter = l; is_sign = s.is_sign_of; each = part_row row each; some = some_value row ∙ some; text = refl },
+          h.0,
+          joined ∙ ap (λ z. front ++ z) h.1,
+        ))
+        (suffix_judged (before ++ front) y (no_mark (has_value 10) y stops))
+
+-- ---- what follows digits
+
+-- a suffix alone, or an exponent and a suffix
+abbrev DigitsOf : List ℕ → List ℕ → Type 0
+DigitsOf t x = (IsNumberSuffix x × (first_passes is_exponent_letter x ≡ false) × (t ≡ x)) ⊎ PowerOf t x
+
+plain_judged : (before t : List ℕ) → first_passes is_exponent_letter t ≡ false → first_passes in_row t ≡ false
+    → Judged (DigitsOf t) digits_end_at before t (suffix_end_at t)
+plain_judged before t n stops = through (SuffixOf t) (DigitsOf t) suffix_end_at digits_end_at is_exponent_letter before
+    [] t t (suffix_end_at t) refl n digits_plain
+    (λ x h. inl (h.0, sym (ap (first_passes is_exponent_letter) h.1) ∙ n, h.1))
+    (suffix_judged (before ++ []) t (no_mark (has_value 10) t stops))
+
+digits_judged : (before t : List ℕ) → BeforePower before → first_passes in_row t ≡ false
+    → Judged (DigitsOf t) digits_end_at before t (digits_end_at t)
+unfolding digits_end_at
+digits_judged before [] b stops = plain_judged before [] refl refl
+digits_judged before (c ∷ cs) b stops =
+    cond_both (is_exponent_letter c) _ _ (Judged (DigitsOf (c ∷ cs)) digits_end_at before (c ∷ cs))
+    (λ l. judged_more (PowerOf (c ∷ cs)) (DigitsOf (c ∷ cs)) digits_end_at before (c ∷ cs) (power_end_at cs)
+    (λ x h. inr h) (power_judged before cs c b l))
+    (λ n. plain_judged before (c ∷ cs) n stops)
+
+-- ---- a float
+
+abbrev FloatOf : List ℕ → List ℕ → Type 0
+FloatOf t x = (v : Contents) × StrictFloat t v x
+
+float_of : (t numeral x : List ℕ) → (IsDotAlone numeral x ⊎ (IsPointed numeral x ⊎ IsScientific numeral x))
+    → IsDecimalText t → IsNumberSuffix x → t ≡ numeral ++ x → FloatOf t x
+float_of t numeral x form n s text = (_, record { numeral = numeral; form = form; no_prefix = n; suffix = s; text = text; contents = refl })
 
 -- no digit after the dot
-no_fraction : (before whole t : List ℕ) → IsDigits whole → before ≡ whole ++ (46 ∷ []) → first_passes is_ascii_digit t
-    ≡ false → ends_dot t ≡ false → TailFlaw ends_dot before t (found_flaw NoFractionDigit t)
-unfolding ends_dot
-no_fraction before whole t w e n h = record {
-  front = [];
-  text_is = refl;
-  ending = [];
-  are_characters = tt;
+no_fraction : (before whole : List ℕ) (c : ℕ) (cs : List ℕ) → IsDigits whole → before ≡ whole ++ (46 ∷ [])
+    → is_ascii_digit c ≡ false → TailFlaw fraction_end_at before (c ∷ cs) NoFractionDigit (c ∷ cs)
+unfolding fraction_end_at
+no_fraction before whole c cs w e n = record {
+  stops = record {
+    front = [];
+    text_is = refl;
+    begins = record { ending = []; are_characters = tt; is_taken = refl };
+    stuck = λ d ds r h.
+        let same : c ≡ d = cc in
+        ap is_read (fraction_none d r (subst (λ z. is_ascii_digit z ≡ false) same n));
+  };
   fits = λ y. refl;
-  completes = refl;
-  stuck = λ c cs r at. and_left (is_ascii_digit c) (ends_digits (after_digits 10 (c ∷ r)))
-      (sym (ap (first_passes is_ascii_digit) at) ∙ n);
   whole = λ y. absurd (cc);
-  says = (whole, w, append-nil before ∙ e, some t h, n);
+  says = (whole, w, append-nil before ∙ e, (λ y. absurd (cc)), n);
 }
+
+-- what follows the whole part and a dot
+fraction_judged : (t before d z : List ℕ) → IsDigits d → IsDecimalText t → before ≡ d ++ (46 ∷ []) → t ≡ d ++ (46 ∷ z)
+    → Judged (FloatOf t) fraction_end_at before z (fraction_end_at z)
+unfolding fraction_end_at
+fraction_judged t before d [] h n e text = float_of t (d ++ (46 ∷ [])) [] (inl (d, h, refl, refl)) n (inl refl, refl)
+    (text ∙ sym (append-nil (d ++ (46 ∷ []))))
+fraction_judged t before d (c ∷ cs) h n e text =
+    cond_both (is_ascii_digit c) _ _ (Judged (FloatOf t) fraction_end_at before z) digits
+    (no_fraction before d c cs h e)
   where
-    some : (t : List ℕ) → ends_dot t ≡ false → t ≢ []
-    some [] h y = both_ways true h refl
-    some (c ∷ cs) h y = absurd (cc)
+    z : List ℕ
+    z = c ∷ cs
 
-fraction_spoils : (before whole t : List ℕ) → IsDigits whole → before ≡ whole ++ (46 ∷ []) → ends_dot t ≡ false
-    → TailFlaw ends_dot before t (fraction_flaw_at t)
-unfolding fraction_flaw_at
-fraction_spoils before whole t w e h = cond_both (first_passes is_ascii_digit t) _ _ (TailFlaw ends_dot before t)
-    (λ d.
-    let f : List ℕ = digit_row_at 10 t in
-    let y : List ℕ = after_digits 10 t in
-    let digits = front_digits t d in
-    let stops = run_ends in_row t in
-    let text : t ≡ f ++ y = run_join in_row t in
-    let parts : BeforePower (before ++ f) = record {
-      digits = whole;
-      fraction = 46 ∷ f;
-      is_whole = w;
-      is_fraction = inr (f, digits, refl);
-      before_is = ap (λ z. z ++ f) e ∙ append_assoc whole (46 ∷ []) f;
-    } in
-    at_text ends_dot before t (f ++ y) (strict_exponent_flaw_at y) text
-    (lifted ends_digits ends_dot in_row before f y (strict_exponent_flaw_at y) stops (λ x k. dot_is f x digits k)
-    (exponent_spoils (before ++ f) y parts stops (sym (dot_is f y digits stops) ∙ ap ends_dot (sym text) ∙ h))))
-    (λ n. no_fraction before whole t w e n h)
+    f : List ℕ
+    f = digit_row_at 10 z
 
--- ---- a whole part
+    y : List ℕ
+    y = after_digits 10 z
 
-whole_is : (x : List ℕ) → first_passes (λ c. c == 46) x ≡ false → ends_whole x ≡ ends_digits x
-unfolding ends_digits is_strict_suffix
-whole_is [] h = refl
-whole_is (c ∷ cs) h = ap (λ b. cond b (ends_dot cs) (ends_digits (c ∷ cs))) h
+    whole : t ≡ (d ++ (46 ∷ f)) ++ y
+    whole = text ∙ ap (λ q. d ++ (46 ∷ q)) (run_join in_row z) ∙ sym (append_assoc d (46 ∷ f) y)
+
+    read : IsDigits f → (x : List ℕ) → DigitsOf y x → FloatOf t x
+    read first x (inl b) = float_of t (d ++ (46 ∷ f)) x (inr (inl (d, f, h, first, refl, b.1))) n b.0
+        (whole ∙ ap (λ q. (d ++ (46 ∷ f)) ++ q) b.2)
+    read first x (inr b) = float_of t ((d ++ (46 ∷ f)) ++ b.0) x (inr (inr (d, b.0, h, b.1, inr (f, first, refl)))) n
+        b.2
+        (whole ∙ ap (λ q. (d ++ (46 ∷ f)) ++ q) b.3 ∙ sym (append_assoc (d ++ (46 ∷ f)) b.0 x))
+
+    digits : is_ascii_digit c ≡ true → Judged (FloatOf t) fraction_end_at before z (digits_end_at y)
+    digits first =
+        let is = front_digits z first in
+        through (DigitsOf y) (FloatOf t) digits_end_at fraction_end_at in_row before f y z (digits_end_at y)
+        (run_join in_row z) (run_ends in_row z) (λ x k. fraction_is f x is k) (read is)
+        (digits_judged (before ++ f) y (record {
+          digits = d;
+          fraction = 46 ∷ f;
+          is_whole = h;
+          is_fraction = inr (f, is, refl);
+          before_is = ap (λ q. q ++ f) e ∙ append_assoc d (46 ∷ []) f;
+        }) (run_ends in_row z))
+
+-- ---- a number
+
+abbrev IntOf : List ℕ → Option ℕ → List ℕ → Type 0
+IntOf t m x = (n : ℕ) × StrictInt t (Digits (dec n)) x × (m ≡ capped n)
+
+-- The same of a number: an integer, or a float, or the flaw.
+abbrev pub ReadJudged : List ℕ → (List ℕ → Ending) → List ℕ → List ℕ → NumberRead → Type 0
+ReadJudged t read before u (None, Some m, x) = IntOf t m x
+ReadJudged t read before u (None, None, x) = FloatOf t x
+ReadJudged t read before u (Some k, m, x) = TailFlaw read before u k x
+
+float_judged : (t : List ℕ) (read : List ℕ → Ending) (before u : List ℕ) (e : Ending)
+    → Judged (FloatOf t) read before u e → ReadJudged t read before u (as_float e)
+float_judged t read before u (None, x) h = h
+float_judged t read before u (Some k, x) h = h
+
+int_judged : (t : List ℕ) (m : Option ℕ) (read : List ℕ → Ending) (before u : List ℕ) (e : Ending)
+    → Judged (IntOf t m) read before u e → ReadJudged t read before u (as_integer m e)
+int_judged t m read before u (None, x) h = h
+int_judged t m read before u (Some k, x) h = h
+
+-- a row that begins with a digit has one
+first_some : (d : List ℕ) → first_passes is_ascii_digit d ≡ true → list_any (has_value 10) d ≡ true
+first_some [] h = absurd (both_ways false refl h)
+first_some (c ∷ cs) h = or_left (has_value 10 c) (list_any (has_value 10) cs) (sym (digit_is_ten c) ∙ h)
+
+-- an integer of base ten, from its parts
+int_of : (t d x : List ℕ) (m : Option ℕ) → IsDigits d → IsDecimalText t → IsNumberSuffix x
+    → first_passes is_exponent_letter x ≡ false → t ≡ d ++ x → m ≡ capped (spelled_number 10 (bare d)) → IntOf t m x
+int_of t d x m h n s p text is = (
+  spelled_number 10 (bare d),
+  record {
+    prefix = [];
+    base = 10;
+    row = d;
+    is_front = inl (refl, refl, h, n);
+    each = row_part d h.1;
+    some = first_some d h.0;
+    suffix = s;
+    no_exponent = p;
+    no_digit = λ e. absurd (omega arith);
+    text = text;
+    contents = refl;
+  },
+  is,
+)
 
 never_first : (t : List ℕ) → first_passes (λ c. false) t ≡ false
 never_first [] = refl
 never_first (c ∷ cs) = refl
 
-whole_spoils : (w y : List ℕ) → IsDigits w → first_passes in_row y ≡ false → ends_whole y ≡ false
-    → TailFlaw ends_whole w y (whole_flaw_at y)
-unfolding whole_flaw_at
-whole_spoils w [] d stops h = absurd (cc)
-whole_spoils w (c ∷ cs) d stops h = cond_both (c == 46) _ _ (TailFlaw ends_whole w (c ∷ cs))
-    (λ e.
-    let is = eqb-true c 46 e in
-    let inner : ends_dot cs ≡ false = ap (λ z. ends_whole (z ∷ cs)) (sym is) ∙ h in
-    at_text ends_whole w (c ∷ cs) ((46 ∷ []) ++ cs) (fraction_flaw_at cs) (ap (λ z. z ∷ cs) is)
-    (lifted ends_dot ends_whole (λ z. false) w (46 ∷ []) cs (fraction_flaw_at cs) (never_first cs) (λ x k. refl)
-    (fraction_spoils (w ++ (46 ∷ [])) w cs d refl inner)))
-    (λ n.
-    let parts : BeforePower (w ++ []) = record { digits = w; fraction = []; is_whole = d; is_fraction = inl refl; before_is = refl } in
-    lifted ends_digits ends_whole (λ z. z == 46) w [] (c ∷ cs) (strict_exponent_flaw_at (c ∷ cs)) n whole_is
-    (exponent_spoils (w ++ []) (c ∷ cs) parts stops (sym (whole_is (c ∷ cs) n) ∙ h)))
+-- after the whole part
+whole_judged : (t d y : List ℕ) (m : Option ℕ) → IsDigits d → IsDecimalText t → t ≡ d ++ y
+    → first_passes in_row y ≡ false → m ≡ capped (spelled_number 10 (bare d))
+    → ReadJudged t whole_end_at d y (whole_read_at m y)
+unfolding whole_read_at
+whole_judged t d y m h n text stops is = go y text stops
+  where
+    plain : (y : List ℕ) → t ≡ d ++ y → first_passes in_row y ≡ false → first_passes is_float_mark y ≡ false
+        → ReadJudged t whole_end_at d y (as_integer m (suffix_end_at y))
+    plain y text stops mark = int_judged t m whole_end_at d y (suffix_end_at y)
+        (through (SuffixOf y) (IntOf t m) suffix_end_at whole_end_at is_float_mark d [] y y (suffix_end_at y) refl mark
+        whole_plain
+        (λ x s. int_of t d x m h n s.0 (sym (ap (first_passes is_exponent_letter) s.1)
+        ∙ (each_fails (λ c. c == 46) is_exponent_letter y mark).1) (text ∙ ap (λ z. d ++ z) s.1) is)
+        (suffix_judged (d ++ []) y (no_mark (has_value 10) y stops)))
 
--- ---- base ten
+    dot : (c : ℕ) (cs : List ℕ) → t ≡ d ++ (c ∷ cs) → (c == 46) ≡ true
+        → ReadJudged t whole_end_at d (c ∷ cs) (as_float (fraction_end_at cs))
+    dot c cs text e =
+        let is : c ≡ 46 = eqb-true c 46 e in
+        float_judged t whole_end_at d (c ∷ cs) (fraction_end_at cs)
+        (through (FloatOf t) (FloatOf t) fraction_end_at whole_end_at (λ z. false) d (46 ∷ []) cs (c ∷ cs)
+        (fraction_end_at cs) (ap (λ z. z ∷ cs) is) (never_first cs) (λ x k. whole_dot x) (λ x f. f)
+        (fraction_judged t (d ++ (46 ∷ [])) d cs h n refl (text ∙ ap (λ z. d ++ (z ∷ cs)) is)))
 
--- the number, where no base is named
-abbrev number_of : ℕ × List ℕ → Bool
-number_of q = cond (q.0 == 10) (is_decimal q.1) (is_based q.0 q.1)
+    power : (c : ℕ) (cs : List ℕ) → t ≡ d ++ (c ∷ cs) → (c == 46) ≡ false → is_exponent_letter c ≡ true
+        → ReadJudged t whole_end_at d (c ∷ cs) (as_float (power_end_at cs))
+    power c cs text e l = float_judged t whole_end_at d (c ∷ cs) (power_end_at cs)
+        (through (PowerOf (c ∷ cs)) (FloatOf t) digits_end_at whole_end_at (λ z. z == 46) d [] (c ∷ cs) (c ∷ cs)
+        (power_end_at cs) refl e whole_digits
+        (λ x p. float_of t (d ++ p.0) x (inr (inr (d, p.0, h, p.1, inl refl))) n p.2
+        (text ∙ ap (λ q. d ++ q) p.3 ∙ sym (append_assoc d p.0 x)))
+        (power_judged (d ++ []) cs c (record { digits = d; fraction = []; is_whole = h; is_fraction = inl refl; before_is = refl })
+        l))
 
-ten_is : (w y x : List ℕ) → IsDigits w → (radix_at (w ++ y)).0 ≡ 10 → first_passes (ten_first w) x ≡ false
-    → is_strict_number (w ++ x) ≡ ends_whole x
-unfolding is_strict_number is_decimal
-ten_is w y x d ten ok =
-    let apart_is = each_fails in_row (names w) x ok in
-    ap number_of (ten_stays w y x d.0 ten apart_is.1)
-    ∙ ap (λ b. b && ends_whole (after_digits 10 (w ++ x))) (passes_more is_ascii_digit w x d.0)
-    ∙ ap ends_whole (run_past in_row w x (row_part w d.1) apart_is.0).1
+    go : (y : List ℕ) → t ≡ d ++ y → first_passes in_row y ≡ false → ReadJudged t whole_end_at d y (whole_read_at m y)
+    go [] text stops = plain [] text stops refl
+    go (c ∷ cs) text stops = tests (c == 46) refl (is_exponent_letter c) refl
+      where
+        tests : (b : Bool) → (c == 46) ≡ b → (e : Bool) → is_exponent_letter c ≡ e
+            → ReadJudged t whole_end_at d (c ∷ cs) (cond b (as_float (fraction_end_at cs))
+            (cond e (as_float (power_end_at cs)) (as_integer m (suffix_end_at (c ∷ cs)))))
+        tests true b e l = dot c cs text b
+        tests false b true l = power c cs text b l
+        tests false b false l = plain (c ∷ cs) text stops
+            (both_fail (λ c. c == 46) is_exponent_letter (c ∷ cs) b l)
 
-decimal_spoils : (t : List ℕ) → first_passes is_ascii_digit t ≡ true → radix_at t ≡ (10, t) → is_strict_number t ≡ false
-    → TailFlaw is_strict_number [] t (number_flaw_at t)
-unfolding number_flaw_at
-decimal_spoils t d at h =
+-- with a text before it
+read_through : (t : List ℕ) (inner outer : List ℕ → Ending) (first : ℕ → Bool) (pre y u : List ℕ) (r : NumberRead)
+    → u ≡ pre ++ y → first_passes first y ≡ false
+    → ((x : List ℕ) → first_passes first x ≡ false → outer (pre ++ x) ≡ inner x) → ReadJudged t inner pre y r
+    → ReadJudged t outer [] u r
+read_through t inner outer first pre y u (None, Some m, x) text ok same h = h
+read_through t inner outer first pre y u (None, None, x) text ok same h = h
+read_through t inner outer first pre y u (Some k, m, x) text ok same h = subst (λ z. TailFlaw outer [] z k x) (sym text)
+    (tail_lifted inner outer first [] pre y k x ok same h)
+
+-- a number of base ten
+decimal_judged : (t : List ℕ) → first_passes is_ascii_digit t ≡ true → IsDecimalText t
+    → ReadJudged t number_end_at [] t (whole_read_at (capped (magnitude_at 10 t)) (after_digits 10 t))
+decimal_judged t d n =
     let w : List ℕ = digit_row_at 10 t in
     let y : List ℕ = after_digits 10 t in
-    let digits = front_digits t d in
-    let stops = run_ends in_row t in
+    let m : Option ℕ = capped (magnitude_at 10 t) in
+    let is = front_digits t d in
     let text : t ≡ w ++ y = run_join in_row t in
-    let ten : (radix_at (w ++ y)).0 ≡ 10 = ap (λ z. (radix_at z).0) (sym text) ∙ ap (λ (q : ℕ × List ℕ). q.0) at in
-    let ok = both_fail in_row (names w) y stops (names_none w y ten) in
-    let code : number_flaw_at t ≡ whole_flaw_at y = ap (λ (q : ℕ × List ℕ). cond (q.0 == 10)
-    (whole_flaw_at (after_digits 10 q.1)) (strict_based_flaw_at q.0 q.1)) at in
-    subst (TailFlaw is_strict_number [] t) (sym code)
-    (at_text is_strict_number [] t (w ++ y) (whole_flaw_at y) text
-    (lifted ends_whole is_strict_number (ten_first w) [] w y (whole_flaw_at y) ok (λ x k. ten_is w y x digits ten k)
-    (whole_spoils w y digits stops (sym (ten_is w y y digits ten ok) ∙ ap is_strict_number (sym text) ∙ h))))
-
--- a float's mark is in no row, and names no base
-pub never_row : (c : ℕ) → is_float_mark c ≡ true → in_row c ≡ false
-never_row c h = elim (or_cases (c == 46) (is_exponent_letter c) h) [
-  | inl a ↦ ap in_row (eqb-true c 46 a)
-  | inr a ↦ letter_no_part c a
-]
-
-mark_names : (w : List ℕ) (c : ℕ) → is_float_mark c ≡ true → names w c ≡ false
-mark_names [] c h = refl
-mark_names (a ∷ b ∷ ws) c h = refl
-mark_names (a ∷ []) c h = and_right (a == 48) (not (radix_of c == 10))
-    (elim (or_cases (c == 46) (is_exponent_letter c) h) [
-      | inl e ↦ ap (λ z. not (radix_of z == 10)) (eqb-true c 46 e)
-      | inr e ↦ elim (or_cases (c == 101) (c == 69) e) [
-        | inl g ↦ ap (λ z. not (radix_of z == 10)) (eqb-true c 101 g)
-        | inr g ↦ ap (λ z. not (radix_of z == 10)) (eqb-true c 69 g)
-      ]
-    ])
-
-pub row_no_base : (w : List ℕ) (c : ℕ) (cs : List ℕ) → IsDigits w → is_float_mark c ≡ true → radix_at (w ++ (c ∷ cs))
-    ≡ (10, w ++ (c ∷ cs))
-unfolding radix_at
-row_no_base [] c cs d mark = absurd (both_ways false refl d.0)
-row_no_base (a ∷ []) c cs d mark = ap (λ b. cond {A = ℕ × List ℕ} b (radix_of c, cs) (10, a ∷ c ∷ cs))
-    (mark_names (a ∷ []) c mark)
-row_no_base (a ∷ b ∷ ws) c cs d mark = ap (λ t. cond {A = ℕ × List ℕ} t (radix_of b, ws ++ (c ∷ cs))
-    (10, a ∷ b ∷ (ws ++ (c ∷ cs)))) (and_right (a == 48) (not (radix_of b == 10)) (in_row_names b
-    (and_parts (in_row b) (list_all in_row ws) (and_parts (in_row a) (list_all in_row (b ∷ ws)) (row_part (a ∷ b ∷ ws)
-    d.1)).1).0))
-  where
-    in_row_names : (b : ℕ) → in_row b ≡ true → not (radix_of b == 10) ≡ false
-    in_row_names b h =
-        let low : (b == 98) ≡ false = apart in_row b 98 h refl in
-        let middle : (b == 111) ≡ false = apart in_row b 111 h refl in
-        let high : (b == 120) ≡ false = apart in_row b 120 h refl in
-        rw (low, middle, high) refl
+    let stops = run_ends in_row t in
+    let ten : (radix_at (w ++ y)).0 ≡ 10 = ap (λ z. (radix_at z).0) (sym text)
+    ∙ ap (λ (q : ℕ × List ℕ). q.0) (not_based t n) in
+    read_through t whole_end_at number_end_at (ten_first w) w y t (whole_read_at m y) text
+    (both_fail in_row (names w) y stops (names_none w y ten)) (λ x k. ten_is w y x is ten k)
+    (whole_judged t w y m is n text stops (ap capped (sym (same_value 10 (bare w)))))
 
 -- ---- other bases
-
-abbrev pub of_base : Base → ℕ → Bool
-of_base b = has_value (radix b)
-
-abbrev pub in_base : Base → ℕ → Bool
-in_base b = is_row_part (of_base b)
-
-based_is : (b : Base) (w x : List ℕ) → list_all (in_base b) w ≡ true → first_passes (in_base b) x ≡ false
-    → is_based (radix b) (w ++ x)
-    ≡ (list_any (of_base b) w && (not (first_passes is_exponent_letter x) && is_number_suffix x))
-unfolding is_based
-based_is b w x each stops =
-    let p = run_past (in_base b) w x each stops in
-    ap (λ z. list_any (of_base b) z && (not (first_passes is_exponent_letter (after_digits (radix b) (w ++ x)))
-    && is_number_suffix (after_digits (radix b) (w ++ x)))) p.0
-    ∙ ap (λ z. list_any (of_base b) w && (not (first_passes is_exponent_letter z) && is_number_suffix z)) p.1
 
 one_of : (b : Base) → of_base b 49 ≡ true
 one_of Binary = refl
@@ -529,33 +506,18 @@ one_of Decimal = refl
 one_of Hexadecimal = refl
 
 -- a digit completes any row
-based_one : (b : Base) (w : List ℕ) → list_all (in_base b) w ≡ true → is_based (radix b) (w ++ (49 ∷ [])) ≡ true
-unfolding is_strict_suffix
-based_one b w each =
-    let all : list_all (in_base b) (w ++ (49 ∷ [])) ≡ true = list_all-append (in_base b) w (49 ∷ [])
+based_one : (b : Base) (w : List ℕ) → b ≢ Decimal → list_all (in_base b) w ≡ true
+    → Passes number_end_at ((prefix b ++ w) ++ (49 ∷ []))
+unfolding suffix_end_at suffix_rest
+based_one b w n each =
+    let z : List ℕ = w ++ (49 ∷ []) in
+    let all : list_all (in_base b) z ≡ true = list_all-append (in_base b) w (49 ∷ [])
     ∙ and_from (list_all (in_base b) w) (in_base b 49 && true) each
     (and_from (in_base b 49) true (or_left (of_base b 49) (is_underscore 49) (one_of b)) refl) in
-    let some : list_any (of_base b) (w ++ (49 ∷ [])) ≡ true = list_any-append (of_base b) w (49 ∷ [])
+    let some : list_any (of_base b) z ≡ true = list_any-append (of_base b) w (49 ∷ [])
     ∙ or_right (list_any (of_base b) w) (of_base b 49 || false) (or_left (of_base b 49) false (one_of b)) in
-    ap (is_based (radix b)) (sym (append-nil (w ++ (49 ∷ []))))
-    ∙ based_is b (w ++ (49 ∷ [])) [] all refl
-    ∙ and_from (list_any (of_base b) (w ++ (49 ∷ []))) true some refl
-
--- after its prefix a number is one of the base
-number_based : (b : Base) (x : List ℕ) → b ≢ Decimal → is_strict_number (prefix b ++ x) ≡ is_based (radix b) x
-unfolding is_strict_number radix_at
-number_based Binary x n = refl
-number_based Octal x n = refl
-number_based Hexadecimal x n = refl
-number_based Decimal x n = absurd (n refl)
-
-pub number_flaw_based : (b : Base) (x : List ℕ) → b ≢ Decimal → number_flaw_at (prefix b ++ x)
-    ≡ strict_based_flaw_at (radix b) x
-unfolding number_flaw_at radix_at
-number_flaw_based Binary x n = refl
-number_flaw_based Octal x n = refl
-number_flaw_based Hexadecimal x n = refl
-number_flaw_based Decimal x n = absurd (n refl)
+    ap is_read (ap number_end_at (append_assoc (prefix b) w (49 ∷ []) ∙ sym (append-nil (prefix b ++ z)))
+    ∙ based_is b z [] n all refl ∙ row_plain b z [] some refl refl)
 
 some_prefix : (b : Base) (w : List ℕ) → b ≢ Decimal → prefix b ++ w ≢ []
 some_prefix Binary w n e = absurd (cc)
@@ -563,136 +525,167 @@ some_prefix Octal w n e = absurd (cc)
 some_prefix Hexadecimal w n e = absurd (cc)
 some_prefix Decimal w n e = n refl
 
--- what stands after the prefix and a row
-row_is : (b : Base) (w x : List ℕ) → b ≢ Decimal → list_all (in_base b) w ≡ true → first_passes (in_base b) x ≡ false
-    → is_strict_number ((prefix b ++ w) ++ x)
-    ≡ (list_any (of_base b) w && (not (first_passes is_exponent_letter x) && is_number_suffix x))
-row_is b w x n each stops = ap is_strict_number (append_assoc (prefix b) w x) ∙ number_based b (w ++ x) n
-    ∙ based_is b w x each stops
+-- one of the tests stops the walk
+row_stuck : (digit none mark : Bool) (y : List ℕ) → (digit || (none || mark)) ≡ true
+    → is_read (row_tail digit none mark y) ≡ false
+row_stuck true none mark y h = refl
+row_stuck false true mark y h = refl
+row_stuck false false true y h = refl
+row_stuck false false false y h = absurd (cc)
 
 -- a flaw of the digits
-based_digits : (b : Base) (w y : List ℕ) (k : FlawKind) → b ≢ Decimal → list_all (in_base b) w ≡ true
-    → first_passes (in_base b) y ≡ false → (k ≡ BadSuffix → ⊥) → ((c : ℕ) (cs e : List ℕ) → y ≡ c ∷ cs
-    → (list_any (of_base b) w && (not (is_exponent_letter c) && is_number_suffix (c ∷ e))) ≡ false)
-    → Says k (prefix b ++ w) y → TailFlaw is_strict_number [] ((prefix b ++ w) ++ y) (found_flaw k y)
-based_digits b w y k n each stops other stuck says = record {
-  front = prefix b ++ w;
-  text_is = refl;
-  ending = 49 ∷ [];
-  are_characters = (refl, tt);
-  fits = λ e. absurd (some_prefix b w n e);
-  completes = ap is_strict_number (append_assoc (prefix b) w (49 ∷ [])) ∙ number_based b (w ++ (49 ∷ [])) n
-      ∙ based_one b w each;
-  stuck = λ c cs e h. row_is b w (c ∷ e) n each (sym (ap (first_passes (in_base b)) h) ∙ stops) ∙ stuck c cs e h;
-  whole = λ e. absurd (other e);
-  says = says;
-}
+based_flaw : (b : Base) (w y : List ℕ) (k : FlawKind) → b ≢ Decimal → list_all (in_base b) w ≡ true
+    → first_passes (in_base b) y ≡ false → (k ≡ BadSuffix → ⊥)
+    → (first_passes is_ascii_digit y || (not (list_any (of_base b) w) || first_passes is_float_mark y)) ≡ true
+    → Says k (prefix b ++ w) y → TailFlaw number_end_at [] ((prefix b ++ w) ++ y) k y
+based_flaw b w y k n each stops other tests says =
+    let Test : List ℕ → Bool = λ z. first_passes is_ascii_digit z
+    || (not (list_any (of_base b) w) || first_passes is_float_mark z) in
+    record {
+      stops = record {
+        front = prefix b ++ w;
+        text_is = refl;
+        begins = record { ending = 49 ∷ []; are_characters = (refl, tt); is_taken = based_one b w n each };
+        stuck = λ c cs e h. ap is_read (based_is b w (c ∷ e) n each (sym (ap (first_passes (in_base b)) h) ∙ stops))
+            ∙ row_stuck (is_ascii_digit c) (not (list_any (of_base b) w)) (is_float_mark c) (c ∷ e)
+            (sym (ap Test h) ∙ tests);
+      };
+      fits = λ e. absurd (some_prefix b w n e);
+      whole = λ e. absurd (other e);
+      says = says;
+    }
 
--- no digit begins a suffix
-digit_no_start : (c : ℕ) → is_ascii_digit c ≡ true → is_start c ≡ false
-digit_no_start c h = false_from_ne_true (is_start c) (λ s.
-    let p = and_parts (c == 95 || is_xid_start c) (not (is_white c)) s in
-    let mark : (c == 95) ≡ false = apart is_ascii_digit c 95 h refl in
-    let word : IsSuffix (c ∷ []) = (inr (and_from (c == 95 || is_xid_start c) true p.0 refl), mark) in
-    both_ways (is_ascii_digit c) (digit_is_ten c ∙ (or_parts (has_value 10 c) (is_underscore c)
-    (suffix_no_part (c ∷ []) word)).0) h)
+prefix_of : (b : Base) → (radix b == 10) ≡ false → BasedPrefix (prefix b) (radix b)
+prefix_of Binary h = inl (refl, refl)
+prefix_of Octal h = inr (inl (refl, refl))
+prefix_of Hexadecimal h = inr (inr (refl, refl))
+prefix_of Decimal h = absurd (cc)
 
--- nor does a dot
-dot_no_start : is_start 46 ≡ false
-dot_no_start = and_left (46 == 95 || is_xid_start 46) (not (is_white 46)) (is_xid_start-ascii 46 (omega arith))
+no_more_digits : (b : Base) (x : List ℕ) → first_passes (in_base b) x ≡ false → radix b ≡ 16
+    → first_passes is_ascii_hexdigit x ≡ false
+no_more_digits Hexadecimal x h e = passes_same is_ascii_hexdigit (has_value 16) hex_is_sixteen x ∙ hex_stops x h
+no_more_digits kind x h e = absurd (omega arith)
 
-no_number_suffix : (c : ℕ) (e : List ℕ) → is_start c ≡ false → is_number_suffix (c ∷ e) ≡ false
-no_number_suffix c e h = and_right (not (c == 95)) (is_strict_suffix (c ∷ e)) (no_start_no_suffix c e h)
+-- what none of the tests stops
+abbrev based_first : Base → ℕ → Bool
+based_first b c = in_base b c || (is_ascii_digit c || is_float_mark c)
 
--- a float's mark
-mark_stuck : (c : ℕ) (e : List ℕ) → is_float_mark c ≡ true → (not (is_exponent_letter c) && is_number_suffix (c ∷ e))
-    ≡ false
-mark_stuck c e h = elim (or_cases (c == 46) (is_exponent_letter c) h) [
-  | inl a ↦ and_right (not (is_exponent_letter c)) (is_number_suffix (c ∷ e)) (no_number_suffix c e
-      (ap is_start (eqb-true c 46 a) ∙ dot_no_start))
-  | inr a ↦ and_left (not (is_exponent_letter c)) (is_number_suffix (c ∷ e)) (ap not a)
-]
-
--- which characters none of the rows ends with
-based_first : Base → ℕ → Bool
-based_first b c = in_base b c || is_exponent_letter c
-
-plain_letter : (y : List ℕ) → first_passes is_float_mark y ≡ false → first_passes is_exponent_letter y ≡ false
-plain_letter [] h = refl
-plain_letter (c ∷ cs) h = (or_parts (c == 46) (is_exponent_letter c) h).1
-
-no_mark_in : (b : Base) (y : List ℕ) → first_passes (in_base b) y ≡ false → (first_passes (of_base b) y ≡ false)
-    × (first_passes is_underscore y ≡ false)
-no_mark_in b [] h = (refl, refl)
-no_mark_in b (c ∷ cs) h = or_parts (of_base b c) (is_underscore c) h
-
-based_spoils : (b : Base) (t : List ℕ) → b ≢ Decimal → is_based (radix b) t ≡ false
-    → TailFlaw is_strict_number [] (prefix b ++ t) (strict_based_flaw_at (radix b) t)
-unfolding strict_based_flaw_at based_first
-based_spoils b t n h =
-    let w : List ℕ = digit_row_at (radix b) t in
-    let y : List ℕ = after_digits (radix b) t in
-    let each = run_all (in_base b) t in
-    let stops = run_ends (in_base b) t in
-    let off = no_mark_in b y stops in
-    let text : prefix b ++ t ≡ (prefix b ++ w) ++ y = ap (λ z. prefix b ++ z) (run_join (in_base b) t)
-    ∙ sym (append_assoc (prefix b) w y) in
-    let row : IsBasedRow b w (prefix b ++ w) = record { not_decimal = n; each = each; front_is = refl } in
-    at_text is_strict_number [] (prefix b ++ t) ((prefix b ++ w) ++ y) (strict_based_flaw_at (radix b) t) text
-    (cond_both (first_passes is_ascii_digit y) _ _ (TailFlaw is_strict_number [] ((prefix b ++ w) ++ y))
-    (λ d. based_digits b w y DigitOfBase n each stops (λ e. absurd (cc))
-    (λ c cs e at. and_right (list_any (of_base b) w)
-    (not (is_exponent_letter c) && is_number_suffix (c ∷ e)) (and_right (not (is_exponent_letter c))
-    (is_number_suffix (c ∷ e)) (no_number_suffix c e (digit_no_start c
-    (sym (ap (first_passes is_ascii_digit) at) ∙ d)))))
-    (b, w, row, d, off.0))
-    (λ no_digit. cond_both (not (has_digit_at (radix b) t)) _ _ (TailFlaw is_strict_number [] ((prefix b ++ w) ++ y))
-    (λ none.
-    let empty : list_any (of_base b) w ≡ false = not-true (list_any (of_base b) w) none in
-    based_digits b w y NoDigits n each stops (λ e. absurd (cc)) (λ c cs e at. and_left (list_any (of_base b) w)
-    (not (is_exponent_letter c) && is_number_suffix (c ∷ e)) empty)
-    (b, w, row, underscores (radix b) w each empty, both_fail is_ascii_digit (in_base b) y no_digit stops))
-    (λ some. cond_both (first_passes is_float_mark y) _ _ (TailFlaw is_strict_number [] ((prefix b ++ w) ++ y))
-    (λ mark. based_digits b w y BasedFloat n each stops (λ e. absurd (cc))
-    (λ c cs e at. and_right (list_any (of_base b) w)
-    (not (is_exponent_letter c) && is_number_suffix (c ∷ e))
-    (mark_stuck c e (sym (ap (first_passes is_float_mark) at) ∙ mark)))
-    (b, w, row, not_false (list_any (of_base b) w) some, mark, off.0))
-    (λ no_mark.
-    let digits : list_any (of_base b) w ≡ true = not_false (list_any (of_base b) w) some in
-    let ok = both_fail (in_base b) is_exponent_letter y stops (plain_letter y no_mark) in
-    let same : (x : List ℕ) → first_passes (based_first b) x ≡ false → is_strict_number ((prefix b ++ w) ++ x)
-    ≡ is_number_suffix x = λ x k.
-    let parts = each_fails (in_base b) is_exponent_letter x k in
-    row_is b w x n each parts.0 ∙ ap (λ z. z && (not (first_passes is_exponent_letter x) && is_number_suffix x)) digits
-    ∙ ap (λ z. not z && is_number_suffix x) parts.1 in
-    lifted is_number_suffix is_strict_number (based_first b) [] (prefix b ++ w) y (strict_tail_flaw_at y) ok same
-    (tail_spoils (prefix b ++ w) y off.1 (sym (same y ok) ∙ ap is_strict_number (sym text) ∙ number_based b t n
-    ∙ h))))))
+based_judged : (b : Base) (t w : List ℕ) → (radix b == 10) ≡ false → t ≡ prefix b ++ w
+    → ReadJudged t number_end_at [] t (based_read_at (radix b) w)
+unfolding based_read_at
+based_judged b t w other text = go (first_passes is_ascii_digit y) refl (list_any (of_base b) row) refl
+    (first_passes is_float_mark y) refl
   where
-    not_false : (x : Bool) → not x ≡ false → x ≡ true
-    not_false true h = refl
-    not_false false h = absurd (cc)
+    row : List ℕ
+    row = digit_row_at (radix b) w
+
+    y : List ℕ
+    y = after_digits (radix b) w
+
+    m : Option ℕ
+    m = capped (magnitude_at (radix b) w)
+
+    n : b ≢ Decimal
+    n e = both_ways (radix b == 10) other (ap (λ z. radix z == 10) e)
+
+    each : list_all (in_base b) row ≡ true
+    each = run_all (in_base b) w
+
+    stops : first_passes (in_base b) y ≡ false
+    stops = run_ends (in_base b) w
+
+    whole : t ≡ (prefix b ++ row) ++ y
+    whole = text ∙ ap (λ z. prefix b ++ z) (run_join (in_base b) w) ∙ sym (append_assoc (prefix b) row y)
+
+    is_row : IsBasedRow b row (prefix b ++ row)
+    is_row = record { not_decimal = n; each = each; front_is = refl }
+
+    no_digit : first_passes (of_base b) y ≡ false
+    no_digit = (each_fails (of_base b) is_underscore y stops).0
+
+    flaw : (k : FlawKind) → (k ≡ BadSuffix → ⊥)
+        → (first_passes is_ascii_digit y || (not (list_any (of_base b) row) || first_passes is_float_mark y)) ≡ true
+        → Says k (prefix b ++ row) y → TailFlaw number_end_at [] t k y
+    flaw k not_suffix tests says = subst (λ z. TailFlaw number_end_at [] z k y) (sym whole)
+        (based_flaw b row y k n each stops not_suffix tests says)
+
+    read : list_any (of_base b) row ≡ true → first_passes is_float_mark y ≡ false → (x : List ℕ) → SuffixOf y x
+        → IntOf t m x
+    read some mark x s = (
+      spelled_number (radix b) (bare row),
+      record {
+        prefix = prefix b;
+        base = radix b;
+        row = row;
+        is_front = inr (prefix_of b other);
+        each = each;
+        some = some;
+        suffix = s.0;
+        no_exponent = sym (ap (first_passes is_exponent_letter) s.1)
+            ∙ (each_fails (λ c. c == 46) is_exponent_letter y mark).1;
+        no_digit = no_more_digits b x (sym (ap (first_passes (in_base b)) s.1) ∙ stops);
+        text = whole ∙ ap (λ z. (prefix b ++ row) ++ z) s.1;
+        contents = refl;
+      },
+      ap capped (sym (same_value (radix b) (bare row))),
+    )
+
+    suffix : first_passes is_ascii_digit y ≡ false → list_any (of_base b) row ≡ true
+        → first_passes is_float_mark y ≡ false → ReadJudged t number_end_at [] t (as_integer m (suffix_end_at y))
+    suffix digit some mark =
+        let Other : ℕ → Bool = λ c. is_ascii_digit c || is_float_mark c in
+        int_judged t m number_end_at [] t (suffix_end_at y)
+        (through (SuffixOf y) (IntOf t m) suffix_end_at number_end_at (based_first b) [] (prefix b ++ row) y t
+        (suffix_end_at y) whole (both_fail (in_base b) Other y stops
+        (both_fail is_ascii_digit is_float_mark y digit mark))
+        (λ x k.
+        let p = each_fails (in_base b) Other x k in
+        let q = each_fails is_ascii_digit is_float_mark x p.1 in
+        based_is b row x n each p.0 ∙ row_plain b row x some q.0 q.1) (read some mark)
+        (suffix_judged (prefix b ++ row) y (no_mark (of_base b) y stops)))
+
+    go : (d : Bool) → first_passes is_ascii_digit y ≡ d → (s : Bool) → list_any (of_base b) row ≡ s → (k : Bool)
+        → first_passes is_float_mark y ≡ k → ReadJudged t number_end_at [] t (cond d (as_float (stopped DigitOfBase y))
+        (cond (not s) (as_float (stopped NoDigits y)) (cond k (as_float (stopped BasedFloat y))
+        (as_integer m (suffix_end_at y)))))
+    go true digit s some k mark = flaw DigitOfBase (λ e. absurd (cc))
+        (or_left (first_passes is_ascii_digit y) (not (list_any (of_base b) row) || first_passes is_float_mark y) digit)
+        (b, row, is_row, digit, no_digit)
+    go false digit false none k mark = flaw NoDigits (λ e. absurd (cc))
+        (or_right (first_passes is_ascii_digit y) (not (list_any (of_base b) row) || first_passes is_float_mark y)
+        (or_left (not (list_any (of_base b) row)) (first_passes is_float_mark y) (ap not none)))
+        (b, row, is_row, underscores (radix b) row each none, both_fail is_ascii_digit (in_base b) y digit stops)
+    go false digit true some true mark = flaw BasedFloat (λ e. absurd (cc))
+        (or_right (first_passes is_ascii_digit y) (not (list_any (of_base b) row) || first_passes is_float_mark y)
+        (or_right (not (list_any (of_base b) row)) (first_passes is_float_mark y) mark))
+        (b, row, is_row, some, mark, no_digit)
+    go false digit true some false mark = suffix digit some mark
 
 -- ---- any number
 
-other_base : (b : Base) (t rest : List ℕ) → b ≢ Decimal → t ≡ prefix b ++ rest → is_strict_number t ≡ false
-    → TailFlaw is_strict_number [] t (number_flaw_at t)
-other_base b t rest n e h =
-    let stuck : is_based (radix b) rest ≡ false = sym (number_based b rest n) ∙ ap is_strict_number (sym e) ∙ h in
-    at_text is_strict_number [] t (prefix b ++ rest) (number_flaw_at t) e
-    (subst (TailFlaw is_strict_number [] (prefix b ++ rest)) (sym (ap number_flaw_at e ∙ number_flaw_based b rest n))
-    (based_spoils b rest n stuck))
+abbrev ReadBy : List ℕ → ℕ × List ℕ → Type 0
+ReadBy t q = ReadJudged t number_end_at [] t (cond (q.0 == 10)
+    (whole_read_at (capped (magnitude_at 10 q.1)) (after_digits 10 q.1)) (based_read_at q.0 q.1))
 
-by_base : (b : Base) (t rest : List ℕ) → first_passes is_ascii_digit t ≡ true → radix_at t ≡ (radix b, rest) → t
-    ≡ prefix b ++ rest → is_strict_number t ≡ false → TailFlaw is_strict_number [] t (number_flaw_at t)
-by_base Decimal t rest d at e h =
-    let same : radix_at t ≡ (10, t) = at ∙ ap (λ z. (10, z)) (sym e) in
-    decimal_spoils t d same h
-by_base Binary t rest d at e h = other_base Binary t rest (λ n. absurd (cc)) e h
-by_base Octal t rest d at e h = other_base Octal t rest (λ n. absurd (cc)) e h
-by_base Hexadecimal t rest d at e h = other_base Hexadecimal t rest (λ n. absurd (cc)) e h
+by_base : (b : Base) (t w : List ℕ) → first_passes is_ascii_digit t ≡ true → t ≡ prefix b ++ w
+    → ((not (radix b == 10) || first_passes is_ascii_digit w) ≡ true → IsAfterPrefix b w) → ReadBy t (radix b, w)
+by_base Decimal t w d text front =
+    let digit : first_passes is_ascii_digit w ≡ true = sym (ap (first_passes is_ascii_digit) text) ∙ d in
+    subst (λ z. ReadBy z (10, w)) (sym text) (decimal_judged w digit (front digit).1)
+by_base Binary t w d text front = based_judged Binary t w refl text
+by_base Octal t w d text front = based_judged Octal t w refl text
+by_base Hexadecimal t w d text front = based_judged Hexadecimal t w refl text
 
-pub number_spoils : (t : List ℕ) → first_passes is_ascii_digit t ≡ true → is_strict_number t ≡ false
-    → TailFlaw is_strict_number [] t (number_flaw_at t)
-number_spoils t d h = let b = based t in by_base b.base t b.rest d b.at b.text_is h
+pub number_judged : (t : List ℕ) → first_passes is_ascii_digit t ≡ true
+    → ReadJudged t number_end_at [] t (number_read_at t)
+unfolding number_read_at
+number_judged t d = let b = based t in subst (ReadBy t) (sym b.at) (by_base b.base t b.rest d b.text_is b.front)
+
+-- what is read to its end is a token
+pub number_is_token : (t : List ℕ) → first_passes is_ascii_digit t ≡ true → Passes number_end_at t → IsToken t
+number_is_token t d h = go (number_read_at t) (number_judged t d) h
+  where
+    go : (r : NumberRead) → ReadJudged t number_end_at [] t r → is_read (end_of r) ≡ true → IsToken t
+    go (None, Some m, x) j h = number_token t (Digits (dec j.0), x, inl j.1)
+    go (None, None, x) j h = number_token t (j.0, x, inr j.1)
+    go (Some k, m, x) j h = absurd (cc)

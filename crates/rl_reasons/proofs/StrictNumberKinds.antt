@@ -1,44 +1,30 @@
--- What the kinds of flaws say of a number is what the code finds, so each excludes the others.
-use Rattle.rl_text.proofs.Common.{◌≡◌, ◌≢◌, ℕ, Bool, true, false, not, ◌==◌, cond, List, [], ◌∷◌, ◌++◌, refl, sym, ap, subst, ◌∙◌, inl, inr, append_assoc, append_cancel_right, and_parts, both_ways, and_from, or_cases, or_from, or_right, eqb-true, is_ascii_digit, list_all, list_any}
-use Rattle.rl_reading.proofs.Names.{false_from_ne_true, first_passes, is_underscore, Base, Binary, Octal, Decimal, Hexadecimal, radix, prefix, is_exponent_letter}
+-- What the kinds of flaws say of a number is what the walk finds, so each excludes the others.
+use Rattle.rl_text.proofs.Common.{◌≡◌, ◌≢◌, ℕ, Bool, true, false, not, ◌==◌, cond, List, [], ◌∷◌, ◌++◌, refl, sym, ap, ◌∙◌, inl, inr, append_assoc, and_parts, both_ways, and_from, or_cases, or_from, or_right, eqb-true, is_ascii_digit, list_all, list_any}
+use Rattle.rl_reading.proofs.Names.{and_right, false_from_ne_true, first_passes, is_underscore, Base, Binary, Octal, Decimal, Hexadecimal, is_exponent_letter}
 use Rattle.rl_forms.specs.Numbers.{is_power_sign}
 use Rattle.rl_forms.specs.Strict.{IsDigits}
 use Rattle.rl_text.proofs.Basics.{apart}
 use Rattle.rl_forms.proofs.StrictNumbers.{letter_no_part}
-use Rattle.rl_reasons.specs.declared.flaws.FlawKind.{FlawKind}
-use Rattle.rl_reasons.specs.declared.flaws.FlawKind.TheVariants.{NoExponentDigit, BadSuffix, NoDigits, DigitOfBase, BasedFloat, NoFractionDigit}
-use Rattle.rl_reasons.specs.StrictNumberFlaws.{EndsInPower, IsBasedRow, IsDigitFlaw, IsStrictFraction, IsStrictNumberFlaw, is_float_mark}
-use Rattle.rl_strict.specs.StrictShapes.{IsToken}
-use Rattle.rl_reading.specs.Mirrors.NumberAt.{after_digits, has_digit_at, has_value, radix_at}
-use Rattle.rl_strict.specs.Mirrors.StrictAt.{is_strict_number}
-use Rattle.rl_reasons.specs.Mirrors.StrictFlawAt.{strict_based_flaw_at, strict_exponent_flaw_at, fraction_flaw_at, number_flaw_at, strict_power_flaw_at, strict_tail_flaw_at, whole_flaw_at}
-use Rattle.rl_reasons.specs.Mirrors.UnitFlawAt.{FoundFlaw, found_flaw}
+use Rattle.rl_reading.specs.Mirrors.NumberAt.{has_value, radix_at, radix_of}
 use Rattle.rl_reading.proofs.FloatLemmas.{letter_no_dot}
-use Rattle.rl_reasons.proofs.StrictNumberFlaws.{each_fails, IsSign, Says, TailFlaw, in_base, in_row, is_sign, never_row, number_flaw_based, number_spoils, of_base, row_no_base, sign_past}
-use Rattle.rl_reading.proofs.RunLemmas.{run_past}
-use Rattle.rl_strict.proofs.StrictNumberLemmas.{row_part}
-use Rattle.rl_reasons.proofs.StrictTokens.{number_is_token, token_number}
-use Rattle.rl_reasons.proofs.StrictWordFlaws.{IsStrictFlaw}
-use Rattle.rl_reading.proofs.TestLemmas.{passes_more}
+use Rattle.rl_reasons.specs.declared.flaws.FlawKind.{FlawKind}
+use Rattle.rl_reasons.specs.declared.flaws.FlawKind.TheVariants.{NoExponentDigit, NoDigits, DigitOfBase, BasedFloat, NoFractionDigit}
+use Rattle.rl_reasons.specs.StrictNumberFlaws.{EndsInPower, IsBasedRow, IsDigitFlaw, IsStrictFraction, is_float_mark}
+use Rattle.rl_reasons.specs.Mirrors.NumberRead.{power_end_at, stopped}
+use Rattle.rl_reasons.proofs.NumberEnds.{IsSign, based_is, decimal_is, digits_power, each_fails, fraction_is, fraction_none, in_base, in_row, is_sign, names, number_end_at, of_base, power_is, row_part, row_tail, whole_digits, whole_dot, whole_end_at}
 
 -- ---- other bases
 
--- the code, after the prefix and a row
-row_code : (b : Base) (row front rest : List ℕ) → IsBasedRow b row front → first_passes (in_base b) rest ≡ false
-    → number_flaw_at (front ++ rest)
-    ≡ cond (first_passes is_ascii_digit rest) (found_flaw DigitOfBase rest)
-    (cond (not (list_any (of_base b) row)) (found_flaw NoDigits rest)
-    (cond (first_passes is_float_mark rest) (found_flaw BasedFloat rest) (strict_tail_flaw_at rest)))
-unfolding strict_based_flaw_at
-row_code b row front rest r stops =
-    let p = run_past (in_base b) row rest r.each stops in
-    let Of : Bool → List ℕ → FoundFlaw = λ some z. cond (first_passes is_ascii_digit z) (found_flaw DigitOfBase z)
-    (cond (not some) (found_flaw NoDigits z)
-    (cond (first_passes is_float_mark z) (found_flaw BasedFloat z) (strict_tail_flaw_at z))) in
-    ap number_flaw_at (ap (λ z. z ++ rest) r.front_is ∙ append_assoc (prefix b) row rest)
-    ∙ number_flaw_based b (row ++ rest) r.not_decimal
-    ∙ ap (λ z. Of (list_any (of_base b) z) (after_digits (radix b) (row ++ rest))) p.0
-    ∙ ap (Of (list_any (of_base b) row)) p.1
+-- the end of the walk, after the prefix and a row, by its three tests
+row_is : (b : Base) (row front rest : List ℕ) (digit none mark : Bool) → IsBasedRow b row front
+    → first_passes (in_base b) rest ≡ false → first_passes is_ascii_digit rest ≡ digit
+    → not (list_any (of_base b) row) ≡ none → first_passes is_float_mark rest ≡ mark
+    → number_end_at (front ++ rest) ≡ row_tail digit none mark rest
+row_is b row front rest digit none mark r stops d n m =
+    ap number_end_at (ap (λ z. z ++ rest) r.front_is) ∙ based_is b row rest r.not_decimal r.each stops
+    ∙ ap (λ z. row_tail z (not (list_any (of_base b) row)) (first_passes is_float_mark rest) rest) d
+    ∙ ap (λ z. row_tail digit z (first_passes is_float_mark rest) rest) n
+    ∙ ap (λ z. row_tail digit none z rest) m
 
 -- underscores are no digits
 no_digits : (b : Base) (row : List ℕ) → list_all is_underscore row ≡ true → list_any (of_base b) row ≡ false
@@ -76,41 +62,47 @@ mark_no_digit (c ∷ cs) h = false_from_ne_true (is_ascii_digit c) (λ d.
 
 -- ---- base ten
 
--- the code, after a whole part that a dot or a letter follows
-whole_code : (w : List ℕ) (c : ℕ) (cs : List ℕ) → IsDigits w → is_float_mark c ≡ true → number_flaw_at (w ++ (c ∷ cs))
-    ≡ whole_flaw_at (c ∷ cs)
-unfolding number_flaw_at
-whole_code w c cs d mark =
-    let y : List ℕ = c ∷ cs in
-    let at : radix_at (w ++ y) ≡ (10, w ++ y) = row_no_base w c cs d mark in
-    let stops : first_passes in_row y ≡ false = never_row c mark in
-    ap (λ (q : ℕ × List ℕ). cond (q.0 == 10) (whole_flaw_at (after_digits 10 q.1)) (strict_based_flaw_at q.0 q.1)) at
-    ∙ ap whole_flaw_at (run_past in_row w y (row_part w d.1) stops).1
+-- a float's mark is in no row, and names no base
+never_row : (c : ℕ) → is_float_mark c ≡ true → in_row c ≡ false
+never_row c h = elim (or_cases (c == 46) (is_exponent_letter c) h) [
+  | inl a ↦ ap in_row (eqb-true c 46 a)
+  | inr a ↦ letter_no_part c a
+]
 
-dot_code : (cs : List ℕ) → whole_flaw_at (46 ∷ cs) ≡ fraction_flaw_at cs
-unfolding whole_flaw_at
-dot_code cs = refl
+mark_names : (w : List ℕ) (c : ℕ) → is_float_mark c ≡ true → names w c ≡ false
+mark_names [] c h = refl
+mark_names (a ∷ b ∷ ws) c h = refl
+mark_names (a ∷ []) c h = and_right (a == 48) (not (radix_of c == 10))
+    (elim (or_cases (c == 46) (is_exponent_letter c) h) [
+      | inl e ↦ ap (λ z. not (radix_of z == 10)) (eqb-true c 46 e)
+      | inr e ↦ elim (or_cases (c == 101) (c == 69) e) [
+        | inl g ↦ ap (λ z. not (radix_of z == 10)) (eqb-true c 101 g)
+        | inr g ↦ ap (λ z. not (radix_of z == 10)) (eqb-true c 69 g)
+      ]
+    ])
 
--- the code, after the letter of an exponent
-letter_code : (c : ℕ) (cs : List ℕ) → is_exponent_letter c ≡ true → strict_exponent_flaw_at (c ∷ cs)
-    ≡ strict_power_flaw_at cs
-unfolding strict_exponent_flaw_at
-letter_code c cs l = ap (λ b. cond b (strict_power_flaw_at cs) (strict_tail_flaw_at (c ∷ cs))) l
+row_no_base : (w : List ℕ) (c : ℕ) (cs : List ℕ) → IsDigits w → is_float_mark c ≡ true → radix_at (w ++ (c ∷ cs))
+    ≡ (10, w ++ (c ∷ cs))
+unfolding radix_at
+row_no_base [] c cs d mark = absurd (both_ways false refl d.0)
+row_no_base (a ∷ []) c cs d mark = ap (λ b. cond {A = ℕ × List ℕ} b (radix_of c, cs) (10, a ∷ c ∷ cs))
+    (mark_names (a ∷ []) c mark)
+row_no_base (a ∷ b ∷ ws) c cs d mark = ap (λ t. cond {A = ℕ × List ℕ} t (radix_of b, ws ++ (c ∷ cs))
+    (10, a ∷ b ∷ (ws ++ (c ∷ cs)))) (and_right (a == 48) (not (radix_of b == 10)) (in_row_names b
+    (and_parts (in_row b) (list_all in_row ws) (and_parts (in_row a) (list_all in_row (b ∷ ws)) (row_part (a ∷ b ∷ ws)
+    d.1)).1).0))
+  where
+    in_row_names : (b : ℕ) → in_row b ≡ true → not (radix_of b == 10) ≡ false
+    in_row_names b h =
+        let low : (b == 98) ≡ false = apart in_row b 98 h refl in
+        let middle : (b == 111) ≡ false = apart in_row b 111 h refl in
+        let high : (b == 120) ≡ false = apart in_row b 120 h refl in
+        rw (low, middle, high) refl
 
-whole_letter : (c : ℕ) (cs : List ℕ) → is_exponent_letter c ≡ true → whole_flaw_at (c ∷ cs) ≡ strict_power_flaw_at cs
-unfolding whole_flaw_at
-whole_letter c cs l = ap (λ b. cond b (fraction_flaw_at cs) (strict_exponent_flaw_at (c ∷ cs))) (letter_no_dot c l)
-    ∙ letter_code c cs l
-
-digits_code : (f : List ℕ) (c : ℕ) (cs : List ℕ) → IsDigits f → is_exponent_letter c ≡ true
-    → fraction_flaw_at (f ++ (c ∷ cs)) ≡ strict_power_flaw_at cs
-unfolding fraction_flaw_at
-digits_code f c cs d l =
-    let y : List ℕ = c ∷ cs in
-    ap (λ b. cond b (strict_exponent_flaw_at (after_digits 10 (f ++ y))) (found_flaw NoFractionDigit (f ++ y)))
-    (passes_more is_ascii_digit f y d.0)
-    ∙ ap strict_exponent_flaw_at (run_past in_row f y (row_part f d.1) (letter_no_part c l)).1
-    ∙ letter_code c cs l
+-- after a whole part that a dot or a letter follows
+whole_is : (w : List ℕ) (c : ℕ) (cs : List ℕ) → IsDigits w → is_float_mark c ≡ true → number_end_at (w ++ (c ∷ cs))
+    ≡ whole_end_at (c ∷ cs)
+whole_is w c cs d mark = decimal_is (w ++ (c ∷ cs)) w (c ∷ cs) (row_no_base w c cs d mark) refl d (never_row c mark)
 
 sign_of : (sign : List ℕ) → is_power_sign sign ≡ true → IsSign sign
 sign_of [] h = inl refl
@@ -135,135 +127,65 @@ marks_row (c ∷ cs) h =
     and_from (in_row c) (list_all in_row cs)
     (or_right (has_value 10 c) (is_underscore c) p.0) (marks_row cs p.1)
 
-power_code : (sign us rest : List ℕ) → IsSign sign → list_all is_underscore us ≡ true → first_passes in_row rest ≡ false
-    → (sign ++ us ≡ [] → first_passes is_sign rest ≡ false) → (strict_power_flaw_at (sign ++ (us ++ rest))).0
-    ≡ NoExponentDigit
-unfolding strict_power_flaw_at
-power_code sign us rest s marks stops bare =
-    let p = run_past in_row us rest (marks_row us marks) stops in
-    let Of : List ℕ → FoundFlaw = λ z. cond (has_digit_at 10 z) (strict_tail_flaw_at (after_digits 10 z))
-    (found_flaw NoExponentDigit (after_digits 10 z)) in
-    let none : has_digit_at 10 (us ++ rest) ≡ false = ap (list_any (has_value 10)) p.0 ∙ no_digits Decimal us marks in
-    ap (λ z. (Of z).0) (sign_past sign (us ++ rest) s (λ e. marks_no_sign us rest marks
-    (λ n. bare (ap (λ z. z ++ us) e ∙ n))))
-    ∙ ap (λ (b : Bool). (cond b (strict_tail_flaw_at (after_digits 10 (us ++ rest)))
-    (found_flaw NoExponentDigit (after_digits 10 (us ++ rest)))).0) none
-
 -- ---- each kind
 
-letter_mark : (c : ℕ) → is_exponent_letter c ≡ true → is_float_mark c ≡ true
-letter_mark c l = or_right (c == 46) (is_exponent_letter c) l
-
 power_kind : (front rest : List ℕ) → (p : EndsInPower front) → first_passes in_row rest ≡ false
-    → (p.sign ++ p.underscores ≡ [] → first_passes is_sign rest ≡ false) → (number_flaw_at (front ++ rest)).0
-    ≡ NoExponentDigit
+    → (p.sign ++ p.underscores ≡ [] → first_passes is_sign rest ≡ false)
+    → number_end_at (front ++ rest) ≡ stopped NoExponentDigit rest
 power_kind front rest p stops bare = go p.fraction p.is_fraction p.front_is
   where
     tail : List ℕ
     tail = p.sign ++ (p.underscores ++ rest)
 
+    mark : is_float_mark p.letter ≡ true
+    mark = or_right (p.letter == 46) (is_exponent_letter p.letter) p.is_letter
+
     joined : (z : List ℕ) → front ≡ z ++ (p.letter ∷ (p.sign ++ p.underscores)) → front ++ rest ≡ z ++ (p.letter ∷ tail)
     joined z e = ap (λ y. y ++ rest) e ∙ append_assoc z (p.letter ∷ (p.sign ++ p.underscores)) rest
         ∙ ap (λ y. z ++ (p.letter ∷ y)) (append_assoc p.sign p.underscores rest)
 
-    last : (strict_power_flaw_at tail).0 ≡ NoExponentDigit
-    last = power_code p.sign p.underscores rest (sign_of p.sign p.is_sign) p.all_underscores stops bare
+    last : power_end_at tail ≡ stopped NoExponentDigit rest
+    last = power_is p.sign p.underscores rest false (sign_of p.sign p.is_sign)
+        (λ e. marks_no_sign p.underscores rest p.all_underscores (λ n. bare (ap (λ z. z ++ p.underscores) e ∙ n)))
+        (marks_row p.underscores p.all_underscores) (no_digits Decimal p.underscores p.all_underscores) stops
 
     go : (fraction : List ℕ) → IsStrictFraction fraction → front
-        ≡ p.whole ++ (fraction ++ (p.letter ∷ (p.sign ++ p.underscores))) → (number_flaw_at (front ++ rest)).0
-        ≡ NoExponentDigit
+        ≡ p.whole ++ (fraction ++ (p.letter ∷ (p.sign ++ p.underscores)))
+        → number_end_at (front ++ rest) ≡ stopped NoExponentDigit rest
     go fraction (inl none) e =
         let text = joined p.whole (e ∙ ap (λ z. p.whole ++ (z ++ (p.letter ∷ (p.sign ++ p.underscores)))) none) in
-        ap (λ (f : FoundFlaw). f.0) (ap number_flaw_at text
-        ∙ whole_code p.whole p.letter tail p.is_whole (letter_mark p.letter p.is_letter)
-        ∙ whole_letter p.letter tail p.is_letter) ∙ last
+        ap number_end_at text ∙ whole_is p.whole p.letter tail p.is_whole mark
+        ∙ whole_digits (p.letter ∷ tail) (letter_no_dot p.letter p.is_letter)
+        ∙ digits_power p.letter tail p.is_letter ∙ last
     go fraction (inr (digits, d, is)) e =
         let text : front ++ rest ≡ p.whole ++ (46 ∷ (digits ++ (p.letter ∷ tail))) = joined (p.whole ++ (46 ∷ digits))
         (e ∙ ap (λ z. p.whole ++ (z ++ (p.letter ∷ (p.sign ++ p.underscores)))) is
         ∙ sym (append_assoc p.whole (46 ∷ digits) (p.letter ∷ (p.sign ++ p.underscores))))
         ∙ append_assoc p.whole (46 ∷ digits) (p.letter ∷ tail) in
-        ap (λ (f : FoundFlaw). f.0) (ap number_flaw_at text
-        ∙ whole_code p.whole 46 (digits ++ (p.letter ∷ tail)) p.is_whole refl
-        ∙ dot_code (digits ++ (p.letter ∷ tail)) ∙ digits_code digits p.letter tail d p.is_letter) ∙ last
+        ap number_end_at text ∙ whole_is p.whole 46 (digits ++ (p.letter ∷ tail)) p.is_whole refl
+        ∙ whole_dot (digits ++ (p.letter ∷ tail))
+        ∙ fraction_is digits (p.letter ∷ tail) d (letter_no_part p.letter p.is_letter)
+        ∙ digits_power p.letter tail p.is_letter ∙ last
 
-fraction_kind : (front rest whole : List ℕ) → IsDigits whole → front ≡ whole ++ (46 ∷ [])
-    → first_passes is_ascii_digit rest
-    ≡ false → (number_flaw_at (front ++ rest)).0 ≡ NoFractionDigit
-unfolding fraction_flaw_at
-fraction_kind front rest whole d e n =
-    let text : front ++ rest ≡ whole ++ (46 ∷ rest) = ap (λ z. z ++ rest) e ∙ append_assoc whole (46 ∷ []) rest in
-    ap (λ (f : FoundFlaw). f.0) (ap number_flaw_at text ∙ whole_code whole 46 rest d refl ∙ dot_code rest
-    ∙ ap (λ b. cond b (strict_exponent_flaw_at (after_digits 10 rest)) (found_flaw NoFractionDigit rest)) n)
+fraction_kind : (front rest whole : List ℕ) → IsDigits whole → front ≡ whole ++ (46 ∷ []) → rest ≢ []
+    → first_passes is_ascii_digit rest ≡ false → number_end_at (front ++ rest) ≡ stopped NoFractionDigit rest
+fraction_kind front [] whole d e some n = absurd (some refl)
+fraction_kind front (c ∷ cs) whole d e some n =
+    ap number_end_at (ap (λ z. z ++ (c ∷ cs)) e ∙ append_assoc whole (46 ∷ []) (c ∷ cs))
+    ∙ whole_is whole 46 (c ∷ cs) d refl ∙ whole_dot (c ∷ cs) ∙ fraction_none c cs n
 
--- the code finds what a kind says
-pub digit_kind : (k : FlawKind) (front rest : List ℕ) → IsDigitFlaw k front rest → (number_flaw_at (front ++ rest)).0
-    ≡ k
+-- the walk finds what a kind says
+pub digit_kind : (k : FlawKind) (front rest : List ℕ) → IsDigitFlaw k front rest
+    → number_end_at (front ++ rest) ≡ stopped k rest
 digit_kind NoDigits front rest (b, row, r, marks, none) =
-    let parts = each_fails is_ascii_digit (in_base b) rest none in
-    ap (λ (f : FoundFlaw). f.0) (row_code b row front rest r parts.1
-    ∙ ap (λ z. cond z (found_flaw DigitOfBase rest) (cond (not (list_any (of_base b) row)) (found_flaw NoDigits rest)
-    (cond (first_passes is_float_mark rest) (found_flaw BasedFloat rest) (strict_tail_flaw_at rest)))) parts.0
-    ∙ ap (λ z. cond (not z) (found_flaw NoDigits rest)
-    (cond (first_passes is_float_mark rest) (found_flaw BasedFloat rest) (strict_tail_flaw_at rest)))
-    (no_digits b row marks))
+    let p = each_fails is_ascii_digit (in_base b) rest none in
+    row_is b row front rest false true (first_passes is_float_mark rest) r p.1 p.0 (ap not (no_digits b row marks)) refl
 digit_kind DigitOfBase front rest (b, row, r, digit, other) =
-    ap (λ (f : FoundFlaw). f.0) (row_code b row front rest r (row_ends b rest other
-    (no_underscore is_ascii_digit rest refl digit))
-    ∙ ap (λ z. cond z (found_flaw DigitOfBase rest) (cond (not (list_any (of_base b) row)) (found_flaw NoDigits rest)
-    (cond (first_passes is_float_mark rest) (found_flaw BasedFloat rest) (strict_tail_flaw_at rest)))) digit)
+    row_is b row front rest true (not (list_any (of_base b) row)) (first_passes is_float_mark rest) r
+    (row_ends b rest other (no_underscore is_ascii_digit rest refl digit)) digit refl refl
 digit_kind BasedFloat front rest (b, row, r, some, mark, other) =
-    ap (λ (f : FoundFlaw). f.0) (row_code b row front rest r (row_ends b rest other
-    (no_underscore is_float_mark rest refl mark))
-    ∙ ap (λ z. cond z (found_flaw DigitOfBase rest) (cond (not (list_any (of_base b) row)) (found_flaw NoDigits rest)
-    (cond (first_passes is_float_mark rest) (found_flaw BasedFloat rest) (strict_tail_flaw_at rest))))
-    (mark_no_digit rest mark)
-    ∙ ap (λ z. cond (not z) (found_flaw NoDigits rest)
-    (cond (first_passes is_float_mark rest) (found_flaw BasedFloat rest) (strict_tail_flaw_at rest))) some
-    ∙ ap (λ z. cond z (found_flaw BasedFloat rest) (strict_tail_flaw_at rest)) mark)
-digit_kind NoFractionDigit front rest (whole, d, e, some, n) = fraction_kind front rest whole d e n
+    row_is b row front rest false false true r (row_ends b rest other (no_underscore is_float_mark rest refl mark))
+    (mark_no_digit rest mark) (ap not some) mark
+digit_kind NoFractionDigit front rest (whole, d, e, some, n) = fraction_kind front rest whole d e some n
 digit_kind NoExponentDigit front rest (p, stops, bare) = power_kind front rest p stops bare
 digit_kind k front rest h = absurd h
-
--- ---- the flaw of a number
-
--- what follows a front begins as the text does
-starts : (test : ℕ → Bool) (front rest t : List ℕ) (c : ℕ) (cs e : List ℕ) → t ≡ front ++ rest → rest ≡ c ∷ cs
-    → first_passes test t ≡ true → first_passes test (front ++ (c ∷ e)) ≡ true
-starts test [] rest t c cs e a b k = sym (ap (first_passes test) (a ∙ b)) ∙ k
-starts test (x ∷ xs) rest t c cs e a b k = sym (ap (first_passes test) a) ∙ k
-
--- what the code says is what the kind asks
-kind_says : (k : FlawKind) (front rest : List ℕ) → (k ≡ BadSuffix → (is_strict_number front ≡ true) × (rest ≢ []))
-    → (number_flaw_at (front ++ rest)).0 ≡ k → Says k front rest
-    → IsStrictNumberFlaw k front rest
-kind_says BadSuffix front rest whole code says =
-    let w = whole refl in (
-      number_is_token front w.0,
-      w.1,
-      λ k h. none k (sym code ∙ digit_kind k front rest h) h,
-    )
-  where
-    none : (k : FlawKind) → BadSuffix ≡ k → IsDigitFlaw k front rest → ⊥
-    none k e h = subst (λ z. IsDigitFlaw z front rest) (sym e) h
-kind_says k front rest whole code says = says
-
-pub number_place : (t : List ℕ) (flaw : FoundFlaw) → first_passes is_ascii_digit t ≡ true → (IsToken t → ⊥) → flaw
-    ≡ number_flaw_at t → IsStrictFlaw IsStrictNumberFlaw t flaw
-number_place t flaw d none same =
-    let off : is_strict_number t ≡ false = false_from_ne_true (is_strict_number t)
-    (λ h. none (number_is_token t h)) in
-    let k : TailFlaw is_strict_number [] t flaw = subst (TailFlaw is_strict_number [] t) (sym same)
-    (number_spoils t d off) in
-    record {
-      stops = record {
-        front = k.front;
-        text_is = k.text_is;
-        begins = record { ending = k.ending; are_characters = k.are_characters; is_taken = number_is_token (k.front ++ k.ending) k.completes };
-        stuck = λ c cs e h y. both_ways (is_strict_number (k.front ++ (c ∷ e))) (k.stuck c cs e h)
-            (token_number (k.front ++ (c ∷ e)) (starts is_ascii_digit k.front flaw.1 t c cs e k.text_is h d) y);
-      };
-      kind = λ front is.
-          let at : k.front ≡ front = append_cancel_right k.front front flaw.1 (sym k.text_is ∙ is) in
-          subst (λ z. IsStrictNumberFlaw flaw.0 z flaw.1) at (kind_says flaw.0 k.front flaw.1 k.whole
-          (ap (λ z. (number_flaw_at z).0) (sym k.text_is) ∙ ap (λ (f : FoundFlaw). f.0) (sym same)) k.says);
-    }

@@ -1,6 +1,6 @@
 -- Flaws of raw strings of the strict grammar.
 use Rattle.rl_text.proofs.Common.{◌≡◌, ◌+◌, ℕ, zero, suc, Option, Some, None, ◌<◌, ◌≤◌, ◌||◌, ◌&&◌, Bool, true, false, not, ◌==◌, cond, List, [], ◌∷◌, ◌++◌, replicate, refl, sym, ap, subst, ◌∙◌, inl, inr, arith, append_assoc, nat_lt, and_from, and_parts, both_ways, cases_Bool, eqb-true, not-true, or_parts, or_from, append_cancel_right, ltb-true, ltb-false, ◌⊎◌, list_all, AllByRecursion}
-use Rattle.rl_reading.proofs.Names.{cond_both, false_from_ne_true, IsScalar, Kind, Str, ByteStr, CStr, first_passes, is_string, after_run, is_hash}
+use Rattle.rl_reading.proofs.Names.{cond_both, IsScalar, Kind, Str, ByteStr, CStr, first_passes, is_string, after_run, is_hash}
 use Rattle.std.proofs.lemmas.Bool.{and_left}
 use Rattle.std.specs.Option.{IfNone, IfSome, is_some}
 use Rattle.rl_text.specs.Texts.{begins}
@@ -16,41 +16,10 @@ use Rattle.rl_strict.specs.StrictShapes.{ClosesForm, ClosesRaw}
 use Rattle.rl_strict.specs.Mirrors.StrictAt.{ends_raw, is_inside, is_raw_character, is_strict_suffix}
 use Rattle.rl_reasons.specs.Mirrors.StrictFlawAt.{raw_stop, held_flaw_of, closed_flaw_at}
 use Rattle.rl_reasons.specs.Mirrors.UnitFlawAt.{found_flaw, spoiled_flaw_of}
-use Rattle.rl_reading.proofs.IntegerLemmas.{begins_is}
-use Rattle.rl_strict.proofs.StrictRawLemmas.{NoCloser, inside_sound, none_before, nothing_inside, raw_close, raw_complete, raw_on, raw_sound}
-use Rattle.rl_reasons.proofs.StrictSuffixFlaws.{Closer, FlawInside, closed_flaw}
+use Rattle.rl_strict.proofs.StrictRawLemmas.{NoCloser, inside_sound, none_before, nothing_inside, past_body, raw_close, raw_complete, raw_on, raw_sound}
+use Rattle.rl_reasons.proofs.StrictSuffixFlaws.{Closer, FlawInside, closed_flaw, same_flaw}
 
 -- ---- what a raw string holds before its closer
-
--- hashes that begin a text are those of its front, where no hash follows that
-hashes_in_front : (n : ℕ) (a z : List ℕ) → first_passes is_hash z ≡ false → begins (replicate n 35) (a ++ z) ≡ true
-    → begins (replicate n 35) a ≡ true
-hashes_in_front zero a z no_hash h = refl
-hashes_in_front (suc n) [] [] no_hash h = absurd (cc)
-hashes_in_front (suc n) [] (c ∷ cs) no_hash h = absurd (both_ways (c == 35) no_hash
-    (and_parts (c == 35) (begins (replicate n 35) cs) h).0)
-hashes_in_front (suc n) (c ∷ cs) z no_hash h =
-    let p = and_parts (c == 35) (begins (replicate n 35) (cs ++ z)) h in
-    and_from (c == 35) (begins (replicate n 35) cs) p.0 (hashes_in_front n cs z no_hash p.1)
-
--- so no closer begins before what follows
-pub no_closer_at : (n : ℕ) (c : ℕ) (cs z : List ℕ) → first_passes is_hash z ≡ false → NoCloser (replicate n 35) (c ∷ cs)
-    → (c == 34 && begins (replicate n 35) (cs ++ z)) ≡ false
-no_closer_at n c cs z no_hash none = false_from_ne_true (c == 34 && begins (replicate n 35) (cs ++ z)) (λ h.
-    let p = and_parts (c == 34) (begins (replicate n 35) (cs ++ z)) h in
-    let b = begins_is (replicate n 35) cs (hashes_in_front n cs z no_hash p.1) in
-    none [] b.0 (ap (λ q. q ∷ cs) (eqb-true c 34 p.0) ∙ ap (λ q. 34 ∷ q) b.1))
-
--- the loop goes past contents at once
-past_body : (k : Kind) (n : ℕ) (body z : List ℕ) → list_all (is_raw_character k) body ≡ true
-    → NoCloser (replicate n 35) body → first_passes is_hash z ≡ false → ends_raw k (replicate n 35) (body ++ z)
-    ≡ ends_raw k (replicate n 35) z
-past_body k n [] z each none no_hash = refl
-past_body k n (c ∷ cs) z each none no_hash =
-    let p = and_parts (is_raw_character k c) (list_all (is_raw_character k) cs) each in
-    raw_on k (replicate n 35) c (cs ++ z) (no_closer_at n c cs z no_hash none)
-    ∙ ap (λ b. b && ends_raw k (replicate n 35) (cs ++ z)) p.0
-    ∙ past_body k n cs z p.1 (λ f r e. none (c ∷ f) r (ap (λ q. c ∷ q) e)) no_hash
 
 -- characters that a raw string of the kind holds stand before what isn't held, or before the closer
 record RawWalk (k : Kind) (hashes t rest : List ℕ) : Type 0 where
@@ -207,6 +176,10 @@ held_kind k n t rest c cs s o at not_held = cond_both (c == 13) _ _ (λ f. Stric
             (ap not g) (ap not e)))
     other kind s o h e = absurd (cc)
 
+hashes_characters : (m : ℕ) → AllByRecursion IsScalar (replicate m 35 ++ [])
+hashes_characters zero = tt
+hashes_characters (suc m) = (refl, hashes_characters m)
+
 -- the parts of an open raw string
 module _ (k : Kind) (n : ℕ) (inside rest : List ℕ) (s : is_string k ≡ true) (few : n < 256)
     (w : RawWalk k (replicate n 35) inside rest) where
@@ -243,17 +216,13 @@ module _ (k : Kind) (n : ℕ) (inside rest : List ℕ) (s : is_string k ≡ true
   closed_at : (x : List ℕ) → is_strict_suffix x ≡ true → ClosesRaw k (before ++ (34 ∷ (hs ++ x)))
   closed_at x h = good (34 ∷ (hs ++ x)) refl (raw_close k hs x ∙ h)
 
-  hashes_scalar : (m : ℕ) → AllByRecursion IsScalar (replicate m 35 ++ [])
-  hashes_scalar zero = tt
-  hashes_scalar (suc m) = (refl, hashes_scalar m)
-
   stops_at : ((c : ℕ) (cs e : List ℕ) → rest ≡ c ∷ cs → ClosesRaw k (before ++ (c ∷ e)) → ⊥)
       → StopsBefore (ClosesForm RawForm k) whole rest
   unfolding is_strict_suffix
   stops_at stuck = record {
     front = before;
     text_is = cut;
-    begins = record { ending = 34 ∷ (hs ++ []); are_characters = (refl, hashes_scalar n); is_taken = closed_at [] refl };
+    begins = record { ending = 34 ∷ (hs ++ []); are_characters = (refl, hashes_characters n); is_taken = closed_at [] refl };
     stuck = stuck;
   }
 
@@ -324,22 +293,20 @@ found_walk k n hashes inside rest e at = subst (RawWalk k (replicate n 35) insid
     (sym (at ∙ ap (λ z. raw_stop k z inside) e)) (raw_walk k (replicate n 35) inside)
 
 -- in the text as the code has it
-as_found : (k : Kind) (f : FlawKind) (n : ℕ) (hashes inside p q r z : List ℕ) → hashes ≡ replicate n 35 → q ≡ p → z ≡ r
-    → FlawInside RawForm k f (replicate n 35 ++ (34 ∷ inside)) p r
+as_found : (k : Kind) (f g : FlawKind) (n : ℕ) (hashes inside p q r z : List ℕ) → hashes ≡ replicate n 35 → f ≡ g
+    → q ≡ p → z ≡ r → FlawInside RawForm k g (replicate n 35 ++ (34 ∷ inside)) p r
     → FlawInside RawForm k f (hashes ++ (34 ∷ inside)) q z
-as_found k f n hashes inside p q r z e piece at h =
+as_found k f g n hashes inside p q r z e kind piece at h =
     subst (λ y. FlawInside RawForm k f (y ++ (34 ∷ inside)) q z) (sym e)
-    (subst (λ y. FlawInside RawForm k f (replicate n 35 ++ (34 ∷ inside)) y z) (sym piece)
-    (subst (FlawInside RawForm k f (replicate n 35 ++ (34 ∷ inside)) p) (sym at) h))
+    (same_flaw RawForm k f g (replicate n 35 ++ (34 ∷ inside)) p q r z kind piece at h)
 
 pub raw_ended : (k : Kind) (f : FlawKind) (n : ℕ) (hashes inside rest q z : List ℕ) → is_string k ≡ true → n ≤ 255
     → hashes ≡ replicate n 35 → rest ≡ raw_stop k hashes inside → rest ≡ [] → f ≡ Unclosed → q ≡ rest → z ≡ rest
     → FlawInside RawForm k f (hashes ++ (34 ∷ inside)) q z
 raw_ended k f n hashes inside rest q z s few e at end kind piece place =
     let less : n < 256 = omega (arith, few) in
-    as_found k f n hashes inside rest q rest z e piece place
-    (subst (λ y. FlawInside RawForm k y (replicate n 35 ++ (34 ∷ inside)) rest rest) (sym kind)
-    (ended k n inside rest s less (found_walk k n hashes inside rest e at) end))
+    as_found k f Unclosed n hashes inside rest q rest z e kind piece place
+    (ended k n inside rest s less (found_walk k n hashes inside rest e at) end)
 
 pub raw_spoiled : (k : Kind) (f : FlawKind) (n : ℕ) (hashes inside rest q z : List ℕ) (c : ℕ) (cs : List ℕ)
     → is_string k
@@ -349,10 +316,9 @@ pub raw_spoiled : (k : Kind) (f : FlawKind) (n : ℕ) (hashes inside rest q z : 
 raw_spoiled k f n hashes inside rest q z c cs s few e at is no_closer kind piece place =
     let less : n < 256 = omega (arith, few) in
     let halts = raw_halts k hashes inside cs c (sym at ∙ is) in
-    as_found k f n hashes inside rest q rest z e piece place
-    (subst (λ y. FlawInside RawForm k y (replicate n 35 ++ (34 ∷ inside)) rest rest) (sym kind)
+    as_found k f (held_flaw_of k c) n hashes inside rest q rest z e kind piece place
     (spoiled k n inside rest s less (found_walk k n hashes inside rest e at) c cs is
-    (not_held (c == 34 && begins hashes cs) (is_raw_character k c) no_closer halts)))
+    (not_held (c == 34 && begins hashes cs) (is_raw_character k c) no_closer halts))
   where
     not_held : (a b : Bool) → a ≡ false → (a || not b) ≡ true → b ≡ false
     not_held true b n h = absurd (cc)
@@ -368,7 +334,7 @@ raw_closed k f n hashes inside rest suffix q z c cs s few e at is quote more non
     let less : n < 256 = omega (arith, few) in
     let text : rest ≡ 34 ∷ (replicate n 35 ++ suffix) = is ∙ ap (λ y. y ∷ cs) quote
     ∙ ap (λ y. 34 ∷ y) (more ∙ ap (λ y. y ++ suffix) e) in
-    as_found k f n hashes inside q q z z e refl refl
+    as_found k f f n hashes inside q q z z e refl refl refl
     (closed k n inside rest s less (found_walk k n hashes inside rest e at) f suffix q z text
     (λ y. none (subst (λ v. ClosesRaw k (v ++ (34 ∷ inside))) (sym e) y)) same piece)
 
@@ -385,10 +351,6 @@ hashes_begin : (k : Kind) (n : ℕ) → is_string k ≡ true → n < 256 → Clo
     ++ (34 ∷ (34 ∷ (replicate n 35 ++ []))))
 unfolding is_strict_suffix
 hashes_begin k n s few = raw_good k n (34 ∷ (replicate n 35 ++ [])) s few (raw_close k (replicate n 35) [])
-
-hashes_characters : (m : ℕ) → AllByRecursion IsScalar (replicate m 35 ++ [])
-hashes_characters zero = tt
-hashes_characters (suc m) = (refl, hashes_characters m)
 
 hashes_stop : (k : Kind) (n : ℕ) (t rest : List ℕ) → is_string k ≡ true → n ≤ 255 → t ≡ replicate n 35 ++ rest
     → ((c : ℕ) (cs e : List ℕ) → rest ≡ c ∷ cs → ClosesRaw k (replicate n 35 ++ (c ∷ e)) → ⊥)
@@ -413,8 +375,7 @@ raw_unfinished k f n t rest q z s few text end kind piece place =
         refl,
       );
     } in
-    subst (λ y. FlawInside RawForm k y t q z) (sym kind) (subst (λ y. FlawInside RawForm k Unfinished t y z) (sym piece)
-    (subst (FlawInside RawForm k Unfinished t rest) (sym place) there))
+    same_flaw RawForm k f Unfinished t rest q rest z kind piece place there
 
 -- another character
 pub raw_no_quote : (k : Kind) (f : FlawKind) (n : ℕ) (t rest q z cs : List ℕ) (c : ℕ) → is_string k ≡ true → n ≤ 255 → t
@@ -429,8 +390,7 @@ raw_no_quote k f n t rest q z cs c s few text is no_hash no_quote kind piece pla
         refl,
       );
     } in
-    subst (λ y. FlawInside RawForm k y t q z) (sym kind) (subst (λ y. FlawInside RawForm k NoQuote t y z) (sym piece)
-    (subst (FlawInside RawForm k NoQuote t rest) (sym place) there))
+    same_flaw RawForm k f NoQuote t rest q rest z kind piece place there
   where
     stuck : (d : ℕ) (ds e : List ℕ) → rest ≡ d ∷ ds → ClosesRaw k (replicate n 35 ++ (d ∷ e)) → ⊥
     stuck d ds e h y =
@@ -452,9 +412,7 @@ raw_many_hashes k f n t rest q z cs c s few text last is hash kind piece place =
       stops = hashes_stop k n t rest s few text stuck;
       has = inl (text ∙ ap (λ m. replicate m 35 ++ rest) full, begins_hash, refl);
     } in
-    subst (λ y. FlawInside RawForm k y t q z) (sym kind) (subst (λ y. FlawInside RawForm k TooManyHashes t y z)
-    (sym piece)
-    (subst (FlawInside RawForm k TooManyHashes t t) (sym place) there))
+    same_flaw RawForm k f TooManyHashes t t q rest z kind piece place there
   where
     go : (nat_lt n 255 ≡ true) ⊎ (nat_lt n 255 ≡ false) → n ≡ 255
     go (inl a) = absurd (both_ways (first_passes is_hash rest) (last (ltb-true n 255 a)) (ap (first_passes is_hash) is
@@ -470,12 +428,6 @@ raw_many_hashes k f n t rest q z cs c s few text last is hash kind piece place =
         let less = y.few in
         let full = go (cases_Bool (nat_lt n 255)) in
         absurd (omega (arith, many, less, full))
-
--- ---- the steps of the code
-
-pub opened_text : (t hashes rest inside : List ℕ) (c : ℕ) → t ≡ hashes ++ rest → rest ≡ c ∷ inside → c ≡ 34 → t ≡ hashes
-    ++ (34 ∷ inside)
-opened_text t hashes rest inside c cut first is = cut ∙ ap (λ z. hashes ++ z) (first ∙ ap (λ z. z ∷ inside) is)
 
 -- ---- whether it is closed, by what the code finds
 

@@ -1,5 +1,5 @@
 -- Where the suffix of a closed literal stops, and how its front is completed.
-use Rattle.rl_text.proofs.Common.{◌≡◌, ℕ, ◌||◌, ◌&&◌, Bool, true, false, not, ◌==◌, cond, List, [], ◌∷◌, ◌++◌, refl, sym, ap, subst, ◌∙◌, inl, inr, arith, append-nil, append_assoc, and_from, and_parts, both_ways, cases_Bool, eqb-true, list_all, list_all-append, AllByRecursion, is_xid_continue, is_xid_start}
+use Rattle.rl_text.proofs.Common.{◌≡◌, ℕ, ◌||◌, ◌&&◌, Bool, true, false, not, ◌==◌, cond, List, [], ◌∷◌, ◌++◌, refl, sym, ap, subst, ◌∙◌, inl, inr, arith, append-nil, and_from, and_parts, both_ways, cases_Bool, eqb-true, list_all, list_all-append, AllByRecursion, is_xid_continue, is_xid_start}
 use Rattle.rl_reading.proofs.Names.{and_right, cond_both, false_from_ne_true, after_run, first_passes, IsScalar, Kind}
 use Rattle.std.proofs.lemmas.Bool.{and_left}
 use Rattle.unicode_ident.proofs.IdentLemmas.{is_xid_start-ascii, is_xid_continue-ascii}
@@ -17,6 +17,7 @@ use Rattle.rl_reasons.specs.Mirrors.StrictFlawAt.{suffix_rest, suffix_end_flaw_a
 use Rattle.rl_reasons.specs.Mirrors.UnitFlawAt.{FoundFlaw, found_flaw}
 use Rattle.rl_reading.proofs.RunLemmas.{run_all, run_ends, run_join}
 use Rattle.rl_reading.proofs.TestLemmas.{all_breaks}
+use Rattle.rl_reasons.proofs.Stops.{Flawed, Stops, lifted, stops_before}
 
 -- ---- the first characters of a suffix
 
@@ -122,20 +123,15 @@ suffix_stuck (d ∷ ds) c e h = and_right (cond (d == 95) (is_some_text (ds ++ (
     (list_all is_continue (ds ++ (c ∷ e))) (all_breaks is_continue ds c e h)
 
 -- a hash begins no word
-hash_no_start : is_start 35 ≡ false
+pub hash_no_start : is_start 35 ≡ false
 hash_no_start = and_left (35 == 95 || is_xid_start 35) (not (is_white 35)) (is_xid_start-ascii 35 (omega arith))
 
 -- ---- the flaw after a closer
 
 -- What follows the closer stops there, for the code's reason.
 pub record SuffixSpoiled (form : QuotedForm) (k : FlawKind) (t rest : List ℕ) : Type 0 where
-  pub front : List ℕ
-  pub text_is : t ≡ front ++ rest
-  pub spoils : SuffixFlaw form k front rest
-  pub ending : List ℕ
-  pub are_characters : AllByRecursion IsScalar ending
-  pub completes : is_strict_suffix (front ++ ending) ≡ true
-  pub stuck : (c : ℕ) (cs e : List ℕ) → rest ≡ c ∷ cs → is_strict_suffix (front ++ (c ∷ e)) ≡ false
+  pub stops : Stops (λ x. is_strict_suffix x ≡ true) (λ x. is_strict_suffix x ≡ false) t rest
+  pub spoils : SuffixFlaw form k stops.front rest
 
 -- a hash too much
 hash_spoils : (form : QuotedForm) (t : List ℕ) → begins_hash form t ≡ true → SuffixSpoiled form ExtraHash t t
@@ -144,64 +140,56 @@ hash_spoils form t h =
     let p = and_parts (is_raw_form form) (first_passes (λ c. c == 35) t) h in
     let At : ℕ → Type 0 = λ z. is_start z ≡ false in
     record {
-      front = [];
-      text_is = refl;
+      stops = record {
+        front = [];
+        text_is = refl;
+        begins = record { ending = []; are_characters = tt; is_taken = refl };
+        stuck = λ c cs e same. no_start_no_suffix c e (subst At
+            (sym (eqb-true c 35 (sym (ap (first_passes (λ c. c == 35)) same) ∙ p.1))) hash_no_start);
+      };
       spoils = (p.0, refl, p.1);
-      ending = [];
-      are_characters = tt;
-      completes = refl;
-      stuck = λ c cs e same. no_start_no_suffix c e (subst At
-          (sym (eqb-true c 35 (sym (ap (first_passes (λ c. c == 35)) same) ∙ p.1))) hash_no_start);
     }
+
+-- where the first characters stop
+cut_stops : (t rest : List ℕ) (k : SuffixCut t rest)
+    → Stops (λ x. is_strict_suffix x ≡ true) (λ x. is_strict_suffix x ≡ false) t rest
+cut_stops t rest k = record {
+  front = k.front;
+  text_is = k.text_is;
+  begins = record { ending = suffix_ending k.front; are_characters = ending_characters k.front; is_taken = suffix_begins k.front k.is_front };
+  stuck = λ c cs e h. suffix_stuck k.front c e (goes_on_first k.front cs e c
+      (ap (goes_on_with_suffix k.front) (sym h) ∙ k.ends));
+}
 
 -- what stands after the first characters
 cut_spoils : (form : QuotedForm) (t rest : List ℕ) → SuffixCut t rest → is_strict_suffix t ≡ false → begins_hash form t
     ≡ false → SuffixSpoiled form (suffix_end_flaw_at form rest).0 t (suffix_end_flaw_at form rest).1
-unfolding is_strict_suffix
+unfolding cut_stops
 cut_spoils form t [] k off hash =
     let same : k.front ≡ t = sym (append-nil k.front) ∙ sym k.text_is in
-    record {
-      front = k.front;
-      text_is = k.text_is;
-      spoils = (only_underscore k.front k.is_front (ap is_strict_suffix same ∙ off), refl);
-      ending = suffix_ending k.front;
-      are_characters = ending_characters k.front;
-      completes = suffix_begins k.front k.is_front;
-      stuck = λ c cs e h. absurd (cc);
-    }
+    record { stops = cut_stops t [] k; spoils = (only_underscore k.front k.is_front (ap is_strict_suffix same ∙ off), refl) }
 cut_spoils form t (c ∷ cs) k off hash = cond_both (c == form_quote form) _ _ P quote other
   where
     P : FoundFlaw → Type 0
     P f = SuffixSpoiled form f.0 t f.1
 
-    spoiled : (kind : FlawKind) → SuffixFlaw form kind k.front (c ∷ cs) → SuffixSpoiled form kind t (c ∷ cs)
-    spoiled kind s = record {
-      front = k.front;
-      text_is = k.text_is;
-      spoils = s;
-      ending = suffix_ending k.front;
-      are_characters = ending_characters k.front;
-      completes = suffix_begins k.front k.is_front;
-      stuck = λ d ds e h.
-          let At : ℕ → Type 0 = λ z. is_strict_suffix (k.front ++ (z ∷ e)) ≡ false in
-          let same : c ≡ d = cc in
-          subst At same (suffix_stuck k.front c e (goes_on_first k.front cs e c k.ends));
-    }
-
     quote : (c == form_quote form) ≡ true → SuffixSpoiled form EarlyQuote t (c ∷ cs)
-    quote e = spoiled EarlyQuote (k.is_front, e)
+    quote e = record { stops = cut_stops t (c ∷ cs) k; spoils = (k.is_front, e) }
 
     other : (c == form_quote form) ≡ false → SuffixSpoiled form BadSuffix t (c ∷ cs)
-    other e = spoiled BadSuffix (
-      k.is_front,
-      (λ n. absurd (cc)),
-      k.ends,
-      e,
-      λ x.
-          let at : t ≡ c ∷ cs = k.text_is ∙ ap (λ z. z ++ (c ∷ cs)) x.1 in
-          both_ways (begins_hash form t) hash (and_from (is_raw_form form) (first_passes (λ c. c == 35) t) x.0
-          (ap (first_passes (λ c. c == 35)) at ∙ x.2)),
-    )
+    other e = record {
+      stops = cut_stops t (c ∷ cs) k;
+      spoils = (
+        k.is_front,
+        (λ n. absurd (cc)),
+        k.ends,
+        e,
+        λ x.
+            let at : t ≡ c ∷ cs = k.text_is ∙ ap (λ z. z ++ (c ∷ cs)) x.1 in
+            both_ways (begins_hash form t) hash (and_from (is_raw_form form) (first_passes (λ c. c == 35) t) x.0
+            (ap (first_passes (λ c. c == 35)) at ∙ x.2)),
+      );
+    }
 
 pub suffix_spoils : (form : QuotedForm) (t : List ℕ) → is_strict_suffix t ≡ false
     → SuffixSpoiled form (closed_flaw_at form t).0 t (closed_flaw_at form t).1
@@ -211,15 +199,17 @@ suffix_spoils form t off = cond_both (begins_hash form t) _ _ (λ (f : FoundFlaw
 
 -- ---- in a literal
 
--- The text stops there after the opener, and has that flaw.
-pub record FlawInside (form : QuotedForm) (kind : Kind) (k : FlawKind) (inside piece rest : List ℕ) : Type 0 where
-  pub stops : StopsBefore (ClosesForm form kind) inside rest
-  pub has : StrictQuotedFlaw form kind k inside piece rest
+-- the text stops there after the opener, and has that flaw
+abbrev pub FlawInside : QuotedForm → Kind → FlawKind → List ℕ → List ℕ → List ℕ → Type 0
+FlawInside form kind k inside piece rest =
+    Flawed (ClosesForm form kind) inside rest (StrictQuotedFlaw form kind k inside piece rest)
 
--- in a piece that is the same
-pub same_piece : (form : QuotedForm) (kind : Kind) (k : FlawKind) (inside p q rest : List ℕ) → q ≡ p
-    → FlawInside form kind k inside p rest → FlawInside form kind k inside q rest
-same_piece form kind k inside p q rest e h = subst (λ z. FlawInside form kind k inside z rest) (sym e) h
+-- also where the same kind, the same piece and the same rest stand
+pub same_flaw : (form : QuotedForm) (kind : Kind) (k l : FlawKind) (inside p q r z : List ℕ) → k ≡ l → q ≡ p → z ≡ r
+    → FlawInside form kind l inside p r → FlawInside form kind k inside q z
+same_flaw form kind k l inside p q r z is piece place h = subst (λ y. FlawInside form kind y inside q z) (sym is)
+    (subst (λ y. FlawInside form kind l inside y z) (sym piece)
+    (subst (FlawInside form kind l inside p) (sym place) h))
 
 -- What stands before the suffix closes the literal, whatever suffix follows.
 pub record Closer (form : QuotedForm) (kind : Kind) : Type 0 where
@@ -235,26 +225,18 @@ pub closed_flaw : (form : QuotedForm) (kind : Kind) (k : FlawKind) (inside closi
 closed_flaw form kind k inside closing suffix piece rest c text closed none same spoiled =
     let off : is_strict_suffix suffix ≡ false = false_from_ne_true (is_strict_suffix suffix)
     (λ h. none (subst (ClosesForm form kind) (sym text) (c.good suffix h))) in
-    let s : SuffixSpoiled form k suffix rest = subst (λ (f : FoundFlaw). SuffixSpoiled form f.0 suffix f.1) (sym same)
+    let f : SuffixSpoiled form k suffix rest = subst (λ (f : FoundFlaw). SuffixSpoiled form f.0 suffix f.1) (sym same)
     (suffix_spoils form suffix off) in
+    let s = f.stops in
     record {
-      stops = record {
-        front = c.before ++ s.front;
-        text_is = text ∙ ap (λ z. c.before ++ z) s.text_is ∙ sym (append_assoc c.before s.front rest);
-        begins = record {
-          ending = s.ending;
-          are_characters = s.are_characters;
-          is_taken = subst (ClosesForm form kind) (sym (append_assoc c.before s.front s.ending))
-              (c.good (s.front ++ s.ending) s.completes);
-        };
-        stuck = λ d ds e h y. c.bad (s.front ++ (d ∷ e)) (s.stuck d ds e h)
-            (subst (ClosesForm form kind) (append_assoc c.before s.front (d ∷ e)) y);
-      };
+      stops = subst (λ z. StopsBefore (ClosesForm form kind) z rest) (sym text)
+          (stops_before (ClosesForm form kind) (c.before ++ suffix) rest (lifted c.before suffix rest s
+          (λ h. c.good (s.front ++ s.begins.ending) h) (λ d ds e h n y. c.bad (s.front ++ (d ∷ e)) n y)));
       has = inr (record {
         closing = closing;
         front = s.front;
         closed = subst (IsClosed form kind inside closing) s.text_is closed;
-        spoils = s.spoils;
+        spoils = f.spoils;
         piece_is = spoiled ∙ ap (suffix_piece k closing) s.text_is;
       });
     }

@@ -13,29 +13,23 @@ use Rattle.rl_reading.specs.Mirrors.UnitAt.{escape_at, unit_at}
 use Rattle.rl_strict.specs.Mirrors.StrictAt.{escape_rest, unit_rest}
 use Rattle.rl_reasons.specs.Mirrors.UnitFlawAt.{FoundFlaw, found_flaw, character_flaw_of, escape_flaw_at}
 use Rattle.rl_reasons.specs.Mirrors.StrictFlawAt.{strict_escape_flaw_at, strict_unit_flaw_at}
-use Rattle.rl_reasons.proofs.EscapeLemmas.{Reader, Completes, IsQuotedKind, by_escape, given}
+use Rattle.rl_reasons.proofs.EscapeLemmas.{Closes, Fails, IsQuotedKind, by_escape}
 use Rattle.rl_reading.proofs.StrictBackLemmas.{plain_is_bare}
 use Rattle.rl_strict.proofs.StrictUnitLemmas.{itself_past}
-use Rattle.rl_reasons.proofs.UnitFlawLemmas.{HasUnitFlaw, IsOpen, Stops, byte_has, escape_spoils, left_false, string_has}
+use Rattle.rl_reasons.proofs.UnitFlawLemmas.{HasUnitFlaw, IsOpen, byte_has, escape_spoils, left_false, string_has}
 use Rattle.rl_reading.proofs.UnitLemmas.{holds_more, unit_complete}
+use Rattle.rl_reading.proofs.TestLemmas.{goes_on}
+use Rattle.rl_reasons.specs.Flaws.{IsCompletable}
+use Rattle.rl_reasons.proofs.Stops.{Stops}
 
--- ---- the unit at the front, as a reader
+-- ---- the unit at the front
 
--- what is left, after nothing that is asked of
-abbrev pub left : Option (List ℕ) → Option (List ℕ × List ℕ)
-left None = None
-left (Some r) = Some ([], r)
+-- the text is a unit, whatever follows
+abbrev pub IsUnitText : Kind → List ℕ → Type 0
+IsUnitText k t = (r : List ℕ) → unit_rest k (t ++ r) ≡ Some r
 
-abbrev pub strict_at : Kind → Reader (List ℕ)
-strict_at k t = left (unit_rest k t)
-
-pub left_none : (o : Option (List ℕ)) → left o ≡ None → o ≡ None
-left_none None h = refl
-left_none (Some r) h = absurd (cc)
-
-pub left_some : (o : Option (List ℕ)) (v r : List ℕ) → left o ≡ given v r → o ≡ Some r
-left_some None v r h = absurd (cc)
-left_some (Some s) v r h = ap (option_map (λ p. p.1)) h
+abbrev pub BeginsNone : Kind → List ℕ → Type 0
+BeginsNone k t = unit_rest k t ≡ None
 
 mapped_none : (o : Option (List ℕ × List ℕ)) → option_map (λ p. p.1) o ≡ None → o ≡ None
 mapped_none None h = refl
@@ -43,7 +37,7 @@ mapped_none (Some p) h = absurd (cc)
 
 -- The text stops so at the flaw's place, and has the flaw's kind.
 pub record HasStrictUnitFlaw (k : Kind) (t : List ℕ) (flaw : FoundFlaw) : Type 0 where
-  pub stops : Stops (strict_at k) t flaw.1
+  pub stops : Stops (IsUnitText k) (BeginsNone k) t flaw.1
   pub has : StrictUnitFlaw k flaw.0 t flaw.1
 
 -- ---- what is taken, and what isn't
@@ -57,16 +51,16 @@ bare_a Char q = refl
 bare_a kind (inl h) = absurd (cc)
 bare_a kind (inr h) = absurd (cc)
 
-strict_one : (k : Kind) → IsQuotedKind k → Completes (strict_at k) []
-strict_one k q = record { ending = 97 ∷ []; value = []; are_characters = (refl, tt); no_blank = λ r h. refl; reads = λ r. ap left (itself_past k 97 r (bare_a k q)) }
+strict_one : (k : Kind) → IsQuotedKind k → IsCompletable (IsUnitText k) []
+strict_one k q = record { ending = 97 ∷ []; are_characters = (refl, tt); is_taken = λ r. itself_past k 97 r (bare_a k q) }
 
 -- a line feed by its letter
 newline_past : (k : Kind) (r : List ℕ) → unit_rest k (92 ∷ 110 ∷ r) ≡ Some r
 unfolding unit_rest
 newline_past k r = ap (option_map (λ p. p.1)) (unit_complete k (Named LowerN) r (holds_more k 10 refl) tt)
 
-backslash_completes : (k : Kind) → Completes (strict_at k) (92 ∷ [])
-backslash_completes k = record { ending = 110 ∷ []; value = []; are_characters = (refl, tt); no_blank = λ r h. absurd (cc); reads = λ r. ap left (newline_past k r) }
+backslash_completes : (k : Kind) → IsCompletable (IsUnitText k) (92 ∷ [])
+backslash_completes k = record { ending = 110 ∷ []; are_characters = (refl, tt); is_taken = newline_past k }
 
 bare_none : (k : Kind) (c : ℕ) (e : List ℕ) → (c == 92) ≡ false → is_strict_unit k (Itself c) ≡ false
     → unit_rest k (c ∷ e) ≡ None
@@ -86,10 +80,11 @@ none_bare k c e a h = go (is_strict_unit k (Itself c)) refl
     go false y = y
 
 -- an escape that is no line break is the lenient one
-escape_same : (k : Kind) (d : ℕ) (e : List ℕ) → (d == 10) ≡ false → (d == 13) ≡ false → unit_rest k (92 ∷ d ∷ e)
-    ≡ option_map (λ p. p.1) (escape_at k (d ∷ e))
-unfolding unit_rest
-escape_same k d e n m =
+escape_same : (k : Kind) (t : List ℕ) → first_passes (λ c. c == 10) t ≡ false → first_passes (λ c. c == 13) t ≡ false
+    → unit_rest k (92 ∷ t) ≡ option_map (λ p. p.1) (escape_at k t)
+unfolding unit_rest escape_at
+escape_same k [] n m = refl
+escape_same k (d ∷ e) n m =
     let line : Option (List ℕ) = cond (is_string k) (Some (after_run is_dropped_blank e)) None in
     let other : Option (List ℕ) = option_map (λ p. p.1) (unit_at k (92 ∷ d ∷ e)) in
     ap (λ b. cond b line (cond (d == 13) None other)) n ∙ ap (λ b. cond b None other) m
@@ -104,46 +99,35 @@ shared k f t rest u = u
 
 -- ---- an escape
 
--- with a first letter that ends no line it is as in the lenient grammar
-lifted : (k : Kind) (d : ℕ) (ds : List ℕ) (flaw : FoundFlaw) → (d == 10) ≡ false → (d == 13) ≡ false
-    → HasUnitFlaw k (escape_at k) (92 ∷ []) (d ∷ ds) flaw → HasStrictUnitFlaw k (92 ∷ d ∷ ds) flaw
-lifted k d ds flaw n m h = record {
-  stops = go h.stops.front h.stops.text_is h.stops.completes h.stops.stuck;
-  has = shared k flaw.0 (92 ∷ d ∷ ds) flaw.1 h.has;
+-- what begins with no line end is as in the lenient grammar
+escape_flaw : (k : Kind) (t : List ℕ) (flaw : FoundFlaw) → first_passes (λ c. c == 10) t ≡ false
+    → first_passes (λ c. c == 13) t ≡ false → HasUnitFlaw k (escape_at k) (92 ∷ []) t flaw
+    → HasStrictUnitFlaw k (92 ∷ t) flaw
+escape_flaw k t flaw n m h = record {
+  stops = record {
+    front = 92 ∷ s.front;
+    text_is = ap (λ z. 92 ∷ z) s.text_is;
+    begins = begins s.front s.text_is s.begins;
+    stuck = λ c cs e at. escape_same k (s.front ++ (c ∷ e)) (goes_on (λ z. z == 10) s.front flaw.1 t c cs e s.text_is at
+        n)
+        (goes_on (λ z. z == 13) s.front flaw.1 t c cs e s.text_is at m)
+        ∙ ap (option_map (λ p. p.1)) (s.stuck c cs e at);
+  };
+  has = shared k flaw.0 (92 ∷ t) flaw.1 h.has;
 }
   where
-    go : (front : List ℕ) → d ∷ ds ≡ front ++ flaw.1 → Completes (escape_at k) front
-        → ((c : ℕ) (cs e : List ℕ) → flaw.1 ≡ c ∷ cs → escape_at k (front ++ (c ∷ e)) ≡ None)
-        → Stops (strict_at k) (92 ∷ d ∷ ds) flaw.1
-    go [] text done stuck = record {
-      front = 92 ∷ [];
-      text_is = ap (λ z. 92 ∷ z) text;
-      completes = backslash_completes k;
-      stuck = λ c cs e h.
-          let both : d ∷ ds ≡ c ∷ cs = text ∙ h in
-          let same : d ≡ c = cc in
-          ap left (escape_same k c e (subst (λ z. (z == 10) ≡ false) same n) (subst (λ z. (z == 13) ≡ false) same m)
-          ∙ ap (option_map (λ p. p.1)) (stuck c cs e h));
+    s : Stops (Closes (escape_at k)) (Fails (escape_at k)) t flaw.1
+    s = h.stops
+
+    begins : (front : List ℕ) → t ≡ front ++ flaw.1 → IsCompletable (Closes (escape_at k)) front
+        → IsCompletable (IsUnitText k) (92 ∷ front)
+    begins [] text done = backslash_completes k
+    begins (x ∷ f) text done = record {
+      ending = done.ending;
+      are_characters = done.are_characters;
+      is_taken = λ r. escape_same k (((x ∷ f) ++ done.ending) ++ r) (sym (ap (first_passes (λ z. z == 10)) text) ∙ n)
+          (sym (ap (first_passes (λ z. z == 13)) text) ∙ m) ∙ ap (option_map (λ p. p.1)) (done.is_taken.1 r);
     }
-    go (x ∷ f) text done stuck =
-        let both : d ∷ ds ≡ x ∷ (f ++ flaw.1) = text in
-        let same : d ≡ x = cc in
-        let feed : (x == 10) ≡ false = subst (λ z. (z == 10) ≡ false) same n in
-        let return : (x == 13) ≡ false = subst (λ z. (z == 13) ≡ false) same m in
-        record {
-          front = 92 ∷ x ∷ f;
-          text_is = ap (λ z. 92 ∷ z) text;
-          completes = record {
-            ending = done.ending;
-            value = [];
-            are_characters = done.are_characters;
-            no_blank = λ r h. absurd (cc);
-            reads = λ r. ap left (escape_same k x (f ++ (done.ending ++ r)) feed return
-                ∙ ap (option_map (λ p. p.1)) (done.reads r));
-          };
-          stuck = λ c cs e h. ap left (escape_same k x (f ++ (c ∷ e)) feed return
-              ∙ ap (option_map (λ p. p.1)) (stuck c cs e h));
-        }
 
 -- no letter of an escape ends a line
 feed_no_letter : (l : Letter) → 10 ≢ letter_text l
@@ -171,10 +155,10 @@ after_backslash k d ds flaw none has = record {
   stops = record {
     front = 92 ∷ [];
     text_is = refl;
-    completes = backslash_completes k;
+    begins = backslash_completes k;
     stuck = λ c cs e h.
         let same : d ≡ c = cc in
-        ap left (subst (λ z. unit_rest k (92 ∷ z ∷ e) ≡ None) same (none e));
+        subst (λ z. unit_rest k (92 ∷ z ∷ e) ≡ None) same (none e);
   };
   has = has;
 }
@@ -240,8 +224,8 @@ other_escape k d ds none no_return =
       | inr a ↦ elim (cases_Bool (d == 13)) [
         | inl b ↦ subst P (sym (eqb-true d 13 b)) (subst (HasStrictUnitFlaw k (92 ∷ 13 ∷ ds))
             (sym (escape_return k ds)) (return_spoils k ds (sym (ap (λ z. z && is_string k) b) ∙ no_return)))
-        | inr b ↦ lifted k d ds (escape_flaw_at k (d ∷ ds)) a b (escape_spoils k (d ∷ ds)
-            (mapped_none (escape_at k (d ∷ ds)) (sym (escape_same k d ds a b) ∙ none)))
+        | inr b ↦ escape_flaw k (d ∷ ds) (escape_flaw_at k (d ∷ ds)) a b (escape_spoils k (d ∷ ds)
+            (mapped_none (escape_at k (d ∷ ds)) (sym (escape_same k (d ∷ ds) a b) ∙ none)))
       ]
     ]
 
@@ -252,7 +236,7 @@ return_none k r = refl
 strict_escape_spoils : (k : Kind) (t : List ℕ) → unit_rest k (92 ∷ t) ≡ None
     → HasStrictUnitFlaw k (92 ∷ t) (strict_escape_flaw_at k t)
 unfolding strict_escape_flaw_at escape_flaw_at
-strict_escape_spoils k [] none = record { stops = record { front = 92 ∷ []; text_is = refl; completes = backslash_completes k; stuck = λ c cs e h. absurd (cc) }; has = refl }
+strict_escape_spoils k [] none = record { stops = record { front = 92 ∷ []; text_is = refl; begins = backslash_completes k; stuck = λ c cs e h. absurd (cc) }; has = refl }
 strict_escape_spoils k (d ∷ ds) none = cond_both (d == 13 && is_string k) _ _ (HasStrictUnitFlaw k (92 ∷ d ∷ ds))
     returns
     (other_escape k d ds none)
@@ -334,10 +318,10 @@ at_front k c cs flaw q none has = record {
   stops = record {
     front = [];
     text_is = refl;
-    completes = strict_one k q;
+    begins = strict_one k q;
     stuck = λ d ds e h.
         let same : c ≡ d = cc in
-        ap left (subst (λ z. unit_rest k (z ∷ e) ≡ None) same (none e));
+        subst (λ z. unit_rest k (z ∷ e) ≡ None) same (none e);
   };
   has = has;
 }
@@ -345,7 +329,7 @@ at_front k c cs flaw q none has = record {
 pub strict_unit_spoils : (k : Kind) (t : List ℕ) → IsQuotedKind k → IsOpen k t → unit_rest k t ≡ None
     → HasStrictUnitFlaw k t (strict_unit_flaw_at k t)
 unfolding strict_unit_flaw_at
-strict_unit_spoils k [] q still none = record { stops = record { front = []; text_is = refl; completes = strict_one k q; stuck = λ c cs e h. absurd (cc) }; has = refl }
+strict_unit_spoils k [] q still none = record { stops = record { front = []; text_is = refl; begins = strict_one k q; stuck = λ c cs e h. absurd (cc) }; has = refl }
 strict_unit_spoils k (c ∷ cs) q still none = cond_both (c == 92) _ _ P escaped
     (λ a. cond_both (c == 13 && is_string k) _ _ P (returns a) (alone a))
   where

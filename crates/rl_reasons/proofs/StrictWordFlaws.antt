@@ -4,7 +4,7 @@ use Rattle.rl_reading.proofs.Names.{IsScalar, ByteStr, CStr, first_passes, truth
 use Rattle.rl_reasons.specs.declared.flaws.FlawKind.{FlawKind}
 use Rattle.rl_reasons.specs.declared.flaws.FlawKind.TheVariants.{Empty, NoLiteral, Unfinished, Minus}
 use Rattle.rl_reading.specs.declared.quoted_forms.QuotedForm.TheVariants.{Cooked as CookedForm}
-use Rattle.rl_reasons.specs.Flaws.{IsCompletable, StopsBefore, HasKind}
+use Rattle.rl_reasons.specs.Flaws.{IsCompletable, HasKind}
 use Rattle.rl_reasons.specs.StrictNumberFlaws.{IsStrictWordFlaw, BeginsWord, IsWordFlaw}
 use Rattle.rl_strict.specs.StrictShapes.{IsToken}
 use Rattle.rl_reading.specs.WholeShapes.{is_number_front}
@@ -14,16 +14,16 @@ use Rattle.rl_reasons.specs.Mirrors.UnitFlawAt.{FoundFlaw}
 use Rattle.rl_reasons.specs.Mirrors.WordFlawAt.{word_flaw_at}
 use Rattle.rl_reading.proofs.ReadingLemmas.{front_not_quoted}
 use Rattle.rl_reasons.proofs.StrictCookedFlaws.{quote_closes}
+use Rattle.rl_reasons.proofs.Stops.{Flawed}
 use Rattle.rl_strict.proofs.StrictLemmas.{close_token, truth_token}
 use Rattle.rl_strict.proofs.StrictRowLemmas.{quote_stops}
 use Rattle.rl_reasons.proofs.StrictTokens.{no_token, token_reads}
 use Rattle.rl_reading.proofs.TestLemmas.{goes_on}
 use Rattle.rl_reasons.proofs.WordFlawLemmas.{truth_characters, word_place}
 
--- A text stops there, and has that flaw.
-pub record IsStrictFlaw (says : FlawKind → List ℕ → List ℕ → Type 0) (t : List ℕ) (flaw : FoundFlaw) : Type 0 where
-  pub stops : StopsBefore IsToken t flaw.1
-  pub kind : HasKind (says flaw.0) t flaw.1
+-- a text stops there, and has that flaw
+abbrev pub IsStrictFlaw : (FlawKind → List ℕ → List ℕ → Type 0) → List ℕ → FoundFlaw → Type 0
+IsStrictFlaw says t flaw = Flawed IsToken t flaw.1 (HasKind (says flaw.0) t flaw.1)
 
 -- also where the same kind and the same rest stand
 pub moved : (says : FlawKind → List ℕ → List ℕ → Type 0) (t : List ℕ) (flaw : FoundFlaw) (k : FlawKind) (rest : List ℕ)
@@ -93,12 +93,12 @@ strict_word t flaw d m none same =
       stops = record {
         front = s.front;
         text_is = s.text_is;
-        begins = completable flaw.0 s.front flaw.1 (f.kind s.front s.text_is);
+        begins = completable flaw.0 s.front flaw.1 (f.has s.front s.text_is);
         stuck = λ c cs e h y. s.stuck c cs e h (token_reads (s.front ++ (c ∷ e))
             (goes_on is_ascii_digit s.front flaw.1 t c cs e s.text_is h d) y);
       };
-      kind = λ front is. kind_is flaw.0 front flaw.1
-          (λ e. ap (first_passes (λ c. c == 45)) (sym (is ∙ ap (λ z. z ++ flaw.1) e)) ∙ m) (f.kind front is);
+      has = λ front is. kind_is flaw.0 front flaw.1
+          (λ e. ap (first_passes (λ c. c == 45)) (sym (is ∙ ap (λ z. z ++ flaw.1) e)) ∙ m) (f.has front is);
     }
 
 -- no token begins with a minus
@@ -120,7 +120,7 @@ strict_minus t k rest m kind place =
         begins = empty_begun [] refl;
         stuck = λ c cs e h y. minus_stuck c e (sym (ap (first_passes (λ z. z == 45)) h) ∙ m) y;
       };
-      kind = λ front is. (append_cancel_right front [] t (sym is), m);
+      has = λ front is. (append_cancel_right front [] t (sym is), m);
     } in
     subst (λ z. IsStrictFlaw IsStrictWordFlaw t (z, rest)) (sym kind)
     (subst (λ z. IsStrictFlaw IsStrictWordFlaw t (Minus, z)) (sym place) there)

@@ -10,42 +10,33 @@ use Rattle.rl_reasons.specs.FlawKinds.{IsBraced, digit_count, number_of, FirstDi
 use Rattle.rl_reading.specs.Mirrors.UnitAt.{found, number_if, hex_at, unicode_at, after_blanks, named_at, escape_at}
 use Rattle.rl_reasons.specs.Mirrors.UnitFlawAt.{FoundFlaw, found_flaw, low_digit_flaw_at, hex_flaw_at, is_code, code_flaw_of, first_digit_flaw_at, unicode_flaw_at, escape_flaw_at, character_flaw_of}
 use Rattle.rl_reading.proofs.UnitLemmas.{holds_more, two_digits, unit_complete}
-use Rattle.rl_reasons.proofs.EscapeLemmas.{Reader, given, Completes, inner_none, only_zero, hex_read, hex_one, second, hex_second, never, no_low, no_high, past_hex, allowed, coded, closed_code, closed_bad, digit_on, digit_past, underscore_on, other_none, full_none, not_low, not_high, Spelled, room, closing, spelled_on, braced, braced_first, braced_none, first_spelled, braced_one, unicode_on, no_unicode_brace, unicode_one, unicode_never, escape_n, by_hex, by_unicode, same_escape, by_escape}
+use Rattle.rl_reasons.proofs.EscapeLemmas.{Closes, Completes, Fails, Reader, given, inner_none, only_zero, hex_read, hex_one, second, hex_second, never, no_low, no_high, past_hex, allowed, coded, closed_code, closed_bad, digit_on, digit_past, underscore_on, other_none, full_none, not_low, not_high, Spelled, room, closing, spelled_on, braced, braced_first, braced_none, first_spelled, braced_one, unicode_on, no_unicode_brace, unicode_one, unicode_never, escape_n, by_hex, by_unicode, same_escape, by_escape}
 use Rattle.rl_reading.proofs.CodeDigitLemmas.{digit_apart}
+use Rattle.rl_reasons.proofs.Stops.{Stops, lifted}
 use Rattle.rl_reasons.proofs.CodeDigitFlaws.{digits_flaw_at, digits_flaw_is}
 use Rattle.rl_reading.proofs.TestLemmas.{passes_more}
 
 -- ---- readers of the front of a text
 
--- Up to the rest the text can be completed, and with the next character it can't.
-pub record Stops {V : Type 0} (reader : Reader V) (text rest : List ℕ) : Type 0 where
-  pub front : List ℕ
-  pub text_is : text ≡ front ++ rest
-  pub completes : Completes reader front
-  pub stuck : (c : ℕ) (cs e : List ℕ) → rest ≡ c ∷ cs → reader (front ++ (c ∷ e)) ≡ None
-
 -- The text stops so at the flaw's place, and has the flaw's kind by what stands before it too.
 pub record HasUnitFlaw {V : Type 0} (kind : Kind) (reader : Reader V) (before text : List ℕ) (flaw : FoundFlaw) : Type 0
   where
-    pub stops : Stops reader text flaw.1
+    pub stops : Stops (Closes reader) (Fails reader) text flaw.1
     pub has : UnitFlaw kind flaw.0 (before ++ text) flaw.1
 
-at_end : {V : Type 0} {kind : Kind} {reader : Reader V} {before : List ℕ} → Completes reader []
+at_end : {V : Type 0} {kind : Kind} {reader : Reader V} {before : List ℕ} → Completes reader
     → HasUnitFlaw kind reader before [] (found_flaw Unclosed [])
-at_end k = record {
-  stops = record { front = []; text_is = refl; completes = k; stuck = λ c cs e h. absurd (cc) };
-  has = refl;
-}
+at_end k = record { stops = record { front = []; text_is = refl; begins = k; stuck = λ c cs e h. absurd (cc) }; has = refl }
 
 -- with this first character nothing is read
 here : {V : Type 0} {kind : Kind} {reader : Reader V} {before : List ℕ} (c : ℕ) (cs : List ℕ) (flaw : FlawKind)
-    → Completes reader [] → ((e : List ℕ) → reader (c ∷ e) ≡ None) → UnitFlaw kind flaw (before ++ (c ∷ cs)) (c ∷ cs)
+    → Completes reader → ((e : List ℕ) → reader (c ∷ e) ≡ None) → UnitFlaw kind flaw (before ++ (c ∷ cs)) (c ∷ cs)
     → HasUnitFlaw kind reader before (c ∷ cs) (found_flaw flaw (c ∷ cs))
 here {reader} c cs flaw k none has = record {
   stops = record {
     front = [];
     text_is = refl;
-    completes = k;
+    begins = k;
     stuck = λ d ds e same. let head : c ≡ d = cc in subst (λ x. reader (x ∷ e) ≡ None) head (none e);
   };
   has = has;
@@ -59,22 +50,14 @@ next : {V W : Type 0} {kind : Kind} {before cs : List ℕ} {flaw : FoundFlaw} (i
 next {kind} {before} {cs} {flaw} inner outer f c x is same none inside =
     let k = inside (inner_none (inner cs) f (sym (ap (λ z. outer (z ∷ cs)) is ∙ same cs) ∙ none)) in
     let s = k.stops in
-    let done = s.completes in
     subst (λ z. HasUnitFlaw kind outer before (z ∷ cs) flaw) (sym is) (record {
-      stops = record {
-        front = x ∷ s.front;
-        text_is = ap (λ z. x ∷ z) s.text_is;
-        completes = record {
-          ending = done.ending;
-          value = f done.value;
-          are_characters = done.are_characters;
-          no_blank = λ r h. absurd (cc);
-          reads = λ r. same (s.front ++ (done.ending ++ r)) ∙ ap (option_and_then (λ p. given (f p.0) p.1))
-              (done.reads r);
-        };
-        stuck = λ d ds e h. same (s.front ++ (d ∷ e)) ∙ ap (option_and_then (λ p. given (f p.0) p.1))
-            (s.stuck d ds e h);
-      };
+      stops = lifted (x ∷ []) cs flaw.1 s
+          (λ y. (
+            f y.0,
+            λ r. same ((s.front ++ s.begins.ending) ++ r)
+                ∙ ap (option_and_then (λ p. given (f p.0) p.1)) (y.1 r),
+          ))
+          (λ d ds e h n. same (s.front ++ (d ∷ e)) ∙ ap (option_and_then (λ p. given (f p.0) p.1)) n);
       has = subst (λ z. UnitFlaw kind flaw.0 z flaw.1) (append_assoc before (x ∷ []) cs) k.has;
     })
 

@@ -14,11 +14,11 @@ use Rattle.rl_reading.proofs.FormLemmas.{no_front}
 use Rattle.rl_reading.proofs.ReadingLemmas.{no_front_number, no_reading}
 use Rattle.rl_reasons.specs.declared.flaws.FlawKind.{FlawKind}
 use Rattle.rl_reasons.specs.StrictNumberFlaws.{BeginsWord, IsWordFlaw}
+use Rattle.rl_reasons.proofs.Stops.{Flawed}
 
 -- a flaw stands so in the text
-pub record IsFlaw (says : FlawKind → List ℕ → List ℕ → Type 0) (t : List ℕ) (flaw : FoundFlaw) : Type 0 where
-  pub stops : StopsBefore HasReading t flaw.1
-  pub kind : HasKind (says flaw.0) t flaw.1
+abbrev pub IsFlaw : (FlawKind → List ℕ → List ℕ → Type 0) → List ℕ → FoundFlaw → Type 0
+IsFlaw says t flaw = Flawed HasReading t flaw.1 (HasKind (says flaw.0) t flaw.1)
 
 -- ---- the code's two words
 
@@ -114,7 +114,7 @@ ends : (t front rest : List ℕ) → StopsBefore HasReading t rest → t ≡ fro
     → IsFlaw IsWordFlaw t (end_flaw_at Unfinished NoLiteral rest)
 ends t front [] stops cut some begins = record {
   stops = stops;
-  kind = λ x is. (
+  has = λ x is. (
     subst BeginsWord (append_cancel_right front x [] (sym cut ∙ is)) begins,
     (λ n. some (is ∙ append-nil x ∙ n)),
     refl,
@@ -122,7 +122,7 @@ ends t front [] stops cut some begins = record {
 }
 ends t front (c ∷ cs) stops cut some begins = record {
   stops = stops;
-  kind = λ x is. (subst BeginsWord (append_cancel_right front x (c ∷ cs) (sym cut ∙ is)) begins, λ n. absurd (cc));
+  has = λ x is. (subst BeginsWord (append_cancel_right front x (c ∷ cs) (sym cut ∙ is)) begins, λ n. absurd (cc));
 }
 
 letters_flaw : (b : Bool) (t : List ℕ) (k : Common (truth_text b) t) → WordFront b t k → t ≢ []
@@ -242,7 +242,7 @@ no_front_flaw c cs b k t f none number = record {
         nothing_reads (c ∷ e) (other_opener c cs e b k none) number (other_first c e t f)
         (subst (λ z. HasReading (z ∷ e)) (sym same) r);
   };
-  kind = λ front is. (inr (inr (record { truth = true; more = truth_text true; word_is = ap (λ z. z ++ truth_text true) (append_cancel_right [] front (c ∷ cs) is) })), λ n. absurd (cc));
+  has = λ front is. (inr (inr (record { truth = true; more = truth_text true; word_is = ap (λ z. z ++ truth_text true) (append_cancel_right [] front (c ∷ cs) is) })), λ n. absurd (cc));
 }
 
 word_flaw : (t : List ℕ) → first_passes is_number_front t ≡ false → opener_at t ≡ None
@@ -255,7 +255,7 @@ word_flaw [] number none = record {
     begins = record { ending = truth_text true; are_characters = truth_characters true; is_taken = truth_reads true };
     stuck = λ c cs e h r. absurd (cc);
   };
-  kind = λ front is. (sym (is ∙ append-nil front), refl);
+  has = λ front is. (sym (is ∙ append-nil front), refl);
 }
 word_flaw (c ∷ cs) number none = cond_both (c == 98 || c == 99) _ _ P prefixed
     (λ e. cond_both (c == 116) _ _ P (worded true 116 true_flaw)

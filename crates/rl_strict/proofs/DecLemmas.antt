@@ -13,9 +13,6 @@ use Rattle.rl_reading.proofs.PlainNumberLemmas.{onto_digits}
 glyph_value : (d : ℕ) → d < 10 → digit_value (digit_glyph false d) ≡ d
 glyph_value d h = eqb-true _ _ (agree_below_at (λ d. eqb (digit_value (digit_glyph false d)) d) (λ d. true) 10 d refl h)
 
-glyph_digit : (d : ℕ) → d < 10 → is_ascii_digit (digit_glyph false d) ≡ true
-glyph_digit d h = agree_below_at (λ d. is_ascii_digit (digit_glyph false d)) (λ d. true) 10 d refl h
-
 glyph_zero : (d : ℕ) → d < 10 → eqb (digit_glyph false d) 48 ≡ eqb d 0
 glyph_zero d h = agree_below_at (λ d. eqb (digit_glyph false d) 48) (λ d. eqb d 0) 10 d refl h
 
@@ -66,11 +63,6 @@ unfolding dec
 dec_spells n = let e = onto_value n n [] (omega arith) in omega arith
 
 -- ---- digits alone
-
-digit_step : (ds more : List ℕ) (b : Bool) → list_all is_ascii_digit ds ≡ true → list_all is_ascii_digit more ≡ true
-    → list_all is_ascii_digit (cond b ds more) ≡ true
-digit_step ds more true h m = h
-digit_step ds more false h m = m
 
 pub dec_digits : (n : ℕ) → list_all is_ascii_digit (dec n) ≡ true
 unfolding dec

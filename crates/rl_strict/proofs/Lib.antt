@@ -1,7 +1,6 @@
 pub mod DecLemmas
 pub mod StrictWordLemmas
 pub mod StrictUnitRows
-pub mod StrictNumberLemmas
 pub mod StrictUnitLemmas
 pub mod StrictRowLemmas
 pub mod StrictRawLemmas

@@ -1,9 +1,8 @@
 -- A strict token is a quoted form after its opener, a number, or a truth value.
-use Rattle.rl_text.proofs.Common.{◌≡◌, ◌≢◌, ℕ, ◌⊎◌, ◌||◌, Bool, true, false, ◌==◌, List, [], ◌∷◌, ◌++◌, Option, Some, None, refl, sym, ap, subst, ◌∙◌, inl, inr, append_assoc, both_ways, is_ascii_digit, flat_map, IsTrue}
+use Rattle.rl_text.proofs.Common.{◌≡◌, ℕ, ◌⊎◌, ◌||◌, Bool, true, false, ◌==◌, List, [], ◌∷◌, ◌++◌, Some, None, refl, sym, ap, subst, ◌∙◌, inl, inr, append_assoc, is_ascii_digit, flat_map, IsTrue}
 use Rattle.rl_reading.proofs.Names.{◌↔◌, Kind, Str, ByteStr, CStr, Byte, Char, Int, Float, BoolKind, NoSign, opener, raw_opener, Contents, Truth, truth_text, strict_text, strict_contents, strict_content_of}
-use Rattle.std.specs.Option.{IfSome, IfNone}
-use Rattle.std.specs.Prelude.{is_some, replicate, codes, if◌then◌else◌}
-use Rattle.rl_forms.specs.Strict.{StrictCooked, StrictRaw, Strict, strict_opener, strict_raw_opener, strict_closer, strict_quoted_contents}
+use Rattle.std.specs.Prelude.{replicate, codes, if◌then◌else◌}
+use Rattle.rl_forms.specs.Strict.{StrictCooked, StrictRaw, StrictInt, StrictFloat, Strict, strict_opener, strict_raw_opener, strict_closer, strict_quoted_contents}
 use Rattle.rl_text.proofs.Basics.{apart}
 use Rattle.rl_forms.proofs.OneNumber.{begins_number, float_front, int_front}
 use Rattle.rl_forms.proofs.StrictNumbers.{strict_int, float_strict_reads}
@@ -12,13 +11,17 @@ use Rattle.rl_reading.specs.declared.quoted_forms.QuotedForm.{QuotedForm}
 use Rattle.rl_reading.specs.declared.quoted_forms.QuotedForm.TheVariants.{Cooked as CookedForm, Raw as RawForm, Single as SingleForm}
 use Rattle.rl_reading.specs.Forms.{has_form, form_opener}
 use Rattle.rl_reading.specs.Mirrors.OpenerAt.{opener_at}
-use Rattle.rl_strict.specs.Mirrors.StrictAt.{is_strict_number}
 use Rattle.rl_strict.specs.StrictShapes.{IsToken, ClosesUnits, ClosesRaw, ClosesForm}
 use Rattle.rl_reading.proofs.FormLemmas.{front_complete, front_sound}
 use Rattle.rl_reading.proofs.StrictBackLemmas.{HasStrictUnits}
-use Rattle.rl_strict.proofs.StrictNumberLemmas.{IsStrictNumber, float_complete, int_complete, number_sound}
 use Rattle.rl_strict.proofs.StrictRowLemmas.{quoted_string, quoted_single}
 use Rattle.rl_reading.proofs.OpenerLemmas.{word_has_none}
+
+-- a strict number
+abbrev pub IsStrictNumber : List ℕ → Type 0
+IsStrictNumber text =
+    (contents : Contents) × (suffix : List ℕ)
+    × (StrictInt text contents suffix ⊎ StrictFloat text contents suffix)
 
 -- ---- both grammars open their forms alike
 
@@ -249,33 +252,6 @@ pub number_token : (t : List ℕ) → IsStrictNumber t → IsToken t
 number_token t (v, x, inl s) = record { kind = Int; contents = v; suffix = x; strict = s }
 number_token t (v, x, inr s) = record { kind = Float; contents = v; suffix = x; strict = s }
 
--- a strict number passes
-pub number_complete : (t : List ℕ) → IsStrictNumber t → is_strict_number t ≡ true
-number_complete t (v, x, inl s) = int_complete t x v s
-number_complete t (v, x, inr s) = float_complete t x v s
-
 -- a truth value is a token
 pub truth_token : (t : List ℕ) (b : Bool) → t ≡ truth_text b → IsToken t
 truth_token t b e = record { kind = BoolKind; contents = Truth b; suffix = []; strict = record { truth = b; text = e ∙ sym (truth_words b); contents = refl; suffix = refl } }
-
--- what passes as a number is a token
-pub passed_token : (t : List ℕ) (b : Bool) → b ≡ is_strict_number t → b ≡ true → IsTrue b ↔ IsToken t
-passed_token t b is h = (λ y. number_token t (number_sound t (sym is ∙ h)), λ c. h)
-
--- a text that is no quoted form and no number is a token exactly where it is a truth value
-pub other_token : (t : List ℕ) (o : Option Bool) (b : Bool) → None ≡ opener_at t → is_strict_number t ≡ false
-    → IfSome o (λ v. t ≡ truth_text v) → IfNone o ((v : Bool) → t ≢ truth_text v) → b ≡ is_some o → IsTrue b ↔ IsToken t
-other_token t (Some v) b h n some none is = (λ y. truth_token t v some, λ c. is)
-other_token t None b h n some none is = (
-  λ y. absurd (both_ways b is y),
-  λ c. elim (seen t c.kind c.contents c.suffix c.strict) [
-    | inl o ↦
-        let front : None ≡ Some (o.form, o.kind, o.inside) = h ∙ ap opener_at o.text_is
-        ∙ front_complete o.form o.kind o.inside o.has in
-        absurd (cc)
-    | inr w ↦ elim w [
-      | inl number ↦ absurd (both_ways (is_strict_number t) n (number_complete t number))
-      | inr v ↦ absurd (none v.0 v.1)
-    ]
-  ],
-)

@@ -1,16 +1,13 @@
 -- Strict raw forms: hashes, contents up to the first closer, and the suffix after it.
-use Rattle.rl_text.proofs.Common.{◌≡◌, ◌≢◌, ℕ, zero, suc, ◌<◌, ◌≤◌, ◌⊎◌, ◌&&◌, ◌||◌, Bool, true, false, not, ◌==◌, cond, List, [], ◌∷◌, ◌++◌, length, drop, replicate, refl, sym, ap, subst, ◌∙◌, inl, inr, arith, nat_lt, and_from, and_parts, both_ways, cases_Bool, eqb-true, not-true, append_cancel_right, encodes-chars, list_all, IsTrue, encode_utf8_all, IsUtf8}
-use Rattle.rl_reading.proofs.Names.{false_from_ne_true, drop-append_seam, ◌↔◌, Kind, Str, ByteStr, CStr, is_string, IsStrictSuffix, Marks, is_other, after_run, is_hash, hash_count}
-use Rattle.std.proofs.lemmas.List.{length-replicate}
-use Rattle.std.specs.Str.{chars}
+use Rattle.rl_text.proofs.Common.{◌≡◌, ◌≢◌, ℕ, zero, suc, ◌⊎◌, ◌&&◌, ◌||◌, Bool, true, false, not, ◌==◌, cond, List, [], ◌∷◌, ◌++◌, length, drop, replicate, refl, sym, ap, subst, ◌∙◌, inl, inr, nat_lt, and_from, and_parts, both_ways, cases_Bool, eqb-true, list_all, IsTrue}
+use Rattle.rl_reading.proofs.Names.{false_from_ne_true, drop-append_seam, ◌↔◌, Kind, Str, ByteStr, CStr, is_string, IsStrictSuffix, Marks, first_passes, is_other, after_run, is_hash}
 use Rattle.rl_text.specs.Texts.{begins}
 use Rattle.rl_forms.specs.Strict.{IsRawInside}
 use Rattle.rl_forms.proofs.StrictNumbers.{begins_front}
-use Rattle.rl_lexer.proofs.HashLemmas.{hashes_before as hashes_here, hashes_past}
+use Rattle.rl_lexer.proofs.HashLemmas.{hashes_past}
 use Rattle.rl_strict.specs.Mirrors.StrictAt.{ends_raw, is_inside, is_raw_character, is_strict_suffix}
 use Rattle.rl_strict.specs.StrictShapes.{ClosesInside, ClosesRaw}
 use Rattle.rl_reading.proofs.IntegerLemmas.{begins_is}
-use Rattle.rl_reading.proofs.ShapeLemmas.{hashes_bytes}
 use Rattle.rl_strict.proofs.StrictWordLemmas.{all_both, all_apart, strict_suffix_complete, strict_suffix_sound}
 
 -- ---- what a raw form holds
@@ -37,14 +34,16 @@ inside_sound kind cs s h = absurd (cc)
 
 -- ---- the first closer
 
--- hashes that begin a text with a quote in it stand before the quote
-hashes_before : (n : ℕ) (a z : List ℕ) → begins (replicate n 35) (a ++ (34 ∷ z)) ≡ true → begins (replicate n 35) a
-    ≡ true
-hashes_before zero a z h = refl
-hashes_before (suc n) [] z h = absurd (cc)
-hashes_before (suc n) (c ∷ cs) z h =
-    let p = and_parts (c == 35) (begins (replicate n 35) (cs ++ (34 ∷ z))) h in
-    and_from (c == 35) (begins (replicate n 35) cs) p.0 (hashes_before n cs z p.1)
+-- hashes that begin a text are those of its front, where no hash follows that
+hashes_in_front : (n : ℕ) (a z : List ℕ) → first_passes is_hash z ≡ false → begins (replicate n 35) (a ++ z) ≡ true
+    → begins (replicate n 35) a ≡ true
+hashes_in_front zero a z no_hash h = refl
+hashes_in_front (suc n) [] [] no_hash h = absurd (cc)
+hashes_in_front (suc n) [] (c ∷ cs) no_hash h = absurd (both_ways (c == 35) no_hash
+    (and_parts (c == 35) (begins (replicate n 35) cs) h).0)
+hashes_in_front (suc n) (c ∷ cs) z no_hash h =
+    let p = and_parts (c == 35) (begins (replicate n 35) (cs ++ z)) h in
+    and_from (c == 35) (begins (replicate n 35) cs) p.0 (hashes_in_front n cs z no_hash p.1)
 
 -- what begins a text begins it whatever follows
 begins_more : (p a b : List ℕ) → begins p a ≡ true → begins p (a ++ b) ≡ true
@@ -60,28 +59,6 @@ pub raw_on : (k : Kind) (hashes : List ℕ) (c : ℕ) (cs : List ℕ) → (c == 
 unfolding ends_raw
 raw_on k hashes c cs h = ap (λ b. cond b (is_strict_suffix (drop (length hashes) cs))
     (is_raw_character k c && ends_raw k hashes cs)) h
-
--- the loop goes past a run at once
-pub raw_run : (k : Kind) (hashes run rest : List ℕ) → list_all (is_inside k) run ≡ true
-    → ends_raw k hashes (run ++ rest) ≡ ends_raw k hashes rest
-raw_run k hashes [] rest each = refl
-raw_run k hashes (c ∷ cs) rest each =
-    let b = and_parts (is_inside k c) (list_all (is_inside k) cs) each in
-    let p = and_parts (not (c == 34)) (is_raw_character k c) b.0 in
-    raw_on k hashes c (cs ++ rest) (ap (λ z. z && begins hashes (cs ++ rest)) (not-true (c == 34) p.0))
-    ∙ ap (λ z. z && ends_raw k hashes (cs ++ rest)) p.1
-    ∙ raw_run k hashes cs rest b.1
-
-pub raw_past : (k : Kind) (hashes t x run : List ℕ) (s : Bool) → t ≡ run ++ x → list_all (is_inside k) run ≡ true
-    → ends_raw k hashes t ≡ s → ends_raw k hashes x ≡ s
-raw_past k hashes t x run s e each same = sym (raw_run k hashes run x each) ∙ ap (ends_raw k hashes) (sym e) ∙ same
-
--- one turn at a character that closes nothing
-pub turn_on : (k : Kind) (hashes t cs : List ℕ) (c : ℕ) (r s : Bool) → t ≡ c ∷ cs → (c == 34 && begins hashes cs)
-    ≡ false → r ≡ is_raw_character k c → r ≡ true → ends_raw k hashes t ≡ s → ends_raw k hashes cs ≡ s
-turn_on k hashes t cs c true s e stays is raw same =
-    ap (λ z. z && ends_raw k hashes cs) is ∙ sym (raw_on k hashes c cs stays) ∙ ap (ends_raw k hashes) (sym e) ∙ same
-turn_on k hashes t cs c false s e stays is raw same = absurd (cc)
 
 -- what stops at these marks stands inside
 str_inside : (a b : Bool) → not (a || b || b || b) ≡ true → (not a && not b) ≡ true
@@ -128,31 +105,33 @@ raw_close k hashes x =
 abbrev pub NoCloser : List ℕ → List ℕ → Type 0
 NoCloser hashes inside = (front rest : List ℕ) → inside ≢ front ++ (34 ∷ (hashes ++ rest))
 
--- no closer begins in contents that have none
-no_closer_here : (n : ℕ) (c : ℕ) (cs z : List ℕ) → NoCloser (replicate n 35) (c ∷ cs)
-    → (c == 34 && begins (replicate n 35) (cs ++ (34 ∷ z))) ≡ false
-no_closer_here n c cs z none = false_from_ne_true (c == 34 && begins (replicate n 35) (cs ++ (34 ∷ z))) (λ h.
-    let p = and_parts (c == 34) (begins (replicate n 35) (cs ++ (34 ∷ z))) h in
-    let b = begins_is (replicate n 35) cs (hashes_before n cs z p.1) in
+-- so none begins before what follows
+pub no_closer_at : (n : ℕ) (c : ℕ) (cs z : List ℕ) → first_passes is_hash z ≡ false → NoCloser (replicate n 35) (c ∷ cs)
+    → (c == 34 && begins (replicate n 35) (cs ++ z)) ≡ false
+no_closer_at n c cs z no_hash none = false_from_ne_true (c == 34 && begins (replicate n 35) (cs ++ z)) (λ h.
+    let p = and_parts (c == 34) (begins (replicate n 35) (cs ++ z)) h in
+    let b = begins_is (replicate n 35) cs (hashes_in_front n cs z no_hash p.1) in
     none [] b.0 (ap (λ q. q ∷ cs) (eqb-true c 34 p.0) ∙ ap (λ q. 34 ∷ q) b.1))
 
--- contents, closer and suffix pass
-raw_complete_from : (k : Kind) (n : ℕ) (inside x : List ℕ) → list_all (is_raw_character k) inside ≡ true
-    → NoCloser (replicate n 35) inside → IsStrictSuffix x → ends_raw k (replicate n 35)
-    (inside ++ (34 ∷ (replicate n 35 ++ x))) ≡ true
-raw_complete_from k n [] x each none s = raw_close k (replicate n 35) x ∙ strict_suffix_complete x s
-raw_complete_from k n (c ∷ cs) x each none s =
+-- the loop goes past contents at once
+pub past_body : (k : Kind) (n : ℕ) (body z : List ℕ) → list_all (is_raw_character k) body ≡ true
+    → NoCloser (replicate n 35) body → first_passes is_hash z ≡ false → ends_raw k (replicate n 35) (body ++ z)
+    ≡ ends_raw k (replicate n 35) z
+past_body k n [] z each none no_hash = refl
+past_body k n (c ∷ cs) z each none no_hash =
     let p = and_parts (is_raw_character k c) (list_all (is_raw_character k) cs) each in
-    raw_on k (replicate n 35) c (cs ++ (34 ∷ (replicate n 35 ++ x))) (no_closer_here n c cs (replicate n 35 ++ x) none)
-    ∙ and_from (is_raw_character k c) _ p.0 (raw_complete_from k n cs x p.1
-    (λ f r e. none (c ∷ f) r (ap (λ q. c ∷ q) e)) s)
+    raw_on k (replicate n 35) c (cs ++ z) (no_closer_at n c cs z no_hash none)
+    ∙ ap (λ b. b && ends_raw k (replicate n 35) (cs ++ z)) p.0
+    ∙ past_body k n cs z p.1 (λ f r e. none (c ∷ f) r (ap (λ q. c ∷ q) e)) no_hash
 
 -- what closes a raw form passes
 pub raw_complete : (k : Kind) (n : ℕ) (t : List ℕ) → ClosesInside k (replicate n 35) t → ends_raw k (replicate n 35) t
     ≡ true
-raw_complete k n t c = ap (ends_raw k (replicate n 35)) c.text_is
-    ∙ raw_complete_from k n c.inside c.suffix (inside_allowed k c.inside c.allowed c.no_carriage_return) c.first_close
-    c.is_suffix
+raw_complete k n t c =
+    ap (ends_raw k (replicate n 35)) c.text_is
+    ∙ past_body k n c.inside (34 ∷ (replicate n 35 ++ c.suffix))
+    (inside_allowed k c.inside c.allowed c.no_carriage_return) c.first_close refl
+    ∙ raw_close k (replicate n 35) c.suffix ∙ strict_suffix_complete c.suffix c.is_suffix
 
 -- contents, closer and suffix, in the text
 record RawParts (k : Kind) (hashes t : List ℕ) : Type 0 where
@@ -235,78 +214,7 @@ pub quote_without_hashes : (hashes : List ℕ) (c : ℕ) (cs : List ℕ) → ((x
 quote_without_hashes hashes c cs none = false_from_ne_true (c == 34 && begins hashes cs)
     (λ h. let b = begins_is hashes cs (and_parts (c == 34) (begins hashes cs) h).1 in none b.0 b.1)
 
--- a closer stands
-pub turn_close : (k : Kind) (hashes t s cs x : List ℕ) (b : Bool) (c : ℕ) → t ≡ c ∷ cs → c ≡ 34 → cs ≡ hashes ++ x → b
-    ≡ is_strict_suffix x → ends_raw k hashes t ≡ ends_raw k hashes s → b ≡ ends_raw k hashes s
-turn_close k hashes t s cs x b c e is tail r same =
-    r ∙ sym (raw_close k hashes x) ∙ sym (ap (ends_raw k hashes) (e ∙ ap (λ z. z ∷ cs) is ∙ ap (λ z. 34 ∷ z) tail))
-    ∙ same
-
 -- ---- the hashes
-
--- hashes, and as many bytes
-record Hashes (hs : List ℕ) : Type 0 where
-  count : ℕ
-  chars_are : chars hs ≡ replicate count 35
-  length_is : length hs ≡ count
-
--- what stands before the rest after hashes is hashes
-hashes_in : (t r hs : List ℕ) → IsUtf8 hs → r ≡ (after_run is_hash) t → t ≡ chars hs ++ r → Hashes hs
-hashes_in t r hs u rest text =
-    let n = hash_count t in
-    let same : chars hs ≡ replicate n 35 = hashes_here (chars hs) t r rest text in
-    let bytes : hs ≡ replicate n 35 = sym (encodes-chars hs u) ∙ ap encode_utf8_all same ∙ hashes_bytes n in
-    record { count = n; chars_are = same; length_is = ap length bytes ∙ length-replicate n 35 }
-
--- the hashes and the quote of a strict raw form are those at its front
-record SameHashes (k : Kind) (t r hs : List ℕ) (c : ClosesRaw k t) : Type 0 where
-  hashes_are : chars hs ≡ replicate c.hashes 35
-  rest_is : r ≡ 34 ∷ c.rest
-
--- the form has the hashes and the rest that were found
-same_hashes : (k : Kind) (t r hs : List ℕ) (c : ClosesRaw k t) → r ≡ (after_run is_hash) t → t ≡ chars hs ++ r
-    → SameHashes k t r hs c
-same_hashes k t r hs c rest text =
-    let following : r ≡ 34 ∷ c.rest = rest ∙ ap (after_run is_hash) c.text_is ∙ hashes_past c.hashes c.rest in
-    record { hashes_are = append_cancel_right (chars hs) (replicate c.hashes 35) (34 ∷ c.rest) (ap (λ z. chars hs ++ z) (sym following) ∙ sym text ∙ c.text_is); rest_is = following }
-
--- few hashes, and a quote
-pub raw_opened : (k : Kind) (b : Bool) (t r hs inside : List ℕ) → is_string k ≡ true → IsUtf8 hs → r
-    ≡ (after_run is_hash) t → t ≡ chars hs ++ r → r ≡ 34 ∷ inside → length hs < 256 → b ≡ ends_raw k (chars hs) inside
-    → IsTrue b ↔ ClosesRaw k t
-raw_opened k b t r hs inside s u rest text quote few is =
-    let h = hashes_in t r hs u rest text in
-    let Few : ℕ → Type 0 = λ n. n < 256 in (
-      λ y. record {
-        hashes = h.count;
-        few = subst Few h.length_is few;
-        rest = inside;
-        closes = raw_sound k (replicate h.count 35) inside s (ap (λ z. ends_raw k z inside) (sym h.chars_are) ∙ sym is
-            ∙ y);
-        text_is = text ∙ ap (λ z. z ++ r) h.chars_are ∙ ap (λ z. replicate h.count 35 ++ z) quote;
-      },
-      λ c.
-          let same = same_hashes k t r hs c rest text in
-          let both : 34 ∷ inside ≡ 34 ∷ c.rest = sym quote ∙ same.rest_is in
-          let inside_is : inside ≡ c.rest = cc in
-          is ∙ ap (λ z. ends_raw k z inside) same.hashes_are ∙ ap (ends_raw k (replicate c.hashes 35)) inside_is
-          ∙ raw_complete k c.hashes c.rest c.closes,
-    )
-
--- too many hashes
-pub raw_many : (k : Kind) (b : Bool) (t r hs : List ℕ) → IsUtf8 hs → r ≡ (after_run is_hash) t → t ≡ chars hs ++ r
-    → 256 ≤ length hs → b ≡ false → IsTrue b ↔ ClosesRaw k t
-raw_many k b t r hs u rest text many none =
-    let h = hashes_in t r hs u rest text in (
-      λ y. absurd (both_ways b none y),
-      λ c.
-          let same = same_hashes k t r hs c rest text in
-          let count : h.count ≡ c.hashes = sym (length-replicate h.count 35)
-          ∙ ap length (sym h.chars_are ∙ same.hashes_are) ∙ length-replicate c.hashes 35 in
-          let few = c.few in
-          let long = h.length_is in
-          absurd (omega arith),
-    )
 
 -- no quote after the hashes
 pub raw_unquoted : (k : Kind) (t r : List ℕ) → r ≡ (after_run is_hash) t → ((y : List ℕ) → r ≢ 34 ∷ y)

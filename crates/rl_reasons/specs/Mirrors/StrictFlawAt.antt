@@ -1,18 +1,14 @@
 -- A mirror of the code, for proofs alone: why a text is no strict token, and the text from that place on.
 use Rattle.std.specs.Prelude.{ℕ, ◌==◌, ◌||◌, ◌&&◌, Bool, not, List, [], ◌∷◌, if◌then◌else◌}
-use Rattle.std.specs.Char.{is_ascii_digit}
 use Prim.Native.Char.{code}
 use Rattle.rl_forms.specs.declared.kind.Kind.{Kind}
 use Rattle.rl_text.specs.Classes.{after_run}
 use Rattle.rl_text.specs.Texts.{is_continue, is_start, begins, first_passes}
-use Rattle.rl_forms.specs.Numbers.{is_exponent_letter}
 use Rattle.rl_forms.specs.Quoted.{is_string}
 use Rattle.rl_reasons.specs.declared.flaws.FlawKind.{FlawKind}
-use Rattle.rl_reasons.specs.declared.flaws.FlawKind.TheVariants.{NoExponentDigit, BadSuffix, CarriageReturn, EarlyQuote, ExtraHash, UnderscoreSuffix, NoDigits, DigitOfBase, BasedFloat, NoFractionDigit, Unclosed}
+use Rattle.rl_reasons.specs.declared.flaws.FlawKind.TheVariants.{BadSuffix, CarriageReturn, EarlyQuote, ExtraHash, UnderscoreSuffix, Unclosed}
 use Rattle.rl_reading.specs.declared.quoted_forms.QuotedForm.{QuotedForm}
 use Rattle.rl_reasons.specs.StrictFlawKinds.{form_quote, is_raw_form}
-use Rattle.rl_reasons.specs.StrictNumberFlaws.{is_float_mark}
-use Rattle.rl_reading.specs.Mirrors.NumberAt.{after_digits, after_power_sign, has_digit_at, radix_at}
 use Rattle.rl_strict.specs.Mirrors.StrictAt.{is_raw_character}
 use Rattle.rl_reasons.specs.Mirrors.UnitFlawAt.{FoundFlaw, character_flaw_of, escape_flaw_at, found_flaw, spoiled_flaw_of}
 
@@ -20,46 +16,6 @@ use Rattle.rl_reasons.specs.Mirrors.UnitFlawAt.{FoundFlaw, character_flaw_of, es
 unfoldable pub suffix_rest : List ℕ → List ℕ
 suffix_rest [] = []
 suffix_rest (c ∷ cs) = if is_start c then after_run is_continue cs else (c ∷ cs)
-
--- of what follows a number
-abbrev pub strict_tail_flaw_at : List ℕ → FoundFlaw
-strict_tail_flaw_at t = found_flaw BadSuffix (suffix_rest t)
-
--- of what follows the letter of an exponent
-unfoldable pub strict_power_flaw_at : List ℕ → FoundFlaw
-strict_power_flaw_at t =
-    if has_digit_at 10 (after_power_sign t) then strict_tail_flaw_at (after_digits 10 (after_power_sign t))
-    else found_flaw NoExponentDigit (after_digits 10 (after_power_sign t))
-
--- of what follows the whole part, where no dot follows, or the fraction
-unfoldable pub strict_exponent_flaw_at : List ℕ → FoundFlaw
-strict_exponent_flaw_at [] = strict_tail_flaw_at []
-strict_exponent_flaw_at (c ∷ cs) = if is_exponent_letter c then strict_power_flaw_at cs else strict_tail_flaw_at
-    (c ∷ cs)
-
--- of what follows the dot
-unfoldable pub fraction_flaw_at : List ℕ → FoundFlaw
-fraction_flaw_at t =
-    if first_passes is_ascii_digit t then strict_exponent_flaw_at (after_digits 10 t) else found_flaw NoFractionDigit t
-
--- of what follows the whole part
-unfoldable pub whole_flaw_at : List ℕ → FoundFlaw
-whole_flaw_at [] = strict_exponent_flaw_at []
-whole_flaw_at (c ∷ cs) = if c == code "." then fraction_flaw_at cs else strict_exponent_flaw_at (c ∷ cs)
-
--- of what follows the prefix of another base
-unfoldable pub strict_based_flaw_at : ℕ → List ℕ → FoundFlaw
-strict_based_flaw_at radix t =
-    if first_passes is_ascii_digit (after_digits radix t) then found_flaw DigitOfBase (after_digits radix t)
-    else (if not (has_digit_at radix t) then found_flaw NoDigits (after_digits radix t)
-    else (if first_passes is_float_mark (after_digits radix t) then found_flaw BasedFloat (after_digits radix t)
-    else strict_tail_flaw_at (after_digits radix t)))
-
--- of a number
-unfoldable pub number_flaw_at : List ℕ → FoundFlaw
-number_flaw_at t =
-    if (radix_at t).0 == 10 then whole_flaw_at (after_digits 10 (radix_at t).1)
-    else strict_based_flaw_at (radix_at t).0 (radix_at t).1
 
 -- of what follows the backslash of no escape
 unfoldable pub strict_escape_flaw_at : Kind → List ℕ → FoundFlaw

@@ -1,6 +1,5 @@
 -- A mirror of the code, for proofs alone: strict tokens, one part after another.
-use Rattle.std.specs.Prelude.{ℕ, ◌==◌, ◌||◌, ◌&&◌, not, Bool, true, false, List, [], ◌∷◌, Option, Some, None, option_map, length, drop, nat_lt, if◌then◌else◌}
-use Rattle.std.specs.Char.{is_ascii_digit}
+use Rattle.std.specs.Prelude.{ℕ, ◌==◌, ◌&&◌, not, Bool, true, false, List, [], ◌∷◌, Option, Some, None, option_map, length, drop, nat_lt, if◌then◌else◌}
 use Rattle.std.specs.List.{list_all}
 use Prim.Native.Char.{code}
 use Rattle.rl_forms.specs.declared.kind.Kind.{Kind}
@@ -8,10 +7,8 @@ use Rattle.rl_forms.specs.declared.kind.Kind.TheVariants.{Str, ByteStr, CStr}
 use Rattle.rl_text.specs.Texts.{first_passes, begins, is_underscore, is_dropped_blank, is_start, is_continue}
 use Rattle.rl_forms.specs.Quoted.{is_string}
 use Rattle.rl_forms.specs.Strict.{Itself, is_strict_unit}
-use Rattle.rl_reading.specs.Mirrors.NumberAt.{has_digit_at, after_digits, after_power_sign, radix_at}
 use Rattle.rl_text.specs.Classes.{after_run}
 use Rattle.rl_reading.specs.Mirrors.UnitAt.{unit_at}
-use Rattle.rl_forms.specs.Numbers.{is_exponent_letter}
 use Rattle.rl_reading.specs.Mirrors.PlainAt.{is_some_text}
 
 -- nothing, or a word
@@ -23,42 +20,6 @@ is_strict_suffix (c ∷ cs) =
 -- the same, and it doesn't begin with `_`
 abbrev pub is_number_suffix : List ℕ → Bool
 is_number_suffix x = not (first_passes is_underscore x) && is_strict_suffix x
-
--- after the letter of an exponent: a sign perhaps, a row with a digit, and a suffix
-unfoldable pub ends_power : List ℕ → Bool
-ends_power t =
-    has_digit_at 10 (after_power_sign t) && is_number_suffix (after_digits 10 (after_power_sign t))
-
--- after digits: an exponent and a suffix, or a suffix alone
-unfoldable pub ends_digits : List ℕ → Bool
-ends_digits [] = is_number_suffix []
-ends_digits (c ∷ cs) = if is_exponent_letter c then ends_power cs else is_number_suffix (c ∷ cs)
-
--- after a dot: nothing, or digits and what ends them
-unfoldable pub ends_dot : List ℕ → Bool
-ends_dot t =
-    not (is_some_text t) || (first_passes is_ascii_digit t && ends_digits (after_digits 10 t))
-
--- after the whole part
-abbrev pub ends_whole : List ℕ → Bool
-ends_whole [] = true
-ends_whole (c ∷ cs) = if c == code "." then ends_dot cs else ends_digits (c ∷ cs)
-
--- a number of base ten
-unfoldable pub is_decimal : List ℕ → Bool
-is_decimal t = first_passes is_ascii_digit t && ends_whole (after_digits 10 t)
-
--- an integer of another base, after its prefix
-unfoldable pub is_based : ℕ → List ℕ → Bool
-is_based radix t =
-    has_digit_at radix t
-    && (not (first_passes is_exponent_letter (after_digits radix t))
-    && is_number_suffix (after_digits radix t))
-
-unfoldable pub is_strict_number : List ℕ → Bool
-is_strict_number t =
-    if (radix_at t).0 == 10 then is_decimal (radix_at t).1
-    else is_based (radix_at t).0 (radix_at t).1
 
 -- what is left after a line break's backslash, or after another escape
 abbrev pub escape_rest : Kind → List ℕ → Option (List ℕ)

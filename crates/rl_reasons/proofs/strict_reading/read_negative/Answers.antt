@@ -1,7 +1,7 @@
 use Rattle.rl_text.proofs.Common.{[], arith, rules, inr, refl, subst, ◌∙◌, IsUtf8}
 use Rattle.std.specs.Str.{chars}
 use Rattle.rl_reasons.specs.SignedFlaws.{IsSignedToken}
-use Rattle.rl_reasons.proofs.SignedFlaws.{signed_bytes, unsigned_explains}
+use Rattle.rl_reasons.proofs.SignedFlaws.{signed_bytes}
 use Rattle.rl_text.proofs.TailLemmas.{tail_step}
 use Rattle.rl_reasons.proofs.ReadLemmas.{minus_placed}
 use Rattle.rl_reasons.proofs.strict_reading.read_negative.Goals as goal

@@ -1,4 +1,4 @@
-use Rattle.rl_text.proofs.Common.{◌∙◌, ap, inr}
+use Rattle.rl_text.proofs.Common.{ap, inr}
 use Rattle.std.specs.Str.{chars}
 use Rattle.rl_reasons.specs.StrictNumberFlaws.{IsStrictWordFlaw}
 use Rattle.rl_strict.proofs.StrictLemmas.{truth_token}
@@ -12,9 +12,9 @@ returns-in-Some-clause-token c = truth_token _ c.in-Some.truth c.in-Some.ensures
 pub returns-in-None-clause-flaw : goal.returns-in-None-clause-flaw
 returns-in-None-clause-flaw c =
     let flaw = moved IsStrictWordFlaw _ (_, _) _ _ c.in_piece.ensures.0 (ap chars c.in_piece.ensures.1)
-    (record { stops = c.word_flaw.ensures.stops; kind = c.word_flaw.ensures.kind }) in
+    (record { stops = c.word_flaw.ensures.stops; has = c.word_flaw.ensures.kind }) in
     record {
       none = no_token _ c.requires.no_opener c.requires.no_number c.in-None.ensures.none;
       stops = flaw.stops;
-      says = inr (inr (flaw.kind, ap chars c.in_piece.ensures.2));
+      says = inr (inr (flaw.has, ap chars c.in_piece.ensures.2));
     }
