@@ -1,3 +1,2 @@
-pub mod FileTextLemmas
 pub mod FrontLemmas
 pub mod NumberFoundLemmas
