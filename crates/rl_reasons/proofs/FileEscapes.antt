@@ -14,7 +14,7 @@ use Rattle.rl_reasons.proofs.FileSuffixes.{both, lf_flaw}
 -- ---- one call after another
 
 then_read : {A B : Type 0} (m : A → A) (n : B → B) (o : Option A) (f g : A → Option B) → ((a : A) → g (m a)
-    ≡ option_map n (f a)) → option_and_then (option_map m o) g ≡ option_map n (option_and_then o f)
+    ≡ option_map n (f a)) → option_and_then g (option_map m o) ≡ option_map n (option_and_then f o)
 then_read m n None f g h = refl
 then_read m n (Some a) f g h = h a
 
@@ -39,10 +39,10 @@ hex_read : (k : Kind) (t : List ℕ) → hex_at k (lf_text t) ≡ option_map lf_
 unfolding hex_at
 hex_read k t =
     let low : ℕ → ℕ × List ℕ → Option (ℕ × List ℕ) = λ h q. number_if (may_be_hex k (h * 16 + q.0)) (h * 16 + q.0) q.1 in
-    let high : ℕ × List ℕ → Option (ℕ × List ℕ) = λ p. option_and_then (digit_at p.1) (low p.0) in
-    ap (λ o. option_and_then o high) (digit_read t)
+    let high : ℕ × List ℕ → Option (ℕ × List ℕ) = λ p. option_and_then (low p.0) (digit_at p.1) in
+    ap (option_and_then high) (digit_read t)
     ∙ then_read lf_pair lf_pair (digit_at t) high high (λ p.
-    ap (λ o. option_and_then o (low p.0)) (digit_read p.1)
+    ap (option_and_then (low p.0)) (digit_read p.1)
     ∙ then_read lf_pair lf_pair (digit_at p.1) (low p.0) (low p.0) (λ q.
     if_read (may_be_hex k (p.0 * 16 + q.0)) (p.0 * 16 + q.0) q.1))
 
@@ -50,27 +50,30 @@ digits_read : (t : List ℕ) (v n : ℕ) (last : List ℕ) → code_digits_at v 
     ≡ lf_digits (code_digits_at v n last t)
 unfolding code_digits_at
 digits_read [] v n last = refl
-digits_read (c ∷ cs) v n last = go (is_dropped c cs) refl
+digits_read (c ∷ cs) v n last = go (digits_read cs) (is_dropped c cs) refl
   where
     At : List ℕ → Type 0
     At z = code_digits_at v n (lf_text last) (lf_text z) ≡ lf_digits (code_digits_at v n last z)
 
-    kept : lf_text (c ∷ cs) ≡ c ∷ lf_text cs → code_digits_at v n (lf_text last) (c ∷ lf_text cs)
+    More : Type 0
+    More = (w m : ℕ) (x : List ℕ) → code_digits_at w m (lf_text x) (lf_text cs) ≡ lf_digits (code_digits_at w m x cs)
+
+    kept : More → lf_text (c ∷ cs) ≡ c ∷ lf_text cs → code_digits_at v n (lf_text last) (c ∷ lf_text cs)
         ≡ lf_digits (code_digits_at v n last (c ∷ cs))
-    kept e = both lf_digits (nat_lt (digit_value c) 16) _ _ _ _
+    kept more e = both lf_digits (nat_lt (digit_value c) 16) _ _ _ _
         (both lf_digits (n == 6) _ _ _ _ (ap (code_digits v n (lf_text last)) (sym e))
         (ap (λ z. code_digits_at (v * 16 + digit_value c) (n + 1) z (lf_text cs)) (sym e)
-        ∙ digits_read cs (v * 16 + digit_value c) (n + 1) (c ∷ cs)))
-        (both lf_digits (c == 95) _ _ _ _ (digits_read cs v n last) (ap (code_digits v n (lf_text last)) (sym e)))
+        ∙ more (v * 16 + digit_value c) (n + 1) (c ∷ cs)))
+        (both lf_digits (c == 95) _ _ _ _ (more v n last) (ap (code_digits v n (lf_text last)) (sym e)))
 
-    go : (b : Bool) → is_dropped c cs ≡ b → At (c ∷ cs)
-    go true h = let found = line_of c cs h in subst At (sym found.1) refl
-    go false h = ap (code_digits_at v n (lf_text last)) (when_kept c cs h) ∙ kept (when_kept c cs h)
+    go : More → (b : Bool) → is_dropped c cs ≡ b → At (c ∷ cs)
+    go more true h = let found = line_of c cs h in subst At (sym found.1) refl
+    go more false h = ap (code_digits_at v n (lf_text last)) (when_kept c cs h) ∙ kept more (when_kept c cs h)
 
 first_digits_read : (t : List ℕ) → first_code_digits_at (lf_text t) ≡ option_map lf_digits (first_code_digits_at t)
 first_digits_read t =
     let of : List ℕ → ℕ × List ℕ → Option CodeDigits = λ z p. Some (code_digits_at p.0 1 z p.1) in
-    ap (λ o. option_and_then o (of (lf_text t))) (digit_read t)
+    ap (option_and_then (of (lf_text t))) (digit_read t)
     ∙ then_read lf_pair lf_digits (digit_at t) (of t) (of (lf_text t)) (λ p. ap Some (digits_read p.1 p.0 1 t))
 
 close_read : (t : List ℕ) → close_at (lf_text t) ≡ option_map lf_text (close_at t)
@@ -80,7 +83,7 @@ close_read t = by_first (λ z r. close_at r ≡ option_map lf_text (close_at z))
 closed_read : (d : CodeDigits) → closed_at (lf_digits d) ≡ option_map lf_pair (closed_at d)
 closed_read (v, n, last, rest) =
     let of : List ℕ → Option (ℕ × List ℕ) = number_if (scalar v) v in
-    ap (λ o. option_and_then o of) (close_read rest)
+    ap (option_and_then of) (close_read rest)
     ∙ then_read lf_text lf_pair (close_at rest) of of (λ z. if_read (scalar v) v z)
 
 brace_read : (t : List ℕ) → brace_at (lf_text t) ≡ option_map lf_text (brace_at t)
@@ -91,13 +94,13 @@ unicode_read : (k : Kind) (t : List ℕ) → unicode_at k (lf_text t) ≡ option
 unfolding unicode_at
 unicode_read k t =
     let coded : ℕ × List ℕ → Option (ℕ × List ℕ) = λ w. number_if (has_unicode k && allows_code k w.0) w.0 w.1 in
-    let closed : CodeDigits → Option (ℕ × List ℕ) = λ d. option_and_then (closed_at d) coded in
-    let opened : List ℕ → Option (ℕ × List ℕ) = λ z. option_and_then (first_code_digits_at z) closed in
-    ap (λ o. option_and_then o opened) (brace_read t)
+    let closed : CodeDigits → Option (ℕ × List ℕ) = λ d. option_and_then coded (closed_at d) in
+    let opened : List ℕ → Option (ℕ × List ℕ) = λ z. option_and_then closed (first_code_digits_at z) in
+    ap (option_and_then opened) (brace_read t)
     ∙ then_read lf_text lf_pair (brace_at t) opened opened (λ z.
-    ap (λ o. option_and_then o closed) (first_digits_read z)
+    ap (option_and_then closed) (first_digits_read z)
     ∙ then_read lf_digits lf_pair (first_code_digits_at z) closed closed (λ d.
-    ap (λ o. option_and_then o coded) (closed_read d)
+    ap (option_and_then coded) (closed_read d)
     ∙ then_read lf_pair lf_pair (closed_at d) coded coded (λ w. if_read (has_unicode k && allows_code k w.0) w.0 w.1)))
 
 -- an escape that is no line break
@@ -122,16 +125,16 @@ escape_read k c cs h =
     held : ℕ × List ℕ → Out
     held p = found (content_of k (p.0 ∷ [])) p.1
 
-    byte : option_and_then (hex_at k (lf_text cs)) one ≡ option_map lf_pair (option_and_then (hex_at k cs) one)
-    byte = ap (λ o. option_and_then o one) (hex_read k cs) ∙ then_read lf_pair lf_pair (hex_at k cs) one one (λ p. refl)
+    byte : option_and_then one (hex_at k (lf_text cs)) ≡ option_map lf_pair (option_and_then one (hex_at k cs))
+    byte = ap (option_and_then one) (hex_read k cs) ∙ then_read lf_pair lf_pair (hex_at k cs) one one (λ p. refl)
 
-    character : option_and_then (unicode_at k (lf_text cs)) held
-        ≡ option_map lf_pair (option_and_then (unicode_at k cs) held)
-    character = ap (λ o. option_and_then o held) (unicode_read k cs)
+    character : option_and_then held (unicode_at k (lf_text cs))
+        ≡ option_map lf_pair (option_and_then held (unicode_at k cs))
+    character = ap (option_and_then held) (unicode_read k cs)
         ∙ then_read lf_pair lf_pair (unicode_at k cs) held held (λ p. refl)
 
-    named : (o : Option ℕ) → option_and_then o (λ n. found (n ∷ []) (lf_text cs))
-        ≡ option_map lf_pair (option_and_then o (λ n. found (n ∷ []) cs))
+    named : (o : Option ℕ) → option_and_then (λ n. found (n ∷ []) (lf_text cs)) o
+        ≡ option_map lf_pair (option_and_then (λ n. found (n ∷ []) cs) o)
     named None = refl
     named (Some n) = refl
 

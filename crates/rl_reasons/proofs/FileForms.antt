@@ -1,8 +1,10 @@
 -- Quoted literals of a file, words and numbers: where the walk stops, and why.
-use Rattle.rl_text.proofs.Common.{◌≡◌, ◌≢◌, ℕ, ◌≤◌, Bool, true, false, not, ◌==◌, ◌&&◌, List, [], ◌∷◌, ◌++◌, Option, Some, None, IfNone, IfSome, refl, sym, ap, subst, ◌∙◌, inl, inr, and_parts, both_ways, rules, cases_Bool, is_ascii_digit, list_all, option_map, replicate}
+use Rattle.rl_text.proofs.Common.{◌≡◌, ◌≢◌, ℕ, ◌<◌, ◌≤◌, Bool, true, false, not, ◌==◌, ◌&&◌, List, [], ◌∷◌, ◌++◌, Option, Some, None, IfNone, IfSome, refl, sym, ap, subst, ◌∙◌, inl, inr, and_parts, both_ways, cases_Bool, is_ascii_digit, list_all, option_map, replicate}
 use Rattle.rl_reading.proofs.Names.{HasReading, Kind, Str, ByteStr, CStr, Byte, Char, first_passes, is_hash, is_single, is_string, truth_text}
 use Rattle.std.proofs.lemmas.Bool.{false≢true}
 use Rattle.rl_text.specs.Texts.{begins}
+use Rattle.rl_text.proofs.Basics.{apart}
+use Rattle.rl_reading.specs.Mirrors.PlainAt.{is_some_text}
 use Rattle.rl_reading.specs.Forms.{form_opener, has_form}
 use Rattle.rl_reading.specs.Mirrors.OpenerAt.{found_opener, opener_at}
 use Rattle.rl_reading.specs.declared.quoted_forms.QuotedForm.{QuotedForm}
@@ -14,25 +16,25 @@ use Rattle.rl_strict.specs.StrictShapes.{ClosesForm, ClosesRaw, ClosesUnits, IsT
 use Rattle.rl_strict.proofs.StrictUnitRows.{row_none}
 use Rattle.rl_reasons.specs.declared.flaws.FlawAt.{FlawAt}
 use Rattle.rl_reasons.specs.declared.flaws.FlawKind.{FlawKind}
-use Rattle.rl_reasons.specs.declared.flaws.FlawKind.TheVariants.{EarlyQuote, ExtraHash, Minus, TwoCharacters, Unclosed}
+use Rattle.rl_reasons.specs.declared.flaws.FlawKind.TheVariants.{EarlyQuote, ExtraHash, Minus, NoQuote, TooManyHashes, TwoCharacters, Unclosed, Unfinished}
 use Rattle.std.specs.Str.{chars}
 use Rattle.rl_reasons.specs.FileTexts.{is_dropped, lf_text}
 use Rattle.rl_reasons.specs.FileWalks.{IsFileFlaw, IsFileRest, StopsInFile}
 use Rattle.rl_reasons.specs.QuotedRead.{StopsIn}
 use Rattle.rl_reasons.specs.StrictFlawKinds.{suffix_piece}
 use Rattle.rl_reasons.specs.StrictNumberFlaws.{IsStrictWordFlaw}
-use Rattle.rl_reasons.specs.Mirrors.StrictFlawAt.{raw_stop, strict_unit_flaw_at}
+use Rattle.rl_reasons.specs.Mirrors.StrictFlawAt.{held_flaw_of, raw_stop, strict_unit_flaw_at}
 use Rattle.rl_reasons.specs.Mirrors.SuffixRead.{suffix_read_at}
 use Rattle.rl_reasons.specs.Mirrors.UnitFlawAt.{FoundFlaw, found_flaw}
 use Rattle.rl_reasons.specs.Mirrors.WordFlawAt.{end_flaw_at, word_flaw_at}
 use Rattle.rl_reasons.proofs.FileTextLemmas.{by_first, form_rest, free_text, lacks_cr, line_of, rest_free, rest_self, rest_step, rest_text, same_text, stops_rest, token_same, when_kept}
-use Rattle.rl_reasons.proofs.FileSuffixes.{end_flaw_read, first_read, lf_flaw, lf_opener, opener_read, suffix_place, suffix_read, word_read}
+use Rattle.rl_reasons.proofs.FileSuffixes.{end_flaw_read, first_read, lf_flaw, lf_opener, opener_read, some_read, suffix_place, suffix_read, word_read}
 use Rattle.rl_reasons.proofs.FileEscapes.{unit_flaw_read}
 use Rattle.rl_reasons.proofs.FileUnits.{closer_read, hashes_free, not_string, single_in, single_read, stuck_alone}
 use Rattle.rl_reasons.proofs.ReadLemmas.{form_flaw, form_token}
-use Rattle.rl_reasons.proofs.ReadQuoted.{Judges, cooked_open, cooked_suffix, judged_by, raw_ending, raw_going, single_closes, single_open_stops, single_suffix, single_unquoted_stops}
+use Rattle.rl_reasons.proofs.ReadQuoted.{Judges, cooked_open, cooked_suffix, judged_by, raw_ending, raw_going, raw_unopened_none, single_closes, single_open_stops, single_suffix, single_unquoted_stops}
 use Rattle.rl_reasons.proofs.StrictCookedFlaws.{cooked_closes, no_front}
-use Rattle.rl_reasons.proofs.StrictRawFlaws.{raw_closed, raw_closes, raw_off}
+use Rattle.rl_reasons.proofs.StrictRawFlaws.{raw_closed, raw_closes, raw_end_none, raw_ended, raw_many_hashes, raw_no_quote, raw_off, raw_spoiled, raw_unfinished}
 use Rattle.rl_reasons.proofs.StrictTokens.{no_token}
 use Rattle.rl_reasons.proofs.StrictWordFlaws.{IsStrictFlaw, moved, strict_minus, strict_word}
 
@@ -117,13 +119,10 @@ cooked_end k t closing suffix (Some f) s row r quote e piece =
     )
 
 -- no quote stands there as it is read
-unquoted_read : (q : ℕ) (t : List ℕ) → (13 == q) ≡ (10 == q) → ((x : List ℕ) → t ≢ q ∷ x) → (x : List ℕ)
-    → lf_text t ≢ q ∷ x
-unquoted_read q t h none x e = both_ways (first_passes (λ c. c == q) (lf_text t))
-    (first_read (λ c. c == q) h t ∙ no_front q t none) (ap (first_passes (λ c. c == q)) e ∙ same q)
-  where
-    same : (n : ℕ) → (n == n) ≡ true
-    same n = search rules
+unquoted_read : (q : ℕ) (t : List ℕ) → (13 == q) ≡ (10 == q) → (q == q) ≡ true → ((x : List ℕ) → t ≢ q ∷ x)
+    → (x : List ℕ) → lf_text t ≢ q ∷ x
+unquoted_read q t h same none x e = both_ways (first_passes (λ c. c == q) (lf_text t))
+    (first_read (λ c. c == q) h t ∙ no_front q t none) (ap (first_passes (λ c. c == q)) e ∙ same)
 
 pub cooked_stuck : (k : Kind) (f : FlawKind) (t closing piece rest : List ℕ) → is_string k ≡ true
     → BeginsStrictUnits k (lf_text t) (lf_text closing) → IsFileRest t closing → unit_rest k (lf_text closing) ≡ None
@@ -134,7 +133,7 @@ cooked_stuck k f t closing piece rest s row r stuck none same is =
     same refl in
     record {
       stops = cooked_open k f (lf_text t) (lf_text closing) (lf_text piece) (lf_text rest) s row stuck
-          (unquoted_read 34 closing refl none)
+          (unquoted_read 34 closing refl refl none)
           (ap lf_flaw same ∙ sym (unit_flaw_read k closing (λ h. stuck))) (ap lf_text is);
       piece_in = subst (IsFileRest t) (sym is) r;
       rest_in = rest_step t closing rest r (form_rest CookedForm k closing rest s alone.stops);
@@ -170,7 +169,7 @@ single_stuck k f t piece rest s none same is = record {
   rest_in = form_rest SingleForm k t rest s (single_open_stops k f t piece rest s none same is).stops;
 }
 
-end_place : (a b : FlawKind) (t : List ℕ) → (end_flaw_at a b t).1 ≡ t
+pub end_place : (a b : FlawKind) (t : List ℕ) → (end_flaw_at a b t).1 ≡ t
 end_place a b [] = refl
 end_place a b (c ∷ cs) = refl
 
@@ -179,7 +178,7 @@ pub single_unclosed : (k : Kind) (f : FlawKind) (t closing piece rest : List ℕ
     ≡ end_flaw_at Unclosed TwoCharacters closing → piece ≡ t → StopsInFile SingleForm k f t piece rest
 single_unclosed k f t closing piece rest s unit none same is = record {
   stops = single_unquoted_stops k f (lf_text t) (lf_text closing) (lf_text piece) (lf_text rest) s
-      (single_read k t s ∙ ap (option_map lf_text) unit) (unquoted_read 39 closing refl none)
+      (single_read k t s ∙ ap (option_map lf_text) unit) (unquoted_read 39 closing refl refl none)
       (ap lf_flaw same ∙ sym (end_flaw_read Unclosed TwoCharacters closing)) (ap lf_text is);
   piece_in = subst (IsFileRest t) (sym is) (rest_self t);
   rest_in = subst (IsFileRest t) (sym (ap (λ (z : FoundFlaw). z.1) same ∙ end_place Unclosed TwoCharacters closing))
@@ -249,26 +248,117 @@ pub no_closer_read : (n c : ℕ) (hashes after : List ℕ) → hashes ≡ replic
     → (c == 34 && begins hashes after) ≡ false → (c == 34 && begins hashes (lf_text after)) ≡ false
 no_closer_read n c hashes after h e = ap (λ b. c == 34 && b) (closer_read n hashes after h) ∙ e
 
+-- where it ends before its closer
+pub raw_unclosed : (k : Kind) (f : FlawKind) (n : ℕ) (t hashes quote opened closing piece rest : List ℕ)
+    → is_string k ≡ true → n ≤ 255 → t ≡ replicate n 35 ++ quote → hashes ≡ replicate n 35 → quote ≡ 34 ∷ opened
+    → lf_text closing ≡ raw_stop k hashes (lf_text opened) → IsFileRest opened closing → lf_text closing ≡ []
+    → f ≡ Unclosed → piece ≡ closing → rest ≡ closing → StopsInFile RawForm k f t piece rest
+raw_unclosed k f n t hashes quote opened closing piece rest s few e h q at r end kind is place =
+    let cut = opened_in n t quote opened closing e q r in
+    let whole = hashes ++ (34 ∷ lf_text opened) in
+    record {
+      stops = subst (λ z. StopsIn RawForm k f z (lf_text piece) (lf_text rest))
+          (sym (opened_read n t hashes quote opened e h q)) (raw_ending k f whole (lf_text piece) (lf_text rest)
+          (raw_end_none k n hashes (lf_text opened) (lf_text closing) s few h at end)
+          (raw_ended k f n hashes (lf_text opened) (lf_text closing) (lf_text piece) (lf_text rest) s few h at end kind
+          (ap lf_text is) (ap lf_text place)));
+      piece_in = subst (IsFileRest t) (sym is) cut;
+      rest_in = subst (IsFileRest t) (sym place) cut;
+    }
+
+-- where it stops at a character that it doesn't hold
+pub raw_held : (k : Kind) (f : FlawKind) (n c : ℕ) (t hashes quote opened closing after piece rest : List ℕ)
+    → is_string k ≡ true → n ≤ 255 → t ≡ replicate n 35 ++ quote → hashes ≡ replicate n 35 → quote ≡ 34 ∷ opened
+    → lf_text closing ≡ raw_stop k hashes (lf_text opened) → IsFileRest opened closing
+    → lf_text closing ≡ c ∷ lf_text after → (c == 34 && begins hashes after) ≡ false → f ≡ held_flaw_of k c
+    → piece ≡ closing → rest ≡ closing → StopsInFile RawForm k f t piece rest
+raw_held k f n c t hashes quote opened closing after piece rest s few e h q at r more none kind is place =
+    let cut = opened_in n t quote opened closing e q r in
+    let whole = hashes ++ (34 ∷ lf_text opened) in
+    record {
+      stops = subst (λ z. StopsIn RawForm k f z (lf_text piece) (lf_text rest))
+          (sym (opened_read n t hashes quote opened e h q)) (raw_going k f whole (lf_text piece) (lf_text rest)
+          (lf_text after) c (ap lf_text place ∙ more) (raw_spoiled k f n hashes (lf_text opened) (lf_text closing)
+          (lf_text piece) (lf_text rest) c (lf_text after) s few h at more (no_closer_read n c hashes after h none) kind
+          (ap lf_text is) (ap lf_text place)));
+      piece_in = subst (IsFileRest t) (sym is) cut;
+      rest_in = subst (IsFileRest t) (sym place) cut;
+    }
+
+-- after its hashes: nothing
+pub raw_short : (k : Kind) (f : FlawKind) (n : ℕ) (t after piece rest : List ℕ) → is_string k ≡ true → n ≤ 255
+    → t ≡ replicate n 35 ++ after → after ≡ [] → f ≡ Unfinished → piece ≡ after → rest ≡ after
+    → StopsInFile RawForm k f t piece rest
+raw_short k f n t after piece rest s few e end kind is place =
+    let text = hashes_text n t after e in
+    record {
+      stops = raw_ending k f (lf_text t) (lf_text piece) (lf_text rest)
+          (raw_unopened_none k n (lf_text t) (lf_text after) text.0 (ap lf_text end))
+          (raw_unfinished k f n (lf_text t) (lf_text after) (lf_text piece) (lf_text rest) s few text.0 (ap lf_text end)
+          kind (ap lf_text is) (ap lf_text place));
+      piece_in = subst (IsFileRest t) (sym is) text.1;
+      rest_in = subst (IsFileRest t) (sym place) text.1;
+    }
+
+-- a hash too much
+pub raw_many : (k : Kind) (f : FlawKind) (n c : ℕ) (t after more piece rest : List ℕ) → is_string k ≡ true → n ≤ 255
+    → t ≡ replicate n 35 ++ after → (n < 255 → first_passes is_hash after ≡ false) → after ≡ c ∷ more
+    → (c == 35) ≡ true → f ≡ TooManyHashes → piece ≡ t → rest ≡ after → StopsInFile RawForm k f t piece rest
+raw_many k f n c t after more piece rest s few e last is_more hash kind is place =
+    let text = hashes_text n t after e in
+    let first = (quote_read after more c is_more (apart (λ z. z == 35) c 13 hash refl)).0 in
+    record {
+      stops = raw_going k f (lf_text t) (lf_text piece) (lf_text rest) (lf_text more) c (ap lf_text place ∙ first)
+          (raw_many_hashes k f n (lf_text t) (lf_text after) (lf_text piece) (lf_text rest) (lf_text more) c s few text.0
+          (λ h. first_read is_hash refl after ∙ last h) first hash kind (ap lf_text is) (ap lf_text place));
+      piece_in = subst (IsFileRest t) (sym is) (rest_self t);
+      rest_in = subst (IsFileRest t) (sym place) text.1;
+    }
+
+-- no quote
+some_of : (r : List ℕ) → is_some_text r ≡ true → (c : ℕ) × (cs : List ℕ) × (r ≡ c ∷ cs)
+some_of [] h = absurd (both_ways false refl h)
+some_of (c ∷ cs) h = (c, cs, refl)
+
+pub raw_bare : (k : Kind) (f : FlawKind) (n c : ℕ) (t after more piece rest : List ℕ) → is_string k ≡ true → n ≤ 255
+    → t ≡ replicate n 35 ++ after → after ≡ c ∷ more → (c == 35) ≡ false → (c == 34) ≡ false → f ≡ NoQuote
+    → piece ≡ after → rest ≡ after → StopsInFile RawForm k f t piece rest
+raw_bare k f n c t after more piece rest s few e is_more hash quote kind is place =
+    let text = hashes_text n t after e in
+    let found = some_of (lf_text after) (some_read after ∙ ap is_some_text is_more) in
+    let first = found.2 in
+    let no_hash : (found.0 == 35) ≡ false = sym (ap (first_passes (λ z. z == 35)) first)
+    ∙ first_read (λ z. z == 35) refl after ∙ ap (first_passes (λ z. z == 35)) is_more ∙ hash in
+    let no_quote : (found.0 == 34) ≡ false = sym (ap (first_passes (λ z. z == 34)) first)
+    ∙ first_read (λ z. z == 34) refl after ∙ ap (first_passes (λ z. z == 34)) is_more ∙ quote in
+    record {
+      stops = raw_going k f (lf_text t) (lf_text piece) (lf_text rest) found.1 found.0 (ap lf_text place ∙ first)
+          (raw_no_quote k f n (lf_text t) (lf_text after) (lf_text piece) (lf_text rest) found.1 found.0 s few text.0
+          first no_hash no_quote kind (ap lf_text is) (ap lf_text place));
+      piece_in = subst (IsFileRest t) (sym is) text.1;
+      rest_in = subst (IsFileRest t) (sym place) text.1;
+    }
+
 -- ---- openers
 
+cooked_free : (k : Kind) → lacks_cr (form_opener CookedForm k) ≡ true
+cooked_free Str = refl
+cooked_free ByteStr = refl
+cooked_free CStr = refl
+cooked_free Byte = refl
+cooked_free Char = refl
+cooked_free k = refl
+
+raw_free : (k : Kind) → lacks_cr (form_opener RawForm k) ≡ true
+raw_free Str = refl
+raw_free ByteStr = refl
+raw_free CStr = refl
+raw_free k = refl
+
 opener_free : (form : QuotedForm) (k : Kind) → lacks_cr (form_opener form k) ≡ true
-opener_free CookedForm k = cooked k
-  where
-    cooked : (k : Kind) → lacks_cr (form_opener CookedForm k) ≡ true
-    cooked Str = refl
-    cooked ByteStr = refl
-    cooked CStr = refl
-    cooked Byte = refl
-    cooked Char = refl
-    cooked k = refl
-opener_free SingleForm k = opener_free CookedForm k
-opener_free RawForm k = raw k
-  where
-    raw : (k : Kind) → lacks_cr (form_opener RawForm k) ≡ true
-    raw Str = refl
-    raw ByteStr = refl
-    raw CStr = refl
-    raw k = refl
+opener_free CookedForm k = cooked_free k
+opener_free RawForm k = raw_free k
+opener_free SingleForm k = cooked_free k
 
 found_read : (t : List ℕ) (form : QuotedForm) (k : Kind) (inside : List ℕ) → opener_at t ≡ found_opener form k inside
     → opener_at (lf_text t) ≡ found_opener form k (lf_text inside)
@@ -303,19 +393,19 @@ opened_flaw t form k inside (Some f) e h =
 -- what holds no LF is read as it is
 unread_same : (t : List ℕ) → list_all (λ c. not (c == 10)) (lf_text t) ≡ true → lf_text t ≡ t
 unread_same [] h = refl
-unread_same (c ∷ cs) h = go (is_dropped c cs) refl
+unread_same (c ∷ cs) h = go (unread_same cs) (is_dropped c cs) refl
   where
     At : List ℕ → Type 0
     At z = list_all (λ d. not (d == 10)) (lf_text z) ≡ true → lf_text z ≡ z
 
     line : (ds : List ℕ) → At (13 ∷ 10 ∷ ds)
-    line ds k = absurd (both_ways false refl (and_parts false (list_all (λ d. not (d == 10)) (lf_text ds)) k).0)
+    line ds k = absurd (both_ways false refl k)
 
-    go : (b : Bool) → is_dropped c cs ≡ b → lf_text (c ∷ cs) ≡ c ∷ cs
-    go true e = let found = line_of c cs e in subst At (sym found.1) (line found.0) h
-    go false e =
+    go : At cs → (b : Bool) → is_dropped c cs ≡ b → lf_text (c ∷ cs) ≡ c ∷ cs
+    go ih true e = let found = line_of c cs e in subst At (sym found.1) (line found.0) h
+    go ih false e =
         let kept = when_kept c cs e in
-        kept ∙ ap (λ z. c ∷ z) (unread_same cs (and_parts (not (c == 10)) (list_all (λ d. not (d == 10)) (lf_text cs))
+        kept ∙ ap (λ z. c ∷ z) (ih (and_parts (not (c == 10)) (list_all (λ d. not (d == 10)) (lf_text cs))
         (sym (ap (list_all (λ d. not (d == 10))) kept) ∙ h)).1)
 
 truth_whole : (b : Bool) → list_all (λ c. not (c == 10)) (truth_text b) ≡ true

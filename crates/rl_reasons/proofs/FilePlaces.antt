@@ -9,13 +9,17 @@ use Rattle.rl_reasons.specs.declared.flaws.FlawKind.{FlawKind}
 use Rattle.rl_reasons.specs.declared.strict_reading.Reading.{Reading}
 use Rattle.rl_reasons.specs.Flaws.{first_len}
 use Rattle.rl_reasons.specs.FileTexts.{ExplainsInFile, ExplainsSignedInFile, ExplainsSignedValueInFile, ExplainsValueInFile, IsPlaceInFile, lf_text}
-use Rattle.rl_reasons.specs.FileWalks.{IsFileFlaw, IsFileRest, IsMinusFileStop, IsPastAt, IsPlaceAfter, IsRestPlace}
+use Rattle.rl_reasons.specs.declared.flaws.FlawKind.TheVariants.{NoNumber, Unfinished}
+use Rattle.rl_reasons.specs.Mirrors.UnitFlawAt.{FoundFlaw, found_flaw}
+use Rattle.rl_reasons.specs.Mirrors.WordFlawAt.{end_flaw_at}
+use Rattle.rl_reasons.proofs.ReadLemmas.{minus_alone, minus_number, number_flaw_at}
+use Rattle.rl_reasons.specs.FileWalks.{IsFileFlaw, IsFileStop, IsFileRest, IsMinusFileStop, IsPastAt, IsPlaceAfter, IsRestPlace}
 use Rattle.rl_reasons.specs.Limits.{IsLimitFlaw, past_at}
 use Rattle.rl_reasons.specs.SignedFlaws.{IsSignedToken}
 use Rattle.rl_reasons.specs.StrictRead.{IsSignedRead}
-use Rattle.rl_reasons.proofs.FileTextLemmas.{lacks_cr, rest_text, same_text, token_free, token_same}
-use Rattle.rl_reasons.proofs.FileSuffixes.{first_read}
-use Rattle.rl_reasons.proofs.FileForms.{quote_read}
+use Rattle.rl_reasons.proofs.FileTextLemmas.{lacks_cr, rest_self, rest_text, same_text, token_free, token_same}
+use Rattle.rl_reasons.proofs.FileSuffixes.{end_flaw_read, first_read, lf_flaw}
+use Rattle.rl_reasons.proofs.FileForms.{end_place, quote_read}
 use Rattle.rl_reasons.proofs.LimitLemmas.{either, signed_past, signed_within}
 use Rattle.rl_reasons.proofs.SignedFlaws.{unsigned_explains}
 use Rattle.rl_reasons.proofs.StrictExplainLemmas.{cut_bytes, piece_front}
@@ -129,7 +133,7 @@ minus_explained t number rest k flaw text found kind from lo hi ordered =
     }
 
 -- without one
-unsigned : (t : List ℕ) (flaw : Flaw) → first_passes (λ c. c == 45) t ≡ false → ExplainsValueInFile t flaw
+pub unsigned : (t : List ℕ) (flaw : Flaw) → first_passes (λ c. c == 45) t ≡ false → ExplainsValueInFile t flaw
     → ExplainsSignedValueInFile t flaw
 unsigned t flaw n (inl x) = inl (record {
   read = x.read;
@@ -141,15 +145,6 @@ unsigned t flaw n (inl x) = inl (record {
   ordered = x.ordered;
 })
 unsigned t flaw n (inr x) = inr x
-
-pub unsigned_value : (t : List ℕ) (o : Option Flaw) → first_passes (λ c. c == 45) t ≡ false
-    → IfSome o (ExplainsValueInFile t) → IfSome o (ExplainsSignedValueInFile t)
-unsigned_value t None n x = tt
-unsigned_value t (Some flaw) n x = unsigned t flaw n x
-
-pub unsigned_token : (t : List ℕ) (o : Option Flaw) → IfNone o (IsToken (lf_text t)) → IfNone o (IsSignedToken (lf_text t))
-unsigned_token t None y = inl y
-unsigned_token t (Some flaw) y = tt
 
 -- ---- values
 
@@ -199,3 +194,28 @@ pub minus_past : (t number : List ℕ) (o : Option Flaw) → t ≡ 45 ∷ number
     → IsToken number → IfSome o (IsLimitFlaw t) → IfSome o (ExplainsSignedValueInFile t)
 minus_past t number None e digit y past = tt
 minus_past t number (Some flaw) e digit y past = inr (minus_signed t number e digit y, past)
+
+-- ---- where a minus and what follows it stop
+
+pub minus_number_stop : (t rest : List ℕ) (k : FlawKind) → first_passes is_ascii_digit t ≡ true → IsFileStop t k rest
+    → IsMinusFileStop t k rest
+minus_number_stop t rest k d s = record {
+  stop = minus_number (lf_text t) k (lf_text rest) (first_read is_ascii_digit refl t ∙ d) s.stop;
+  rest_in = s.rest_in;
+}
+
+pub minus_alone_stop : (t rest : List ℕ) (k : FlawKind) → first_passes is_ascii_digit t ≡ false
+    → found_flaw k rest ≡ end_flaw_at Unfinished NoNumber t → IsMinusFileStop t k rest
+minus_alone_stop t rest k n same = record {
+  stop = minus_alone (lf_text t) k (lf_text rest) (first_read is_ascii_digit refl t ∙ n)
+      (ap lf_flaw same ∙ sym (end_flaw_read Unfinished NoNumber t));
+  rest_in = subst (IsFileRest t) (sym (ap (λ (z : FoundFlaw). z.1) same ∙ end_place Unfinished NoNumber t)) (rest_self t);
+}
+
+pub number_flaw : (t rest : List ℕ) (k : FlawKind) → first_passes is_ascii_digit t ≡ true → IsFileStop t k rest
+    → IsFileFlaw t k t rest
+number_flaw t rest k d s = record {
+  flaw_at = number_flaw_at (lf_text t) k (lf_text rest) (first_read is_ascii_digit refl t ∙ d) s.stop;
+  piece_in = rest_self t;
+  rest_in = s.rest_in;
+}

@@ -46,7 +46,7 @@ some_read t = first_read (λ c. true) refl t
 pub run_read : (test : ℕ → Bool) → test 13 ≡ false → test 10 ≡ false → (t : List ℕ) → after_run test (lf_text t)
     ≡ lf_text (after_run test t)
 run_read test r l [] = refl
-run_read test r l (c ∷ cs) = go (is_dropped c cs) refl
+run_read test r l (c ∷ cs) = go (run_read test r l cs) (is_dropped c cs) refl
   where
     At : List ℕ → Type 0
     At z = after_run test (lf_text z) ≡ lf_text (after_run test z)
@@ -55,19 +55,19 @@ run_read test r l (c ∷ cs) = go (is_dropped c cs) refl
     line ds = ap (λ b. cond b (after_run test (lf_text ds)) (10 ∷ lf_text ds)) l
         ∙ sym (ap (λ b. lf_text (cond b (after_run test (10 ∷ ds)) (13 ∷ 10 ∷ ds))) r)
 
-    go : (b : Bool) → is_dropped c cs ≡ b → At (c ∷ cs)
-    go true h = let found = line_of c cs h in subst At (sym found.1) (line found.0)
-    go false h =
+    go : At cs → (b : Bool) → is_dropped c cs ≡ b → At (c ∷ cs)
+    go ih true h = let found = line_of c cs h in subst At (sym found.1) (line found.0)
+    go ih false h =
         let e = when_kept c cs h in
         ap (after_run test) e ∙ both lf_text (test c) (after_run test cs) (c ∷ cs) (after_run test (lf_text cs))
-        (c ∷ lf_text cs) (run_read test r l cs) (sym e)
+        (c ∷ lf_text cs) ih (sym e)
 
 -- such a run
 pub front_read : (test : ℕ → Bool) → test 13 ≡ false → test 10 ≡ false → (t : List ℕ) → run test (lf_text t)
     ≡ run test t
 unfolding run
 front_read test r l [] = refl
-front_read test r l (c ∷ cs) = go (is_dropped c cs) refl
+front_read test r l (c ∷ cs) = go (front_read test r l cs) (is_dropped c cs) refl
   where
     At : List ℕ → Type 0
     At z = run test (lf_text z) ≡ run test z
@@ -76,9 +76,9 @@ front_read test r l (c ∷ cs) = go (is_dropped c cs) refl
     line ds = ap (λ b. cond b (10 ∷ run test (lf_text ds)) []) l
         ∙ sym (ap (λ b. cond b (13 ∷ run test (10 ∷ ds)) []) r)
 
-    go : (b : Bool) → is_dropped c cs ≡ b → At (c ∷ cs)
-    go true h = let found = line_of c cs h in subst At (sym found.1) (line found.0)
-    go false h = ap (run test) (when_kept c cs h) ∙ ap (λ z. cond (test c) (c ∷ z) []) (front_read test r l cs)
+    go : At cs → (b : Bool) → is_dropped c cs ≡ b → At (c ∷ cs)
+    go ih true h = let found = line_of c cs h in subst At (sym found.1) (line found.0)
+    go ih false h = ap (run test) (when_kept c cs h) ∙ ap (λ z. cond (test c) (c ∷ z) []) ih
 
 -- after such a run
 pub run_rest : (test : ℕ → Bool) → test 13 ≡ false → (t : List ℕ) → IsFileRest t (after_run test t)

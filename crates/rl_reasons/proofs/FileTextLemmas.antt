@@ -89,14 +89,12 @@ pub seam_text : (a b : List ℕ) → is_seam a b ≡ true → lf_text (a ++ b) �
 seam_text [] b h = refl
 seam_text (c ∷ []) b h = when_kept c b (not-true (is_dropped c b) h)
     ∙ sym (ap (λ z. z ++ lf_text b) (when_kept c [] (and-false (c == 13))))
-seam_text (c ∷ d ∷ ds) b h = go (is_dropped c (d ∷ ds)) refl
+seam_text (c ∷ d ∷ ds) b h = go (seam_text (d ∷ ds) b h) (is_dropped c (d ∷ ds)) refl
   where
-    back : lf_text (d ∷ (ds ++ b)) ≡ lf_text (d ∷ ds) ++ lf_text b
-    back = seam_text (d ∷ ds) b h
-
-    go : (x : Bool) → is_dropped c (d ∷ ds) ≡ x → lf_text (c ∷ d ∷ (ds ++ b)) ≡ lf_text (c ∷ d ∷ ds) ++ lf_text b
-    go true e = when_dropped c (d ∷ (ds ++ b)) e ∙ back ∙ sym (ap (λ z. z ++ lf_text b) (when_dropped c (d ∷ ds) e))
-    go false e = when_kept c (d ∷ (ds ++ b)) e ∙ ap (λ z. c ∷ z) back
+    go : lf_text (d ∷ (ds ++ b)) ≡ lf_text (d ∷ ds) ++ lf_text b → (x : Bool) → is_dropped c (d ∷ ds) ≡ x
+        → lf_text (c ∷ d ∷ (ds ++ b)) ≡ lf_text (c ∷ d ∷ ds) ++ lf_text b
+    go back true e = when_dropped c (d ∷ (ds ++ b)) e ∙ back ∙ sym (ap (λ z. z ++ lf_text b) (when_dropped c (d ∷ ds) e))
+    go back false e = when_kept c (d ∷ (ds ++ b)) e ∙ ap (λ z. c ∷ z) back
         ∙ sym (ap (λ z. z ++ lf_text b) (when_kept c (d ∷ ds) e))
 
 seam_join : (a m b : List ℕ) → is_seam a (m ++ b) ≡ true → is_seam m b ≡ true → is_seam (a ++ m) b ≡ true

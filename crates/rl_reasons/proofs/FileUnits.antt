@@ -1,5 +1,5 @@
 -- Units inside quoted literals of a file, one after another, as they are read.
-use Rattle.rl_text.proofs.Common.{◌≡◌, ◌≢◌, ℕ, zero, suc, Bool, true, false, not, ◌==◌, ◌&&◌, cond, List, [], ◌∷◌, ◌++◌, Option, Some, None, refl, sym, ap, subst, ◌∙◌, inl, inr, and_parts, append_cancel_right, both_ways, cases_Bool, eqb-true, list_all, nat_lt, option_map, or_from, replicate}
+use Rattle.rl_text.proofs.Common.{◌≡◌, ◌≢◌, ℕ, zero, suc, Bool, true, false, not, ◌==◌, ◌&&◌, ◌||◌, cond, List, [], ◌∷◌, ◌++◌, Option, Some, None, refl, sym, ap, subst, ◌∙◌, inl, inr, and_parts, append_cancel_right, both_ways, cases_Bool, eqb-true, list_all, nat_lt, option_map, or_from, replicate}
 use Rattle.rl_reading.proofs.Names.{and_right, cond_both, false_from_ne_true, Kind, Str, ByteStr, CStr, Byte, Char, after_run, first_passes, is_dropped_blank, is_line_end, is_plain, is_single, is_strict_unit, is_string, strict_text, StrictUnit, Itself, QuoteEscape, PlainEscape, AsciiEscape, ByteEscape, UnicodeEscape, LineBreak}
 use Rattle.std.proofs.lemmas.Bool.{and_left}
 use Rattle.rl_text.specs.Texts.{begins}
@@ -46,15 +46,16 @@ kept_read t rest c e h = ap lf_text e ∙ when_kept c rest h
 blanks_past : (t : List ℕ) → after_run is_dropped_blank (lf_text (after_run is_dropped_blank t))
     ≡ after_run is_dropped_blank (lf_text t)
 blanks_past [] = refl
-blanks_past (c ∷ cs) = go (is_dropped_blank c) refl
+blanks_past (c ∷ cs) = go (blanks_past cs) (is_dropped_blank c) refl
   where
-    go : (b : Bool) → is_dropped_blank c ≡ b
+    go : after_run is_dropped_blank (lf_text (after_run is_dropped_blank cs)) ≡ after_run is_dropped_blank (lf_text cs)
+        → (b : Bool) → is_dropped_blank c ≡ b
         → after_run is_dropped_blank (lf_text (cond b (after_run is_dropped_blank cs) (c ∷ cs)))
         ≡ after_run is_dropped_blank (lf_text (c ∷ cs))
-    go true h = blanks_past cs
+    go ih true h = ih
         ∙ sym (ap (λ b. cond b (after_run is_dropped_blank (lf_text cs)) (c ∷ lf_text cs)) h)
         ∙ sym (ap (after_run is_dropped_blank) (when_kept c cs (other_kept c cs (apart is_dropped_blank c 13 h refl))))
-    go false h = refl
+    go ih false h = refl
 
 pub blanks_first : (t rest : List ℕ) → rest ≡ after_run is_dropped_blank t → after_run is_dropped_blank (lf_text rest)
     ≡ after_run is_dropped_blank (lf_text t)
@@ -132,10 +133,9 @@ other_read k c cs n m =
     ∙ map_map (escape_at k (c ∷ cs))
 
 -- where the call returned one, or none
-pub other_some : {I : Type 0} (k : Kind) (t cs : List ℕ) (c : ℕ) (value rest : I → List ℕ) (r : I) → t ≡ c ∷ cs
-    → (c == 10) ≡ false → (c == 13) ≡ false → Some (value r, rest r) ≡ escape_at k t
-    → Some (lf_text (rest r)) ≡ escape_rest k (lf_text t)
-other_some k t cs c value rest r e n m is = sym (ap (escape_rest k) (kept_read t cs c e (other_kept c cs m))
+pub other_some : (k : Kind) (t cs v rest : List ℕ) (c : ℕ) → t ≡ c ∷ cs → (c == 10) ≡ false → (c == 13) ≡ false
+    → Some (v, rest) ≡ escape_at k t → Some (lf_text rest) ≡ escape_rest k (lf_text t)
+other_some k t cs v rest c e n m is = sym (ap (escape_rest k) (kept_read t cs c e (other_kept c cs m))
     ∙ other_read k c cs n m ∙ ap (option_map (λ (p : List ℕ × List ℕ). lf_text p.1)) (sym (is ∙ ap (escape_at k) e)))
 
 pub other_none : (k : Kind) (t cs : List ℕ) (c : ℕ) → t ≡ c ∷ cs → (c == 10) ≡ false → (c == 13) ≡ false
@@ -150,17 +150,16 @@ unit_in k t rest s h =
     in
     rest_free t found.0 rest found.1 found.2
 
-pub other_in : {I : Type 0} (k : Kind) (t cs : List ℕ) (c : ℕ) (value rest : I → List ℕ) (r : I) → is_string k ≡ true
-    → t ≡ c ∷ cs → (c == 10) ≡ false → (c == 13) ≡ false → Some (value r, rest r) ≡ escape_at k t
-    → IsFileRest (92 ∷ t) (rest r)
+pub other_in : (k : Kind) (t cs v rest : List ℕ) (c : ℕ) → is_string k ≡ true → t ≡ c ∷ cs → (c == 10) ≡ false
+    → (c == 13) ≡ false → Some (v, rest) ≡ escape_at k t → IsFileRest (92 ∷ t) rest
 unfolding unit_rest unit_at
-other_in k t cs c value rest r s e n m is =
+other_in k t cs v rest c s e n m is =
     let line : Option (List ℕ) = cond (is_string k) (Some (after_run is_dropped_blank cs)) None in
     let other : Option (List ℕ) = option_map (λ (p : List ℕ × List ℕ). p.1) (escape_at k (c ∷ cs)) in
-    let left : escape_rest k (c ∷ cs) ≡ Some (rest r) =
+    let left : escape_rest k (c ∷ cs) ≡ Some rest =
     ap (λ b. cond b line (cond (c == 13) None other)) n ∙ ap (λ b. cond b None other) m
     ∙ ap (option_map (λ (p : List ℕ × List ℕ). p.1)) (sym (is ∙ ap (escape_at k) e)) in
-    unit_in k (92 ∷ t) (rest r) s (ap (escape_rest k) e ∙ left)
+    unit_in k (92 ∷ t) rest s (ap (escape_rest k) e ∙ left)
 
 -- ---- a unit that isn't a character that stands for itself
 
@@ -354,6 +353,12 @@ hashes_read (suc n) t = by_first (λ z r. begins (35 ∷ replicate n 35) r ≡ b
 
 pub closer_read : (n : ℕ) (hashes t : List ℕ) → hashes ≡ replicate n 35 → begins hashes (lf_text t) ≡ begins hashes t
 closer_read n hashes t e = subst (λ z. begins z (lf_text t) ≡ begins z t) (sym e) (hashes_read n t)
+
+-- a raw string goes no further where it goes no further as it is read
+pub halts_read : (n : ℕ) (k : Kind) (c : ℕ) (hashes after : List ℕ) → hashes ≡ replicate n 35
+    → ((c == 34 && begins hashes (lf_text after)) || not (is_raw_character k c))
+    ≡ ((c == 34 && begins hashes after) || not (is_raw_character k c))
+halts_read n k c hashes after e = ap (λ b. (c == 34 && b) || not (is_raw_character k c)) (closer_read n hashes after e)
 
 no_cr_inside : (k : Kind) → is_inside k 13 ≡ false
 no_cr_inside Str = refl

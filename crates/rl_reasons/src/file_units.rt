@@ -1,6 +1,6 @@
 //! Inside quoted literals of a file, where CR LF is LF: what follows the units, or what a raw string holds.
 
-ghost use Rattle.std.specs.Prelude.{◌≡◌, ◌≤◌, ◌<◌, ◌∷◌, ℕ, None, MatchOption, IfNone, IfSome, IsTrue, IsFalse, length, option_map, replicate};
+ghost use Rattle.std.specs.Prelude.{◌≡◌, ◌≤◌, ◌<◌, ◌∷◌, List, [], ℕ, None, MatchOption, IfNone, IfSome, IsTrue, IsFalse, length, option_map, replicate};
 ghost use Rattle.std.specs.Str.{chars};
 ghost use Rattle.rl_forms.specs.Quoted.{is_string};
 ghost use Rattle.rl_forms.specs.Strict.{Itself, is_strict_unit};
@@ -71,18 +71,16 @@ fn skip_escape(kind: Kind, following: &str) -> Option<&str>
     ensures rest { IfSome result (λ r. IsFileRest (code "\\" ∷ chars following.now) (chars r.now)) }
     ensures shorter { IfSome result (λ r. length r.now < length following.now) }
 {
-    match split_char(following) {
-        Some(('\n', blanks)) => Some(skip_blanks(blanks)),
-        Some(('\r', line_feed)) => {
-            let blanks = strip_byte(line_feed, b'\n')?;
-            Some(skip_blanks(blanks))
-        }
-        None => None,
-        Some(_) => {
-            let (_, rest) = escape(kind, following)?;
-            Some(rest)
-        }
+    let (first, after) = split_char(following)?;
+    if first == '\n' {
+        return Some(skip_blanks(after));
     }
+    if first == '\r' {
+        let blanks = strip_byte(after, b'\n')?;
+        return Some(skip_blanks(blanks));
+    }
+    let (_, rest) = escape(kind, following)?;
+    Some(rest)
 }
 
 /// The text after the unit at the front, which isn't a character that stands for itself: `None` where no unit stands there.
@@ -94,14 +92,15 @@ fn skip_escaped(kind: Kind, text: &str) -> Option<&str>
     ensures rest { IfSome result (λ r. IsFileRest (chars text.now) (chars r.now)) }
     ensures shorter { IfSome result (λ r. length r.now < length text.now) }
 {
-    match split_char(text) {
-        Some(('\\', following)) => skip_escape(kind, following),
-        Some(('\r', line_feed)) => {
-            let after = strip_byte(line_feed, b'\n')?;
-            Some(after)
-        }
-        _ => None,
+    let (first, after) = split_char(text)?;
+    if first == '\\' {
+        return skip_escape(kind, after);
     }
+    if first == '\r' {
+        let rest = strip_byte(after, b'\n')?;
+        return Some(rest);
+    }
+    None
 }
 
 /// The text after characters at its front that a string of the kind takes as they are.
