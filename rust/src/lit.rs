@@ -5,7 +5,7 @@ use crate::parse_error::ParseError;
 use crate::places::{Places, Segments};
 use crate::rl_forms;
 use crate::rl_reading::{find, is_plain_integer, Body, Found};
-use crate::rl_reasons::limit_flaw;
+use crate::rl_reasons::{explain_signed_value_in_file, limit_flaw};
 use crate::rl_reasons::strict_reading::{
     front_of, read_character, read_digits, read_other, read_signed, read_string, Front, Reading,
 };
@@ -154,13 +154,9 @@ impl<'t> Lit<'t> {
     /// assert_eq!(Lit::new("\"a\r\n\\q\"").check().unwrap_err().range(), 5..6);
     /// ```
     pub fn check(&self) -> Result<(), ParseError> {
-        let text = self.text();
-        if !text.contains("\r\n") {
-            return Lit::parse(text).map(drop);
-        }
-        match Lit::parse(&text.replace("\r\n", "\n")) {
-            Ok(_) => Ok(()),
-            Err(error) => Err(error.in_file(text)),
+        match explain_signed_value_in_file(self.text()) {
+            None => Ok(()),
+            Some(flaw) => Err(ParseError::of_flaw(flaw)),
         }
     }
 

@@ -6,17 +6,6 @@ use crate::rl_reasons::{explain_value, Flaw};
 use core::fmt;
 use core::ops::Range;
 
-/// The place in a text of one in the same text without the CR of each CR LF: before that CR, and after its LF.
-fn place_in_file(text: &str, place: usize) -> usize {
-    let bytes = text.as_bytes();
-    let (mut at, mut left) = (0, place);
-    while left > 0 && at < bytes.len() {
-        left -= usize::from(!bytes[at..].starts_with(b"\r\n"));
-        at += 1;
-    }
-    at
-}
-
 /// What is wrong with a text.
 ///
 /// ```
@@ -94,16 +83,6 @@ impl ParseError {
             from: flaw.from,
             lo: flaw.lo,
             hi: flaw.hi,
-        }
-    }
-
-    /// The error of a text without the CR of each CR LF, at its places in the text as it is.
-    pub(crate) fn in_file(self, text: &str) -> ParseError {
-        ParseError {
-            kind: self.kind,
-            from: place_in_file(text, self.from),
-            lo: place_in_file(text, self.lo),
-            hi: place_in_file(text, self.hi),
         }
     }
 

@@ -1,4 +1,3 @@
-pub mod FileTextLemmas
 pub mod FrontLemmas
 pub mod NumberFoundLemmas
 pub mod ByteContents

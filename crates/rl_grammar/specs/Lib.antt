@@ -1,8 +1,7 @@
 -- What stands here, and what stands in the crates below and is passed on under its name here.
-pub mod FileTexts
 pub mod FrontTokens
 pub mod Fronts
-pub mod Mirrors
+pub use Rattle.rl_reasons.specs.FileTexts
 pub use Rattle.rl_reasons.specs.FlawKinds
 pub use Rattle.rl_reasons.specs.FlawWords
 pub use Rattle.rl_reasons.specs.Flaws

@@ -4,7 +4,6 @@
 
 mod contents;
 mod digits;
-mod file_flaws;
 mod front;
 pub mod laws;
 mod span_table;
@@ -12,7 +11,6 @@ pub mod strict;
 
 pub use crate::contents::{bytes_of, bytes_of_body, str_of, str_of_body};
 pub use crate::digits::{digits_of, digits_of_found};
-pub use crate::file_flaws::explain_in_file;
 pub use crate::front::{Front, Negative, next_is, take_kind};
 pub use crate::span_table::spans_of;
 pub use rl_forms::Kind;
@@ -22,4 +20,7 @@ pub use rl_reading::{
     find_float, find_int, find_negative, float_shape, int_shape, is_plain, list_step, next_literal,
     numeral_into, place_of, shape, shape_negative, source_step, str_into, truth_of,
 };
-pub use rl_reasons::{Flaw, FlawKind, explain, explain_limit, explain_signed, explain_value};
+pub use rl_reasons::{
+    Flaw, FlawKind, explain, explain_in_file, explain_limit, explain_signed,
+    explain_signed_value_in_file, explain_value, explain_value_in_file,
+};

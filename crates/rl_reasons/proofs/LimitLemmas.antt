@@ -120,7 +120,7 @@ past_none t p = only_number t (number_front t (int_front t p.suffix p.sign p.mag
         swap false false h = h
 
 -- what reads isn't past it
-read_within : (t : List ℕ) → HasReading t → IsPast t → ⊥
+pub read_within : (t : List ℕ) → HasReading t → IsPast t → ⊥
 read_within t r p = past_none t p r.0 r.1.0 r.1.1 r.1.2
 
 -- an integer of these digits has this magnitude

@@ -11,4 +11,6 @@ pub mod StrictNumbersRead
 pub mod QuotedRead
 pub mod StrictRead
 pub mod Fronts
+pub mod FileTexts
+pub mod FileWalks
 pub mod Mirrors

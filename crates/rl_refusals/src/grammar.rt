@@ -1,7 +1,7 @@
 //! Calls of `rl_grammar`.
 
 use crate::trial::{Scarce, Trial, UNFIT};
-use rl_grammar::{Kind, Segments, bytes_of, digits_of, explain_in_file, shape, spans_of, str_of};
+use rl_grammar::{Kind, Segments, bytes_of, digits_of, shape, spans_of, str_of};
 use rl_refusing::Page;
 use rl_tokens::Span;
 
@@ -18,11 +18,6 @@ pub fn contents_of<A: Scarce>(trial: &Trial<'_, A>, text: &str, page: &mut Page)
         }
         _ => page.put(UNFIT),
     }
-}
-
-/// `explain_in_file`.
-pub fn flaw_in_file<A: Scarce>(trial: &Trial<'_, A>, text: &str, page: &mut Page) {
-    trial.ends(explain_in_file(trial.begins(), text), page)
 }
 
 /// Where in the file 7, of which the text is all, each byte that it stands for comes from.

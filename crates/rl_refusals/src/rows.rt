@@ -21,7 +21,6 @@ fn run_free<A: Scarce>(call: &str, trial: &Trial<'_, A>, text: &str, page: &mut 
         "scan" => sources::scanned(trial, text, page),
         "str_of" | "bytes_of" | "digits_of" => grammar::contents_of(trial, text, page),
         "spans" => grammar::spans(trial, text, page),
-        "explain_in_file" => grammar::flaw_in_file(trial, text, page),
         _ => page.put(NO_CALL),
     }
 }

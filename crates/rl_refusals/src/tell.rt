@@ -1,6 +1,5 @@
 //! What is printed of answers and of what is left.
 
-use rl_grammar::Flaw;
 use rl_quoted::{Quoted, QuotedKind};
 use rl_refusing::Page;
 use rl_tokens::{
@@ -121,12 +120,6 @@ impl<A: Allocator> Tell for Vec<Span, A> {
         for span in self.as_slice() {
             tell_places(*span, page);
         }
-    }
-}
-
-impl Tell for Option<Flaw> {
-    fn tell(&self, page: &mut Page) {
-        page.put_debug(self);
     }
 }
 

@@ -80,8 +80,8 @@ fn of_grammar(alloc: Global, out: &mut Page) {
     shown!(out, reason("\"a\\q\""));
     shown!(out, reason("0b102"));
     shown!(out, reason("0b101"));
-    shown!(out, reason_in_file(alloc, "\"a\rb\""));
-    shown!(out, reason_in_file(alloc, "\"a\r\nb\""));
+    shown!(out, reason_in_file("\"a\rb\""));
+    shown!(out, reason_in_file("\"a\r\nb\""));
     shown!(out, is_value("-1.5"));
     shown!(out, is_value("-\"a\""));
     shown!(out, is_too_large("340282366920938463463374607431768211456"));

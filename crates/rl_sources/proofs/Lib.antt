@@ -9,4 +9,3 @@ pub mod HiddenLemmas
 pub mod WriteLemmas
 pub mod JsonStringLemmas
 pub mod JsonLemmas
-pub mod JudgeLemmas

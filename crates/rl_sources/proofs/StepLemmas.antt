@@ -33,7 +33,8 @@ use Rattle.rl_sources.specs.Held.{Holds, IsHeldAt}
 use Rattle.rl_sources.specs.Hidden.{HoldsHidden, IsHiddenAt}
 use Rattle.rl_sources.specs.Scans.{FindsFlaw, FindsNoFlaw, IsAskedLine, IsBad, IsPicked, IsPlacedLine, IsFlawLine, IsHeldLine, IsHiddenLine, IsLineAt, IsLineEnd, IsLineIn, IsPickedLine, IsPrintedAs, IsShownLiteral}
 use Rattle.rl_sources.specs.Steps.{LooksForFlaws}
-use Rattle.rl_sources.proofs.JudgeLemmas.{no_file, past_unread}
+use Rattle.rl_reasons.proofs.FilePlaces.{signed_same}
+use Rattle.rl_reasons.proofs.LimitLemmas.{read_within}
 
 -- ---- places are ASCII
 
@@ -218,7 +219,8 @@ passes_unasked options text None none asked is = none (inl is)
 -- a text without a flaw isn't bad
 not_bad : (text : List ℕ) (flaw : Flaw) → FindsNoFlaw text → FindsFlaw text flaw → ⊥
 not_bad text flaw (token, reads) (inl e) = e.explains.no_token token
-not_bad text flaw (token, reads) (inr (signed, e)) = past_unread text e.past (subst HasReading (no_file text signed) reads)
+not_bad text flaw (token, reads) (inr (signed, e)) = read_within text (subst HasReading (signed_same text signed) reads)
+    e.past
 
 -- what was looked for says whether a literal is picked
 pub picks_found : (options : Options) (text label : List ℕ) (flaw : Option Flaw) (r h b : Bool) → r ≡ is_some flaw

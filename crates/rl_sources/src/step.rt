@@ -305,7 +305,7 @@ fn push_literal_token<'t, A: Allocator + Copy>(
     ensures same { places.new ≡ places.old }
 {
     let found = find(token.text);
-    let flaw = flaw_of(alloc, options, token.text)?;
+    let flaw = flaw_of(options, token.text);
     let hides = is_hidden(options.shown, token.text);
     if !options
         .shown

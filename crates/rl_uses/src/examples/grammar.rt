@@ -45,12 +45,9 @@ pub fn why_no_value(text: &str) -> Option<&'static str> {
     Some(explain_value(text)?.kind.words())
 }
 
-/// Why the text of a literal in a file is none of Rust, where memory is found.
-pub fn reason_in_file(alloc: Global, text: &str) -> Option<&'static str> {
-    match explain_in_file(alloc, text) {
-        Ok(Some(flaw)) => Some(flaw.kind.words()),
-        _ => None,
-    }
+/// Why the text of a literal in a file is none of Rust.
+pub fn reason_in_file(text: &str) -> Option<&'static str> {
+    Some(explain_in_file(text)?.kind.words())
 }
 
 /// Whether a text is a string without escapes.

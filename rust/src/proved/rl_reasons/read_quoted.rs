@@ -47,7 +47,7 @@ fn some_suffix_flaw<'t>(form: QuotedForm, closing: &'t str, suffix: &'t str) -> 
 
 /// The flaw after the closer, where no suffix stands alone. Most literals have none, which is seen here.
 #[inline(always)]
-fn suffix_flaw<'t>(form: QuotedForm, closing: &'t str, suffix: &'t str) -> Option<FlawAt<'t>> {
+pub(crate) fn suffix_flaw<'t>(form: QuotedForm, closing: &'t str, suffix: &'t str) -> Option<FlawAt<'t>> {
     if suffix.is_empty() {
         return None;
     }
@@ -87,7 +87,7 @@ pub struct Single {
 
 /// What the unit of a character or a byte at the front stands for, and the text after it.
 #[inline(always)]
-fn split_unit(kind: Kind, text: &str) -> Option<(Piece, &str)> {
+pub(crate) fn split_unit(kind: Kind, text: &str) -> Option<(Piece, &str)> {
     match split_char(text) {
         None => None,
         Some(('\\', _)) => unit(kind, text),

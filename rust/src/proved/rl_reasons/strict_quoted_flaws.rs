@@ -43,7 +43,7 @@ pub(crate) fn unit_flaw(kind: Kind, text: &str) -> FlawAt<'_> {
 }
 
 /// Whether a raw string of the kind goes no further: its closer begins with the character, or it can't hold that.
-fn halts(kind: Kind, hashes: &str, c: char, after: &str) -> bool {
+pub(crate) fn halts(kind: Kind, hashes: &str, c: char, after: &str) -> bool {
     after_closer(hashes, c, after).is_some() || !is_raw_character(kind, c)
 }
 

@@ -77,7 +77,7 @@ pub fn front_of(text: &str) -> Front<'_> {
 
 /// The number, by the place of its suffix in the text that ends with it.
 #[inline(always)]
-fn placed(text: &str, number: Number<'_>) -> Reading {
+pub(crate) fn placed(text: &str, number: Number<'_>) -> Reading {
     match number {
         Number::Integer(magnitude, suffix) => {
             Reading::Integer(magnitude, text.len() - suffix.len())

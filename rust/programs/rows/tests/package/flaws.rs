@@ -5,9 +5,8 @@ use navyspindle::{
     is_token, Kind, Lit, LitBool, LitByte, LitByteStr, LitCStr, LitChar, LitFloat, LitInt, LitStr,
     ParseError, ParseErrorKind,
 };
-use navyspindle_programs::rattle_std::alloc::Global;
 use navyspindle_programs::rl_grammar::{
-    explain_in_file, explain_limit, explain_signed, strict, Flaw,
+    explain, explain_in_file, explain_limit, explain_signed, explain_value_in_file, strict, Flaw,
 };
 
 /// Why Rust doesn't take the text: it is no token after an optional minus, or an integer past 128 bits.
@@ -15,12 +14,8 @@ fn proved_flaw(text: &str) -> Option<Flaw> {
     explain_signed(text).or_else(|| explain_limit(text))
 }
 
-/// The same of a text in a file.
-pub fn proved_flaw_in_file(text: &str) -> Option<Flaw> {
-    if !text.starts_with('-') {
-        let flaw = explain_in_file(Global, text).unwrap();
-        return flaw.or_else(|| explain_limit(text));
-    }
+/// The flaw, as one of these says, of the text without the CR of each CR LF, at its places in the text.
+fn flaw_by_hand(text: &str, of: impl Fn(&str) -> Option<Flaw>) -> Option<Flaw> {
     // Where the text without the CR of each CR LF has a byte, this one has it there: at an LF, where its CR stands.
     let (mut read, mut places) = (String::new(), Vec::new());
     let mut chars = text.char_indices().peekable();
@@ -30,7 +25,7 @@ pub fn proved_flaw_in_file(text: &str) -> Option<Flaw> {
         places.resize(read.len(), at);
     }
     places.push(text.len());
-    let flaw = proved_flaw(&read)?;
+    let flaw = of(&read)?;
     // Of characters of several bytes the places are those of their first ones, and flaws stand nowhere else.
     Some(Flaw {
         kind: flaw.kind,
@@ -38,6 +33,11 @@ pub fn proved_flaw_in_file(text: &str) -> Option<Flaw> {
         lo: places[flaw.lo],
         hi: places[flaw.hi],
     })
+}
+
+/// Why Rust doesn't take the text where it stands in a file.
+pub fn proved_flaw_in_file(text: &str) -> Option<Flaw> {
+    flaw_by_hand(text, proved_flaw)
 }
 
 #[track_caller]
@@ -141,6 +141,9 @@ fn check_kind(text: &str, proved: &Proved, expected: Kind, read: [Result<Lit, Pa
 
 /// What Rust takes in a file, where a CR LF is an LF.
 pub fn check_file(text: &str) {
+    assert_eq!(explain_in_file(text), flaw_by_hand(text, explain), "{text:?}");
+    let value = flaw_by_hand(text, |read| explain(read).or_else(|| explain_limit(read)));
+    assert_eq!(explain_value_in_file(text), value, "{text:?}");
     match (Lit::new(text).check(), proved_flaw_in_file(text)) {
         (Ok(()), None) => {}
         (Err(error), Some(flaw)) => check_flaw(text, error, flaw),

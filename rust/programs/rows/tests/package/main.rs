@@ -216,6 +216,22 @@ fn quotes() {
 }
 
 #[test]
+fn line_ends() {
+    let pieces = [
+        "\r\n", "\r", "\n", "\"", "'", "\\", " ", "a", "#", "\\x4", "\\u{",
+    ];
+    let fronts = [
+        "", "\"", "b\"", "c\"", "'", "b'", "r\"", "r#\"", "br\"", "cr##\"", "r#", "1", "-1", "0x", "0b1",
+        "1e", "1.", "-", "t", "true", "b", "c",
+    ];
+    made::each(&pieces, 4, &mut |body| {
+        for front in fronts {
+            flaws::check_file(&format!("{front}{body}"));
+        }
+    });
+}
+
+#[test]
 fn equal_by_text() {
     let texts = [
         "\"a\"", "\"b\"", "\"b\"x", "r\"a\"", "b\"a\"", "b\"b\"", "c\"a\"", "c\"b\"", "'a'", "'b'",

@@ -4,14 +4,12 @@
 
 mod contents;
 mod digits;
-mod file_flaws;
 mod front;
 mod span_table;
 pub mod strict;
 
 pub use crate::rl_grammar::contents::{bytes_of, bytes_of_body, str_of, str_of_body};
 pub use crate::rl_grammar::digits::{digits_of, digits_of_found};
-pub use crate::rl_grammar::file_flaws::explain_in_file;
 pub use crate::rl_grammar::front::{Front, Negative, next_is, take_kind};
 pub use crate::rl_grammar::span_table::spans_of;
 pub use crate::rl_forms::Kind;
@@ -21,4 +19,7 @@ pub use crate::rl_reading::{
     find_float, find_int, find_negative, float_shape, int_shape, is_plain, list_step, next_literal,
     numeral_into, place_of, shape, shape_negative, source_step, str_into, truth_of,
 };
-pub use crate::rl_reasons::{Flaw, FlawKind, explain, explain_limit, explain_signed, explain_value};
+pub use crate::rl_reasons::{
+    Flaw, FlawKind, explain, explain_in_file, explain_limit, explain_signed,
+    explain_signed_value_in_file, explain_value, explain_value_in_file,
+};

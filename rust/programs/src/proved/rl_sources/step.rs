@@ -214,7 +214,7 @@ fn push_literal_token<'t, A: Allocator + Copy>(
     places: &mut Places<'t>,
 ) -> Result<(), AllocError> {
     let found = find(token.text);
-    let flaw = flaw_of(alloc, options, token.text)?;
+    let flaw = flaw_of(options, token.text);
     let hides = is_hidden(options.shown, token.text);
     if !options
         .shown
