@@ -1,0 +1,3 @@
+pub mod SyntaxErrors
+pub mod Groups
+pub mod SettingSteps
