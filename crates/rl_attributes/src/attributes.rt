@@ -4,13 +4,13 @@ ghost use Rattle.std.proofs.Props.{props};
 ghost use Rattle.rl_attributes.specs.Entries.{EntriesDiffer};
 
 mod name;
-mod read;
 mod take;
+mod whole;
 
 use rl_tokens::Span;
 use rust_literals::Lit;
 use std::alloc::{Allocator, Global};
-pub use read::read;
+pub use whole::read;
 
 /// An attribute: a name, and the literal that it is set to.
 #[derive(Drop)]

@@ -1,7 +1,8 @@
 //! The setting that stands next in a text, or what is wrong there.
 
-ghost use Rattle.std.specs.Prelude.{◌≡◌, ◌≢◌, ◌<◌, [], Some, length, IfOk, IfErr, OnOk};
+ghost use Rattle.std.specs.Prelude.{◌≡◌, ◌≢◌, ◌<◌, length, IfOk, IfErr, OnOk, MatchBool};
 ghost use Rattle.rl_lexer.specs.Cursors.{form_view};
+ghost use Rattle.rl_lexer.specs.Lexemes.{MarkForm};
 ghost use Rattle.rl_reading.specs.NextLiterals.{TakesNextLiteral};
 ghost use Rattle.rl_settings.specs.SettingSteps.{
   TakesName,
@@ -125,6 +126,16 @@ fn take_name<'t>(tokens: &mut Tokens<'t>, end: usize) -> Result<Lexeme<'t>, Synt
     }
 }
 
+/// Whether a form is that of this mark.
+fn is_mark(form: Form, mark: char) -> bool
+    ensures { MatchBool result (form_view form ≡ MarkForm mark) (form_view form ≢ MarkForm mark) }
+{
+    match form {
+        Form::Mark(c) => c == mark,
+        _ => false,
+    }
+}
+
 /// Cuts off the next token where it is this mark. Where it is another, it may be cut off too.
 #[inline(always)]
 fn take_mark(tokens: &mut Tokens<'_>, end: usize, mark: char, part: Part) -> Result<(), SyntaxError>
@@ -134,10 +145,13 @@ fn take_mark(tokens: &mut Tokens<'_>, end: usize, mark: char, part: Part) -> Res
 {
     let before = tokens.fork();
     match tokens.next() {
-        Some(token) => match token.form {
-            Form::Mark(c) if c == mark => Ok(()),
-            _ => Err(missed(&before, end, part)),
-        },
+        Some(token) => {
+            if is_mark(token.form, mark) {
+                Ok(())
+            } else {
+                Err(missed(&before, end, part))
+            }
+        }
         None => Err(missed(&before, end, part)),
     }
 }

@@ -1,12 +1,14 @@
 //! The attributes of a text, read setting after setting as its tokens are cut.
 
-ghost use Rattle.std.specs.Prelude.{◌≡◌, All, List, length, IfSome, IfOk, IfErr};
+ghost use Rattle.std.specs.Prelude.{◌≡◌, All, List, length, IfSome, IfOk, IfErr, IsTrue, IsFalse};
 ghost use Rattle.std.specs.Str.{chars};
 ghost use Rattle.rl_tokens.specs.Whole.{place_at};
 ghost use Rattle.rust_literals.specs.Literals.{IsReadFrom};
 ghost use Rattle.rl_attributes.specs.Attributes.{Attribute, AreAttributesOf, RejectsAttributeText};
 ghost use Rattle.rl_attributes.specs.Entries.{attributes_of, IsReadEntry};
 ghost use Rattle.rl_attributes.specs.AttributeParsing.{entries_of, attrs_end, IsListOrMemory};
+ghost use Rattle.rl_attributes.specs.Names.{has_name};
+ghost use Rattle.rl_attributes.specs.AttributeSteps.{AddsName};
 ghost use Rattle.rl_attributes.specs.NextEntries.{value_token, IsEntryOf};
 
 use super::name::Name;
@@ -57,6 +59,17 @@ fn entry_of<A: Allocator + Copy>(
     })
 }
 
+/// Adds a name to those that were taken, and says whether it did: not where it is one of them, or an allocation failed.
+fn add_name<'a, A: Allocator + Copy>(names: &mut BTreeSet<Name<'a>, A>, name: &'a str) -> bool
+    ensures anew { IsTrue result → IsFalse (has_name names.old name.now) }
+    ensures adds { IsTrue result → AddsName names.old names.new name.now }
+{
+    match names.insert(Name::new(name)) {
+        Ok(is_new) => is_new,
+        Err(_) => false,
+    }
+}
+
 /// The attributes of a text; `None` where it is none, and where an allocation fails.
 fn read_flat<A: Allocator + Copy>(alloc: A, text: &str, file: u32) -> Option<Attrs<A>>
     ensures attributes { IfSome result
@@ -71,9 +84,9 @@ fn read_flat<A: Allocator + Copy>(alloc: A, text: &str, file: u32) -> Option<Att
         let SettingStep::Setting(next) = settings_step(&mut tokens, text.len()) else {
             return None;
         };
-        let Ok(true) = names.insert(Name::new(next.name.text)) else {
+        if !add_name(&mut names, next.name.text) {
             return None;
-        };
+        }
         let Ok(entry) = entry_of(alloc, next, file) else {
             return None;
         };
