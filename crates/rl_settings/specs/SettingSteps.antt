@@ -1,5 +1,5 @@
 -- Which setting stands next in a text, and what is wrong where none does.
-use Rattle.std.specs.Prelude.{◌≡◌, ◌≢◌, ◌⊎◌, ℕ, ◌+◌, ◌-◌, List, [], ◌∷◌, length, Some, None, if◌then◌else◌}
+use Rattle.std.specs.Prelude.{◌≡◌, ◌≢◌, ◌⊎◌, ℕ, ◌+◌, ◌-◌, ◌<◌, List, [], ◌∷◌, length, Some, None, if◌then◌else◌}
 use Rattle.std.specs.Str.{chars}
 use Prim.Native.Char.{code}
 use Rattle.rl_lexer.specs.declared.cursor.Lexeme.{Lexeme}
@@ -153,5 +153,5 @@ RejectsSetting t r = ((r.name ≡ None) × MissesName t r.error) ⊎ RejectsAfte
 -- What a step over settings returns, and what it leaves: the end, a setting, or that none stands next.
 abbrev pub StepsSettings : CursorState → SettingStep → CursorState → Type 0
 StepsSettings old End new = (old.rest ≡ []) × (new ≡ old)
-StepsSettings old (Setting s) new = TakesSetting old s new
+StepsSettings old (Setting s) new = TakesSetting old s new × (length new.rest < length old.rest)
 StepsSettings old (Rejected r) new = (old.rest ≢ []) × RejectsSetting old r × (new ≡ old)

@@ -1,6 +1,6 @@
 //! The setting that stands next in a text, or what is wrong there.
 
-ghost use Rattle.std.specs.Prelude.{◌≡◌, ◌≢◌, ◌<◌, length, IfOk, IfErr, OnOk, MatchBool};
+ghost use Rattle.std.specs.Prelude.{◌≡◌, ◌≢◌, ◌<◌, ◌≤◌, length, IfOk, IfErr, OnOk, MatchBool};
 ghost use Rattle.rl_lexer.specs.Cursors.{form_view};
 ghost use Rattle.rl_lexer.specs.Lexemes.{MarkForm};
 ghost use Rattle.rl_reading.specs.NextLiterals.{TakesNextLiteral};
@@ -114,6 +114,7 @@ fn missed(tokens: &Tokens<'_>, end: usize, part: Part) -> SyntaxError
 fn take_name<'t>(tokens: &mut Tokens<'t>, end: usize) -> Result<Lexeme<'t>, SyntaxError>
     requires { end ≡ length tokens.old.text }
     ensures taken { IfOk result (λ name. TakesName tokens.old name tokens.new) }
+    ensures shorter { OnOk result (length tokens.new.rest < length tokens.old.rest) }
     ensures missed { IfErr result (MissesName tokens.old) }
 {
     let before = tokens.fork();
@@ -141,6 +142,7 @@ fn is_mark(form: Form, mark: char) -> bool
 fn take_mark(tokens: &mut Tokens<'_>, end: usize, mark: char, part: Part) -> Result<(), SyntaxError>
     requires { end ≡ length tokens.old.text }
     ensures taken { OnOk result (TakesMark mark tokens.old tokens.new) }
+    ensures shorter { OnOk result (length tokens.new.rest < length tokens.old.rest) }
     ensures missed { IfErr result (MissesMark mark part tokens.old) }
 {
     let before = tokens.fork();
@@ -161,6 +163,7 @@ fn take_mark(tokens: &mut Tokens<'_>, end: usize, mark: char, part: Part) -> Res
 fn take_literal<'t>(tokens: &mut Tokens<'t>, end: usize) -> Result<NextLiteral<'t>, SyntaxError>
     requires { end ≡ length tokens.old.text }
     ensures taken { IfOk result (λ literal. TakesNextLiteral tokens.old literal tokens.new) }
+    ensures shorter { OnOk result (length tokens.new.rest < length tokens.old.rest) }
     ensures missed { IfErr result (MissesLiteral tokens.old) }
 {
     match next_literal(tokens) {
@@ -174,6 +177,7 @@ fn take_literal<'t>(tokens: &mut Tokens<'t>, end: usize) -> Result<NextLiteral<'
 fn take_comma(tokens: &mut Tokens<'_>, end: usize) -> Result<(), SyntaxError>
     requires { end ≡ length tokens.old.text }
     ensures taken { OnOk result (TakesComma tokens.old tokens.new) }
+    ensures no_longer { OnOk result (length tokens.new.rest ≤ length tokens.old.rest) }
     ensures missed { IfErr result (MissesComma tokens.old) }
 {
     if tokens.rest().is_empty() {
@@ -187,6 +191,7 @@ fn take_comma(tokens: &mut Tokens<'_>, end: usize) -> Result<(), SyntaxError>
 fn take_value<'t>(tokens: &mut Tokens<'t>, end: usize) -> Result<NextLiteral<'t>, SyntaxError>
     requires { end ≡ length tokens.old.text }
     ensures taken { IfOk result (λ value. SetsValue tokens.old value tokens.new) }
+    ensures shorter { OnOk result (length tokens.new.rest < length tokens.old.rest) }
     ensures missed { IfErr result (MissesValue tokens.old) }
 {
     take_mark(tokens, end, '=', Part::Equals)?;
@@ -203,6 +208,7 @@ fn take_setting<'t>(
 ) -> Result<NextSetting<'t>, SettingRejection<'t>>
     requires { end ≡ length tokens.old.text }
     ensures taken { IfOk result (λ setting. TakesSetting tokens.old setting tokens.new) }
+    ensures shorter { OnOk result (length tokens.new.rest < length tokens.old.rest) }
     ensures rejected { IfErr result (RejectsSetting tokens.old) }
 {
     let name = match take_name(tokens, end) {
