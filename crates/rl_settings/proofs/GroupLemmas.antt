@@ -1,5 +1,5 @@
 -- The open groups in their array, and what the loop over a text's tokens keeps.
-use Rattle.rl_text.proofs.Common.{◌≡◌, ◌≢◌, ℕ, ◌+◌, ◌<◌, ◌≤◌, ◌⊎◌, inl, inr, Bool, true, false, not, ◌&&◌, ◌||◌, List, [], ◌∷◌, ◌++◌, length, map, drop, Option, Some, None, refl, sym, ◌∙◌, ap, subst, arith, chars-nil, IfSome, chars, IsUtf8, IsTrue, IsFalse, or_parts, or_right}
+use Rattle.rl_text.proofs.Common.{◌≡◌, ◌≢◌, ℕ, ◌+◌, ◌<◌, ◌≤◌, ◌⊎◌, inl, inr, Bool, true, false, not, ◌&&◌, ◌||◌, List, [], ◌∷◌, ◌++◌, length, map, drop, get_or, Some, refl, sym, ◌∙◌, ap, subst, arith, chars-nil, chars, IsUtf8}
 use Rattle.std.proofs.lemmas.List.{drop_more}
 use Rattle.std.proofs.Math.ListN.{drop_of_length-le}
 use Rattle.rl_text.specs.Texts.{IsTail, is_among}
@@ -15,19 +15,19 @@ use Rattle.rl_lexer.specs.Cuts.{LexedToken, LexesUpTo, OpenGroup, open_groups, a
 use Rattle.rl_lexer.proofs.CutLemmas.{open_more}
 use Rattle.rl_lexer.proofs.LexemeFronts.{among}
 use Rattle.rl_lexer.proofs.ErrorKinds.{rest_place}
-use Rattle.rl_settings.specs.declared.groups.Open.{Open}
-use Rattle.rl_settings.specs.Groups.{open_view, IsInnermost, ClosesWrong, OpensTooDeep, RejectsForm, EndsOpen, IsCutWhole}
+use Rattle.rl_settings.specs.declared.groups.Opened.{Opened}
+use Rattle.rl_settings.specs.Groups.{open_view, ClosesWrong, OpensTooDeep, RejectsForm, EndsOpen, IsCutWhole}
 
 -- ---- the array
 
 -- no group is open at its end
-pub none_open : (open : List Open) (start : ℕ) → length open ≤ start → map open_view (drop start open) ≡ []
-none_open open start h = ap (map open_view) (drop_of_length-le open {i = start} h)
+pub none_from : (xs : List Opened) (start : ℕ) → length xs ≤ start → map open_view (drop start xs) ≡ []
+none_from xs start h = ap (map open_view) (drop_of_length-le xs {i = start} h)
 
--- the groups that are open from a place on
-pub opened_at : (open : List Open) (start : ℕ) (o : Open) → start < length open → map open_view (drop start open)
-    ≡ open_view o ∷ map open_view (drop (start + 1) open) → IsInnermost (map open_view (drop start open)) (Some o)
-opened_at open start o h e = (map open_view (drop (start + 1) open), e)
+-- the group that is open at a place, and those around it
+pub one_from : (xs : List Opened) (start : ℕ) (d : Opened) → start < length xs → map open_view (drop start xs)
+    ≡ open_view (get_or xs start d) ∷ map open_view (drop (start + 1) xs)
+one_from xs start d h = ap (map open_view) (drop_more xs start d h)
 
 -- ---- the loop
 
@@ -107,7 +107,7 @@ ends_open text rest groups e is has nothing ends =
 closer_is : (c : ℕ) → is_among delimiters c ≡ true → is_opener c ≡ false → is_closer c ≡ true
 closer_is c h other =
     let either : (is_opener c || is_closer c) ≡ true = among delimiters (λ k. is_opener k || is_closer k) c refl h in
-    or_right (is_opener c) (is_closer c) either other
+    subst (λ (b : Bool). (b || is_closer c) ≡ true) other either
 
 closes_wrong : (groups : List OpenGroup) (l : Lexeme) (after : List ℕ) → IsLexeme l after → ClosesWrong groups (form_of l)
     → ErrorAt UnmatchedClose groups (lexeme_text l ++ after)

@@ -5,18 +5,18 @@ use Rattle.rl_lexer.specs.declared.lex_error.LexKind.TheVariants.{UnmatchedClose
 use Rattle.rl_lexer.specs.declared.lex_error.LexError.{LexError}
 use Rattle.rl_lexer.specs.Lexemes.{LexemeForm, DelimiterForm}
 use Rattle.rl_lexer.specs.Cuts.{LexedToken, LexesUpTo, OpenGroup, open_groups, is_opener, closes, innermost}
-use Rattle.rl_settings.specs.declared.groups.Open.{Open}
+use Rattle.rl_settings.specs.declared.groups.Opened.{Opened}
 use Rattle.rl_settings.specs.declared.groups.Groups.{Groups}
 
-abbrev pub open_view : Open → OpenGroup
+abbrev pub open_view : Opened → OpenGroup
 open_view o = record { opener = o.opener; at = o.at }
 
 -- the groups that are open, the innermost first
 abbrev pub groups_of : Groups → List OpenGroup
-groups_of g = map open_view (drop g.start g.open)
+groups_of g = map open_view (drop g.start g.groups)
 
 -- the innermost open group, where one is open
-abbrev pub IsInnermost : List OpenGroup → Option Open → Type 0
+abbrev pub IsInnermost : List OpenGroup → Option Opened → Type 0
 IsInnermost groups None = groups ≡ []
 IsInnermost groups (Some o) = (others : List OpenGroup) × (groups ≡ open_view o ∷ others)
 

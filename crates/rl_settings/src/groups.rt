@@ -4,7 +4,7 @@ ghost use Rattle.std.specs.Prelude.{◌≡◌, ◌≤◌, ◌<◌, ◌∷◌, []
 ghost use Rattle.std.specs.Str.{chars};
 ghost use Rattle.rl_lexer.specs.Cursors.{form_view};
 ghost use Rattle.rl_lexer.specs.Cuts.{is_opener, is_pair, closes, popped, after_form, HasFirstError};
-ghost use Rattle.rl_settings.specs.Groups.{open_view, groups_of, RejectsForm, EndsOpen, IsInnermost, IsCutWhole};
+ghost use Rattle.rl_settings.specs.Groups.{groups_of, RejectsForm, EndsOpen, IsInnermost, IsCutWhole};
 
 use rl_lexer::{Form, LexError, LexKind, Tokens};
 
@@ -13,7 +13,7 @@ const MAX_OPEN: usize = 128;
 
 /// A group that is open.
 #[derive(Clone, Copy)]
-struct Open {
+struct Opened {
     /// Its opening delimiter.
     opener: char,
     /// The byte where that stands.
@@ -23,7 +23,7 @@ struct Open {
 /// The groups that are open: the last ones of an array, the innermost first.
 #[derive(Drop)]
 struct Groups {
-    open: [Open; MAX_OPEN],
+    groups: [Opened; MAX_OPEN],
     start: usize,
     ghost within: { start ≤ 128 },
 }
@@ -53,23 +53,23 @@ impl Groups {
         ensures { groups_of result ≡ [] }
     {
         Groups {
-            open: [Open { opener: '(', at: 0 }; MAX_OPEN],
+            groups: [Opened { opener: '(', at: 0 }; MAX_OPEN],
             start: MAX_OPEN,
         }
     }
 
     /// The innermost open group.
-    fn innermost(&self) -> Option<Open>
+    fn innermost(&self) -> Option<Opened>
         ensures { IsInnermost (groups_of self.now) result }
     {
         if self.start >= MAX_OPEN {
             return None;
         }
-        Some(self.open[self.start])
+        Some(self.groups[self.start])
     }
 
     /// Opens a group inside the others, and says whether it may be: not where 128 are open.
-    fn open(&mut self, opener: char, at: usize) -> bool
+    fn open_group(&mut self, opener: char, at: usize) -> bool
         ensures { MatchBool result
             ((length (groups_of self.old) < 128)
             × (groups_of self.new ≡ record { opener = opener; at = at } ∷ groups_of self.old))
@@ -79,25 +79,23 @@ impl Groups {
             return false;
         }
         self.start -= 1;
-        self.open[self.start] = Open { opener, at };
+        self.groups[self.start] = Opened { opener, at };
         true
     }
 
     /// Closes the innermost group, and says whether this delimiter does.
-    fn close(&mut self, closer: char) -> bool
+    fn close_group(&mut self, closer: char) -> bool
         ensures closes { result ≡ closes (groups_of self.old) closer }
         ensures popped { MatchBool result (groups_of self.new ≡ popped (groups_of self.old)) (self.new ≡ self.old) }
     {
-        match self.innermost() {
-            Some(open) => {
-                if !is_pair(open.opener, closer) {
-                    return false;
-                }
-                self.start += 1;
-                true
-            }
-            None => false,
+        if self.start >= MAX_OPEN {
+            return false;
         }
+        if !is_pair(self.groups[self.start].opener, closer) {
+            return false;
+        }
+        self.start += 1;
+        true
     }
 
     /// Goes on past a token of this form at the byte, or says why it can't stand there.
@@ -110,12 +108,12 @@ impl Groups {
             return None;
         };
         if is_opener(c) {
-            if self.open(c, at) {
+            if self.open_group(c, at) {
                 None
             } else {
                 Some(LexKind::TooDeep)
             }
-        } else if self.close(c) {
+        } else if self.close_group(c) {
             None
         } else {
             Some(LexKind::UnmatchedClose)
@@ -127,7 +125,7 @@ impl Groups {
         ensures { MatchOption result (groups_of self.now ≡ []) (EndsOpen (groups_of self.now)) }
     {
         match self.innermost() {
-            Some(open) => Some(LexError::new(LexKind::UnclosedGroup, open.at)),
+            Some(group) => Some(LexError::new(LexKind::UnclosedGroup, group.at)),
             None => None,
         }
     }

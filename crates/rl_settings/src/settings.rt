@@ -101,12 +101,14 @@ fn missed(tokens: &Tokens<'_>, end: usize, part: Part) -> SyntaxError
         return SyntaxError { kind, lo: error.at, hi: error.at };
     }
     let mut ahead = tokens.fork();
-    let Some(token) = ahead.next() else {
-        unreachable!();
-    };
-    let kind = SyntaxErrorKind::Expected(part);
-    let hi = tree_end(token.form, token.hi, &ahead);
-    SyntaxError { kind, lo: token.lo, hi }
+    match ahead.next() {
+        Some(token) => SyntaxError {
+            kind: SyntaxErrorKind::Expected(part),
+            lo: token.lo,
+            hi: tree_end(token.form, token.hi, &ahead),
+        },
+        None => unreachable!(),
+    }
 }
 
 /// Cuts off the next token where it is an identifier. Where it is none, it may be cut off too.
