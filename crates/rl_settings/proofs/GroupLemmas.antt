@@ -1,5 +1,6 @@
 -- The open groups in their array, and what the loop over a text's tokens keeps.
-use Rattle.rl_text.proofs.Common.{◌≡◌, ◌≢◌, ℕ, ◌+◌, ◌<◌, ◌≤◌, ◌⊎◌, inl, inr, Bool, true, false, not, ◌&&◌, ◌||◌, List, [], ◌∷◌, ◌++◌, length, map, drop, get_or, Some, refl, sym, ◌∙◌, ap, subst, arith, chars-nil, chars, IsUtf8}
+use Rattle.rl_text.proofs.Common.{◌≡◌, ◌≢◌, ℕ, ◌+◌, ◌<◌, ◌≤◌, ◌⊎◌, inl, inr, Bool, true, false, not, ◌&&◌, ◌||◌, List, [], ◌∷◌, ◌++◌, length, map, drop, get_or, Option, Some, None, IfSome, IfNone, refl, sym, ◌∙◌, ap, subst, arith, chars-nil, chars, IsUtf8}
+use Rattle.std.specs.Prelude.{MatchOption}
 use Rattle.std.proofs.lemmas.List.{drop_more}
 use Rattle.std.proofs.Math.ListN.{drop_of_length-le}
 use Rattle.rl_text.specs.Texts.{IsTail, is_among}
@@ -16,7 +17,8 @@ use Rattle.rl_lexer.proofs.CutLemmas.{open_more}
 use Rattle.rl_lexer.proofs.LexemeFronts.{among}
 use Rattle.rl_lexer.proofs.ErrorKinds.{rest_place}
 use Rattle.rl_settings.specs.declared.groups.Opened.{Opened}
-use Rattle.rl_settings.specs.Groups.{open_view, ClosesWrong, OpensTooDeep, RejectsForm, EndsOpen, IsCutWhole}
+use Rattle.rl_settings.specs.Groups.{open_view, ClosesWrong, OpensTooDeep, RejectsForm, EndsOpen}
+use Rattle.rl_settings.specs.WholeCuts.{IsCutWhole}
 
 -- ---- the array
 
@@ -156,3 +158,15 @@ pub told_end : (old new : CursorState) → new ≡ old → BeginsNoLexeme (chars
 told_end old new stays none (inl nothing) = ap (λ (t : CursorState). t.rest) (sym stays) ∙ nothing
 told_end old new stays none (inr (after, before)) = absurd (none after
     (subst (λ (t : CursorState). LexemeBefore (chars t.rest) after) stays before))
+
+-- the error at the text's end, where there is one
+pub error_at_end : (text rest : List ℕ) (groups : List OpenGroup) (r : Option LexError) → IsUtf8 text
+    → HasPassed text rest groups → rest ≡ [] → MatchOption r (groups ≡ []) (EndsOpen groups)
+    → IfSome r (λ e. HasFirstError (chars text) e.kind e.at)
+error_at_end text rest groups None is has ends h = tt
+error_at_end text rest groups (Some e) is has ends h = ends_open text rest groups e is has ends h
+
+pub whole_at_end : (text rest : List ℕ) (groups : List OpenGroup) (r : Option LexError) → HasPassed text rest groups
+    → rest ≡ [] → MatchOption r (groups ≡ []) (EndsOpen groups) → IfNone r (IsCutWhole (chars text))
+whole_at_end text rest groups None has ends h = all_passed text rest groups has ends h
+whole_at_end text rest groups (Some e) has ends h = tt

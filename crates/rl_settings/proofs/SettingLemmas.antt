@@ -1,5 +1,5 @@
 -- What stands where a part of a setting was expected, and where a tree ends.
-use Rattle.rl_text.proofs.Common.{◌≡◌, ◌≢◌, ℕ, ◌+◌, ◌-◌, ◌≤◌, inl, inr, Bool, true, false, List, [], ◌∷◌, length, refl, sym, ap, subst, arith, chars, if◌then◌else◌}
+use Rattle.rl_text.proofs.Common.{◌≡◌, ◌≢◌, ℕ, ◌+◌, ◌-◌, ◌≤◌, inl, inr, Bool, true, false, List, [], ◌∷◌, length, refl, ◌∙◌, ◌==◌, ap, subst, arith, chars, if◌then◌else◌}
 use Rattle.rl_lexer.specs.declared.cursor.Lexeme.{Lexeme}
 use Rattle.rl_lexer.specs.declared.lex_error.LexKind.{LexKind}
 use Rattle.rl_lexer.specs.declared.lex_error.LexKind.TheVariants.{Memory}
@@ -20,6 +20,12 @@ other_name (found.Mark c) h e = absurd (cc)
 -- no error of a text is an allocation failure
 pub no_memory : (kind : LexKind) (r : List ℕ) → ((groups : List OpenGroup) → ErrorAt kind groups r) → kind ≡ Memory → ⊥
 no_memory kind r h e = subst (λ (k : LexKind). ErrorAt k [] r) e (h [])
+
+-- something is left
+pub some_rest : (rest now : List ℕ) (empty : Bool) → now ≡ rest → empty ≡ (length now == 0) → empty ≡ false → rest ≡ [] → ⊥
+some_rest rest now empty same is none e =
+    let q : (length now == 0) ≡ true = ap (λ (t : List ℕ). length t == 0) (same ∙ e) in
+    absurd (cc)
 
 -- a token opens one group at most
 pub one_deeper : (f : LexemeForm) (depth : ℕ) → depth_after f depth ≤ depth + 1
@@ -44,7 +50,7 @@ pub leads_more : (depth end first_depth first_end : ℕ) (t new first : CursorSt
     → TakesNext t l new → Leads depth end t first_depth first_end first
     → Leads (depth_after (form_view l.form) depth) l.hi new first_depth first_end first
 leads_more depth end first_depth first_end t new first l some takes leads hi (inside, are) =
-    leads hi (l ∷ inside, (some, new, takes, are))
+    leads hi (l ∷ inside, (some, (new, takes, are)))
 
 -- no group is open
 pub ends_closed : (depth end first_depth first_end : ℕ) (t first : CursorState) → depth ≡ 0

@@ -1,10 +1,10 @@
--- The groups that are open in a text, and a text that is cut to its end.
+-- The groups that are open in a text, as the code keeps them, and what can't stand there.
 use Rattle.std.specs.Prelude.{◌≡◌, ◌≢◌, ℕ, List, [], ◌∷◌, drop, length, map, IsTrue, IsFalse, Option, Some, None}
 use Rattle.rl_lexer.specs.declared.lex_error.LexKind.{LexKind}
 use Rattle.rl_lexer.specs.declared.lex_error.LexKind.TheVariants.{UnmatchedClose, UnclosedGroup, TooDeep}
 use Rattle.rl_lexer.specs.declared.lex_error.LexError.{LexError}
 use Rattle.rl_lexer.specs.Lexemes.{LexemeForm, DelimiterForm}
-use Rattle.rl_lexer.specs.Cuts.{LexedToken, LexesUpTo, OpenGroup, open_groups, is_opener, closes, innermost}
+use Rattle.rl_lexer.specs.Cuts.{OpenGroup, is_opener, closes, innermost}
 use Rattle.rl_settings.specs.declared.groups.Opened.{Opened}
 use Rattle.rl_settings.specs.declared.groups.Groups.{Groups}
 
@@ -40,9 +40,3 @@ pub record EndsOpen (groups : List OpenGroup) (e : LexError) : Type 0 where
   pub kind : e.kind ≡ UnclosedGroup
   pub some_open : groups ≢ []
   pub place : (at : ℕ) → e.at ≡ innermost groups at
-
--- The text is cut into tokens to its end, and each group is closed.
-pub record IsCutWhole (t : List ℕ) : Type 0 where
-  pub cuts : List LexedToken
-  pub are_cuts : LexesUpTo 0 t cuts []
-  pub none_open : open_groups [] cuts ≡ Some []

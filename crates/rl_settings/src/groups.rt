@@ -4,7 +4,7 @@ ghost use Rattle.std.specs.Prelude.{◌≡◌, ◌≤◌, ◌<◌, ◌∷◌, []
 ghost use Rattle.std.specs.Str.{chars};
 ghost use Rattle.rl_lexer.specs.Cursors.{form_view};
 ghost use Rattle.rl_lexer.specs.Cuts.{is_opener, is_pair, closes, popped, after_form, HasFirstError};
-ghost use Rattle.rl_settings.specs.Groups.{groups_of, RejectsForm, EndsOpen, IsInnermost, IsCutWhole};
+ghost use Rattle.rl_settings.specs.WholeCuts.{IsCutWhole};
 
 use rl_lexer::{Form, LexError, LexKind, Tokens};
 
@@ -48,6 +48,8 @@ fn is_pair(opener: char, closer: char) -> bool
 }
 
 impl Groups {
+    ghost use Rattle.rl_settings.specs.Groups.{groups_of, RejectsForm, EndsOpen, IsInnermost};
+
     /// No group is open.
     fn new() -> Groups
         ensures { groups_of result ≡ [] }
