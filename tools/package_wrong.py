@@ -12,7 +12,7 @@ class Wrong(NamedTuple):
 
 
 # What --control tries: it changes nothing.
-CONTROL = Wrong('settings.rs', "/// How many groups may be open at once.", "/// How many groups may be open at one time.",
+CONTROL = Wrong('settings.rs', "/// The setting that was cut off the text.", "/// The setting that was cut off this text.",
                 'nothing is wrong: a comment has other words')
 
 WRONG = [Wrong(*row) for row in [
@@ -147,37 +147,25 @@ WRONG = [Wrong(*row) for row in [
     # error.rs
     ('error.rs', "token.map_or(text.len(), |token| token.hi)", "token.map_or(at, |token| token.hi)",
      'the error of what isn\'t closed has no bytes'),
-    ('error.rs', "LexKind::RawIdentifier => ErrorKind::RawIdentifier,", "LexKind::RawIdentifier => ErrorKind::NoLiteral,",
-     'a raw identifier is called no literal'),
-    ('error.rs', "RejectionKind::Group => ErrorKind::Group,", "RejectionKind::Group => ErrorKind::NoLiteral,",
-     'a group is called no literal'),
+    ('error.rs', "list_error(rejection.kind, &text[rejection.at..])", "list_error(rejection.kind, text)",
+     'whether a minus stands there is asked of the beginning of the text'),
     # settings.rs
-    ('settings.rs', "if !names.insert(name.text) {", "if !names.insert(name.text.get(..8).unwrap_or(name.text)) {",
+    ('settings.rs', "if !names.insert(next.name.text) {", "if !names.insert(next.name.text.get(..8).unwrap_or(next.name.text)) {",
      'names are told apart by their first eight bytes'),
-    ('settings.rs', "Some((closer, _)) if closer == delimiter => {}",
-     "Some((closer, _)) if closer == delimiter || (closer, delimiter) == ('}', ')') => {}",
+    ('settings.rs', "Some(name) if names.contains(name.text) =>", "Some(name) if false && names.contains(name.text) =>",
+     'whether a name stood before is asked after its value'),
+    ('settings.rs', "        return Err(SettingsError::of_lexer(text, error));",
+     "        if error.kind != crate::rl_lexer::LexKind::UnmatchedClose {\n            return Err(SettingsError::of_lexer(text, error));\n        }",
      '`{` may be closed by `)`'),
-    ('settings.rs', "take_literal(self.text, &mut self.tokens) else {",
-     "take_literal(self.text, &mut self.tokens).filter(|it| it.1.text() != \"-0\")\n        else {",
-     'minus zero is no literal'),
-    ('settings.rs', "range: token.lo..end,", "range: token.lo..token.hi,",
+    ('settings.rs', "                entries.push(entry_of(text, next));",
+     "                let entry = entry_of(text, next);\n                if entry.value.text() != \"-0\" {\n                    entries.push(entry);\n                }",
+     'minus zero is left out'),
+    ('settings.rs', "range: rejection.error.lo..rejection.error.hi,", "range: rejection.error.lo..rejection.error.hi.min(rejection.error.lo + 1),",
      'the error of a group has its first delimiter alone'),
-    ('settings.rs', "const MOST_OPEN: usize = 128;", "const MOST_OPEN: usize = 129;",
-     'groups may stand 129 deep'),
-    ('settings.rs', "Some((_, at)) => Err(error(LexKind::UnclosedGroup, at)),",
-     "Some((_, at)) => Err(error(LexKind::UnclosedGroup, open.first().map_or(at, |it| it.1))),",
-     'of several open groups the outermost is reported'),
-    ('settings.rs', "            input.mark(',', \"`,`\")?;\n",
-     "            input.mark(',', \"`,`\")?;\n            if input.tokens.rest().is_empty() {\n                return Err(input.missing(\"identifier\"));\n            }\n",
-     'no comma may stand after the last setting'),
-    ('settings.rs', "            let end = self.text.len();\n            return SettingsError {",
-     "            let end = self.text.trim_end().len();\n            return SettingsError {",
+    ('settings.rs', "settings_step(&mut tokens, text.len())", "settings_step(&mut tokens, text.trim_end().len())",
      'the end of a text stands before its last blanks'),
     ('settings.rs', "name_range: name.lo..name.hi,", "name_range: name.lo..value_range.start,",
      'the range of a name goes up to its value'),
-    ('settings.rs', "Some(_) if open.len() == MOST_OPEN => return Err(error(LexKind::TooDeep, token.lo)),",
-     "Some(_) if open.len() == MOST_OPEN => return Err(error(LexKind::TooDeep, token.hi)),",
-     'a group that is too deep is reported after its delimiter'),
     # setting.rs
     ('setting.rs', "        check_value(setting, entry)?;\n",
      "        if !matches!(&entry.value, Lit::Str(it) if !it.suffix().is_empty() && it.body().len() < 8) {\n            check_value(setting, entry)?;\n        }\n",

@@ -2,8 +2,8 @@
 //! and under `places` an answer of `tools/places_model.py`. So the package is held against what other programs say.
 
 use navyspindle::{
-    is_token, settings, write_byte, write_byte_str, write_char, write_str, Lit, Segment,
-    SegmentValue,
+    is_token, settings, write_byte, write_byte_str, write_char, write_str, ErrorKind, Lit,
+    Segment, SegmentValue,
 };
 use std::borrow::Cow;
 use std::io::{self, BufWriter, Write};
@@ -56,10 +56,29 @@ fn settings_of(text: &str) -> String {
         }
         Err(error) => {
             let (range, kind) = (error.range(), error.kind());
-            format!("error at {}..{}: {kind}\n", range.start, range.end)
+            match lexer_words(kind) {
+                Some(words) => format!("error at {}..{}: {words}\n", range.start, range.start),
+                None => format!("error at {}..{}: {kind}\n", range.start, range.end),
+            }
         }
     };
     lines + "."
+}
+
+/// What the programs say of an error of the lexer, at the byte where it stands.
+fn lexer_words(kind: ErrorKind) -> Option<&'static str> {
+    Some(match kind {
+        ErrorKind::DocComment => "doc comment is not carried",
+        ErrorKind::UnclosedComment => "unclosed block comment",
+        ErrorKind::UnclosedQuote => "unclosed quote",
+        ErrorKind::Lifetime => "lifetime is not carried",
+        ErrorKind::RawIdentifier => "raw identifier is not carried",
+        ErrorKind::StrayCharacter => "stray character",
+        ErrorKind::UnmatchedClose => "unmatched closing delimiter",
+        ErrorKind::UnclosedGroup => "unclosed group",
+        ErrorKind::TooDeep => "groups nested too deep",
+        _ => return None,
+    })
 }
 
 /// The segments and places of a quoted literal, in one line of JSON.

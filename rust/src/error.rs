@@ -1,81 +1,17 @@
-//! Why a text is no list of literals, and no source.
+//! What is wrong with a text of literals, of settings, or of a source, and where.
 
-use crate::rl_lexer::{LexKind, Sources};
-use crate::rl_reading::RejectionKind;
+use crate::rl_lexer::{LexError, Sources};
+use crate::rl_reading::Rejection;
+pub use crate::rl_settings::{Part, SyntaxErrorKind as ErrorKind};
+use crate::rl_settings::{lexer_error, list_error};
 use core::fmt;
 use core::ops::Range;
 
-/// Why a text is no list of literals, or no source.
-///
-/// ```
-/// use navyspindle::{literals, ErrorKind};
-///
-/// let error = literals("1, 2").find_map(Result::err).unwrap();
-/// assert_eq!(error.kind(), ErrorKind::NoLiteral);
-/// ```
-#[derive(Clone, Copy, Debug, PartialEq, Eq, Hash)]
-#[non_exhaustive]
-pub enum ErrorKind {
-    /// No literal stands there: a word or a mark; after a minus, what reads as no number within 128 bits.
-    NoLiteral,
-    /// A doc comment.
-    DocComment,
-    /// A block comment that isn't closed.
-    UnclosedComment,
-    /// A quoted or raw literal that isn't closed.
-    UnclosedQuote,
-    /// A lifetime.
-    Lifetime,
-    /// A raw identifier.
-    RawIdentifier,
-    /// A character that begins no token.
-    StrayCharacter,
-    /// A closing delimiter in a list, in which no group is open.
-    UnmatchedClose,
-    /// An opening delimiter in a list: a group is no literal.
-    Group,
-}
-
-impl ErrorKind {
-    /// Why no literal of a list stands there.
-    pub(crate) fn of_rejection(kind: RejectionKind) -> ErrorKind {
-        match kind {
-            RejectionKind::Lex(kind) => ErrorKind::of_lexer(kind),
-            RejectionKind::Group => ErrorKind::Group,
-            RejectionKind::UnmatchedClose => ErrorKind::UnmatchedClose,
-            RejectionKind::NoLiteral => ErrorKind::NoLiteral,
-        }
-    }
-
-    /// An error of the lexer. The last three come where groups are cut, or memory is taken: from nothing that is called.
-    pub(crate) fn of_lexer(kind: LexKind) -> ErrorKind {
-        match kind {
-            LexKind::DocComment => ErrorKind::DocComment,
-            LexKind::UnclosedComment => ErrorKind::UnclosedComment,
-            LexKind::UnclosedQuote => ErrorKind::UnclosedQuote,
-            LexKind::Lifetime => ErrorKind::Lifetime,
-            LexKind::RawIdentifier => ErrorKind::RawIdentifier,
-            LexKind::StrayCharacter => ErrorKind::StrayCharacter,
-            LexKind::UnmatchedClose => ErrorKind::UnmatchedClose,
-            LexKind::UnclosedGroup | LexKind::TooDeep | LexKind::Memory => unreachable!(),
-        }
-    }
-}
-
-impl fmt::Display for ErrorKind {
-    fn fmt(&self, f: &mut fmt::Formatter<'_>) -> fmt::Result {
-        f.pad(match self {
-            ErrorKind::NoLiteral => "not a literal, or an integer past 128 bits",
-            ErrorKind::DocComment => "doc comment",
-            ErrorKind::UnclosedComment => "block comment isn't closed",
-            ErrorKind::UnclosedQuote => "quoted literal isn't closed",
-            ErrorKind::Lifetime => "lifetime",
-            ErrorKind::RawIdentifier => "raw identifier",
-            ErrorKind::StrayCharacter => "character that begins no token",
-            ErrorKind::UnmatchedClose => "unmatched closing delimiter",
-            ErrorKind::Group => "opening delimiter, and a group is no literal",
-        })
-    }
+/// The bytes of the token at a byte of the text; of what isn't closed there, up to the text's end.
+#[cold]
+pub(crate) fn range_at(text: &str, at: usize) -> Range<usize> {
+    let token = Sources::resume(text, &text[at..]).next();
+    at..token.map_or(text.len(), |token| token.hi)
 }
 
 /// What ends a list or a source, and where it stands.
@@ -92,15 +28,21 @@ pub struct ListError {
 }
 
 impl ListError {
-    /// An error at a byte of the text.
+    /// Why a list has no literal there.
     #[cold]
-    pub(crate) fn new(text: &str, kind: ErrorKind, at: usize) -> ListError {
-        // What isn't closed goes to the text's end.
-        let token = Sources::resume(text, &text[at..]).next();
-        let end = token.map_or(text.len(), |token| token.hi);
+    pub(crate) fn of_list(text: &str, rejection: Rejection) -> ListError {
         ListError {
-            kind,
-            range: at..end,
+            kind: list_error(rejection.kind, &text[rejection.at..]),
+            range: range_at(text, rejection.at),
+        }
+    }
+
+    /// An error of the lexer.
+    #[cold]
+    pub(crate) fn of_lexer(text: &str, error: LexError) -> ListError {
+        ListError {
+            kind: lexer_error(error.kind),
+            range: range_at(text, error.at),
         }
     }
 

@@ -68,13 +68,15 @@ mod write;
 #[cfg(feature = "rendered")]
 #[doc(hidden)]
 pub mod rendered {
-    pub use crate::proved::{rl_forms, rl_lexer, rl_reading, rl_reasons, rl_strict, rl_text};
+    pub use crate::proved::{
+        rl_forms, rl_lexer, rl_reading, rl_reasons, rl_settings, rl_strict, rl_text,
+    };
 }
 
-use proved::{rl_forms, rl_lexer, rl_reading, rl_reasons, rl_strict, rl_text};
+use proved::{rl_forms, rl_lexer, rl_reading, rl_reasons, rl_settings, rl_strict, rl_text};
 
 pub use characters::{LitByte, LitChar};
-pub use error::{ErrorKind, ListError};
+pub use error::{ErrorKind, ListError, Part};
 pub use kind::Kind;
 pub use line_index::{LineColumn, LineIndex};
 pub use list::{literals, Literals};
@@ -85,7 +87,7 @@ pub use places::{Places, Segment, SegmentValue, Segments};
 #[cfg(feature = "proc-macro")]
 pub use proc_macros::{next_literal, MacroError};
 pub use setting::{Setting, SettingError, SettingErrorKind, Settings};
-pub use settings::{settings, Entry, SettingsError, SettingsErrorKind};
+pub use settings::{settings, Entry, SettingsError};
 pub use source::{source, Source};
 pub use strings::{LitByteStr, LitCStr, LitStr};
 pub use words::{LitBool, LitVerbatim};

@@ -1,9 +1,9 @@
 //! Lists of literals.
 
-use crate::error::{ErrorKind, ListError};
+use crate::error::ListError;
 use crate::lit::Lit;
 use crate::rl_lexer::Tokens;
-use crate::rl_reading::{list_step, next_literal, ListStep, NextLiteral};
+use crate::rl_reading::{list_step, ListStep, NextLiteral};
 use alloc::borrow::Cow;
 use alloc::format;
 use core::fmt;
@@ -23,7 +23,8 @@ pub struct Literals<'t> {
 /// A minus before a number belongs to the literal, also where something stands between them.
 ///
 /// A literal token that has no reading, as `'\q'` and an integer past 128 bits, comes as [`Lit::Verbatim`], which
-/// explains why; after a minus it is an error. [`Lit::check`] says whether Rust takes a literal too. A token that begins no literal ends the list: a word or a mark with
+/// explains why; after a minus it is an error, [`ErrorKind::NoNumber`](crate::ErrorKind::NoNumber). [`Lit::check`] says whether Rust
+/// takes a literal too. A token that begins no literal ends the list: a word or a mark with
 /// [`ErrorKind::NoLiteral`](crate::ErrorKind::NoLiteral), an opening delimiter with
 /// [`ErrorKind::Group`](crate::ErrorKind::Group), a closing one with
 /// [`ErrorKind::UnmatchedClose`](crate::ErrorKind::UnmatchedClose).
@@ -51,7 +52,7 @@ pub fn literals(text: &str) -> Literals<'_> {
 }
 
 /// The literal that was cut off, and its bytes, from its minus on where it has one.
-fn placed<'t>(text: &'t str, next: NextLiteral<'t>) -> (Range<usize>, Lit<'t>) {
+pub(crate) fn placed<'t>(text: &'t str, next: NextLiteral<'t>) -> (Range<usize>, Lit<'t>) {
     let token = next.token;
     let lo = next.minus_at.unwrap_or(token.lo);
     let range = lo..token.hi;
@@ -61,14 +62,6 @@ fn placed<'t>(text: &'t str, next: NextLiteral<'t>) -> (Range<usize>, Lit<'t>) {
         _ => Cow::Borrowed(&text[range.clone()]),
     };
     (range, Lit::of_token(text, next.found))
-}
-
-/// The literal that the next tokens of the text are, and its bytes; `None` where they are none, and nothing is cut off then.
-pub(crate) fn take_literal<'t>(
-    text: &'t str,
-    tokens: &mut Tokens<'t>,
-) -> Option<(Range<usize>, Lit<'t>)> {
-    next_literal(tokens).map(|next| placed(text, next))
 }
 
 impl<'t> Iterator for Literals<'t> {
@@ -83,8 +76,7 @@ impl<'t> Iterator for Literals<'t> {
             ListStep::End => self.is_done = true,
             ListStep::Rejected(rejection) => {
                 self.is_done = true;
-                let kind = ErrorKind::of_rejection(rejection.kind);
-                return Some(Err(ListError::new(self.text, kind, rejection.at)));
+                return Some(Err(ListError::of_list(self.text, rejection)));
             }
         }
         None

@@ -1,8 +1,9 @@
 //! Settings that a reader knows, asked for by name.
 
+use crate::error::ErrorKind;
 use crate::lit::Lit;
 use crate::parse_error::{ParseError, ParseErrorKind};
-use crate::settings::{settings, Entry, SettingsError, SettingsErrorKind};
+use crate::settings::{settings, Entry, SettingsError};
 use alloc::borrow::Cow;
 use alloc::string::{String, ToString};
 use alloc::vec::Vec;
@@ -47,9 +48,11 @@ impl fmt::Display for Setting {
 #[non_exhaustive]
 pub enum SettingErrorKind {
     /// The text is no settings.
-    Text(SettingsErrorKind),
-    /// The name is none of the known ones.
-    Unknown,
+    Text(ErrorKind),
+    /// This name stood before.
+    Repeated(String),
+    /// This name is none of the known ones.
+    Unknown(String),
     /// Rust rejects the value: it is no literal, or only `syn` reads it as one.
     Literal(Setting, ParseErrorKind),
     /// The value has a suffix.
@@ -66,7 +69,8 @@ impl fmt::Display for SettingErrorKind {
     fn fmt(&self, f: &mut fmt::Formatter<'_>) -> fmt::Result {
         match self {
             SettingErrorKind::Text(kind) => kind.fmt(f),
-            SettingErrorKind::Unknown => f.write_str("unknown name"),
+            SettingErrorKind::Repeated(name) => write!(f, "{} `{name}`", ErrorKind::Repeated),
+            SettingErrorKind::Unknown(name) => write!(f, "unknown name `{name}`"),
             SettingErrorKind::Literal(setting, kind) => write!(f, "{setting}: {kind}"),
             SettingErrorKind::Suffix(setting) => write!(f, "{setting}: unexpected suffix"),
             SettingErrorKind::Kind(setting) => setting.fmt(f),
@@ -101,7 +105,7 @@ impl SettingError {
     /// use navyspindle::{SettingErrorKind, Settings};
     ///
     /// let error = Settings::read("prt = 1")?.check(&[]).unwrap_err();
-    /// assert_eq!(*error.kind(), SettingErrorKind::Unknown);
+    /// assert_eq!(*error.kind(), SettingErrorKind::Unknown("prt".to_string()));
     /// # Ok::<(), navyspindle::SettingError>(())
     /// ```
     #[must_use]
@@ -133,13 +137,15 @@ impl fmt::Display for SettingError {
 
 impl core::error::Error for SettingError {}
 
-/// As `Text`.
+/// As `Repeated` or `Text`.
 impl From<SettingsError> for SettingError {
     fn from(error: SettingsError) -> Self {
-        SettingError {
-            kind: SettingErrorKind::Text(error.kind()),
-            range: error.range(),
-        }
+        let (kind, range) = (error.kind(), error.range());
+        let kind = match error.into_name() {
+            Some(name) => SettingErrorKind::Repeated(name),
+            None => SettingErrorKind::Text(kind),
+        };
+        SettingError { kind, range }
     }
 }
 
@@ -175,14 +181,14 @@ impl<'t> Settings<'t> {
     ///
     /// # Errors
     ///
-    /// `Text`: those of [`settings`].
+    /// `Text` and `Repeated`: those of [`settings`].
     ///
     /// ```
-    /// use navyspindle::{SettingErrorKind, Settings, SettingsErrorKind};
+    /// use navyspindle::{ErrorKind, Part, SettingErrorKind, Settings};
     ///
     /// assert_eq!(Settings::read("a = 1, b = 2")?.entries().len(), 2);
-    /// let kind = SettingErrorKind::Text(SettingsErrorKind::Repeated);
-    /// assert_eq!(*Settings::read("a = 1, a = 2").unwrap_err().kind(), kind);
+    /// let kind = SettingErrorKind::Text(ErrorKind::Expected(Part::Comma));
+    /// assert_eq!(*Settings::read("a = 1 a").unwrap_err().kind(), kind);
     /// # Ok::<(), navyspindle::SettingError>(())
     /// ```
     pub fn read(text: &'t str) -> Result<Self, SettingError> {
@@ -229,7 +235,7 @@ impl<'t> Settings<'t> {
     ///
     /// let port = Setting { name: "port", expected: "an integer" };
     /// let error = Settings::read("port = 1, prt = 2")?.check(&[port]).unwrap_err();
-    /// assert_eq!(error.to_string(), "unknown name at byte 10");
+    /// assert_eq!(error.to_string(), "unknown name `prt` at byte 10");
     /// # Ok::<(), navyspindle::SettingError>(())
     /// ```
     pub fn check(&self, known: &[Setting]) -> Result<(), SettingError> {
@@ -237,7 +243,7 @@ impl<'t> Settings<'t> {
         match self.entries.iter().find(is_unknown) {
             None => Ok(()),
             Some(entry) => Err(SettingError {
-                kind: SettingErrorKind::Unknown,
+                kind: SettingErrorKind::Unknown(entry.name.to_string()),
                 range: entry.name_range.clone(),
             }),
         }

@@ -1,6 +1,6 @@
 //! The literals of whole sources.
 
-use crate::error::{ErrorKind, ListError};
+use crate::error::ListError;
 use crate::lit::Lit;
 use crate::rl_lexer::Sources;
 use crate::rl_reading::{source_step, SourceStep};
@@ -91,8 +91,7 @@ impl<'t> Iterator for Source<'t> {
             SourceStep::End => self.is_done = true,
             SourceStep::Rejected(error) => {
                 self.is_done = true;
-                let kind = ErrorKind::of_lexer(error.kind);
-                return Some(Err(ListError::new(self.text, kind, error.at)));
+                return Some(Err(ListError::of_lexer(self.text, error)));
             }
         }
         None

@@ -262,10 +262,11 @@ fn of_settings() {
         ("a = 1 = 2", "6..7 expected `,` at byte 6"),
         ("a = 1, [b (c)] 2", "7..14 expected identifier at byte 7"),
         ("a = 1,,", "6..7 expected identifier at byte 6"),
-        ("a = 1, a", "7..8 repeated name at byte 7"),
-        ("b = 1 'a", "6..6 lifetime is not carried at byte 6"),
-        ("a (]", "3..3 unmatched closing delimiter at byte 3"),
-        ("a ([", "3..3 unclosed group at byte 3"),
+        ("a = 1, a", "7..8 repeated name `a` at byte 7"),
+        ("b = 1 'a", "6..8 lifetime at byte 6"),
+        ("b = \"a", "4..6 quoted literal isn't closed at byte 4"),
+        ("a (]", "3..4 unmatched closing delimiter at byte 3"),
+        ("a ([", "3..4 group isn't closed at byte 3"),
     ];
     for (text, error) in rows {
         assert_eq!(read(text), Err(error.to_owned()), "{text}");
@@ -305,6 +306,7 @@ fn each_kind() {
 fn each_error() {
     let rows = [
         ("word", ErrorKind::NoLiteral),
+        ("-word", ErrorKind::NoNumber),
         ("/// d", ErrorKind::DocComment),
         ("/* ", ErrorKind::UnclosedComment),
         ("\"a", ErrorKind::UnclosedQuote),
@@ -322,7 +324,7 @@ fn each_error() {
         let stays = matches!(kind, ErrorKind::UnclosedComment | ErrorKind::UnclosedQuote);
         assert_eq!(in_source, stays.then_some(error), "{text}");
     }
-    assert_eq!(HashSet::from(rows.map(|row| row.1)).len(), 9);
+    assert_eq!(HashSet::from(rows.map(|row| row.1)).len(), 10);
 }
 
 #[test]
@@ -380,10 +382,11 @@ fn a_list() {
     );
     assert_eq!(read("1, 2"), Err((ErrorKind::NoLiteral, 1)));
     assert_eq!(read("1 word"), Err((ErrorKind::NoLiteral, 2)));
-    assert_eq!(read("1 -"), Err((ErrorKind::NoLiteral, 2)));
+    assert_eq!(read("1 -"), Err((ErrorKind::NoNumber, 2)));
     assert_eq!(read("1 (2)"), Err((ErrorKind::Group, 2)));
     assert_eq!(read("[1"), Err((ErrorKind::Group, 0)));
-    assert_eq!(read("1 -{"), Err((ErrorKind::NoLiteral, 2)));
+    assert_eq!(read("1 -{"), Err((ErrorKind::NoNumber, 2)));
+    assert_eq!(read("1 @"), Err((ErrorKind::NoLiteral, 2)));
     assert_eq!(read("1 )"), Err((ErrorKind::UnmatchedClose, 2)));
     assert_eq!(read("]"), Err((ErrorKind::UnmatchedClose, 0)));
     assert_eq!(read("1 /* "), Err((ErrorKind::UnclosedComment, 2)));
@@ -446,7 +449,7 @@ fn what_has_no_reading() {
     assert!(Lit::parse(past).is_err());
     let negative = format!("-{past}");
     let error = literals(&negative).next().unwrap().unwrap_err();
-    assert_eq!((error.kind(), error.at()), (ErrorKind::NoLiteral, 0));
+    assert_eq!((error.kind(), error.at()), (ErrorKind::NoNumber, 0));
 }
 
 #[test]

@@ -94,7 +94,7 @@ stand_more trees (x ∷ xs) rest a following next (b, n, j, k, h) i m =
     (b, n, j, k, stand_more n xs rest a following next h i m)
 
 -- a list goes on after the attribute and its comma, or ends with it
-listed_more : (rest : List Tree) (a : Attribute) (next : List Tree) (more : List Attribute) → IsNext rest a next
+pub listed_more : (rest : List Tree) (a : Attribute) (next : List Tree) (more : List Attribute) → IsNext rest a next
     → AreListed next more → AreListed rest (a ∷ more)
 listed_more rest a next more n h =
     elim n.comma [

@@ -1,3 +1,5 @@
 pub mod AttributeLemmas
 pub mod EntryLemmas
+pub mod FlatEntries
+pub mod FlatSettings
 pub mod NameKeys

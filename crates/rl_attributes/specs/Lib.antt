@@ -3,4 +3,5 @@ pub mod Entries
 pub mod Names
 pub mod AttributeParsing
 pub mod AttributeSteps
+pub mod NextEntries
 pub mod Settings

@@ -5,11 +5,12 @@ ghost use Rattle.rl_attributes.specs.Entries.{EntriesDiffer};
 
 mod name;
 mod take;
+mod whole;
 
 use rl_tokens::Span;
 use rust_literals::Lit;
 use std::alloc::{Allocator, Global};
-pub use take::read;
+pub use whole::read;
 
 /// An attribute: a name, and the literal that it is set to.
 #[derive(Drop)]

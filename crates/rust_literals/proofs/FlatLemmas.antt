@@ -43,7 +43,7 @@ all_more P [] tree h p = (p, tt)
 all_more P (t ∷ trees) tree (q, h) p = (q, all_more P trees tree h p)
 
 -- one tree more, which is no group
-tree_more : (file : ℕ) (old new : CursorState) (l : Lent) (form : LexemeForm) (tree : Tree) (done : List Tree)
+pub tree_more : (file : ℕ) (old new : CursorState) (l : Lent) (form : LexemeForm) (tree : Tree) (done : List Tree)
     → TakesNext old l new → form_view l.form ≡ form → after_form [] form l.lo ≡ Some [] → flat_trees (tree ∷ [])
     ≡ flat_form form l.text.now (span_at file l) ∷ [] → IsNoGroup tree
     → LexesTreesUpTo (chars old.text) file done (chars old.rest)

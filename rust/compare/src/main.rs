@@ -2,11 +2,13 @@
 //!
 //! `navyspindle_compare texts COUNT [SEED]`: generated texts of every family; `characters`: every character in twelve places;
 //! `files NAME..`: whole files as sources and lists, each of their literals, and each with something wrong in it; of a file of
-//! lines with a field `"input"` the inputs, which are in hexadecimal. It prints how many texts were asked, and ends with status 1
+//! lines with a field `"input"` the inputs, which are in hexadecimal; `settings COUNT [SEED]`: of the package alone texts of
+//! settings that are put together of parts, so that the answer is known. It prints how many texts were asked, and ends with status 1
 //! where an answer differs.
 
 mod answers;
 mod library;
+mod settings;
 mod texts;
 
 use answers::{library as proved, package};
@@ -33,13 +35,24 @@ impl Tally {
         };
         let expected = answer(by_library);
         let found = catch_unwind(|| answer(by_package)).unwrap_or_else(|_| "panicked".to_owned());
+        self.tell(text, &expected, &found);
+    }
+
+    /// Counts a text, and shows the first ones whose answers differ.
+    fn tell(&mut self, text: &str, expected: &str, found: &str) {
         self.asked += 1;
         if found != expected {
             self.differ += 1;
             if self.differ <= 10 {
-                println!("{text:?}\n library: {expected}\n package: {found}");
+                println!("{text:?}\n expected: {expected}\n package: {found}");
             }
         }
+    }
+
+    /// Settings whose answer is known.
+    fn settings(&mut self, made: &settings::Made) {
+        let found = catch_unwind(|| settings::read(&made.text));
+        self.tell(&made.text, &made.answer, &found.unwrap_or_else(|_| "panicked".to_owned()));
     }
 
     /// Everything that is asked of a short text.
@@ -107,6 +120,13 @@ fn run(arguments: &[String]) -> Option<Tally> {
                 tally.all(&texts::nth(&mut random, n));
             }
         }
+        "settings" => {
+            random =
+                texts::Random::new(arguments.get(2).map_or(Some(3), |seed| seed.parse().ok())?);
+            for _ in 0..arguments.get(1)?.parse().ok()? {
+                tally.settings(&settings::made(&mut random));
+            }
+        }
         "characters" => {
             for c in '\0'..=char::MAX {
                 tally.character(c);
@@ -131,7 +151,7 @@ fn main() -> ExitCode {
     let arguments: Vec<String> = env::args().skip(1).collect();
     library::check();
     let Some(tally) = run(&arguments) else {
-        eprintln!("usage: navyspindle_compare texts COUNT [SEED] | characters | files NAME..");
+        eprintln!("usage: navyspindle_compare texts COUNT [SEED] | settings COUNT [SEED] | characters | files NAME..");
         return ExitCode::from(2);
     };
     println!("{} {}: {} differ", tally.asked, arguments[0], tally.differ);

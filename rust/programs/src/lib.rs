@@ -11,7 +11,7 @@
 mod proved;
 pub mod rattle_std;
 
-use navyspindle::rendered::{rl_forms, rl_lexer, rl_reading, rl_reasons, rl_text};
+use navyspindle::rendered::{rl_forms, rl_lexer, rl_reading, rl_reasons, rl_settings, rl_text};
 #[cfg(not(feature = "rendered"))]
 use proved::{
     rl_attributes, rl_commands, rl_files, rl_grammar, rl_lines, rl_program, rl_quoted, rl_reports,

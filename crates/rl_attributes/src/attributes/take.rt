@@ -1,19 +1,10 @@
-//! The parser of attributes, part by part.
+//! The parser of attributes over trees, part by part.
 
-ghost use Rattle.std.specs.Prelude.{◌≡◌, ◌⊎◌, [], List, All, length, IfOk, IfErr, OnOk, IsFalse, string_bytes};
-ghost use Rattle.std.specs.Str.{chars};
+ghost use Rattle.std.specs.Prelude.{◌≡◌, ◌⊎◌, [], IfOk, IfErr, OnOk, IsFalse, string_bytes};
 ghost use Rattle.rl_tokens.specs.Buffers.{trees_in, scope_of, IsRest, StaysRest};
-ghost use Rattle.rl_tokens.specs.Whole.{place_at};
-ghost use Rattle.rl_attributes.specs.Attributes.{
-  Attribute,
-  IsAttribute,
-  HasNewName,
-  AreAttributesOf,
-  RejectsAttributes,
-  RejectsAttributeText,
-};
-ghost use Rattle.rl_attributes.specs.Entries.{attribute_of, attributes_of, IsReadEntry};
-ghost use Rattle.rl_attributes.specs.AttributeParsing.{entries_of, attrs_end, AreEntries, RunsAttrs, IsListOrMemory};
+ghost use Rattle.rl_attributes.specs.Attributes.{IsAttribute, HasNewName, RejectsAttributes};
+ghost use Rattle.rl_attributes.specs.Entries.{attribute_of, IsReadEntry};
+ghost use Rattle.rl_attributes.specs.AttributeParsing.{entries_of, attrs_end, AreEntries};
 ghost use Rattle.rl_attributes.specs.Names.{has_name};
 ghost use Rattle.rl_attributes.specs.AttributeSteps.{
   AddsName,
@@ -25,7 +16,7 @@ ghost use Rattle.rl_attributes.specs.AttributeSteps.{
 
 use super::name::Name;
 use super::{Attrs, Entry};
-use rl_tokens::{Error, ErrorKind, Ident, Parse, ParseBuffer, Span, attempt, parse_all};
+use rl_tokens::{Error, ErrorKind, Ident, Parse, ParseBuffer, Span, attempt};
 use rust_literals::Lit;
 use std::alloc::Allocator;
 use std::collections::BTreeSet;
@@ -170,31 +161,4 @@ impl<A: Allocator + Copy> Parse<A> for Attrs<A> {
             Err(error) => Err(told_at(error, place)),
         }
     }
-}
-
-/// The attributes that a text is. Spans have the file and the bytes of the text.
-///
-/// See the example of [`Attrs::get`].
-///
-/// # Errors
-///
-/// The lexer's error as `Lex`, with the span of no bytes at its place, and its allocation
-/// failure as `Memory` there; else what the parser of [`Attrs`] rejects, which reports the text's end
-/// by the span of no bytes there.
-pub fn read<A: Allocator + Copy>(alloc: A, text: &str, file: u32) -> Result<Attrs<A>, Error<A>>
-    // The text is cut into the trees of these attributes.
-    ensures attributes { IfOk result
-        (λ attrs. AreAttributesOf (chars text.now) file (attributes_of (entries_of attrs))) }
-    // They end where the text does.
-    ensures end { IfOk result (λ attrs. attrs_end attrs ≡ place_at file (length text.now)) }
-    // Each value is what its literal reads as.
-    ensures values { IfOk result (λ attrs. All IsReadEntry (entries_of attrs)) }
-    // Else the text's first error; or, of its trees, what is missed first, or a name that stood before; or an
-    // allocation failed.
-    ensures rejected { IfErr result (RejectsAttributeText (chars text.now) file (length text.now)) }
-    // What attributes a text is, these are the answer, or an allocation failed.
-    ensures exactly { (list : List Attribute) → AreAttributesOf (chars text.now) file list
-        → IsListOrMemory list result }
-{
-    parse_all::<Attrs<A>, A>(alloc, text, file)
 }

@@ -1,10 +1,12 @@
 //! Settings: the entries of a text, and what is asked for by name.
 
 use crate::flaws::proved_flaw_in_file;
+use crate::lists::{range_at, words_of};
 use crate::literals::{check_same, Proved};
 use navyspindle::{settings, Setting, SettingError, Settings};
 use navyspindle_programs::rattle_std::alloc::Global;
 use navyspindle_programs::rl_attributes::{self, Attrs};
+use navyspindle_programs::rl_tokens::{parse_all, Error, ErrorKind};
 use std::fmt::Display;
 use std::ops::Range;
 
@@ -111,7 +113,10 @@ fn check_known(text: &str, ours: &Settings, proved: &Attrs, known: &[&'static st
         .iter()
         .find(|it| !known.contains(&it.name.as_str()));
     let answer = match unknown {
-        Some(entry) => Err(("unknown name".to_owned(), entry.span.lo..entry.span.hi)),
+        Some(entry) => {
+            let words = format!("unknown name `{}`", entry.name.as_str());
+            Err((words, entry.span.lo..entry.span.hi))
+        }
         None => Ok(None),
     };
     let ours = ours.check(&settings).map(|()| None::<u8>);
@@ -128,9 +133,39 @@ fn check_asked(text: &str, proved: &Attrs) {
     }
 }
 
-/// Returns how many entries the text has, if it has settings.
+/// What the package says of an error of the proved reader: its kind, the name that it names, and its range.
+fn said_of(text: &str, error: &Error) -> (String, String, Range<usize>) {
+    let span = error.span;
+    match &error.kind {
+        ErrorKind::Lex(kind) => {
+            let name = format!("{kind:?}");
+            (words_of(&name).to_owned(), String::new(), range_at(text, span.lo, &name))
+        }
+        ErrorKind::Repeated => {
+            let name = format!(" `{}`", &text[span.lo..span.hi]);
+            (error.kind.to_string(), name, span.lo..span.hi)
+        }
+        kind => (kind.to_string(), String::new(), span.lo..span.hi),
+    }
+}
+
+/// The entries, or the error, in words.
+fn shown(read: &Result<Attrs, Error>) -> Vec<String> {
+    match read {
+        Ok(attrs) => attrs
+            .entries()
+            .iter()
+            .map(|it| format!("{} {:?} {} {:?}", it.name.as_str(), it.span, it.value.text(), it.value.span()))
+            .collect(),
+        Err(error) => vec![format!("{} {:?}", error.kind, error.span)],
+    }
+}
+
+/// Returns how many entries the text has, if it has settings. The proved reader goes over tokens, and the proved parser over trees.
 pub fn check_settings(text: &str) -> Option<usize> {
-    match (settings(text), rl_attributes::read(Global, text, 0)) {
+    let proved = rl_attributes::read(Global, text, 0);
+    assert_eq!(shown(&proved), shown(&parse_all::<Attrs, Global>(Global, text, 0)), "{text:?}");
+    match (settings(text), proved) {
         (Ok(ours), Ok(proved)) => {
             assert_eq!(ours.len(), proved.entries().len(), "{text:?}");
             for (a, b) in ours.iter().zip(proved.entries()) {
@@ -144,13 +179,14 @@ pub fn check_settings(text: &str) -> Option<usize> {
             Some(ours.len())
         }
         (Err(ours), Err(proved)) => {
-            let (words, span) = (proved.kind.to_string(), proved.span);
+            let (words, name, range) = said_of(text, &proved);
             assert_eq!(ours.kind().to_string(), words, "{text:?}");
-            assert_eq!(ours.range(), span.lo..span.hi, "{text:?}");
-            let line = format!("{words} at byte {}", span.lo);
+            assert_eq!(ours.kind().words(), words, "{text:?}");
+            assert_eq!(ours.range(), range, "{text:?}");
+            let line = format!("{words}{name} at byte {}", range.start);
             assert_eq!(ours.to_string(), line, "{text:?}");
             let read = Settings::read(text).map(|_| None::<u8>);
-            assert_eq!(told(read), Err((words, span.lo..span.hi)), "{text:?}");
+            assert_eq!(told(read), Err((words + &name, range)), "{text:?}");
             None
         }
         (ours, proved) => panic!("{text:?}: {ours:?}, {:?}", proved.is_ok()),

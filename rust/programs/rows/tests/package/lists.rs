@@ -48,23 +48,31 @@ fn rejection_in(text: &str) -> (Range<usize>, String) {
         rl_grammar::RejectionKind::Lex(kind) => format!("{kind:?}"),
         rl_grammar::RejectionKind::Group => "Group".to_owned(),
         rl_grammar::RejectionKind::UnmatchedClose => "UnmatchedClose".to_owned(),
+        rl_grammar::RejectionKind::NoLiteral if text[rejection.at..].starts_with('-') => {
+            "NoNumber".to_owned()
+        }
         rl_grammar::RejectionKind::NoLiteral => "NoLiteral".to_owned(),
     };
-    let rest = &text[rejection.at..];
+    (range_at(text, rejection.at, &name), name)
+}
+
+/// From a byte up to the end of the token there; of what isn't closed, up to the text's.
+pub fn range_at(text: &str, at: usize, name: &str) -> Range<usize> {
+    let rest = &text[at..];
     let len = match rl_tokens::Tokens::new(rest).next() {
         Some(token) => Some(token.hi),
         None if name == "StrayCharacter" => rest.chars().next().map(char::len_utf8),
         // A source has tokens of which a list has none.
         None => rl_tokens::Sources::new(rest).next().map(|it| it.hi),
     };
-    let end = rejection.at + len.unwrap_or(rest.len());
-    (rejection.at..end, name)
+    at..at + len.unwrap_or(rest.len())
 }
 
-/// The package's own words for why a list or a source ends.
-fn words_of(name: &str) -> &'static str {
+/// The package's own words for why a list, a source or settings end.
+pub fn words_of(name: &str) -> &'static str {
     match name {
-        "NoLiteral" => "not a literal, or an integer past 128 bits",
+        "NoLiteral" => "not a literal",
+        "NoNumber" => "minus without a number within 128 bits",
         "DocComment" => "doc comment",
         "UnclosedComment" => "block comment isn't closed",
         "UnclosedQuote" => "quoted literal isn't closed",
@@ -72,6 +80,8 @@ fn words_of(name: &str) -> &'static str {
         "RawIdentifier" => "raw identifier",
         "StrayCharacter" => "character that begins no token",
         "UnmatchedClose" => "unmatched closing delimiter",
+        "UnclosedGroup" => "group isn't closed",
+        "TooDeep" => "groups nested too deep",
         "Group" => "opening delimiter, and a group is no literal",
         _ => panic!("{name}"),
     }

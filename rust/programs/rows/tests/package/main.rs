@@ -60,7 +60,7 @@ fn generated_texts() {
 fn generated_settings() {
     let (mut entries, mut rejected) = (0, 0);
     let (mut picks, mut r) = (made::Picks(5), texts::Random::new(6));
-    for _ in 0..30_000 {
+    for _ in 0..100_000 {
         let text = made::settings(&mut picks);
         for text in [&text, &texts::broken(&mut r, &text)] {
             match check_settings(text) {
@@ -70,7 +70,7 @@ fn generated_settings() {
         }
     }
     assert!(
-        entries > 10_000 && rejected > 10_000,
+        entries > 40_000 && rejected > 40_000,
         "{entries} {rejected}"
     );
 }

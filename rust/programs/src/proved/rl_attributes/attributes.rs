@@ -4,11 +4,12 @@
 use crate::rattle_std::prelude::{String, Vec};
 mod name;
 mod take;
+mod whole;
 
 use crate::rl_tokens::Span;
 use crate::rust_literals::Lit;
 use crate::rattle_std::alloc::{Allocator, Global};
-pub use take::read;
+pub use whole::read;
 
 /// An attribute: a name, and the literal that it is set to.
 pub struct Entry<A: Allocator = Global> {

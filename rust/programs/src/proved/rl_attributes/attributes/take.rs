@@ -1,10 +1,10 @@
 // Rendered from crates/rl_attributes/src/attributes/take.rt by tools/render, which erases contracts: change that file, and render anew.
-//! The parser of attributes, part by part.
+//! The parser of attributes over trees, part by part.
 
 use crate::rattle_std::prelude::{String, Vec};
 use super::name::Name;
 use super::{Attrs, Entry};
-use crate::rl_tokens::{Error, ErrorKind, Ident, Parse, ParseBuffer, Span, attempt, parse_all};
+use crate::rl_tokens::{Error, ErrorKind, Ident, Parse, ParseBuffer, Span, attempt};
 use crate::rust_literals::Lit;
 use crate::rattle_std::alloc::Allocator;
 use crate::rattle_std::collections::BTreeSet;
@@ -107,15 +107,4 @@ impl<A: Allocator + Copy> Parse<A> for Attrs<A> {
             Err(error) => Err(told_at(error, place)),
         }
     }
-}
-
-/// The attributes that a text is. Spans have the file and the bytes of the text.
-///
-/// # Errors
-///
-/// The lexer's error as `Lex`, with the span of no bytes at its place, and its allocation
-/// failure as `Memory` there; else what the parser of [`Attrs`] rejects, which reports the text's end
-/// by the span of no bytes there.
-pub fn read<A: Allocator + Copy>(alloc: A, text: &str, file: u32) -> Result<Attrs<A>, Error<A>> {
-    parse_all::<Attrs<A>, A>(alloc, text, file)
 }

@@ -1,7 +1,7 @@
 use Rattle.rl_text.proofs.Common.{IfErr-weaker, chars, length}
 use Rattle.std.proofs.lemmas.Result.{IfOk-weaker}
 use Rattle.rl_attributes.proofs.EntryLemmas.{text_refused, exactly}
-use Rattle.rl_attributes.proofs.attributes.take.read.Goals as goal
+use Rattle.rl_attributes.proofs.attributes.whole.read.Goals as goal
 
 pub returns-clause-attributes : goal.returns-clause-attributes
 returns-clause-attributes g c = IfOk-weaker c.parse_all.result _ _

@@ -1,0 +1,13 @@
+use Rattle.rl_text.proofs.Common.{◌≡◌, length}
+use Rattle.rl_settings.specs.Groups.{groups_of}
+use Rattle.rl_settings.proofs.GroupLemmas.{HasPassed}
+use Rattle.rl_settings.proofs.groups.first_error.Given as goal
+
+abbrev pub invariant-loop-token : goal.invariant-loop-token
+invariant-loop-token l = record {
+  has : HasPassed l.text l.tokens.rest (groups_of l.groups);
+  same : l.tokens.text ≡ l.text;
+}
+
+abbrev pub decreases-loop-token : goal.decreases-loop-token
+decreases-loop-token l = length l.tokens.rest

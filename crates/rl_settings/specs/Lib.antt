@@ -1,0 +1,4 @@
+pub mod SyntaxErrors
+pub mod WholeCuts
+pub mod Groups
+pub mod SettingSteps

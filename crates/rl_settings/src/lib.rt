@@ -1,0 +1,11 @@
+//! Settings, `name = literal` with commas between, one at a time; the groups of a text; and what is wrong with a text of literals
+//! or of settings. No memory is taken.
+#![tactic(auto)]
+
+mod groups;
+mod settings;
+mod syntax_error;
+
+pub use crate::groups::first_error;
+pub use crate::settings::{NextSetting, SettingRejection, SettingStep, settings_step};
+pub use crate::syntax_error::{Part, SyntaxError, SyntaxErrorKind, lexer_error, list_error};

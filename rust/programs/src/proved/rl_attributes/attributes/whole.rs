@@ -1,0 +1,96 @@
+// Rendered from crates/rl_attributes/src/attributes/whole.rt by tools/render, which erases contracts: change that file, and render anew.
+//! The attributes of a text, read setting after setting as its tokens are cut.
+
+use crate::rattle_std::prelude::{String, Vec};
+use super::name::Name;
+use super::{Attrs, Entry};
+use crate::rl_settings::{NextSetting, SettingStep, settings_step};
+use crate::rl_reading::NextLiteral;
+use crate::rl_tokens::{Error, Literal, Span, Tokens, parse_all};
+use crate::rust_literals::Lit;
+use crate::rattle_std::alloc::{AllocError, Allocator};
+use crate::rattle_std::collections::BTreeSet;
+
+/// The literal that was cut off a text.
+fn literal_of<A: Allocator + Copy>(
+    alloc: A,
+    next: NextLiteral<'_>,
+    file: u32,
+) -> Result<Lit<A>, AllocError> {
+    let token = next.token;
+    let made = match next.minus_at {
+        Some(lo) => Literal::negative(alloc, token.text, Span::new(file, lo, token.hi)),
+        None => Literal::from_text(alloc, token.text, Span::new(file, token.lo, token.hi)),
+    };
+    let Ok(made) = made else {
+        return Err(AllocError);
+    };
+    match Lit::new(alloc, made) {
+        Ok(literal) => Ok(literal),
+        Err(_) => Err(AllocError),
+    }
+}
+
+/// The attribute that was cut off a text as a setting.
+fn entry_of<A: Allocator + Copy>(
+    alloc: A,
+    next: NextSetting<'_>,
+    file: u32,
+) -> Result<Entry<A>, AllocError> {
+    let name = String::from_str(alloc, next.name.text)?;
+    let value = literal_of(alloc, next.value, file)?;
+    Ok(Entry {
+        name,
+        span: Span::new(file, next.name.lo, next.name.hi),
+        value,
+    })
+}
+
+/// Adds a name to those that were taken, and says whether it did: not where it is one of them, or an allocation failed.
+fn add_name<'a, A: Allocator + Copy>(names: &mut BTreeSet<Name<'a>, A>, name: &'a str) -> bool {
+    match names.insert(Name::new(name)) {
+        Ok(is_new) => is_new,
+        Err(_) => false,
+    }
+}
+
+/// The attributes of a text; `None` where it is none, and where an allocation fails.
+fn read_flat<A: Allocator + Copy>(alloc: A, text: &str, file: u32) -> Option<Attrs<A>> {
+    let mut tokens = Tokens::new(text);
+    let mut names = BTreeSet::new(alloc);
+    let mut entries = Vec::new(alloc);
+    while !tokens.rest().is_empty() {
+        let SettingStep::Setting(next) = settings_step(&mut tokens, text.len()) else {
+            return None;
+        };
+        if !add_name(&mut names, next.name.text) {
+            return None;
+        }
+        let Ok(entry) = entry_of(alloc, next, file) else {
+            return None;
+        };
+        if let Err(failed) = entries.push(entry) {
+            // By a call: letting go of an entry here is as many steps again to prove.
+            drop(failed);
+            return None;
+        }
+    }
+    Some(Attrs {
+        entries,
+        end: Span::new(file, text.len(), text.len()),
+    })
+}
+
+/// The attributes that a text is. Spans have the file and the bytes of the text.
+///
+/// # Errors
+///
+/// The lexer's error as `Lex`, with the span of no bytes at its place, and its allocation
+/// failure as `Memory` there; else what the parser of [`Attrs`] rejects, which reports the text's end
+/// by the span of no bytes there.
+pub fn read<A: Allocator + Copy>(alloc: A, text: &str, file: u32) -> Result<Attrs<A>, Error<A>> {
+    match read_flat(alloc, text, file) {
+        Some(attrs) => Ok(attrs),
+        None => parse_all::<Attrs<A>, A>(alloc, text, file),
+    }
+}
