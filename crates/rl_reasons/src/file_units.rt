@@ -79,7 +79,7 @@ fn skip_escape(kind: Kind, following: &str) -> Option<&str>
         let blanks = strip_byte(after, b'\n')?;
         return Some(skip_blanks(blanks));
     }
-    let (_, rest) = escape(kind, following)?;
+    let (_, rest) = escape(kind, following, 0)?;
     Some(rest)
 }
 
