@@ -430,7 +430,7 @@ word_flaw_of t piece rest k digit opener truth is alone read = record {
   flaw_at = record {
     none = no_token_read t digit opener truth;
     stops = read.stops;
-    says = inr (inr (read.kind, ap lf_text is));
+    says = inr (inr (read.has, ap lf_text is));
   };
   piece_in = subst (IsFileRest t) (sym is) (rest_self t);
   rest_in = stops_rest t rest alone.stops;

@@ -7,8 +7,6 @@ use Rattle.std.specs.Str.{chars}
 use Rattle.rl_text.proofs.Basics.{apart}
 use Rattle.rl_reading.specs.Mirrors.NumberAt.{after_digits, after_power_sign, capped, digit_row_at, has_digit_at, has_value, magnitude_at, radix_at, radix_of}
 use Rattle.rl_reading.specs.Mirrors.PlainAt.{is_some_text}
-use Rattle.rl_strict.specs.Mirrors.StrictAt.{is_strict_number}
-use Rattle.rl_strict.specs.StrictShapes.{IsToken}
 use Rattle.rl_reasons.specs.declared.flaws.FlawKind.{FlawKind}
 use Rattle.rl_reasons.specs.declared.flaws.FlawKind.TheVariants.{BadSuffix, BasedFloat, DigitOfBase, NoDigits, NoExponentDigit, NoFractionDigit}
 use Rattle.rl_reasons.specs.declared.read_numbers.Number.{Number}
@@ -18,13 +16,12 @@ use Rattle.rl_reasons.specs.FileWalks.{IsFileStop}
 use Rattle.rl_reasons.specs.StrictNumberFlaws.{is_float_mark}
 use Rattle.rl_reasons.specs.StrictNumbersRead.{IsStop}
 use Rattle.rl_reasons.specs.Mirrors.NumberRead.{Ending, NumberRead, as_float, as_integer, based_read_at, digits_end_at, ended, fraction_end_at, number_outcome, number_read_at, power_end_at, stopped, suffix_end_at, whole_read_at}
-use Rattle.rl_reasons.specs.Mirrors.StrictFlawAt.{number_flaw_at, suffix_rest}
-use Rattle.rl_reasons.specs.Mirrors.UnitFlawAt.{found_flaw}
+use Rattle.rl_reasons.specs.Mirrors.StrictFlawAt.{suffix_rest}
 use Rattle.rl_reasons.proofs.FileTextLemmas.{by_first, other_kept, stops_rest, when_kept}
 use Rattle.rl_reasons.proofs.FileSuffixes.{both, first_read, front_read, run_read, some_read, suffix_rest_read}
-use Rattle.rl_reasons.proofs.ReadNumbers.{ReadOf, number_of}
-use Rattle.rl_reasons.proofs.StrictNumberKinds.{number_place}
-use Rattle.rl_reasons.proofs.StrictTokens.{token_number}
+use Rattle.rl_reasons.proofs.NumberEnds.{end_of, number_end_at}
+use Rattle.rl_reasons.proofs.ReadNumbers.{number_stop}
+use Rattle.rl_reasons.proofs.StrictNumberFlaws.{ReadJudged, number_judged}
 
 abbrev lf_ending : Ending → Ending
 lf_ending e = (e.0, lf_text e.1)
@@ -241,11 +238,8 @@ stopped_at k rest = (Some k, None, rest)
 
 stop_of : (t : List ℕ) (k : FlawKind) (rest : List ℕ) → first_passes is_ascii_digit t ≡ true → stopped_at k rest
     ≡ number_read_at t → IsStop t k rest
-stop_of t k rest d e =
-    let found = subst (ReadOf t (is_strict_number t) (number_flaw_at t)) (sym e) (number_of t d) in
-    let none : IsToken t → ⊥ = λ y. both_ways (is_strict_number t) found.0 (token_number t d y) in
-    let flaw = number_place t (found_flaw k rest) d none found.1 in
-    record { none = none; stops = flaw.stops; kind = flaw.kind }
+stop_of t k rest d e = number_stop t k rest d (ap end_of e) (subst (ReadJudged t number_end_at [] t) (sym e)
+    (number_judged t d))
 
 pub file_stop : (t : List ℕ) (r : Result Number Stop) → first_passes is_ascii_digit t ≡ true → number_outcome r
     ≡ number_read_at t → IfErr r (λ s. IsFileStop t s.kind (chars s.rest.now))

@@ -12,7 +12,7 @@ use Rattle.rl_reasons.specs.FileTexts.{ExplainsInFile, ExplainsSignedInFile, Exp
 use Rattle.rl_reasons.specs.declared.flaws.FlawKind.TheVariants.{NoNumber, Unfinished}
 use Rattle.rl_reasons.specs.Mirrors.UnitFlawAt.{FoundFlaw, found_flaw}
 use Rattle.rl_reasons.specs.Mirrors.WordFlawAt.{end_flaw_at}
-use Rattle.rl_reasons.proofs.ReadLemmas.{minus_alone, minus_number, number_flaw_at}
+use Rattle.rl_reasons.proofs.ReadLemmas.{minus_alone, minus_number}
 use Rattle.rl_reasons.specs.FileWalks.{IsFileFlaw, IsFileStop, IsFileRest, IsMinusFileStop, IsPastAt, IsPlaceAfter, IsRestPlace}
 use Rattle.rl_reasons.specs.Limits.{IsLimitFlaw, past_at}
 use Rattle.rl_reasons.specs.SignedFlaws.{IsSignedToken}
@@ -215,7 +215,11 @@ minus_alone_stop t rest k n same = record {
 pub number_flaw : (t rest : List ℕ) (k : FlawKind) → first_passes is_ascii_digit t ≡ true → IsFileStop t k rest
     → IsFileFlaw t k t rest
 number_flaw t rest k d s = record {
-  flaw_at = number_flaw_at (lf_text t) k (lf_text rest) (first_read is_ascii_digit refl t ∙ d) s.stop;
+  flaw_at = record {
+    none = s.stop.none;
+    stops = s.stop.stops;
+    says = inr (inl (first_read is_ascii_digit refl t ∙ d, s.stop.kind, refl));
+  };
   piece_in = rest_self t;
   rest_in = s.rest_in;
 }

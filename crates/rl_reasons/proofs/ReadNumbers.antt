@@ -85,7 +85,7 @@ kind_says BadSuffix front rest digit whole code says =
     none k e h = let same : BadSuffix ≡ k = cc in subst (λ z. IsDigitFlaw z front rest) (sym same) h
 kind_says k front rest digit whole code says = says
 
-number_stop : (t : List ℕ) (k : FlawKind) (rest : List ℕ) → first_passes is_ascii_digit t ≡ true
+pub number_stop : (t : List ℕ) (k : FlawKind) (rest : List ℕ) → first_passes is_ascii_digit t ≡ true
     → stopped k rest ≡ number_end_at t → TailFlaw number_end_at [] t k rest → IsStop t k rest
 number_stop t k rest d code f = record {
   none = λ y. both_ways (is_read (number_end_at t)) (sym (ap is_read code)) (number_passes t (token_number t d y));

@@ -1,4 +1,4 @@
-use Rattle.rl_text.proofs.Common.{◌≡◌, ◌∷◌, ◌∙◌, ap, Bor, List, None, ℕ, ne_eqb, option_map, rules}
+use Rattle.rl_text.proofs.Common.{IsCharBoundary-start, ◌≡◌, ◌∷◌, ◌∙◌, ap, Bor, List, None, ℕ, ne_eqb, option_map, rules}
 use Rattle.std.specs.Str.{chars}
 use Rattle.rl_reasons.specs.FileTexts.{lf_text}
 use Rattle.rl_reasons.proofs.FileUnits.{break_in, break_line_in, other_in, other_none, other_some}
@@ -28,3 +28,6 @@ returns-clause-value c = other_some c.args.kind _ _ _ _ _ c.in_ok-first.ensures.
 pub returns-clause-rest : goal.returns-clause-rest
 returns-clause-rest c = other_in c.args.kind _ _ _ _ _ c.requires c.in_ok-first.ensures.chars
     (ne_eqb _ 10 c.if-first-eq10.false) (ne_eqb _ 13 c.if-first-eq13.false) c.in_ok-rest.ensures.value
+
+pub escape-requires : goal.escape-requires
+escape-requires c = IsCharBoundary-start c.args.following.now c.utf8.following
