@@ -1,10 +1,10 @@
 -- The places of parts, as reading finds them, and what stands there.
-use Rattle.rl_reading.proofs.Names.{Byte, Char, Kind, ReadsAs, is_single, is_string}
-use Rattle.rl_text.proofs.Common.{IsUtf8, List, chars, or_left, or_right, false, subst, true, ℕ, ◌≡◌}
+use Rattle.rl_reading.proofs.Names.{Byte, Bytes, Char, Characters, HasContents, IsScalar, Kind, ReadsAs, is_single, is_string, quoted_contents}
+use Rattle.rl_text.proofs.Common.{IsUtf8, List, [], ◌∷◌, ◌<◌, ◌∙◌, chars, or_left, or_right, false, refl, subst, sym, true, ℕ, ◌≡◌}
 use Rattle.rl_forms.proofs.OneReading.{one_reading}
 use Rattle.rl_reading.specs.declared.found.Body.{Body}
 use Rattle.rl_reading.specs.declared.found.Found.{Found}
-use Rattle.rl_reading.specs.Bodies.{HasBody, HasSingleBody}
+use Rattle.rl_reading.specs.Bodies.{HasBody, HasSingleBody, SingleStandsFor}
 use Rattle.rl_reading.specs.Founds.{IsFound, IsUnitOf, body_in, is_quoted}
 use Rattle.rl_reading.proofs.FoundLemmas.{quoted_found_of}
 use Rattle.rl_reading.proofs.SingleBodies.{single_at}
@@ -33,9 +33,48 @@ pub single_body : (kind : Kind) (t : List ℕ) (body : Body) → is_single kind 
     → HasSingleBody kind (chars t) (body_in t body)
 single_body kind t body s at = single_at kind t body s (at.quoted (or_right (is_string kind) (is_single kind) s))
 
+-- what is held of the number of a character or a byte
+pub record HeldUnit (kind : Kind) (t : List ℕ) (n : ℕ) : Type 0 where
+  pub unit : is_single kind ≡ true → IsUnitOf kind (chars t) n
+  pub none : (kind ≡ Byte → ⊥) → (kind ≡ Char → ⊥) → n ≡ 0
+
+pub single_byte : (kind : Kind) → kind ≡ Byte → is_single kind ≡ true
+single_byte kind e = subst (λ (k : Kind). is_single k ≡ true) (sym e) refl
+
+pub single_character : (kind : Kind) → kind ≡ Char → is_single kind ≡ true
+single_character kind e = subst (λ (k : Kind). is_single k ≡ true) (sym e) refl
+
+pub held_byte : (kind : Kind) (t body : List ℕ) (n : ℕ) → kind ≡ Byte → HasSingleBody kind (chars t) body
+    → SingleStandsFor Byte body (Bytes (n ∷ [])) → n < 256 → HeldUnit kind t n
+held_byte kind t body n is has stands small = record {
+  unit = λ s. record {
+    reads = subst (λ (k : Kind). HasContents k (chars t) (quoted_contents k (n ∷ []))) (sym is)
+        (stands (chars t) (subst (λ (k : Kind). HasSingleBody k (chars t) body) is has));
+    byte = λ e. small;
+    character = λ e. absurd (let no : Byte ≡ Char = sym is ∙ e in cc);
+  };
+  none = λ b c. absurd (b is);
+}
+
+pub held_character : (kind : Kind) (t body : List ℕ) (n : ℕ) → kind ≡ Char → HasSingleBody kind (chars t) body
+    → SingleStandsFor Char body (Characters (n ∷ [])) → IsScalar n → HeldUnit kind t n
+held_character kind t body n is has stands scalar = record {
+  unit = λ s. record {
+    reads = subst (λ (k : Kind). HasContents k (chars t) (quoted_contents k (n ∷ []))) (sym is)
+        (stands (chars t) (subst (λ (k : Kind). HasSingleBody k (chars t) body) is has));
+    byte = λ e. absurd (let no : Char ≡ Byte = sym is ∙ e in cc);
+    character = λ e. scalar;
+  };
+  none = λ b c. absurd (c is);
+}
+
+pub held_none : (kind : Kind) (t : List ℕ) → (kind ≡ Byte → ⊥) → (kind ≡ Char → ⊥) → HeldUnit kind t 0
+held_none Byte t b c = absurd (b refl)
+held_none Char t b c = absurd (c refl)
+held_none kind t b c = record { unit = λ s. absurd (cc); none = λ d e. refl }
+
 -- what reading finds, from the places that are held
 pub held_found : (kind : Kind) (t : List ℕ) (body : Body) (n : ℕ) (found : Found) → IsUtf8 t → is_quoted kind ≡ true
-    → StandsAt kind t body → (is_single kind ≡ true → IsUnitOf kind (chars t) n)
-    → ((kind ≡ Byte → ⊥) → (kind ≡ Char → ⊥) → n ≡ 0)
+    → StandsAt kind t body → HeldUnit kind t n
     → found ≡ record { kind = kind; body = body; magnitude = 0; truth = false; unit = n } → IsFound t found
-held_found kind t body n found u h at unit none is = quoted_found_of t kind body n found u (at.quoted h) unit none is
+held_found kind t body n found u h at held is = quoted_found_of t kind body n found u (at.quoted h) held.unit held.none is

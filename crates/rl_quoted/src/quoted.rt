@@ -121,13 +121,21 @@ impl<K: QuotedKind, A: Allocator> Quoted<K, A> {
         (&self.token.text()[body.lo..body.hi], body.plain)
     }
 
+    /// What stands between the quotes.
+    fn between(&self) -> &str
+        ensures single { IsTrue (is_single K.KIND) → HasSingleBody K.KIND (chars self.now.text) result.now }
+        ensures text { IsUtf8 self.now.text }
+    {
+        let body = self.body;
+        &self.token.text()[body.lo..body.hi]
+    }
+
     /// What stands between the quotes of a character or a byte.
     pub(crate) fn single_body(&self) -> &str
         requires { IsTrue (is_single K.KIND) }
         ensures { HasSingleBody K.KIND (chars self.now.text) result.now }
     {
-        let body = self.body;
-        &self.token.text()[body.lo..body.hi]
+        self.between()
     }
 
     /// What reading the token's text finds, as [`find`] does, by the places that are kept: nothing is looked for again.
@@ -136,9 +144,10 @@ impl<K: QuotedKind, A: Allocator> Quoted<K, A> {
         ensures found { IsFound self.now.text result }
         ensures kind { result.kind ≡ K.KIND }
     {
+        let between = self.between();
         let unit = match K::KIND {
-            Kind::Byte => byte_of_body(self.single_body()) as u32,
-            Kind::Char => char_of_body(self.single_body()) as u32,
+            Kind::Byte => byte_of_body(between) as u32,
+            Kind::Char => char_of_body(between) as u32,
             _ => 0,
         };
         Found {
