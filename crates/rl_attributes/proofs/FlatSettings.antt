@@ -1,5 +1,5 @@
 -- The trees of a setting that is cut off a text.
-use Rattle.rl_text.proofs.Common.{◌≡◌, ◌≢◌, ℕ, ◌+◌, ◌<◌, ◌≤◌, ◌⊎◌, inl, inr, Bool, true, false, List, [], ◌∷◌, ◌++◌, length, length-append, Option, Some, None, refl, sym, ◌∙◌, ap, subst, arith, nat_tests, append_assoc, chars, encodes-append, encode_utf8_all, length-encode, len_utf8_bounds, if◌then◌else◌, ◌==◌}
+use Rattle.rl_text.proofs.Common.{◌≡◌, ◌≢◌, ℕ, ◌+◌, ◌<◌, ◌≤◌, ◌⊎◌, inl, inr, Bool, true, false, List, [], ◌∷◌, ◌++◌, length, length-append, Option, Some, None, refl, sym, ◌∙◌, ap, subst, arith, nat_tests, append_assoc, chars, codes, encode_ascii, length-encode, len_utf8_bounds, replicate, if◌then◌else◌, ◌==◌}
 use Rattle.std.specs.Prelude.{min, max, IsSomeAnd}
 use Prim.Native.Char.{code}
 use Rattle.rl_text.specs.declared.span.Span.{Span}
@@ -9,7 +9,7 @@ use Rattle.rl_forms.specs.declared.kind.Kind.{Kind}
 use Rattle.rl_forms.specs.declared.kind.Kind.TheVariants.{Bool as BoolKind}
 use Rattle.rl_forms.specs.Reading.{ReadsAs, Reads}
 use Rattle.rl_lexer.specs.declared.cursor.Lexeme.{Lexeme as Lent}
-use Rattle.rl_lexer.specs.Lexemes.{Lexeme, QuotedLexeme, RawLexeme, CharacterLexeme, BasedLexeme, DecimalLexeme, IdentifierLexeme, DelimiterLexeme, MarkLexeme, lexeme_text, LexemeForm, LiteralForm, IdentifierForm, DelimiterForm, MarkForm, form_of}
+use Rattle.rl_lexer.specs.Lexemes.{Lexeme, QuotedLexeme, RawLexeme, CharacterLexeme, BasedLexeme, DecimalLexeme, IdentifierLexeme, DelimiterLexeme, MarkLexeme, lexeme_text, prefix_text, body_text, character_body_text, lexed_fraction_text, lexed_exponent_text, LexemeForm, LiteralForm, IdentifierForm, DelimiterForm, MarkForm, form_of}
 use Rattle.rl_lexer.specs.Cursors.{form_view, CursorState, TakesNext}
 use Rattle.rl_lexer.proofs.CutLemmas.{byte_len-append}
 use Rattle.rl_reading.specs.declared.found.Found.{Found}
@@ -51,10 +51,6 @@ takes_both file a b c xs ys p q =
           (subst (λ (t : List ℕ). Into t ((done ++ xs) ++ ys)) p.same second);
       same = q.same ∙ p.same;
     }
-
-pub takes_none : (file : ℕ) (a b : CursorState) → b ≡ a → TakesTrees file a [] b
-takes_none file a b e =
-    subst (λ (c : CursorState). TakesTrees file a [] c) (sym e) (record { cuts = λ done h. h; same = refl })
 
 takes_name : (file : ℕ) (old new : CursorState) (l : Lent) → TakesName old l new
     → TakesTrees file old (IdentTree (token_at file l) ∷ []) new
@@ -98,20 +94,25 @@ some_front a b h = omega (arith, byte_len-append a b)
 
 -- a lexeme has bytes
 lexeme_long : (l : Lexeme) → 1 ≤ byte_len (lexeme_text l)
-lexeme_long (QuotedLexeme p parts x) = some_back _ _ (some_char _ _)
-lexeme_long (RawLexeme p n body x) = some_front _ _ (some_back _ _ (some_char _ _))
-lexeme_long (CharacterLexeme b inside x) = some_back _ _ (some_char _ _)
-lexeme_long (BasedLexeme letter digits) = some_char _ _
-lexeme_long (DecimalLexeme d more fr ex x) = some_front _ _ (some_char _ _)
-lexeme_long (IdentifierLexeme c more) = some_char _ _
-lexeme_long (DelimiterLexeme c) = some_char _ _
-lexeme_long (MarkLexeme c) = some_char _ _
+lexeme_long (QuotedLexeme p parts x) =
+    some_back (prefix_text p ++ (34 ∷ body_text parts)) (34 ∷ x) (some_char 34 x)
+lexeme_long (RawLexeme p n body x) =
+    let front : List ℕ = (prefix_text p ++ (114 ∷ replicate n 35)) ++ (34 ∷ body) in
+    some_front (front ++ (34 ∷ replicate n 35)) x (some_back front (34 ∷ replicate n 35) (some_char 34 (replicate n 35)))
+lexeme_long (CharacterLexeme b inside x) =
+    some_back ((if b then codes "b" else []) ++ (39 ∷ character_body_text inside)) (39 ∷ x) (some_char 39 x)
+lexeme_long (BasedLexeme letter digits) = some_char 48 (letter ∷ digits)
+lexeme_long (DecimalLexeme d more fr ex x) =
+    some_front (d ∷ more) (lexed_fraction_text fr ++ (lexed_exponent_text ex ++ x)) (some_char d more)
+lexeme_long (IdentifierLexeme c more) = some_char c more
+lexeme_long (DelimiterLexeme c) = some_char c []
+lexeme_long (MarkLexeme c) = some_char c []
 
 -- a minus has one
 minus_short : (l : Lexeme) → form_of l ≡ MarkForm 45 → byte_len (lexeme_text l) ≡ 1
 minus_short (MarkLexeme c) e =
     let same : c ≡ 45 = cc in
-    ap (λ (k : ℕ). byte_len (k ∷ [])) same ∙ refl
+    ap (λ (k : ℕ). byte_len (k ∷ [])) same ∙ ap length (ap (λ x. x ++ []) (encode_ascii 45 (omega arith)))
 minus_short (QuotedLexeme p parts x) e = absurd (cc)
 minus_short (RawLexeme p n body x) e = absurd (cc)
 minus_short (CharacterLexeme b inside x) e = absurd (cc)

@@ -13,8 +13,8 @@ ghost use Rattle.rl_attributes.specs.NextEntries.{value_token, IsEntryOf};
 
 use super::name::Name;
 use super::{Attrs, Entry};
-use rl_settings::{NextSetting, SettingStep, settings_step};
 use rl_reading::NextLiteral;
+use rl_settings::{NextSetting, SettingStep, settings_step};
 use rl_tokens::{Error, Literal, Span, Tokens, parse_all};
 use rust_literals::Lit;
 use std::alloc::{AllocError, Allocator};
@@ -65,8 +65,8 @@ fn add_name<'a, A: Allocator + Copy>(names: &mut BTreeSet<Name<'a>, A>, name: &'
     ensures adds { IsTrue result → AddsName names.old names.new name.now }
 {
     match names.insert(Name::new(name)) {
-        Ok(is_new) => is_new,
-        Err(_) => false,
+        Ok(true) => true,
+        _ => false,
     }
 }
 

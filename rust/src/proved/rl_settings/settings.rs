@@ -65,11 +65,19 @@ fn tree_end(form: Form, hi: usize, following: &Tokens<'_>) -> usize {
 fn missed(tokens: &Tokens<'_>, end: usize, part: Part) -> SyntaxError {
     if tokens.rest().is_empty() {
         let kind = SyntaxErrorKind::EndOfInput(part);
-        return SyntaxError { kind, lo: end, hi: end };
+        return SyntaxError {
+            kind,
+            lo: end,
+            hi: end,
+        };
     }
     if let Some(error) = tokens.error() {
         let kind = lexer_error(error.kind);
-        return SyntaxError { kind, lo: error.at, hi: error.at };
+        return SyntaxError {
+            kind,
+            lo: error.at,
+            hi: error.at,
+        };
     }
     let mut ahead = tokens.fork();
     match ahead.next() {
