@@ -2,8 +2,8 @@
 //! and under `places` an answer of `tools/places_model.py`. So the package is held against what other programs say.
 
 use navyspindle::{
-    is_token, settings, write_byte, write_byte_str, write_char, write_str, ErrorKind, Lit,
-    Segment, SegmentValue,
+    is_token, settings, write_byte, write_byte_str, write_char, write_str, ErrorKind, Lit, Segment,
+    SegmentValue,
 };
 use std::borrow::Cow;
 use std::io::{self, BufWriter, Write};

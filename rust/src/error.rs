@@ -2,8 +2,8 @@
 
 use crate::rl_lexer::{LexError, Sources};
 use crate::rl_reading::Rejection;
-pub use crate::rl_settings::{Part, SyntaxErrorKind as ErrorKind};
 use crate::rl_settings::{lexer_error, list_error};
+pub use crate::rl_settings::{Part, SyntaxErrorKind as ErrorKind};
 use core::fmt;
 use core::ops::Range;
 

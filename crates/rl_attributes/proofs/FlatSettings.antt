@@ -1,5 +1,5 @@
 -- The trees of a setting that is cut off a text.
-use Rattle.rl_text.proofs.Common.{◌≡◌, ◌≢◌, ℕ, ◌+◌, ◌<◌, ◌≤◌, ◌⊎◌, inl, inr, Bool, true, false, List, [], ◌∷◌, ◌++◌, length, length-append, Option, Some, None, refl, sym, ◌∙◌, ap, subst, arith, nat_tests, append_assoc, chars, encodes-append, encode_utf8_all, length-encode, len_utf8_bounds, if◌then◌else◌, ◌==◌}
+use Rattle.rl_text.proofs.Common.{◌≡◌, ◌≢◌, ℕ, ◌+◌, ◌<◌, ◌≤◌, ◌⊎◌, inl, inr, Bool, true, false, List, [], ◌∷◌, ◌++◌, length, length-append, Option, Some, None, refl, sym, ◌∙◌, ap, subst, arith, nat_tests, append_assoc, chars, codes, encode_ascii, length-encode, len_utf8_bounds, replicate, if◌then◌else◌, ◌==◌}
 use Rattle.std.specs.Prelude.{min, max, IsSomeAnd}
 use Prim.Native.Char.{code}
 use Rattle.rl_text.specs.declared.span.Span.{Span}
@@ -9,7 +9,7 @@ use Rattle.rl_forms.specs.declared.kind.Kind.{Kind}
 use Rattle.rl_forms.specs.declared.kind.Kind.TheVariants.{Bool as BoolKind}
 use Rattle.rl_forms.specs.Reading.{ReadsAs, Reads}
 use Rattle.rl_lexer.specs.declared.cursor.Lexeme.{Lexeme as Lent}
-use Rattle.rl_lexer.specs.Lexemes.{Lexeme, QuotedLexeme, RawLexeme, CharacterLexeme, BasedLexeme, DecimalLexeme, IdentifierLexeme, DelimiterLexeme, MarkLexeme, lexeme_text, LexemeForm, LiteralForm, IdentifierForm, DelimiterForm, MarkForm, form_of}
+use Rattle.rl_lexer.specs.Lexemes.{Lexeme, QuotedLexeme, RawLexeme, CharacterLexeme, BasedLexeme, DecimalLexeme, IdentifierLexeme, DelimiterLexeme, MarkLexeme, lexeme_text, prefix_text, body_text, character_body_text, lexed_fraction_text, lexed_exponent_text, LexemeForm, LiteralForm, IdentifierForm, DelimiterForm, MarkForm, form_of}
 use Rattle.rl_lexer.specs.Cursors.{form_view, CursorState, TakesNext}
 use Rattle.rl_lexer.proofs.CutLemmas.{byte_len-append}
 use Rattle.rl_reading.specs.declared.found.Found.{Found}
@@ -27,7 +27,7 @@ use Rattle.rust_literals.proofs.FlatLemmas.{tree_more}
 use Rattle.rust_literals.proofs.LitLemmas.{found_behind}
 use Rattle.rl_attributes.specs.Attributes.{Attribute, IsAttribute}
 use Rattle.rl_attributes.specs.AttributeSteps.{IsNext}
-use Rattle.rl_attributes.specs.NextEntries.{token_at, signed_token, value_token, attribute_at}
+use Rattle.rl_attributes.specs.NextEntries.{lent_token, signed_token, value_token, attribute_at}
 
 -- ---- the tokens that are cut off, as trees
 
@@ -52,21 +52,17 @@ takes_both file a b c xs ys p q =
       same = q.same ∙ p.same;
     }
 
-pub takes_none : (file : ℕ) (a b : CursorState) → b ≡ a → TakesTrees file a [] b
-takes_none file a b e =
-    subst (λ (c : CursorState). TakesTrees file a [] c) (sym e) (record { cuts = λ done h. h; same = refl })
-
 takes_name : (file : ℕ) (old new : CursorState) (l : Lent) → TakesName old l new
-    → TakesTrees file old (IdentTree (token_at file l) ∷ []) new
+    → TakesTrees file old (IdentTree (lent_token file l) ∷ []) new
 takes_name file old new l (t, is) = record {
-  cuts = λ done c. tree_more file old new l IdentifierForm (IdentTree (token_at file l)) done t is refl refl tt c;
+  cuts = λ done c. tree_more file old new l IdentifierForm (IdentTree (lent_token file l)) done t is refl refl tt c;
   same = t.same;
 }
 
 takes_literal : (file : ℕ) (old new : CursorState) (l : Lent) → TakesNext old l new → form_view l.form ≡ LiteralForm
-    → TakesTrees file old (LiteralTree (token_at file l) ∷ []) new
+    → TakesTrees file old (LiteralTree (lent_token file l) ∷ []) new
 takes_literal file old new l t is = record {
-  cuts = λ done c. tree_more file old new l LiteralForm (LiteralTree (token_at file l)) done t is refl refl tt c;
+  cuts = λ done c. tree_more file old new l LiteralForm (LiteralTree (lent_token file l)) done t is refl refl tt c;
   same = t.same;
 }
 
@@ -98,20 +94,26 @@ some_front a b h = omega (arith, byte_len-append a b)
 
 -- a lexeme has bytes
 lexeme_long : (l : Lexeme) → 1 ≤ byte_len (lexeme_text l)
-lexeme_long (QuotedLexeme p parts x) = some_back _ _ (some_char _ _)
-lexeme_long (RawLexeme p n body x) = some_front _ _ (some_back _ _ (some_char _ _))
-lexeme_long (CharacterLexeme b inside x) = some_back _ _ (some_char _ _)
-lexeme_long (BasedLexeme letter digits) = some_char _ _
-lexeme_long (DecimalLexeme d more fr ex x) = some_front _ _ (some_char _ _)
-lexeme_long (IdentifierLexeme c more) = some_char _ _
-lexeme_long (DelimiterLexeme c) = some_char _ _
-lexeme_long (MarkLexeme c) = some_char _ _
+lexeme_long (QuotedLexeme p parts x) =
+    some_back (prefix_text p ++ (34 ∷ body_text parts)) (34 ∷ x) (some_char 34 x)
+lexeme_long (RawLexeme p n body x) =
+    let front : List ℕ = (prefix_text p ++ (114 ∷ replicate n 35)) ++ (34 ∷ body) in
+    some_front (front ++ (34 ∷ replicate n 35)) x (some_back front (34 ∷ replicate n 35)
+    (some_char 34 (replicate n 35)))
+lexeme_long (CharacterLexeme b inside x) =
+    some_back ((if b then codes "b" else []) ++ (39 ∷ character_body_text inside)) (39 ∷ x) (some_char 39 x)
+lexeme_long (BasedLexeme letter digits) = some_char 48 (letter ∷ digits)
+lexeme_long (DecimalLexeme d more fr ex x) =
+    some_front (d ∷ more) (lexed_fraction_text fr ++ (lexed_exponent_text ex ++ x)) (some_char d more)
+lexeme_long (IdentifierLexeme c more) = some_char c more
+lexeme_long (DelimiterLexeme c) = some_char c []
+lexeme_long (MarkLexeme c) = some_char c []
 
 -- a minus has one
 minus_short : (l : Lexeme) → form_of l ≡ MarkForm 45 → byte_len (lexeme_text l) ≡ 1
 minus_short (MarkLexeme c) e =
     let same : c ≡ 45 = cc in
-    ap (λ (k : ℕ). byte_len (k ∷ [])) same ∙ refl
+    ap (λ (k : ℕ). byte_len (k ∷ [])) same ∙ ap length (ap (λ x. x ++ []) (encode_ascii 45 (omega arith)))
 minus_short (QuotedLexeme p parts x) e = absurd (cc)
 minus_short (RawLexeme p n body x) e = absurd (cc)
 minus_short (CharacterLexeme b inside x) e = absurd (cc)
@@ -158,14 +160,18 @@ one_token : (file : ℕ) (old new : CursorState) (value : NextLiteral) (f : Lexe
     → form_view value.token.form ≡ f → IsLiteralToken f value.token.text.now value.found → value.minus_at ≡ None
     → TakesFront file old value new
 one_token file old new value LiteralForm t is h none = record {
-  trees = LiteralTree (token_at file value.token) ∷ [];
+  trees = LiteralTree (lent_token file value.token) ∷ [];
   takes = takes_literal file old new value.token t is;
   front = λ following. (ap (λ m. signed_token file m value.token) none, refl);
 }
 one_token file old new value IdentifierForm t is h none = record {
-  trees = IdentTree (token_at file value.token) ∷ [];
+  trees = IdentTree (lent_token file value.token) ∷ [];
   takes = takes_name file old new value.token (t, is);
-  front = λ following. (truth_of value.token.text.now value.found h, ap (λ m. signed_token file m value.token) none, refl);
+  front = λ following. (
+    truth_of value.token.text.now value.found h,
+    ap (λ m. signed_token file m value.token) none,
+    refl,
+  );
 }
 one_token file old new value (DelimiterForm c) t is h none = absurd h
 one_token file old new value (MarkForm c) t is h none = absurd h
@@ -178,12 +184,13 @@ signed file old new value n =
     let order = number_behind old n.between new m l n.takes_minus n.takes_number n.is_minus in
     let span : joined_span (record { file = file; lo = m.lo; hi = m.hi }) (record { file = file; lo = l.lo; hi = l.hi })
     ≡ record { file = file; lo = m.lo; hi = l.hi } = joined_is file m.lo m.hi l.lo l.hi order.0 order.1 in
-    let token : value_token file value ≡ joined (mark_at 45 file m) (token_at file l) =
+    let token : value_token file value ≡ joined (mark_at 45 file m) (lent_token file l) =
     ap (λ o. signed_token file o l) n.minus_is
     ∙ ap (λ s. let t : SpannedText = record { text = 45 ∷ l.text.now; span = s } in t) (sym span) in
     record {
-      trees = PunctTree (mark_at 45 file m) ∷ LiteralTree (token_at file l) ∷ [];
-      takes = takes_both file old n.between new (PunctTree (mark_at 45 file m) ∷ []) (LiteralTree (token_at file l) ∷ [])
+      trees = PunctTree (mark_at 45 file m) ∷ LiteralTree (lent_token file l) ∷ [];
+      takes = takes_both file old n.between new (PunctTree (mark_at 45 file m) ∷ [])
+          (LiteralTree (lent_token file l) ∷ [])
           (takes_mark 45 file old n.between m n.takes_minus n.is_minus)
           (takes_literal file n.between new l n.takes_number n.is_number);
       front = λ following. (refl, found_behind l.text.now n.found n.is_found, token, refl);
@@ -206,8 +213,8 @@ pub record TakesAttribute (file : ℕ) (old : CursorState) (a : Attribute) (new 
 -- an attribute's trees
 attribute_trees : (file : ℕ) (name eq : Lent) (value : NextLiteral) (trees following : List Tree)
     → IsFront (trees ++ following) (value_token file value) following
-    → IsAttribute ((IdentTree (token_at file name) ∷ PunctTree (mark_at 61 file eq) ∷ trees) ++ following)
-    (record { name = token_at file name; literal = value_token file value }) following
+    → IsAttribute ((IdentTree (lent_token file name) ∷ PunctTree (mark_at 61 file eq) ∷ trees) ++ following)
+    (record { name = lent_token file name; literal = value_token file value }) following
 attribute_trees file name eq value trees following front = record {
   at_equals = PunctTree (mark_at 61 file eq) ∷ (trees ++ following);
   at_literal = trees ++ following;
@@ -248,7 +255,7 @@ pub takes_attribute : (file : ℕ) (old new : CursorState) (s : NextSetting) →
 takes_attribute file old new s t =
     let (eq, takes_eq, eq_is) = t.sets.equals in
     let value = takes_value file t.sets.at_literal t.sets.following s.value t.sets.literal in
-    let name : Tree = IdentTree (token_at file s.name) in
+    let name : Tree = IdentTree (lent_token file s.name) in
     let equals : Tree = PunctTree (mark_at 61 file eq) in
     let front : TakesTrees file old (name ∷ equals ∷ []) t.sets.at_literal =
     takes_both file old t.following t.sets.at_literal (name ∷ []) (equals ∷ [])

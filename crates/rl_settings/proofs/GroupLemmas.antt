@@ -17,7 +17,7 @@ use Rattle.rl_lexer.proofs.CutLemmas.{open_more}
 use Rattle.rl_lexer.proofs.LexemeFronts.{among}
 use Rattle.rl_lexer.proofs.ErrorKinds.{rest_place}
 use Rattle.rl_settings.specs.declared.groups.Opened.{Opened}
-use Rattle.rl_settings.specs.Groups.{open_view, ClosesWrong, OpensTooDeep, RejectsForm, EndsOpen}
+use Rattle.rl_settings.specs.Groups.{open_view, ClosesOther, OpensPast, StopsForm, EndsOpen}
 use Rattle.rl_settings.specs.WholeCuts.{IsCutWhole}
 
 -- ---- the array
@@ -111,20 +111,21 @@ closer_is c h other =
     let either : (is_opener c || is_closer c) ≡ true = among delimiters (λ k. is_opener k || is_closer k) c refl h in
     subst (λ (b : Bool). (b || is_closer c) ≡ true) other either
 
-closes_wrong : (groups : List OpenGroup) (l : Lexeme) (after : List ℕ) → IsLexeme l after → ClosesWrong groups (form_of l)
+closes_wrong : (groups : List OpenGroup) (l : Lexeme) (after : List ℕ) → IsLexeme l after
+    → ClosesOther groups (form_of l)
     → ErrorAt UnmatchedClose groups (lexeme_text l ++ after)
 closes_wrong groups (DelimiterLexeme c) after is h =
     ap (λ b. b && not (closes groups c)) (closer_is c is h.0) ∙ ap not h.1
 closes_wrong groups l after is h = absurd h
 
-opens_deep : (groups : List OpenGroup) (l : Lexeme) (after : List ℕ) → OpensTooDeep groups (form_of l)
+opens_deep : (groups : List OpenGroup) (l : Lexeme) (after : List ℕ) → OpensPast groups (form_of l)
     → ErrorAt TooDeep groups (lexeme_text l ++ after)
 opens_deep groups (DelimiterLexeme c) after h = h
 opens_deep groups l after h = absurd h
 
 rejected_lexeme : (text rest after : List ℕ) (groups : List OpenGroup) (l : Lexeme) (kind : LexKind) (at : ℕ)
     → IsUtf8 text → HasPassed text rest groups → at + length rest ≡ length text → chars rest ≡ lexeme_text l ++ after
-    → IsLexeme l after → RejectsForm groups (form_of l) kind → HasFirstError (chars text) kind at
+    → IsLexeme l after → StopsForm groups (form_of l) kind → HasFirstError (chars text) kind at
 rejected_lexeme text rest after groups l UnmatchedClose at is has place same whole h =
     let here : ErrorAt UnmatchedClose groups (chars rest) = subst (λ (r : List ℕ). ErrorAt UnmatchedClose groups r)
     (sym same) (closes_wrong groups l after whole h) in
@@ -137,11 +138,11 @@ rejected_lexeme text rest after groups l _ at is has place same whole h = absurd
 
 pub rejected_token : (text : List ℕ) (from to : CursorState) (groups : List OpenGroup) (l : Borrowed) (kind : LexKind)
     → IsUtf8 text → from.text ≡ text → HasPassed text from.rest groups → TakesNext from l to
-    → RejectsForm groups (form_view l.form) kind → HasFirstError (chars text) kind l.lo
+    → StopsForm groups (form_view l.form) kind → HasFirstError (chars text) kind l.lo
 rejected_token text from to groups l kind is same has next h =
     rejected_lexeme text from.rest next.after groups next.cut.lexeme kind l.lo is has
     (omega (arith, next.place, ap length same)) next.begins next.is_lexeme
-    (subst (λ (f : LexemeForm). RejectsForm groups f kind) (sym next.is_cut.form_is) h)
+    (subst (λ (f : LexemeForm). StopsForm groups f kind) (sym next.is_cut.form_is) h)
 
 -- the cursor stays where no token begins what is left, and tells the error
 pub error_told : (text : List ℕ) (old new : CursorState) (groups : List OpenGroup) (e : LexError) → old.text ≡ text

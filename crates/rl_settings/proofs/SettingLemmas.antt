@@ -22,7 +22,8 @@ pub no_memory : (kind : LexKind) (r : List ℕ) → ((groups : List OpenGroup) �
 no_memory kind r h e = subst (λ (k : LexKind). ErrorAt k [] r) e (h [])
 
 -- something is left
-pub some_rest : (rest now : List ℕ) (empty : Bool) → now ≡ rest → empty ≡ (length now == 0) → empty ≡ false → rest ≡ [] → ⊥
+pub some_rest : (rest now : List ℕ) (empty : Bool) → now ≡ rest → empty ≡ (length now == 0) → empty ≡ false → rest ≡ []
+    → ⊥
 some_rest rest now empty same is none e =
     let q : (length now == 0) ≡ true = ap (λ (t : List ℕ). length t == 0) (same ∙ e) in
     absurd (cc)

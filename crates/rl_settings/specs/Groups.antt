@@ -12,8 +12,8 @@ abbrev pub open_view : Opened → OpenGroup
 open_view o = record { opener = o.opener; at = o.at }
 
 -- the groups that are open, the innermost first
-abbrev pub groups_of : Groups → List OpenGroup
-groups_of g = map open_view (drop g.start g.groups)
+abbrev pub open_in : Groups → List OpenGroup
+open_in g = map open_view (drop g.start g.groups)
 
 -- the innermost open group, where one is open
 abbrev pub IsInnermost : List OpenGroup → Option Opened → Type 0
@@ -21,19 +21,19 @@ IsInnermost groups None = groups ≡ []
 IsInnermost groups (Some o) = (others : List OpenGroup) × (groups ≡ open_view o ∷ others)
 
 -- a closing delimiter that isn't that of the innermost open group; an opening one with 128 groups open
-abbrev pub ClosesWrong : List OpenGroup → LexemeForm → Type 0
-ClosesWrong groups (DelimiterForm c) = IsFalse (is_opener c) × IsFalse (closes groups c)
-ClosesWrong groups _ = ⊥
+abbrev pub ClosesOther : List OpenGroup → LexemeForm → Type 0
+ClosesOther groups (DelimiterForm c) = IsFalse (is_opener c) × IsFalse (closes groups c)
+ClosesOther groups _ = ⊥
 
-abbrev pub OpensTooDeep : List OpenGroup → LexemeForm → Type 0
-OpensTooDeep groups (DelimiterForm c) = IsTrue (is_opener c) × (length groups ≡ 128)
-OpensTooDeep groups _ = ⊥
+abbrev pub OpensPast : List OpenGroup → LexemeForm → Type 0
+OpensPast groups (DelimiterForm c) = IsTrue (is_opener c) × (length groups ≡ 128)
+OpensPast groups _ = ⊥
 
 -- why no token of this form can stand where these groups are open
-abbrev pub RejectsForm : List OpenGroup → LexemeForm → LexKind → Type 0
-RejectsForm groups form UnmatchedClose = ClosesWrong groups form
-RejectsForm groups form TooDeep = OpensTooDeep groups form
-RejectsForm groups form _ = ⊥
+abbrev pub StopsForm : List OpenGroup → LexemeForm → LexKind → Type 0
+StopsForm groups form UnmatchedClose = ClosesOther groups form
+StopsForm groups form TooDeep = OpensPast groups form
+StopsForm groups form _ = ⊥
 
 -- The text ends where groups are open.
 pub record EndsOpen (groups : List OpenGroup) (e : LexError) : Type 0 where

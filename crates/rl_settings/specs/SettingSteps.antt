@@ -57,15 +57,15 @@ depth_after _ depth = depth
 
 -- These are the next tokens, up to where no group is open, or where no token can be cut off; the
 -- last of them ends at the byte `hi`, the token before them at `end`.
-abbrev pub AreInside : ℕ → ℕ → CursorState → List Lexeme → ℕ → Type 0
-AreInside depth end t [] hi = ((depth ≡ 0) ⊎ BeginsNoLexeme (chars t.rest)) × (hi ≡ end)
-AreInside depth end t (l ∷ ls) hi =
+abbrev pub AreRestOfTree : ℕ → ℕ → CursorState → List Lexeme → ℕ → Type 0
+AreRestOfTree depth end t [] hi = ((depth ≡ 0) ⊎ BeginsNoLexeme (chars t.rest)) × (hi ≡ end)
+AreRestOfTree depth end t (l ∷ ls) hi =
     (depth ≢ 0) × ((new : CursorState) × TakesNext t l new
-    × AreInside (depth_after (form_view l.form) depth) l.hi new ls hi)
+    × AreRestOfTree (depth_after (form_view l.form) depth) l.hi new ls hi)
 
 -- a tree of which so much is open ends at the byte `hi`
 abbrev pub EndsInside : ℕ → ℕ → CursorState → ℕ → Type 0
-EndsInside depth end t hi = (inside : List Lexeme) × AreInside depth end t inside hi
+EndsInside depth end t hi = (inside : List Lexeme) × AreRestOfTree depth end t inside hi
 
 -- The text ends here.
 pub record MissesAtEnd (t : CursorState) (part : Part) (e : SyntaxError) : Type 0 where
@@ -100,43 +100,43 @@ HasNo Is t =
     ⊎ ((l : Lexeme) × (new : CursorState) × TakesNext t l new × (Is (form_view l.form) → ⊥))
 
 -- No identifier stands next.
-pub record MissesName (t : CursorState) (e : SyntaxError) : Type 0 where
+pub record LacksName (t : CursorState) (e : SyntaxError) : Type 0 where
   pub none : HasNo (λ form. form ≡ IdentifierForm) t
   pub missed : Misses t Name e
 
 -- This mark doesn't stand next.
-pub record MissesMark (c : ℕ) (part : Part) (t : CursorState) (e : SyntaxError) : Type 0 where
+pub record LacksMark (c : ℕ) (part : Part) (t : CursorState) (e : SyntaxError) : Type 0 where
   pub none : HasNo (λ form. form ≡ MarkForm c) t
   pub missed : Misses t part e
 
 -- No literal stands next.
-pub record MissesLiteral (t : CursorState) (e : SyntaxError) : Type 0 where
+pub record LacksLiteral (t : CursorState) (e : SyntaxError) : Type 0 where
   pub none : HasNoNextLiteral t
   pub missed : Misses t Literal e
 
 -- Something stands next, and it is no comma.
-pub record MissesComma (t : CursorState) (e : SyntaxError) : Type 0 where
+pub record LacksComma (t : CursorState) (e : SyntaxError) : Type 0 where
   pub some : t.rest ≢ []
-  pub none : MissesMark (code ",") Comma t e
+  pub none : LacksMark (code ",") Comma t e
 
 -- After a name: `=`, and no literal; or both, and no comma.
-pub record MissesLiteralAfter (t : CursorState) (e : SyntaxError) : Type 0 where
+pub record LacksLiteralAfter (t : CursorState) (e : SyntaxError) : Type 0 where
   pub at_literal : CursorState
   pub equals : TakesMark (code "=") t at_literal
-  pub missed : MissesLiteral at_literal e
+  pub missed : LacksLiteral at_literal e
 
-pub record MissesCommaAfter (t : CursorState) (e : SyntaxError) : Type 0 where
+pub record LacksCommaAfter (t : CursorState) (e : SyntaxError) : Type 0 where
   pub at_literal : CursorState
   pub value : NextLiteral
   pub following : CursorState
   pub equals : TakesMark (code "=") t at_literal
   pub literal : TakesNextLiteral at_literal value following
-  pub missed : MissesComma following e
+  pub missed : LacksComma following e
 
 -- After a name the first of `=`, a literal, and a comma or the end that is missed.
-abbrev pub MissesValue : CursorState → SyntaxError → Type 0
-MissesValue t e =
-    MissesMark (code "=") Equals t e ⊎ MissesLiteralAfter t e ⊎ MissesCommaAfter t e
+abbrev pub LacksValue : CursorState → SyntaxError → Type 0
+LacksValue t e =
+    LacksMark (code "=") Equals t e ⊎ LacksLiteralAfter t e ⊎ LacksCommaAfter t e
 
 -- A name stands there, and what it is set to is missed.
 pub record RejectsAfterName (t : CursorState) (r : SettingRejection) : Type 0 where
@@ -144,14 +144,14 @@ pub record RejectsAfterName (t : CursorState) (r : SettingRejection) : Type 0 wh
   pub following : CursorState
   pub named : TakesName t name following
   pub name_is : r.name ≡ Some name
-  pub missed : MissesValue following r.error
+  pub missed : LacksValue following r.error
 
 -- no setting stands next
-abbrev pub RejectsSetting : CursorState → SettingRejection → Type 0
-RejectsSetting t r = ((r.name ≡ None) × MissesName t r.error) ⊎ RejectsAfterName t r
+abbrev pub RejectsNextSetting : CursorState → SettingRejection → Type 0
+RejectsNextSetting t r = ((r.name ≡ None) × LacksName t r.error) ⊎ RejectsAfterName t r
 
 -- What a step over settings returns, and what it leaves: the end, a setting, or that none stands next.
 abbrev pub StepsSettings : CursorState → SettingStep → CursorState → Type 0
 StepsSettings old End new = (old.rest ≡ []) × (new ≡ old)
 StepsSettings old (Setting s) new = TakesSetting old s new × (length new.rest < length old.rest)
-StepsSettings old (Rejected r) new = (old.rest ≢ []) × RejectsSetting old r × (new ≡ old)
+StepsSettings old (Rejected r) new = (old.rest ≢ []) × RejectsNextSetting old r × (new ≡ old)

@@ -48,11 +48,11 @@ fn is_pair(opener: char, closer: char) -> bool
 }
 
 impl Groups {
-    ghost use Rattle.rl_settings.specs.Groups.{groups_of, RejectsForm, EndsOpen, IsInnermost};
+    ghost use Rattle.rl_settings.specs.Groups.{open_in, StopsForm, EndsOpen, IsInnermost};
 
     /// No group is open.
     fn new() -> Groups
-        ensures { groups_of result ≡ [] }
+        ensures { open_in result ≡ [] }
     {
         Groups {
             groups: [Opened { opener: '(', at: 0 }; MAX_OPEN],
@@ -62,7 +62,7 @@ impl Groups {
 
     /// The innermost open group.
     fn innermost(&self) -> Option<Opened>
-        ensures { IsInnermost (groups_of self.now) result }
+        ensures { IsInnermost (open_in self.now) result }
     {
         if self.start >= MAX_OPEN {
             return None;
@@ -73,9 +73,9 @@ impl Groups {
     /// Opens a group inside the others, and says whether it may be: not where 128 are open.
     fn open_group(&mut self, opener: char, at: usize) -> bool
         ensures { MatchBool result
-            ((length (groups_of self.old) < 128)
-            × (groups_of self.new ≡ record { opener = opener; at = at } ∷ groups_of self.old))
-            (length (groups_of self.old) ≡ 128) }
+            ((length (open_in self.old) < 128)
+            × (open_in self.new ≡ record { opener = opener; at = at } ∷ open_in self.old))
+            (length (open_in self.old) ≡ 128) }
     {
         if self.start == 0 {
             return false;
@@ -87,8 +87,8 @@ impl Groups {
 
     /// Closes the innermost group, and says whether this delimiter does.
     fn close_group(&mut self, closer: char) -> bool
-        ensures closes { result ≡ closes (groups_of self.old) closer }
-        ensures popped { MatchBool result (groups_of self.new ≡ popped (groups_of self.old)) (self.new ≡ self.old) }
+        ensures closes { result ≡ closes (open_in self.old) closer }
+        ensures popped { MatchBool result (open_in self.new ≡ popped (open_in self.old)) (self.new ≡ self.old) }
     {
         if self.start >= MAX_OPEN {
             return false;
@@ -103,8 +103,8 @@ impl Groups {
     /// Goes on past a token of this form at the byte, or says why it can't stand there.
     fn pass(&mut self, form: Form, at: usize) -> Option<LexKind>
         ensures passed { IfNone result
-            (after_form (groups_of self.old) (form_view form) at ≡ Some (groups_of self.new)) }
-        ensures rejected { IfSome result (RejectsForm (groups_of self.old) (form_view form)) }
+            (after_form (open_in self.old) (form_view form) at ≡ Some (open_in self.new)) }
+        ensures rejected { IfSome result (StopsForm (open_in self.old) (form_view form)) }
     {
         let Form::Delimiter(c) = form else {
             return None;
@@ -124,7 +124,7 @@ impl Groups {
 
     /// The error of a text that ends here.
     fn error_at_end(&self) -> Option<LexError>
-        ensures { MatchOption result (groups_of self.now ≡ []) (EndsOpen (groups_of self.now)) }
+        ensures { MatchOption result (open_in self.now ≡ []) (EndsOpen (open_in self.now)) }
     {
         match self.innermost() {
             Some(group) => Some(LexError::new(LexKind::UnclosedGroup, group.at)),

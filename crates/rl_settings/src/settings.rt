@@ -13,12 +13,12 @@ ghost use Rattle.rl_settings.specs.SettingSteps.{
   depth_after,
   EndsInside,
   Misses,
-  MissesName,
-  MissesMark,
-  MissesLiteral,
-  MissesComma,
-  MissesValue,
-  RejectsSetting,
+  LacksName,
+  LacksMark,
+  LacksLiteral,
+  LacksComma,
+  LacksValue,
+  RejectsNextSetting,
   StepsSettings,
 };
 
@@ -125,7 +125,7 @@ fn take_name<'t>(tokens: &mut Tokens<'t>, end: usize) -> Result<Lexeme<'t>, Synt
     requires { end ≡ length tokens.old.text }
     ensures taken { IfOk result (λ name. TakesName tokens.old name tokens.new) }
     ensures shorter { OnOk result (length tokens.new.rest < length tokens.old.rest) }
-    ensures missed { IfErr result (MissesName tokens.old) }
+    ensures missed { IfErr result (LacksName tokens.old) }
 {
     let before = tokens.fork();
     match tokens.next() {
@@ -153,7 +153,7 @@ fn take_mark(tokens: &mut Tokens<'_>, end: usize, mark: char, part: Part) -> Res
     requires { end ≡ length tokens.old.text }
     ensures taken { OnOk result (TakesMark mark tokens.old tokens.new) }
     ensures shorter { OnOk result (length tokens.new.rest < length tokens.old.rest) }
-    ensures missed { IfErr result (MissesMark mark part tokens.old) }
+    ensures missed { IfErr result (LacksMark mark part tokens.old) }
 {
     let before = tokens.fork();
     match tokens.next() {
@@ -174,7 +174,7 @@ fn take_literal<'t>(tokens: &mut Tokens<'t>, end: usize) -> Result<NextLiteral<'
     requires { end ≡ length tokens.old.text }
     ensures taken { IfOk result (λ literal. TakesNextLiteral tokens.old literal tokens.new) }
     ensures shorter { OnOk result (length tokens.new.rest < length tokens.old.rest) }
-    ensures missed { IfErr result (MissesLiteral tokens.old) }
+    ensures missed { IfErr result (LacksLiteral tokens.old) }
 {
     match next_literal(tokens) {
         Some(literal) => Ok(literal),
@@ -188,7 +188,7 @@ fn take_comma(tokens: &mut Tokens<'_>, end: usize) -> Result<(), SyntaxError>
     requires { end ≡ length tokens.old.text }
     ensures taken { OnOk result (TakesComma tokens.old tokens.new) }
     ensures no_longer { OnOk result (length tokens.new.rest ≤ length tokens.old.rest) }
-    ensures missed { IfErr result (MissesComma tokens.old) }
+    ensures missed { IfErr result (LacksComma tokens.old) }
 {
     if tokens.rest().is_empty() {
         return Ok(());
@@ -202,7 +202,7 @@ fn take_value<'t>(tokens: &mut Tokens<'t>, end: usize) -> Result<NextLiteral<'t>
     requires { end ≡ length tokens.old.text }
     ensures taken { IfOk result (λ value. SetsValue tokens.old value tokens.new) }
     ensures shorter { OnOk result (length tokens.new.rest < length tokens.old.rest) }
-    ensures missed { IfErr result (MissesValue tokens.old) }
+    ensures missed { IfErr result (LacksValue tokens.old) }
 {
     take_mark(tokens, end, '=', Part::Equals)?;
     let value = take_literal(tokens, end)?;
@@ -219,7 +219,7 @@ fn take_setting<'t>(
     requires { end ≡ length tokens.old.text }
     ensures taken { IfOk result (λ setting. TakesSetting tokens.old setting tokens.new) }
     ensures shorter { OnOk result (length tokens.new.rest < length tokens.old.rest) }
-    ensures rejected { IfErr result (RejectsSetting tokens.old) }
+    ensures rejected { IfErr result (RejectsNextSetting tokens.old) }
 {
     let name = match take_name(tokens, end) {
         Ok(name) => name,

@@ -240,7 +240,13 @@ pub mod library {
                     at += next.rest_at;
                 }
                 error => {
-                    let _ = writeln!(out, "{} {}", ERRORS[usize::from(error) - 2], at + next.lo);
+                    let lo = at + next.lo;
+                    let name = match ERRORS[usize::from(error) - 2] {
+                        // The package tells a minus without its number apart.
+                        "NoLiteral" if text[lo..].starts_with('-') => "NoNumber",
+                        name => name,
+                    };
+                    let _ = writeln!(out, "{name} {lo}");
                     return;
                 }
             }

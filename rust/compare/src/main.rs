@@ -52,7 +52,11 @@ impl Tally {
     /// Settings whose answer is known.
     fn settings(&mut self, made: &settings::Made) {
         let found = catch_unwind(|| settings::read(&made.text));
-        self.tell(&made.text, &made.answer, &found.unwrap_or_else(|_| "panicked".to_owned()));
+        self.tell(
+            &made.text,
+            &made.answer,
+            &found.unwrap_or_else(|_| "panicked".to_owned()),
+        );
     }
 
     /// Everything that is asked of a short text.

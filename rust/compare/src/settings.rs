@@ -41,7 +41,16 @@ const VALUES: &[(&str, &str)] = &[
     ),
 ];
 
-const GAPS: &[&str] = &["", "", " ", "\n", "\r\n\t", " /* a = 1, */ ", " // ,\n", "/*(*/"];
+const GAPS: &[&str] = &[
+    "",
+    "",
+    " ",
+    "\n",
+    "\r\n\t",
+    " /* a = 1, */ ",
+    " // ,\n",
+    "/*(*/",
+];
 
 /// Trees that are no name, no `=`, no literal, and no comma; of the last two parts the bytes that are no part of the first tree.
 const NO_NAMES: &[&str] = &["1", "\"a\"", "(a, b)", "[{} ()]", "-", ",", "=", "'a'"];
@@ -137,7 +146,11 @@ impl Made {
             self.fails(r, place, &format!("repeated name `{name}`"));
             return false;
         }
-        let fresh: Vec<&'static str> = NAMES.iter().copied().filter(|it| !names.contains(it)).collect();
+        let fresh: Vec<&'static str> = NAMES
+            .iter()
+            .copied()
+            .filter(|it| !names.contains(it))
+            .collect();
         let name = r.of(&fresh);
         names.push(name);
         let (name_lo, name_hi) = self.part(name);

@@ -16,6 +16,7 @@ ghost use Rattle.rl_attributes.specs.AttributeSteps.{
 
 use super::name::Name;
 use super::{Attrs, Entry};
+use rl_settings::Part;
 use rl_tokens::{Error, ErrorKind, Ident, Parse, ParseBuffer, Span, attempt};
 use rust_literals::Lit;
 use std::alloc::Allocator;
@@ -38,7 +39,7 @@ fn take_name<'a, A: Allocator + Copy>(
     ensures scope { scope_of input.new ≡ scope_of input.old }
 {
     let Some(name) = input.ident() else {
-        return Err(input.error("identifier"));
+        return Err(input.error(Part::Name.words()));
     };
     match names.insert(Name::new(name.text())) {
         Ok(true) => Ok(name),

@@ -13,8 +13,8 @@ ghost use Rattle.rl_attributes.specs.NextEntries.{value_token, IsEntryOf};
 
 use super::name::Name;
 use super::{Attrs, Entry};
-use rl_settings::{NextSetting, SettingStep, settings_step};
 use rl_reading::NextLiteral;
+use rl_settings::{NextSetting, SettingStep, first_error, settings_step};
 use rl_tokens::{Error, Literal, Span, Tokens, parse_all};
 use rust_literals::Lit;
 use std::alloc::{AllocError, Allocator};
@@ -65,8 +65,8 @@ fn add_name<'a, A: Allocator + Copy>(names: &mut BTreeSet<Name<'a>, A>, name: &'
     ensures adds { IsTrue result → AddsName names.old names.new name.now }
 {
     match names.insert(Name::new(name)) {
-        Ok(is_new) => is_new,
-        Err(_) => false,
+        Ok(true) => true,
+        _ => false,
     }
 }
 
@@ -102,6 +102,23 @@ fn read_flat<A: Allocator + Copy>(alloc: A, text: &str, file: u32) -> Option<Att
     })
 }
 
+/// The attributes of a text by its trees, or why it is none. The lexer's error is told before a tree is made.
+fn read_trees<A: Allocator + Copy>(alloc: A, text: &str, file: u32) -> Result<Attrs<A>, Error<A>>
+    ensures attributes { IfOk result
+        (λ attrs. AreAttributesOf (chars text.now) file (attributes_of (entries_of attrs))) }
+    ensures end { IfOk result (λ attrs. attrs_end attrs ≡ place_at file (length text.now)) }
+    ensures values { IfOk result (λ attrs. All IsReadEntry (entries_of attrs)) }
+    ensures rejected { IfErr result (RejectsAttributeText (chars text.now) file (length text.now)) }
+{
+    match first_error(text) {
+        Some(error) => {
+            let at = Span::new(file, error.at, error.at);
+            Err(Error::of_lexer(error.kind, at))
+        }
+        None => parse_all::<Attrs<A>, A>(alloc, text, file),
+    }
+}
+
 /// The attributes that a text is. Spans have the file and the bytes of the text.
 ///
 /// See the example of [`Attrs::get`].
@@ -128,6 +145,6 @@ pub fn read<A: Allocator + Copy>(alloc: A, text: &str, file: u32) -> Result<Attr
 {
     match read_flat(alloc, text, file) {
         Some(attrs) => Ok(attrs),
-        None => parse_all::<Attrs<A>, A>(alloc, text, file),
+        None => read_trees(alloc, text, file),
     }
 }

@@ -1,11 +1,11 @@
 use Rattle.rl_text.proofs.Common.{◌≡◌, length}
-use Rattle.rl_settings.specs.Groups.{groups_of}
+use Rattle.rl_settings.specs.Groups.{open_in}
 use Rattle.rl_settings.proofs.GroupLemmas.{HasPassed}
 use Rattle.rl_settings.proofs.groups.first_error.Given as goal
 
 abbrev pub invariant-loop-token : goal.invariant-loop-token
 invariant-loop-token l = record {
-  has : HasPassed l.text l.tokens.rest (groups_of l.groups);
+  has : HasPassed l.text l.tokens.rest (open_in l.groups);
   same : l.tokens.text ≡ l.text;
 }
 

@@ -139,7 +139,11 @@ fn said_of(text: &str, error: &Error) -> (String, String, Range<usize>) {
     match &error.kind {
         ErrorKind::Lex(kind) => {
             let name = format!("{kind:?}");
-            (words_of(&name).to_owned(), String::new(), range_at(text, span.lo, &name))
+            (
+                words_of(&name).to_owned(),
+                String::new(),
+                range_at(text, span.lo, &name),
+            )
         }
         ErrorKind::Repeated => {
             let name = format!(" `{}`", &text[span.lo..span.hi]);
@@ -155,7 +159,15 @@ fn shown(read: &Result<Attrs, Error>) -> Vec<String> {
         Ok(attrs) => attrs
             .entries()
             .iter()
-            .map(|it| format!("{} {:?} {} {:?}", it.name.as_str(), it.span, it.value.text(), it.value.span()))
+            .map(|it| {
+                format!(
+                    "{} {:?} {} {:?}",
+                    it.name.as_str(),
+                    it.span,
+                    it.value.text(),
+                    it.value.span()
+                )
+            })
             .collect(),
         Err(error) => vec![format!("{} {:?}", error.kind, error.span)],
     }
@@ -164,7 +176,11 @@ fn shown(read: &Result<Attrs, Error>) -> Vec<String> {
 /// Returns how many entries the text has, if it has settings. The proved reader goes over tokens, and the proved parser over trees.
 pub fn check_settings(text: &str) -> Option<usize> {
     let proved = rl_attributes::read(Global, text, 0);
-    assert_eq!(shown(&proved), shown(&parse_all::<Attrs, Global>(Global, text, 0)), "{text:?}");
+    assert_eq!(
+        shown(&proved),
+        shown(&parse_all::<Attrs, Global>(Global, text, 0)),
+        "{text:?}"
+    );
     match (settings(text), proved) {
         (Ok(ours), Ok(proved)) => {
             assert_eq!(ours.len(), proved.entries().len(), "{text:?}");

@@ -4,6 +4,7 @@
 use crate::rattle_std::prelude::{String, Vec};
 use super::name::Name;
 use super::{Attrs, Entry};
+use crate::rl_settings::Part;
 use crate::rl_tokens::{Error, ErrorKind, Ident, Parse, ParseBuffer, Span, attempt};
 use crate::rust_literals::Lit;
 use crate::rattle_std::alloc::Allocator;
@@ -18,7 +19,7 @@ fn take_name<'a, A: Allocator + Copy>(
     names: &mut Names<'a, A>,
 ) -> Result<&'a Ident<A>, Error<A>> {
     let Some(name) = input.ident() else {
-        return Err(input.error("identifier"));
+        return Err(input.error(Part::Name.words()));
     };
     match names.insert(Name::new(name.text())) {
         Ok(true) => Ok(name),

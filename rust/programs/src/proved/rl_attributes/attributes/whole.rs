@@ -4,8 +4,8 @@
 use crate::rattle_std::prelude::{String, Vec};
 use super::name::Name;
 use super::{Attrs, Entry};
-use crate::rl_settings::{NextSetting, SettingStep, settings_step};
 use crate::rl_reading::NextLiteral;
+use crate::rl_settings::{NextSetting, SettingStep, first_error, settings_step};
 use crate::rl_tokens::{Error, Literal, Span, Tokens, parse_all};
 use crate::rust_literals::Lit;
 use crate::rattle_std::alloc::{AllocError, Allocator};
@@ -49,8 +49,8 @@ fn entry_of<A: Allocator + Copy>(
 /// Adds a name to those that were taken, and says whether it did: not where it is one of them, or an allocation failed.
 fn add_name<'a, A: Allocator + Copy>(names: &mut BTreeSet<Name<'a>, A>, name: &'a str) -> bool {
     match names.insert(Name::new(name)) {
-        Ok(is_new) => is_new,
-        Err(_) => false,
+        Ok(true) => true,
+        _ => false,
     }
 }
 
@@ -81,6 +81,17 @@ fn read_flat<A: Allocator + Copy>(alloc: A, text: &str, file: u32) -> Option<Att
     })
 }
 
+/// The attributes of a text by its trees, or why it is none. The lexer's error is told before a tree is made.
+fn read_trees<A: Allocator + Copy>(alloc: A, text: &str, file: u32) -> Result<Attrs<A>, Error<A>> {
+    match first_error(text) {
+        Some(error) => {
+            let at = Span::new(file, error.at, error.at);
+            Err(Error::of_lexer(error.kind, at))
+        }
+        None => parse_all::<Attrs<A>, A>(alloc, text, file),
+    }
+}
+
 /// The attributes that a text is. Spans have the file and the bytes of the text.
 ///
 /// # Errors
@@ -91,6 +102,6 @@ fn read_flat<A: Allocator + Copy>(alloc: A, text: &str, file: u32) -> Option<Att
 pub fn read<A: Allocator + Copy>(alloc: A, text: &str, file: u32) -> Result<Attrs<A>, Error<A>> {
     match read_flat(alloc, text, file) {
         Some(attrs) => Ok(attrs),
-        None => parse_all::<Attrs<A>, A>(alloc, text, file),
+        None => read_trees(alloc, text, file),
     }
 }
