@@ -14,7 +14,8 @@ use Rattle.rl_settings.specs.declared.settings.NextSetting.{NextSetting}
 use Rattle.rl_settings.specs.SettingSteps.{TakesSetting}
 use Rattle.rl_tokens.specs.Trees.{Tree}
 use Rattle.rust_literals.specs.Flat.{LexesTreesUpTo}
-use Rattle.rust_literals.specs.Literals.{kind_of, token_of, IsReadAs}
+use Rattle.rl_forms.specs.Reading.{IsReadAs}
+use Rattle.rust_literals.specs.Literals.{kind_of, token_of}
 use Rattle.rl_attributes.specs.declared.attributes.Entry.{Entry}
 use Rattle.rl_attributes.specs.declared.attributes.name.Name.{Name}
 use Rattle.rl_attributes.specs.Attributes.{Attribute, AreListed, is_named, NamesDiffer, AreAttributesOf}
