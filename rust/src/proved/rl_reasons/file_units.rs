@@ -39,31 +39,30 @@ fn skip_blanks(text: &str) -> &str {
 /// The text after an escape, by the text after its backslash.
 #[inline(always)]
 fn skip_escape(kind: Kind, following: &str) -> Option<&str> {
-    match split_char(following) {
-        Some(('\n', blanks)) => Some(skip_blanks(blanks)),
-        Some(('\r', line_feed)) => {
-            let blanks = strip_byte(line_feed, b'\n')?;
-            Some(skip_blanks(blanks))
-        }
-        None => None,
-        Some(_) => {
-            let (_, rest) = escape(kind, following)?;
-            Some(rest)
-        }
+    let (first, after) = split_char(following)?;
+    if first == '\n' {
+        return Some(skip_blanks(after));
     }
+    if first == '\r' {
+        let blanks = strip_byte(after, b'\n')?;
+        return Some(skip_blanks(blanks));
+    }
+    let (_, rest) = escape(kind, following)?;
+    Some(rest)
 }
 
 /// The text after the unit at the front, which isn't a character that stands for itself: `None` where no unit stands there.
 #[inline(always)]
 fn skip_escaped(kind: Kind, text: &str) -> Option<&str> {
-    match split_char(text) {
-        Some(('\\', following)) => skip_escape(kind, following),
-        Some(('\r', line_feed)) => {
-            let after = strip_byte(line_feed, b'\n')?;
-            Some(after)
-        }
-        _ => None,
+    let (first, after) = split_char(text)?;
+    if first == '\\' {
+        return skip_escape(kind, after);
     }
+    if first == '\r' {
+        let rest = strip_byte(after, b'\n')?;
+        return Some(rest);
+    }
+    None
 }
 
 /// The text after characters at its front that a string of the kind takes as they are.
