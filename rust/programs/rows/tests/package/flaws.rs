@@ -141,7 +141,11 @@ fn check_kind(text: &str, proved: &Proved, expected: Kind, read: [Result<Lit, Pa
 
 /// What Rust takes in a file, where a CR LF is an LF.
 pub fn check_file(text: &str) {
-    assert_eq!(explain_in_file(text), flaw_by_hand(text, explain), "{text:?}");
+    assert_eq!(
+        explain_in_file(text),
+        flaw_by_hand(text, explain),
+        "{text:?}"
+    );
     let value = flaw_by_hand(text, |read| explain(read).or_else(|| explain_limit(read)));
     assert_eq!(explain_value_in_file(text), value, "{text:?}");
     match (Lit::new(text).check(), proved_flaw_in_file(text)) {

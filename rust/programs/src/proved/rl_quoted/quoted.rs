@@ -67,17 +67,23 @@ impl<K: QuotedKind, A: Allocator> Quoted<K, A> {
         (&self.token.text()[body.lo..body.hi], body.plain)
     }
 
-    /// What stands between the quotes of a character or a byte.
-    pub(crate) fn single_body(&self) -> &str {
+    /// What stands between the quotes.
+    fn between(&self) -> &str {
         let body = self.body;
         &self.token.text()[body.lo..body.hi]
     }
 
+    /// What stands between the quotes of a character or a byte.
+    pub(crate) fn single_body(&self) -> &str {
+        self.between()
+    }
+
     /// What reading the token's text finds, as [`find`] does, by the places that are kept: nothing is looked for again.
     pub fn found(&self) -> Found {
+        let between = self.between();
         let unit = match K::KIND {
-            Kind::Byte => byte_of_body(self.single_body()) as u32,
-            Kind::Char => char_of_body(self.single_body()) as u32,
+            Kind::Byte => byte_of_body(between) as u32,
+            Kind::Char => char_of_body(between) as u32,
             _ => 0,
         };
         Found {
