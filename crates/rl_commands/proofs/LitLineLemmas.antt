@@ -1,8 +1,9 @@
 -- The line of a literal that is held, and of the text that it was read from.
-use Rattle.rl_reading.proofs.Names.{Byte, ByteStr, CStr, Char, Digits, Float, Int, Kind, Reads, ReadsAs, SpannedText, Str, Truth, float_digits, truth_text}
-use Rattle.rl_text.proofs.Common.{List, [], ap, chars, inl, inr, subst, sym, ℕ, ◌∙◌, ◌≡◌}
+use Rattle.rl_reading.proofs.Names.{Byte, ByteStr, CStr, Char, Digits, Float, FloatReads, Int, Kind, Reads, ReadsAs, SpannedText, Str, Truth, float_digits, truth_text}
+use Rattle.rl_text.proofs.Common.{List, [], ap, chars, inl, inr, refl, subst, sym, ℕ, ◌++◌, ◌∙◌, ◌≡◌}
 use Rattle.rl_forms.specs.declared.kind.Kind.TheVariants.{Bool}
 use Rattle.rl_forms.proofs.OneNumber.{float_once}
+use Rattle.rl_forms.proofs.OneReading.{one_reading}
 use Rattle.rust_literals.specs.declared.lit.Lit.{Lit}
 use Rattle.rust_literals.specs.declared.lit.Lit.TheVariants.{Str as StrLit, ByteStr as ByteStrLit, CStr as CStrLit, Byte as ByteLit, Char as CharLit, Int as IntLit, Float as FloatLit, Bool as BoolLit, Verbatim}
 use Rattle.rust_literals.specs.Literals.{IsReadFrom}
@@ -69,3 +70,10 @@ prints_float text old new shown suffix d s h =
       h
           ∙ ap (λ z. old ++ line (kind_label Float) z suffix) (d.3 ∙ ap float_digits one.0),
     )
+
+-- the line of a text that reads as the kind
+pub kind_lined : (kind : Kind) (t shown : List ℕ) → ReadsAs kind t → IsLineOf t shown → IsLineOfKind kind t shown
+kind_lined kind t shown r (inl (k, contents, suffix, reads, is)) =
+    let one = one_reading t k kind contents r.0 suffix r.1 reads r.2 in
+    (contents, suffix, subst (λ (z : Kind). Reads t z contents suffix) one.0 reads, is ∙ ap (λ (z : Kind). literal_line z contents suffix) one.0)
+kind_lined kind t shown r (inr (none, is)) = absurd (none kind r.0 r.1 r.2)
