@@ -1,10 +1,10 @@
 -- What the walk over a quoted literal finds is what the grammars say.
-use Rattle.rl_text.proofs.Common.{◌≡◌, ◌≢◌, ◌+◌, ℕ, ◌&&◌, Bool, true, false, not, ◌==◌, cond, List, [], ◌∷◌, ◌++◌, length, Option, Some, None, refl, sym, ap, subst, ◌∙◌, arith, and_parts, both_ways, eqb-true, inl, inr, flat_map, list_all, AllByRecursion, IsUtf8, or_from}
-use Rattle.rl_reading.proofs.Names.{after_run, first_passes, is_blank, is_string, Kind, StrictUnit, Itself, QuoteEscape, PlainEscape, AsciiEscape, ByteEscape, UnicodeEscape, LineBreak, strict_text, is_dropped_blank, is_strict_unit, is_plain, is_single}
+use Rattle.rl_text.proofs.Common.{◌≡◌, ◌≢◌, ◌+◌, ℕ, ◌&&◌, Bool, true, false, not, ◌==◌, cond, List, [], ◌∷◌, ◌++◌, length, Option, Some, None, refl, sym, ap, subst, ◌∙◌, arith, and_parts, both_ways, eqb-true, inl, inr, flat_map, list_all, AllByRecursion, IsUtf8}
+use Rattle.rl_reading.proofs.Names.{after_run, first_passes, is_string, Kind, StrictUnit, Itself, QuoteEscape, PlainEscape, AsciiEscape, ByteEscape, UnicodeEscape, LineBreak, strict_text, is_dropped_blank, is_strict_unit, is_plain, is_single}
 use Rattle.std.specs.Str.{chars}
 use Rattle.rl_text.specs.Texts.{is_continue, is_start}
 use Rattle.rl_forms.specs.Quoted.{QuotedUnit, IsUnit, texts, values}
-use Rattle.rl_forms.proofs.StrictQuoted.{MayFollow, is_return, no_return, stands}
+use Rattle.rl_forms.proofs.StrictQuoted.{MayFollow, is_return, no_blank, no_return, stands}
 use Rattle.rl_reading.specs.declared.found.Body.{Body}
 use Rattle.rl_reading.specs.declared.quoted_forms.QuotedForm.{QuotedForm}
 use Rattle.rl_reading.specs.declared.quoted_forms.QuotedForm.TheVariants.{Cooked as CookedForm, Raw as RawForm, Single as SingleForm}
@@ -177,11 +177,6 @@ pub record Lenient (k : Kind) (us : List StrictUnit) (rest : List ℕ) : Type 0 
   pub each : AllByRecursion (IsUnit k) units
   pub ends : RowEnds units rest
   pub text_is : texts units ≡ flat_map strict_text us
-
-no_blank : (t : List ℕ) → first_passes is_dropped_blank t ≡ false → first_passes is_return t ≡ false
-    → first_passes is_blank t ≡ false
-no_blank [] a b = refl
-no_blank (c ∷ t) a b = or_from (is_dropped_blank c) (c == 13) a b
 
 seam : (test : ℕ → Bool) (a b : List ℕ) → first_passes test a ≡ false → first_passes test b ≡ false
     → first_passes test (a ++ b) ≡ false
