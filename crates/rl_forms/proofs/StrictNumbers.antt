@@ -315,7 +315,8 @@ pub record IsFloat (t : List ℕ) (v : Contents) (x : List ℕ) : Type 0 where
   pub no_integer : HasNoInteger t
   pub contents_is : v ≡ Digits (float_digits (whole ++ (fraction_text fraction ++ exponent_text exponent)))
 
-digits_part : (d : List ℕ) → list_all (is_row_part is_ascii_digit) d ≡ true → list_all (is_row_part (is_digit Decimal)) d
+digits_part : (d : List ℕ) → list_all (is_row_part is_ascii_digit) d ≡ true
+    → list_all (is_row_part (is_digit Decimal)) d
     ≡ true
 digits_part d h = sym (all_same (is_row_part is_ascii_digit) (is_row_part (is_digit Decimal))
     (λ c. ap (λ b. b || eqb c 95) (digit_is_ten c)) d) ∙ h

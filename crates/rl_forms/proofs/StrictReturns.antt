@@ -167,14 +167,16 @@ in_quoted t k v x (inl s) = in_cooked t k v x s
 in_quoted t k v x (inr s) = in_raw t k v x s
 
 int_at : (p r x : List ℕ) (base : ℕ) → no_return_in p ≡ true → is_row_part (λ c. nat_lt (digit_value c) base) 13 ≡ false
-    → list_all (is_row_part (λ c. nat_lt (digit_value c) base)) r ≡ true → no_return_in x ≡ true → no_return_in (p ++ r ++ x)
+    → list_all (is_row_part (λ c. nat_lt (digit_value c) base)) r ≡ true → no_return_in x ≡ true
+    → no_return_in (p ++ r ++ x)
     ≡ true
 int_at p r x base front none each end = join (p ++ r) x (join p r front
     (row_of (is_row_part (λ c. nat_lt (digit_value c) base)) r none each)) end
 
 in_int : (t x : List ℕ) (v : Contents) → StrictInt t v x → no_return_in t ≡ true
 in_int t x v s =
-    let from : no_return_in s.prefix ≡ true → is_row_part (λ c. nat_lt (digit_value c) s.base) 13 ≡ false → no_return_in t
+    let from : no_return_in s.prefix ≡ true → is_row_part (λ c. nat_lt (digit_value c) s.base) 13 ≡ false
+    → no_return_in t
     ≡ true =
     λ f n. ap no_return_in s.text ∙ int_at s.prefix s.row x s.base f n s.each (in_suffix x s.suffix.0) in
     elim s.is_front [

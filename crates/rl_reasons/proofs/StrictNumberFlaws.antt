@@ -401,7 +401,8 @@ first_some (c ∷ cs) h = or_left (has_value 10 c) (list_any (has_value 10) cs) 
 
 -- an integer of base ten, from its parts
 int_of : (t d x : List ℕ) (m : Option ℕ) → IsDigits d → IsDecimalText t → IsNumberSuffix x
-    → first_passes is_exponent_letter x ≡ false → t ≡ d ++ x → m ≡ capped (place_value 10 (without_underscores d)) → IntOf t m x
+    → first_passes is_exponent_letter x ≡ false → t ≡ d ++ x → m ≡ capped (place_value 10 (without_underscores d))
+    → IntOf t m x
 int_of t d x m h n s p text is = (
   place_value 10 (without_underscores d),
   record {

@@ -162,7 +162,8 @@ power_row (c ∷ row) each some =
     let p = and_parts (is_row_part is_ascii_digit c) (list_all (is_row_part is_ascii_digit) row) each in
     go (is_ascii_digit c) refl p.0 p.1 (power_row row p.1) some
   where
-    go : (b : Bool) → is_ascii_digit c ≡ b → is_row_part is_ascii_digit c ≡ true → list_all (is_row_part is_ascii_digit) row
+    go : (b : Bool) → is_ascii_digit c ≡ b → is_row_part is_ascii_digit c ≡ true
+        → list_all (is_row_part is_ascii_digit) row
         ≡ true → (list_any is_ascii_digit row ≡ true → PowerRow row) → (b || list_any is_ascii_digit row) ≡ true
         → PowerRow (c ∷ row)
     go true digit here each rest some = record { underscores = 0; digit = c; more = row; text = refl; is_digit = digit; each = each }
@@ -239,7 +240,8 @@ based_int : (letter n : ℕ) (t x : List ℕ) (v : Contents) (s : StrictInt t v 
 based_int letter n t x v s front base few is =
     let each : list_all (is_row_part (λ d. nat_lt (digit_value d) n)) s.row
     ≡ true = subst (λ (k : ℕ). list_all (is_row_part (λ d. nat_lt (digit_value d) k)) s.row ≡ true) base s.each in
-    let digits : list_all is_continue s.row ≡ true = all_weaker (is_row_part (λ d. nat_lt (digit_value d) n)) is_continue
+    let digits : list_all is_continue s.row ≡ true = all_weaker (is_row_part (λ d. nat_lt (digit_value d) n))
+    is_continue
     (λ c h. row_continues n c few h) s.row each in
     record {
       lexeme = BasedLexeme letter (s.row ++ x);
