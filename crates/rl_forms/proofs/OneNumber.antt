@@ -1,7 +1,7 @@
 -- A text has one reading as a number at most.
 use Rattle.rl_text.proofs.Common.{◌≡◌, ℕ, ◌||◌, Bool, true, false, not, cond, eqb, List, [], ◌∷◌, ◌++◌, refl, sym, ap, subst, ◌∙◌, ◌⊎◌, inl, inr, append_assoc, is_ascii_digit, list_all, list_any, list_all-append, eqb-true, both_ways, and_parts, and_from, or_parts, or_cases, or_left, or_right, cases_Bool, not-true}
 use Rattle.rl_text.specs.Texts.{first_passes, begins, is_underscore, is_row_part}
-use Rattle.rl_forms.specs.Quoted.{place_value, without_underscores}
+use Rattle.rl_forms.specs.Spelling.{place_value, without_underscores}
 use Rattle.rl_forms.specs.Numbers.{Base, Binary, Octal, Decimal, Hexadecimal, radix, prefix, is_digit, Sign, NoSign, Minus, sign_text, IsAfterPrefix, IsSuffix, is_exponent_letter, AllowsSuffix, IntReads, Fraction, NoFraction, Dot, fraction_text, IsFraction, Exponent, NoExponent, Power, exponent_text, is_power_sign, BeginsExponent, IsExponent, FloatReads, float_digits}
 use Rattle.rl_forms.specs.Reading.{Contents, Digits, ReadsInt, ReadsFloat}
 use Rattle.rl_forms.specs.Strict.{dec}

@@ -1,11 +1,11 @@
 -- A strict number reads as the lenient reading says, with a minus before it too.
-use Rattle.rl_text.proofs.Common.{◌≡◌, ℕ, ◌+◌, ◌*◌, ◌^◌, ◌<◌, ◌≤◌, ◌||◌, ◌&&◌, Bool, true, false, not, eqb, ltb, List, [], ◌∷◌, ◌++◌, length, refl, sym, ap, subst, ◌∙◌, ◌⊎◌, inl, inr, arith, append_assoc, append-nil, nat_lt, digit_value, is_ascii_digit, is_ascii_hexdigit, is_ascii_alphabetic, is_ascii_alphanumeric, list_all, list_any, list_all-append, eqb-true, eq-eqb, both_ways, and_parts, and_from, or_parts, or_cases, or_from, cases_lt, ltb-true, lt-ltb, not-true, agree_below_at, not_from_false, is_xid_start, is_xid_continue, is_xid_start-ascii}
+use Rattle.rl_text.proofs.Common.{◌≡◌, ℕ, ◌<◌, ◌≤◌, ◌||◌, ◌&&◌, Bool, true, false, not, eqb, ltb, List, [], ◌∷◌, ◌++◌, refl, sym, ap, subst, ◌∙◌, ◌⊎◌, inl, inr, arith, append_assoc, append-nil, nat_lt, digit_value, is_ascii_digit, is_ascii_hexdigit, is_ascii_alphabetic, is_ascii_alphanumeric, list_all, list_any, list_all-append, eqb-true, eq-eqb, both_ways, and_parts, and_from, or_parts, or_cases, or_from, cases_lt, ltb-true, lt-ltb, not-true, agree_below_at, not_from_false, is_xid_start, is_xid_continue, is_xid_start-ascii}
 use Rattle.std.proofs.lemmas.Bool.{false_from_ne_true}
 use Rattle.rl_text.specs.Texts.{first_passes, begins, is_underscore, is_row_part}
-use Rattle.rl_forms.specs.Quoted.{place_value, without_underscores}
+use Rattle.rl_forms.specs.Spelling.{place_value, without_underscores}
 use Rattle.rl_forms.specs.Numbers.{Base, Binary, Octal, Decimal, Hexadecimal, radix, prefix, is_digit, Sign, NoSign, Minus, sign_text, begins_base, IsAfterPrefix, IsSuffix, is_exponent_letter, IsExponentSuffix, AllowsSuffix, IntReads, limit, Fraction, NoFraction, Dot, fraction_text, IsFraction, Exponent, NoExponent, Power, exponent_text, is_power_sign, BeginsExponent, IsExponent, float_digits}
 use Rattle.rl_forms.specs.Reading.{Contents, Digits, ReadsInt, HasNoInteger, ReadsFloat}
-use Rattle.rl_forms.specs.Strict.{dec, is_row, bare, spelled_number, IsDigits, IsDecimalText, IsNumberSuffix, StrictInt, IsStrictExponent, StrictFloat}
+use Rattle.rl_forms.specs.Strict.{dec, IsDigits, IsDecimalText, IsNumberSuffix, StrictInt, IsStrictExponent, StrictFloat}
 use Rattle.rl_forms.proofs.Dec.{dec_is_decimal}
 use Rattle.rl_text.proofs.Basics.{apart, all_weaker, all_same, passes_same, digit_is_ten, hex_is_sixteen, word_without, range_past}
 
@@ -63,10 +63,6 @@ suffix_no_part (c ∷ cs) (inr w, u) =
 
 -- ---- integers
 
-pub same_value : (base : ℕ) (ds : List ℕ) → spelled_number base ds ≡ place_value base ds
-same_value base [] = refl
-same_value base (d ∷ ds) = ap (λ n. digit_value d * base ^ length ds + n) (same_value base ds)
-
 pub passes_on : (test : ℕ → Bool) (a b : List ℕ) → first_passes test a ≡ true → first_passes test (a ++ b) ≡ true
 passes_on test [] b h = absurd (cc)
 passes_on test (c ∷ cs) b h = h
@@ -79,7 +75,7 @@ pub record IsInt (t : List ℕ) (v : Contents) (x : List ℕ) : Type 0 where
 int_at : (b : Base) (t x : List ℕ) (v : Contents) (s : StrictInt t v x) → s.base ≡ radix b → s.prefix ≡ prefix b
     → IsAfterPrefix b (s.row ++ x) → AllowsSuffix b x → IsInt t v x
 int_at b t x v s base front is_front is_suffix_of =
-    let All : ℕ → Type 0 = λ n. list_all (is_row (λ c. nat_lt (digit_value c) n)) s.row ≡ true in
+    let All : ℕ → Type 0 = λ n. list_all (is_row_part (λ c. nat_lt (digit_value c) n)) s.row ≡ true in
     let Any : ℕ → Type 0 = λ n. list_any (λ c. nat_lt (digit_value c) n) s.row ≡ true in
     let m = place_value (radix b) (without_underscores s.row) in
     record {
@@ -95,8 +91,7 @@ int_at b t x v s base front is_front is_suffix_of =
         text_is = s.text ∙ append_assoc s.prefix s.row x ∙ ap (λ z. z ++ (s.row ++ x)) front;
         magnitude_is = refl;
       };
-      contents_is = s.contents ∙ ap (λ n. Digits (dec n)) (same_value s.base (bare s.row)
-          ∙ ap (λ n. place_value n (without_underscores s.row)) base);
+      contents_is = s.contents ∙ ap (λ n. Digits (dec (place_value n (without_underscores s.row)))) base;
     }
 
 pub strict_int : (t x : List ℕ) (v : Contents) → StrictInt t v x → IsInt t v x
@@ -320,9 +315,10 @@ pub record IsFloat (t : List ℕ) (v : Contents) (x : List ℕ) : Type 0 where
   pub no_integer : HasNoInteger t
   pub contents_is : v ≡ Digits (float_digits (whole ++ (fraction_text fraction ++ exponent_text exponent)))
 
-digits_part : (d : List ℕ) → list_all (is_row is_ascii_digit) d ≡ true → list_all (is_row_part (is_digit Decimal)) d
+digits_part : (d : List ℕ) → list_all (is_row_part is_ascii_digit) d ≡ true
+    → list_all (is_row_part (is_digit Decimal)) d
     ≡ true
-digits_part d h = sym (all_same (is_row is_ascii_digit) (is_row_part (is_digit Decimal))
+digits_part d h = sym (all_same (is_row_part is_ascii_digit) (is_row_part (is_digit Decimal))
     (λ c. ap (λ b. b || eqb c 95) (digit_is_ten c)) d) ∙ h
 
 front_of : (t d r : List ℕ) → t ≡ d ++ r → first_passes is_ascii_digit d ≡ true → first_passes is_ascii_digit t ≡ true

@@ -1,5 +1,5 @@
 -- A strict quoted literal reads as the lenient reading says.
-use Rattle.rl_text.proofs.Common.{◌≡◌, ℕ, zero, suc, ◌+◌, ◌*◌, ◌^◌, ◌<◌, ◌≤◌, ◌||◌, ◌&&◌, Bool, true, false, not, eqb, List, [], ◌∷◌, ◌++◌, length, map, replicate, refl, sym, ap, subst, ◌∙◌, ◌⊎◌, inl, inr, arith, append_assoc, append-nil, IsFalse, ⊤, nat_lt, digit_value, is_ascii_hexdigit, all_scalars, scalar, list_all, flat_map, AllByRecursion, encode_ascii, list_all-append, eqb-true, and_parts, and_from, or_parts, or_cases, or_from, or_left, or_right, ltb-true, lt-ltb, not-true, not_from_false}
+use Rattle.rl_text.proofs.Common.{◌≡◌, ℕ, zero, suc, ◌<◌, ◌≤◌, ◌||◌, ◌&&◌, Bool, true, false, not, eqb, List, [], ◌∷◌, ◌++◌, length, map, replicate, refl, sym, ap, subst, ◌∙◌, ◌⊎◌, inl, inr, arith, append_assoc, append-nil, IsFalse, ⊤, nat_lt, digit_value, is_ascii_hexdigit, all_scalars, scalar, list_all, flat_map, AllByRecursion, encode_ascii, list_all-append, eqb-true, and_parts, and_from, or_parts, or_cases, or_from, or_left, or_right, ltb-true, lt-ltb, not-true, not_from_false}
 use Rattle.std.specs.Prelude.{encode_utf8_all, nat_le}
 use Rattle.std.specs.Char.{IsScalar}
 use Rattle.std.proofs.lemmas.List.Elements.{filter-append}
@@ -7,9 +7,10 @@ use Rattle.std.proofs.lemmas.Bool.{leb-true}
 use Rattle.rl_forms.specs.declared.kind.Kind.{Kind}
 use Rattle.rl_forms.specs.declared.kind.Kind.TheVariants.{Str, ByteStr, CStr, Byte, Char, Int, Float, Bool as BoolKind}
 use Rattle.rl_text.specs.Texts.{first_passes, is_underscore, is_blank, is_dropped_blank}
-use Rattle.rl_forms.specs.Quoted.{QuotedUnit, Plain, Named, Hex, Unicode, Continuation, LowerN, LowerR, LowerT, Backslash, Apostrophe, Quote, Zero, unit_text, unit_value, place_value, without_underscores, unicode_value, content_of, hex_value, is_hex_digit, is_string, is_single, is_raw, allows_code, IsUnit, texts, values, EndsBefore, ContinuationsEnd, opener, raw_opener, Cooked, Raw, Single}
-use Rattle.rl_forms.specs.Reading.{Contents, Reads}
-use Rattle.rl_forms.specs.Strict.{StrictUnit, Itself, QuoteEscape, PlainEscape, AsciiEscape, ByteEscape, UnicodeEscape, LineBreak, spaced_digit, strict_text, spelled_number, strict_contents, is_plain_letter, is_octal, is_unicode_escape, is_bare_character, is_bare_in_string, is_strict_unit, BlanksEnd, strict_opener, strict_closer, strict_content_of, strict_quoted_contents, StrictCooked, StrictRaw, strict_raw_opener, IsStrictSuffix}
+use Rattle.rl_forms.specs.Quoted.{QuotedUnit, Plain, Named, Hex, Unicode, Continuation, LowerN, LowerR, LowerT, Backslash, Apostrophe, Quote, Zero, unit_text, unit_value, unicode_value, content_of, hex_value, is_hex_digit, is_string, is_single, is_raw, allows_code, IsUnit, texts, values, EndsBefore, ContinuationsEnd, opener, raw_opener, Cooked, Raw, Single}
+use Rattle.rl_forms.specs.Spelling.{place_value, without_underscores}
+use Rattle.rl_forms.specs.Reading.{Contents, Reads, quoted_contents}
+use Rattle.rl_forms.specs.Strict.{StrictUnit, Itself, QuoteEscape, PlainEscape, AsciiEscape, ByteEscape, UnicodeEscape, LineBreak, spaced_digit, strict_text, strict_contents, is_plain_letter, is_octal, is_unicode_escape, is_bare_character, is_bare_in_string, is_strict_unit, BlanksEnd, strict_opener, strict_closer, strict_content_of, StrictCooked, StrictRaw, strict_raw_opener, IsStrictSuffix}
 use Rattle.rl_text.proofs.Basics.{apart, all_weaker, hex_is_sixteen, word_without}
 
 -- what may follow: no blank at all where a line break's blanks end
@@ -174,29 +175,24 @@ pub digits_count : (ds : List (ℕ × ℕ)) → length (map (λ d. d.0) ds) ≡ 
 digits_count [] = refl
 digits_count (d ∷ ds) = ap suc (digits_count ds)
 
-pub same_number : (ds : List ℕ) → spelled_number 16 ds ≡ place_value 16 ds
-same_number [] = refl
-same_number (d ∷ ds) = ap (λ n. digit_value d * 16 ^ length ds + n) (same_number ds)
-
 pub record UnicodeFacts (d : ℕ × ℕ) (ds : List (ℕ × ℕ)) : Type 0 where
   pub first : is_hex_digit d.0 ≡ true
   pub more : list_all (λ c. is_underscore c || is_hex_digit c) (replicate d.1 95 ++ flat_map spaced_digit ds) ≡ true
   pub few : length (without_underscores (d.0 ∷ (replicate d.1 95 ++ flat_map spaced_digit ds))) ≤ 6
   pub is_scalar : IsScalar (unicode_value d.0 (replicate d.1 95 ++ flat_map spaced_digit ds))
   pub same : unicode_value d.0 (replicate d.1 95 ++ flat_map spaced_digit ds)
-      ≡ spelled_number 16 (map (λ d. d.0) (d ∷ ds))
+      ≡ place_value 16 (map (λ d. d.0) (d ∷ ds))
 
 unicode_facts : (d : ℕ × ℕ) (ds : List (ℕ × ℕ)) → is_unicode_escape (d ∷ ds) ≡ true → UnicodeFacts d ds
 unicode_facts d ds h =
-    let v = spelled_number 16 (map (λ d. d.0) (d ∷ ds)) in
+    let v = place_value 16 (map (λ d. d.0) (d ∷ ds)) in
     let p = and_parts _ (all_scalars (v ∷ [])) h in
     let q = and_parts _ (list_all hex_first (d ∷ ds)) p.0 in
     let r = and_parts (nat_le 1 (length (d ∷ ds))) (nat_le (length (d ∷ ds)) 6) q.0 in
     let s = and_parts (hex_first d) (list_all hex_first ds) q.1 in
     let m = and_parts (scalar v) true p.1 in
     let row = bare_digits (d ∷ ds) q.1 in
-    let same : unicode_value d.0 (replicate d.1 95 ++ flat_map spaced_digit ds) ≡ v = ap (place_value 16) row
-    ∙ sym (same_number (map (λ d. d.0) (d ∷ ds))) in
+    let same : unicode_value d.0 (replicate d.1 95 ++ flat_map spaced_digit ds) ≡ v = ap (place_value 16) row in
     let few : length (d ∷ ds) ≤ 6 = leb-true (length (d ∷ ds)) 6 r.1 in
     let Few : ℕ → Type 0 = λ n. n ≤ 6 in
     let test : ℕ → Bool = λ c. is_underscore c || is_hex_digit c in
@@ -221,7 +217,7 @@ unicode_escape Char (d ∷ ds) h =
     record { unit = Unicode d.0 (replicate d.1 95 ++ flat_map spaced_digit ds); is_unit = (refl, f.first, f.more, f.few, f.is_scalar, refl); text_is = refl; value_is = ap (λ v. v ∷ []) f.same; ends_before = λ t f. tt }
 unicode_escape CStr [] h = absurd (cc)
 unicode_escape CStr (d ∷ ds) h =
-    let v = spelled_number 16 (map (λ d. d.0) (d ∷ ds)) in
+    let v = place_value 16 (map (λ d. d.0) (d ∷ ds)) in
     let p = and_parts (is_unicode_escape (d ∷ ds)) (not (eqb v 0)) h in
     let f = unicode_facts d ds p.0 in
     record { unit = Unicode d.0 (replicate d.1 95 ++ flat_map spaced_digit ds); is_unit = (refl, f.first, f.more, f.few, f.is_scalar, ap (λ n. not (eqb n 0)) f.same ∙ p.1); text_is = refl; value_is = ap (λ v. encode_utf8_all (v ∷ [])) f.same; ends_before = λ t f. tt }
@@ -278,7 +274,7 @@ no_return k (ByteEscape high low ∷ us) h = refl
 no_return k (UnicodeEscape digits ∷ us) h = refl
 no_return k (LineBreak blanks ∷ us) h = refl
 
-no_blank : (t : List ℕ) → first_passes is_dropped_blank t ≡ false → first_passes is_return t ≡ false
+pub no_blank : (t : List ℕ) → first_passes is_dropped_blank t ≡ false → first_passes is_return t ≡ false
     → first_passes is_blank t ≡ false
 no_blank [] a b = refl
 no_blank (c ∷ t) a b = or_from (is_dropped_blank c) (eqb c 13) a b
@@ -334,12 +330,12 @@ cooked_text k us t x r o e h =
 
 pub cooked_reads : (k : Kind) (t x : List ℕ) (v : Contents) (s : StrictCooked t k v x) → is_string k ≡ true
     → strict_opener k ≡ opener k → strict_closer k ≡ 34 ∷ [] → (w : List ℕ) × Cooked k t w x
-    × (v ≡ strict_quoted_contents k w)
+    × (v ≡ quoted_contents k w)
 cooked_reads k t x v s string o e =
     let r = stand_row k s.units s.each s.blanks_end in (
       values k r.units,
       record { units = r.units; string = string; each = r.each; ends = r.ends; text_is = cooked_text k s.units t x r o e s.text; value_is = refl },
-      s.contents ∙ ap (strict_quoted_contents k) (sym r.value_is),
+      s.contents ∙ ap (quoted_contents k) (sym r.value_is),
     )
 
 pub one_unit : (us : List StrictUnit) → length us ≡ 1 → (u : StrictUnit) × (us ≡ u ∷ [])
@@ -349,7 +345,7 @@ one_unit (u ∷ w ∷ us) h = absurd (omega arith)
 
 single_reads : (k : Kind) (t x : List ℕ) (v : Contents) (s : StrictCooked t k v x) → is_single k ≡ true → length s.units
     ≡ 1 → strict_opener k ≡ opener k → strict_closer k ≡ 39 ∷ [] → (w : List ℕ) × Single k t w x
-    × (v ≡ strict_quoted_contents k w)
+    × (v ≡ quoted_contents k w)
 single_reads k t x v s single one o e =
     let p = one_unit s.units one in
     let At : List StrictUnit → Type 0 = λ us. list_all (is_strict_unit k) us ≡ true in
@@ -371,7 +367,7 @@ single_reads k t x v s single one o e =
             ∙ ap (λ z. opener k ++ (z ++ (39 ∷ x))) text;
         value_is = refl;
       },
-      s.contents ∙ ap (strict_quoted_contents k) value,
+      s.contents ∙ ap (quoted_contents k) value,
     )
 
 ascii_row : (cs : List ℕ) → list_all (λ c. nat_lt c 128) cs ≡ true → encode_utf8_all cs ≡ cs
@@ -394,7 +390,7 @@ holds_all k (c ∷ cs) h = and_from (is_raw k c) (list_all (is_raw k) cs) (h c) 
 
 raw_reads : (k : Kind) (t x : List ℕ) (v : Contents) (s : StrictRaw t k v x) → is_string k ≡ true → strict_raw_opener k
     ≡ raw_opener k → list_all (is_raw k) s.inside ≡ true → content_of k s.inside ≡ strict_content_of k s.inside
-    → (w : List ℕ) × Raw k t w x × (v ≡ strict_quoted_contents k w)
+    → (w : List ℕ) × Raw k t w x × (v ≡ quoted_contents k w)
 raw_reads k t x v s string o each taken = (
   content_of k s.inside,
   record {
@@ -407,7 +403,7 @@ raw_reads k t x v s string o each taken = (
         ∙ ap (λ z. z ++ (replicate s.hashes 35 ++ (34 ∷ (s.inside ++ (34 ∷ (replicate s.hashes 35 ++ x)))))) o;
     value_is = refl;
   },
-  s.contents ∙ ap (strict_quoted_contents k) (sym taken),
+  s.contents ∙ ap (quoted_contents k) (sym taken),
 )
 
 from_cooked : (k : Kind) (t x : List ℕ) (v : Contents) → StrictCooked t k v x → Reads t k v x

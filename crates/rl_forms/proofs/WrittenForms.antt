@@ -3,7 +3,7 @@ use Rattle.rl_text.proofs.Common.{◌≡◌, ℕ, suc, ◌<◌, ◌&&◌, true, 
 use Rattle.rl_forms.specs.declared.kind.Kind.{Kind}
 use Rattle.rl_forms.specs.declared.kind.Kind.TheVariants.{ByteStr, CStr, Byte}
 use Rattle.rl_forms.specs.Reading.{Reads, quoted_contents}
-use Rattle.rl_forms.specs.Strict.{Strict, strict_quoted_contents}
+use Rattle.rl_forms.specs.Strict.{Strict}
 use Rattle.rl_forms.specs.Written.{written_text, IsWrittenForm}
 use Rattle.rl_forms.specs.Agreeing.{has_no_zero, IsQuotedValue, AreBytesOf}
 use Rattle.rl_forms.proofs.WrittenLaws.{written_reads, written_strict}
@@ -13,7 +13,7 @@ pub written_form : (k : Kind) (v t : List ℕ) → IsQuotedValue k v → t ≡ w
 written_form k v t h e = record {
   text_is = e;
   reads = subst (λ z. Reads z k (quoted_contents k v) []) (sym e) (written_reads k v h);
-  strict = subst (λ z. Strict z k (strict_quoted_contents k v) []) (sym e) (written_strict k v h);
+  strict = subst (λ z. Strict z k (quoted_contents k v) []) (sym e) (written_strict k v h);
 }
 
 -- bytes fit eight bits

@@ -7,7 +7,7 @@ use Rattle.rl_forms.specs.declared.kind.Kind.TheVariants.{Str, ByteStr, CStr, By
 use Rattle.rl_forms.specs.Quoted.{QuotedUnit, Plain, Named, Hex, LowerN, LowerR, LowerT, Backslash, Zero, unit_text, texts, opener, hex_value}
 use Rattle.rl_forms.specs.Reading.{Reads, quoted_contents}
 use Rattle.rl_forms.specs.Written.{upper_digit, closer, own_quote, is_written_as_number, written_unit, written_text}
-use Rattle.rl_forms.specs.Strict.{StrictUnit, Itself, QuoteEscape, PlainEscape, AsciiEscape, ByteEscape, strict_text, strict_contents, is_octal, is_bare_character, is_bare_in_string, is_strict_unit, BlanksEnd, strict_opener, strict_closer, strict_content_of, strict_quoted_contents, HasUnits, StrictCooked, Strict}
+use Rattle.rl_forms.specs.Strict.{StrictUnit, Itself, QuoteEscape, PlainEscape, AsciiEscape, ByteEscape, strict_text, strict_contents, is_octal, is_bare_character, is_bare_in_string, is_strict_unit, BlanksEnd, strict_opener, strict_closer, strict_content_of, HasUnits, StrictCooked, Strict}
 use Rattle.rl_forms.specs.Agreeing.{IsQuotedValue}
 use Rattle.rl_forms.proofs.Agreeing.{strict_reads}
 
@@ -240,7 +240,7 @@ written_units k v units t o e =
     ∙ sym (append-nil ((strict_opener k ++ flat_map strict_text units) ++ strict_closer k))
 
 cooked_written : (k : Kind) (v : List ℕ) (r : FineRow k v) → HasUnits k r.units → opener k ≡ strict_opener k
-    → closer k ∷ [] ≡ strict_closer k → StrictCooked (written_text k v) k (strict_quoted_contents k v) []
+    → closer k ∷ [] ≡ strict_closer k → StrictCooked (written_text k v) k (quoted_contents k v) []
 cooked_written k v r count o e = record {
   units = r.units;
   count = count;
@@ -248,11 +248,11 @@ cooked_written k v r count o e = record {
   blanks_end = r.blanks_end;
   suffix = inl refl;
   text = written_units k v r.units r.text_is o e;
-  contents = ap (strict_quoted_contents k) (sym r.value_is);
+  contents = ap (quoted_contents k) (sym r.value_is);
 }
 
 pub written_strict : (k : Kind) (v : List ℕ) → IsQuotedValue k v
-    → Strict (written_text k v) k (strict_quoted_contents k v) []
+    → Strict (written_text k v) k (quoted_contents k v) []
 written_strict Str v h = inl (cooked_written Str v (row_of Str v h) tt refl refl)
 written_strict ByteStr v h = inl (cooked_written ByteStr v (row_of ByteStr v h) tt refl refl)
 written_strict CStr v h = inl (cooked_written CStr v (row_of CStr v h) tt refl refl)

@@ -1,3 +1,4 @@
+pub mod Spelling
 pub mod Quoted
 pub mod Numbers
 pub mod Reading

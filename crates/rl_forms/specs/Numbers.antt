@@ -6,7 +6,7 @@ use Rattle.std.specs.Char.{digit_value, is_ascii_digit}
 use Rattle.std.specs.List.{list_all, list_any}
 use Prim.Native.Char.{code}
 use Rattle.rl_text.specs.Texts.{first_passes, begins, is_underscore, xid_ok, is_row_part}
-use Rattle.rl_forms.specs.Quoted.{place_value, without_underscores}
+use Rattle.rl_forms.specs.Spelling.{place_value, without_underscores}
 
 pub data Base : Type 0 where
   Binary : Base

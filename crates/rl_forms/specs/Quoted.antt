@@ -2,13 +2,14 @@
 -- bytes. They are those of `syn` 3.0.9, src/lit.rs, each named at its form. What the byte kinds
 -- take as plain characters is what rustc takes.
 pub use Rattle.rl_text.specs.Texts.{is_blank}
-use Rattle.std.specs.Prelude.{◌≡◌, ℕ, ◌+◌, ◌*◌, ◌^◌, ◌≤◌, Bool, true, false, not, ◌&&◌, ◌||◌, ◌==◌, nat_lt, List, [], codes, ◌∷◌, ◌++◌, length, filter, replicate, IsTrue, IsFalse, ⊤, encode_utf8_all, if◌then◌else◌}
+use Rattle.std.specs.Prelude.{◌≡◌, ℕ, ◌≤◌, Bool, true, false, not, ◌&&◌, ◌||◌, ◌==◌, nat_lt, List, [], codes, ◌∷◌, ◌++◌, length, replicate, IsTrue, IsFalse, ⊤, encode_utf8_all, if◌then◌else◌}
 use Rattle.std.specs.Char.{IsScalar, digit_value}
 use Rattle.std.specs.List.{list_all, flat_map, AllByRecursion}
 use Prim.Native.Char.{code}
 use Rattle.rl_forms.specs.declared.kind.Kind.{Kind}
 use Rattle.rl_forms.specs.declared.kind.Kind.TheVariants.{Str, ByteStr, CStr, Byte, Char, Int, Float}
 use Rattle.rl_text.specs.Texts.{first_passes, is_underscore}
+use Rattle.rl_forms.specs.Spelling.{place_value, without_underscores}
 
 -- the escapes of a backslash and one letter
 pub data Letter : Type 0 where
@@ -59,14 +60,6 @@ unit_text (Named letter) = code "\\" ∷ letter_text letter ∷ []
 unit_text (Hex high low) = code "\\" ∷ code "x" ∷ high ∷ low ∷ []
 unit_text (Unicode first more) = code "\\" ∷ code "u" ∷ code "{" ∷ first ∷ (more ++ (code "}" ∷ []))
 unit_text (Continuation line_end run) = code "\\" ∷ line_end ∷ run
-
--- the number that digits of a base spell: each digit times its power of the base
-abbrev pub place_value : ℕ → List ℕ → ℕ
-place_value base [] = 0
-place_value base (d ∷ ds) = digit_value d * base ^ length ds + place_value base ds
-
-abbrev pub without_underscores : List ℕ → List ℕ
-without_underscores cs = filter (λ c. not (is_underscore c)) cs
 
 -- Strings and characters hold characters, the other quoted kinds bytes.
 abbrev pub holds_characters : Kind → Bool

@@ -1,7 +1,8 @@
 -- The literal tokens of the Rust Reference, chapter Tokens, in the profile of this project. Each
--- form names its section there. Nothing of the lenient grammar's tables is used here.
+-- form names its section there. Nothing of the lenient grammar's tables of units, openers and
+-- numbers is used here.
 pub use Rattle.rl_text.specs.Texts.{is_dropped_blank}
-use Rattle.std.specs.Prelude.{◌≡◌, ◌≢◌, ◌⊎◌, ℕ, suc, ◌+◌, ◌*◌, ◌^◌, ◌<◌, Bool, false, not, ◌&&◌, ◌||◌, ◌==◌, nat_lt, nat_le, List, [], ◌∷◌, ◌++◌, length, filter, map, replicate, IsTrue, IsFalse, ⊤, encode_utf8_all, codes, if◌then◌else◌}
+use Rattle.std.specs.Prelude.{◌≡◌, ◌≢◌, ◌⊎◌, ℕ, suc, ◌<◌, Bool, false, not, ◌&&◌, ◌||◌, ◌==◌, nat_lt, nat_le, List, [], ◌∷◌, ◌++◌, length, filter, map, replicate, IsTrue, IsFalse, ⊤, encode_utf8_all, codes, if◌then◌else◌}
 use Rattle.std.specs.Char.{is_ascii_digit, is_ascii_hexdigit, digit_value}
 use Rattle.std.specs.Str.{all_scalars}
 use Rattle.std.specs.Fmt.{digits_onto}
@@ -9,8 +10,9 @@ use Rattle.std.specs.List.{list_all, list_any, flat_map}
 use Prim.Native.Char.{code}
 use Rattle.rl_forms.specs.declared.kind.Kind.{Kind}
 use Rattle.rl_forms.specs.declared.kind.Kind.TheVariants.{Str, ByteStr, CStr, Byte, Char, Int, Float, Bool as BoolKind}
-use Rattle.rl_text.specs.Texts.{IsWord, first_passes, begins_char, begins}
-use Rattle.rl_forms.specs.Reading.{Contents, Characters, Bytes, Digits, Truth}
+use Rattle.rl_text.specs.Texts.{IsWord, first_passes, begins_char, begins, is_row_part}
+use Rattle.rl_forms.specs.Reading.{Contents, Digits, Truth, quoted_contents}
+use Rattle.rl_forms.specs.Spelling.{place_value, without_underscores}
 
 -- section Suffixes
 abbrev pub IsStrictSuffix : List ℕ → Type 0
@@ -47,13 +49,8 @@ strict_text (UnicodeEscape digits) =
     code "\\" ∷ code "u" ∷ code "{" ∷ [] ++ flat_map spaced_digit digits ++ code "}" ∷ []
 strict_text (LineBreak blanks) = code "\\" ∷ code "\n" ∷ blanks
 
--- the number that digits stand for, the first of them the highest
-abbrev pub spelled_number : ℕ → List ℕ → ℕ
-spelled_number base [] = 0
-spelled_number base (d ∷ ds) = digit_value d * base ^ length ds + spelled_number base ds
-
 abbrev pub spaced_value : List (ℕ × ℕ) → ℕ
-spaced_value digits = spelled_number 16 (map (λ d. d.0) digits)
+spaced_value digits = place_value 16 (map (λ d. d.0) digits)
 
 -- the letters of the plain escapes, and what they stand for
 abbrev pub plain_escapes : List (ℕ × ℕ)
@@ -71,8 +68,8 @@ abbrev pub strict_contents : (List ℕ → List ℕ) → StrictUnit → List ℕ
 strict_contents as_kind (Itself c) = as_kind (c ∷ [])
 strict_contents as_kind (QuoteEscape c) = c ∷ []
 strict_contents as_kind (PlainEscape c) = plain_value_in plain_escapes c
-strict_contents as_kind (AsciiEscape high low) = spelled_number 16 (high ∷ low ∷ []) ∷ []
-strict_contents as_kind (ByteEscape high low) = spelled_number 16 (high ∷ low ∷ []) ∷ []
+strict_contents as_kind (AsciiEscape high low) = place_value 16 (high ∷ low ∷ []) ∷ []
+strict_contents as_kind (ByteEscape high low) = place_value 16 (high ∷ low ∷ []) ∷ []
 strict_contents as_kind (UnicodeEscape digits) = as_kind (spaced_value digits ∷ [])
 strict_contents as_kind (LineBreak blanks) = []
 
@@ -112,7 +109,7 @@ is_strict_unit Byte (ByteEscape high low) = is_ascii_hexdigit high && is_ascii_h
 is_strict_unit ByteStr (ByteEscape high low) = is_ascii_hexdigit high && is_ascii_hexdigit low
 is_strict_unit CStr (ByteEscape high low) =
     is_ascii_hexdigit high && is_ascii_hexdigit low
-    && not (spelled_number 16 (high ∷ low ∷ []) == 0)
+    && not (place_value 16 (high ∷ low ∷ []) == 0)
 is_strict_unit _ (ByteEscape high low) = false
 is_strict_unit Char (UnicodeEscape digits) = is_unicode_escape digits
 is_strict_unit Str (UnicodeEscape digits) = is_unicode_escape digits
@@ -149,11 +146,6 @@ abbrev pub strict_content_of : Kind → List ℕ → List ℕ
 strict_content_of CStr cs = encode_utf8_all cs
 strict_content_of _ cs = cs
 
-abbrev pub strict_quoted_contents : Kind → List ℕ → Contents
-strict_quoted_contents Str v = Characters v
-strict_quoted_contents Char v = Characters v
-strict_quoted_contents _ v = Bytes v
-
 -- one unit for a character or a byte, any number for a string; none for numbers and truth values
 abbrev pub HasUnits : Kind → List StrictUnit → Type 0
 HasUnits Str us = ⊤
@@ -173,7 +165,7 @@ pub record StrictCooked (t : List ℕ) (k : Kind) (v : Contents) (x : List ℕ) 
   pub suffix : IsStrictSuffix x
   pub text : t ≡ strict_opener k ++ flat_map strict_text units ++ strict_closer k ++ x
   pub contents : v
-      ≡ strict_quoted_contents k (flat_map (strict_contents (strict_content_of k)) units)
+      ≡ quoted_contents k (flat_map (strict_contents (strict_content_of k)) units)
 
 abbrev pub strict_raw_opener : Kind → List ℕ
 strict_raw_opener Str = codes "r"
@@ -199,17 +191,11 @@ pub record StrictRaw (t : List ℕ) (k : Kind) (v : Contents) (x : List ℕ) : T
   pub suffix : IsStrictSuffix x
   pub text : t ≡ strict_raw_opener k ++ replicate hashes (code "#") ++ code "\"" ∷ inside
       ++ code "\"" ∷ replicate hashes (code "#") ++ x
-  pub contents : v ≡ strict_quoted_contents k (strict_content_of k inside)
-
-abbrev pub is_row : (ℕ → Bool) → ℕ → Bool
-is_row digit c = digit c || c == code "_"
-
-abbrev pub bare : List ℕ → List ℕ
-bare cs = filter (λ c. not (c == code "_")) cs
+  pub contents : v ≡ quoted_contents k (strict_content_of k inside)
 
 -- D: a digit, and digits and underscores
 abbrev pub IsDigits : List ℕ → Type 0
-IsDigits d = IsTrue (first_passes is_ascii_digit d) × IsTrue (list_all (is_row is_ascii_digit) d)
+IsDigits d = IsTrue (first_passes is_ascii_digit d) × IsTrue (list_all (is_row_part is_ascii_digit) d)
 
 -- a decimal form doesn't begin as another base does
 abbrev pub IsDecimalText : List ℕ → Type 0
@@ -235,13 +221,13 @@ pub record StrictInt (t : List ℕ) (v : Contents) (x : List ℕ) : Type 0 where
   pub row : List ℕ
   pub is_front : ((prefix ≡ []) × (base ≡ 10) × IsDigits row × IsDecimalText t)
       ⊎ BasedPrefix prefix base
-  pub each : IsTrue (list_all (is_row (λ c. nat_lt (digit_value c) base)) row)
+  pub each : IsTrue (list_all (is_row_part (λ c. nat_lt (digit_value c) base)) row)
   pub some : IsTrue (list_any (λ c. nat_lt (digit_value c) base) row)
   pub suffix : IsNumberSuffix x
   pub no_exponent : IsFalse (first_passes (λ c. c == code "e" || c == code "E") x)
   pub no_digit : base ≡ 16 → IsFalse (first_passes is_ascii_hexdigit x)
   pub text : t ≡ prefix ++ row ++ x
-  pub contents : v ≡ Digits (dec (spelled_number base (bare row)))
+  pub contents : v ≡ Digits (dec (place_value base (without_underscores row)))
 
 pub record IsStrictExponent (e : List ℕ) : Type 0 where
   pub letter : ℕ
@@ -249,7 +235,7 @@ pub record IsStrictExponent (e : List ℕ) : Type 0 where
   pub row : List ℕ
   pub is_letter : IsTrue (letter == code "e" || letter == code "E")
   pub is_sign : (sign ≡ []) ⊎ ((sign ≡ code "+" ∷ []) ⊎ (sign ≡ code "-" ∷ []))
-  pub each : IsTrue (list_all (is_row is_ascii_digit) row)
+  pub each : IsTrue (list_all (is_row_part is_ascii_digit) row)
   pub some : IsTrue (list_any is_ascii_digit row)
   pub text : e ≡ letter ∷ sign ++ row
 

@@ -5,7 +5,7 @@ use Rattle.rl_forms.specs.declared.kind.Kind.{Kind}
 use Rattle.rl_forms.specs.declared.kind.Kind.TheVariants.{Byte, Char}
 use Rattle.rl_forms.specs.Quoted.{QuotedUnit, Plain, Named, Hex, Zero, LowerT, LowerN, LowerR, Backslash, Quote, Apostrophe, holds_characters, opener, texts}
 use Rattle.rl_forms.specs.Reading.{Reads, quoted_contents}
-use Rattle.rl_forms.specs.Strict.{Strict, strict_quoted_contents}
+use Rattle.rl_forms.specs.Strict.{Strict}
 
 -- a digit of base 16, in upper case
 abbrev pub upper_digit : ℕ → ℕ
@@ -50,4 +50,4 @@ written_text kind value =
 pub record IsWrittenForm (kind : Kind) (value text : List ℕ) : Type 0 where
   pub text_is : text ≡ written_text kind value
   pub reads : Reads text kind (quoted_contents kind value) []
-  pub strict : Strict text kind (strict_quoted_contents kind value) []
+  pub strict : Strict text kind (quoted_contents kind value) []

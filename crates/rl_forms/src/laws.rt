@@ -6,7 +6,7 @@ ghost use Rattle.rl_forms.specs.declared.kind.Kind.{Kind};
 ghost use Rattle.rl_forms.specs.declared.kind.Kind.TheVariants.{Bool as BoolKind};
 ghost use Rattle.rl_text.specs.Texts.{code};
 ghost use Rattle.rl_forms.specs.Reading.{Contents, Digits, Truth, Reads, quoted_contents, truth_text};
-ghost use Rattle.rl_forms.specs.Strict.{Strict, strict_quoted_contents};
+ghost use Rattle.rl_forms.specs.Strict.{Strict};
 ghost use Rattle.rl_forms.specs.Written.{written_text};
 ghost use Rattle.rl_forms.specs.Agreeing.{IsWithinLimit, IsQuotedValue};
 ghost use Rattle.rl_forms.specs.Quoted.{is_number};
@@ -51,7 +51,7 @@ pub fn strict_minus()
 /// What a value is written as is strict, has that value, and no suffix.
 pub fn written_strict()
     ensures { (k : Kind) (v : List ℕ)
-        → IsQuotedValue k v → Strict (written_text k v) k (strict_quoted_contents k v) [] }
+        → IsQuotedValue k v → Strict (written_text k v) k (quoted_contents k v) [] }
 {}
 
 /// What a value is written as reads as that value, with no suffix.

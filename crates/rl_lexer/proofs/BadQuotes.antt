@@ -79,12 +79,6 @@ next_part s t c e other = ap after_next_quote e ∙ go t (ne_eqb c 39 other)
         (cond (c == 92) (after_next_quote u) (cond (stops_quote c (d ∷ u)) None (after_next_quote (d ∷ u))))) h
         ∙ more (c == 92) (stops_quote c (d ∷ u)) d u
 
-pub next_here : (s t : List ℕ) (c : ℕ) → s ≡ c ∷ t → c ≡ 39 → after_next_quote s ≡ Some t
-next_here s t c e is = ap after_next_quote (e ∙ ap (λ d. d ∷ t) is) ∙ next_now t
-
-pub next_stops : (s t : List ℕ) (c : ℕ) → s ≡ c ∷ t → c ≢ 39 → after_part c t ≡ None → after_next_quote s ≡ None
-next_stops s t c e other none = next_part s t c e other ∙ ap (option_and_then after_next_quote) none
-
 pub next_passes : (s t u : List ℕ) (c : ℕ) → s ≡ c ∷ t → c ≢ 39 → after_part c t ≡ Some u → after_next_quote u
     ≡ after_next_quote s
 next_passes s t u c e other part = sym (next_part s t c e other ∙ ap (option_and_then after_next_quote) part)

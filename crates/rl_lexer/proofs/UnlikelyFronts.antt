@@ -298,6 +298,3 @@ unlikely-holds bs rest past next n before u e cut is word skipped =
     let reaches = unlikely-reaches bs rest n next u e cut (subst (λ (z : List ℕ). Skipped z next)
     (word ∙ ap (λ b. past_word b (chars rest)) is) skipped) in
     holds_skipped (chars bs) reaches.start next reaches.skipped reaches.holds
-
-pub byte_before-start : (bs : List ℕ) (n : ℕ) → n ≡ 0 → 0 ≡ byte_before bs n
-byte_before-start bs n e = ap (λ k. last_of 0 (take k bs)) (sym e)

@@ -281,12 +281,6 @@ no_parts t form kind inside h none k v x p =
     let a = at_front t form kind inside k p.value x h (formed t k v x p) in
     none p.value a.body x a.parts
 
-pub parts_at_front : (t : List ℕ) (form : QuotedForm) (kind : Kind) (inside v b x : List ℕ) → opener_at t
-    ≡ found_opener form kind inside → PartsAre form kind (form_opener form kind ++ inside) v b x
-    → PartsAre form kind t v b x
-parts_at_front t form kind inside v b x h p = subst (λ z. PartsAre form kind z v b x)
-    (sym (front_sound t (form, kind, inside) h).text_is) p
-
 -- ---- where the kind is that of a character or a byte
 
 pub not_both : (kind : Kind) → is_string kind ≡ true → is_single kind ≡ true → ⊥

@@ -355,11 +355,6 @@ itself_places inside d itself kind true body us at is are h =
     ap (λ z. unit_place inside kind z at) (are ∙ sym (append-nil (map Plain body)))
     ∙ place_in_run inside d kind body [] at itself h
 
-all_long : (kind : Kind) (plain : Bool) (body : List ℕ) (us : List QuotedUnit) → plain ≡ true
-    → AreUnitsIn kind plain body us → length (units_bytes kind us) ≡ byte_len body
-all_long kind false body us is are = absurd (cc)
-all_long kind true body us is are = ap (λ z. length (units_bytes kind z)) are ∙ ap length (run_bytes kind body)
-
 -- the place that the cursor of these places finds
 of_body : (inside : QuotedUnit → ℕ → ℕ) → IsPlacing inside → (kind : Kind) (t : List ℕ) (body : Body) (at place : ℕ)
     → IsUtf8 t → IsQuotedAt kind t body → IsGivenAt inside kind (chars t) at place → (us : List QuotedUnit)

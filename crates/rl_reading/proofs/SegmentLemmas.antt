@@ -91,10 +91,6 @@ run_bytes kind (c ∷ cs) =
     ap (λ z. z ++ units_bytes kind (map Plain cs)) (held_in_bytes kind (c ∷ []) ∙ append-nil (encode_utf8 c))
     ∙ ap (λ z. encode_utf8 c ++ z) (run_bytes kind cs)
 
-pub map_append : (a b : List ℕ) → map Plain (a ++ b) ≡ map Plain a ++ map Plain b
-map_append [] b = refl
-map_append (c ∷ a) b = ap (λ z. Plain c ∷ z) (map_append a b)
-
 run_segment : (kind : Kind) (run : Bor (List ℕ)) → IsUtf8 run.now
     → IsSegmentOf kind (Text run) (map Plain (chars run.now))
 run_segment kind run u = record { are = refl; bytes_are = sym (run_bytes kind (chars run.now) ∙ encodes-chars run.now u) }
@@ -398,9 +394,6 @@ pub record IsOnTheWay (start : SegmentsState) (at : ℕ) (now : SegmentsState) (
   pub same_kind : now.kind ≡ start.kind
   pub same_end : now.at + length now.rest ≡ start.at + length start.rest
 
-pub sets_out : (s : SegmentsState) (at : ℕ) → IsOnTheWay s at s at
-sets_out s at = record { done = []; goes_on = λ others h. h; at_is = omega arith; place_is = omega arith; same_kind = refl; same_end = refl }
-
 pub goes_past : (start old new : SegmentsState) (at left less : ℕ) (s : Segment) → IsOnTheWay start at old left
     → TakesSegment old s new → length (value_bytes s.value) ≤ left → less ≡ left - length (value_bytes s.value)
     → IsOnTheWay start at new less
@@ -514,9 +507,6 @@ pub record IsTabled (start now : SegmentsState) (base : Span) (table : List Span
   pub same_kind : now.kind ≡ start.kind
   pub same_end : now.at + length now.rest ≡ start.at + length start.rest
   pub spans : (at : ℕ) → at < length table → get_or table at nowhere ≡ unit_span start base done at
-
-pub no_table : (s : SegmentsState) (base : Span) → IsTabled s s base []
-no_table s base = record { done = []; goes_on = λ others h. h; long = refl; place_is = omega arith; same_kind = refl; same_end = refl; spans = λ at h. absurd (omega (arith, h)) }
 
 same_span : (base : Span) (lo hi first last : ℕ) → lo ≡ first → hi ≡ last → span_from base lo hi
     ≡ span_from base first last

@@ -4,9 +4,9 @@ use Rattle.rl_reading.proofs.Names.{IsScalar, Kind, Str, ByteStr, CStr, Byte, Ch
 use Rattle.std.proofs.Common.{map}
 use Rattle.std.proofs.lemmas.Bool.{le-leb}
 use Rattle.std.specs.Prelude.{nat_lt, nat_le}
-use Rattle.rl_forms.specs.Strict.{spaced_digit, spelled_number, is_octal, is_unicode_escape, HasUnits}
+use Rattle.rl_forms.specs.Strict.{spaced_digit, is_octal, is_unicode_escape, HasUnits}
 use Rattle.rl_text.proofs.Basics.{hex_is_sixteen}
-use Rattle.rl_forms.proofs.StrictQuoted.{hex_first, same_number, bare_digits, digits_count}
+use Rattle.rl_forms.proofs.StrictQuoted.{hex_first, bare_digits, digits_count}
 
 -- the strict unit that a lenient one is, with its text and what it stands for; it is no line break
 pub record Back (k : Kind) (u : QuotedUnit) : Type 0 where
@@ -151,9 +151,9 @@ group_some first n (c ∷ cs) =
 
 -- they spell the number
 unicode_number : (first : ℕ) (more : List ℕ) → list_all hex_first (group first 0 more) ≡ true
-    → spelled_number 16 (map (λ d. d.0) (group first 0 more)) ≡ unicode_value first more
-unicode_number first more h = same_number (map (λ d. d.0) (group first 0 more))
-    ∙ ap (place_value 16) (sym (bare_digits (group first 0 more) h) ∙ ap without_underscores (group_text first 0 more))
+    → place_value 16 (map (λ d. d.0) (group first 0 more)) ≡ unicode_value first more
+unicode_number first more h =
+    ap (place_value 16) (sym (bare_digits (group first 0 more) h) ∙ ap without_underscores (group_text first 0 more))
 
 -- what the lenient reading allows, the strict grammar does
 unicode_allowed : (first : ℕ) (more : List ℕ) → is_hex_digit first ≡ true
@@ -167,13 +167,13 @@ unicode_allowed first more h each few s =
     ∙ ap without_underscores (group_text first 0 more)) in
     let Few : ℕ → Type 0 = λ n. n ≤ 6 in
     and_from _ _ (and_from _ _ (and_from _ _ (group_some first 0 more) (le-leb _ 6 (subst Few (sym long) few))) hexes)
-    (and_from (scalar (spelled_number 16 (map (λ d. d.0) (group first 0 more)))) true (subst IsScalar (sym same) s)
+    (and_from (scalar (place_value 16 (map (λ d. d.0) (group first 0 more)))) true (subst IsScalar (sym same) s)
     refl)
 
 -- an escape by grouped digits
 spaced_escape : (k : Kind) (first : ℕ) (more : List ℕ) → is_strict_unit k (UnicodeEscape (group first 0 more)) ≡ true
     → content_of k (unicode_value first more ∷ []) ≡ strict_content_of k (unicode_value first more ∷ [])
-    → spelled_number 16 (map (λ d. d.0) (group first 0 more)) ≡ unicode_value first more → Back k (Unicode first more)
+    → place_value 16 (map (λ d. d.0) (group first 0 more)) ≡ unicode_value first more → Back k (Unicode first more)
 spaced_escape k first more h same number = record {
   unit = UnicodeEscape (group first 0 more);
   is_unit = h;

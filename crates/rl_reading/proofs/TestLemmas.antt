@@ -1,8 +1,7 @@
 -- Tests of the first character of a text, and of all.
-use Rattle.rl_text.proofs.Common.{◌≡◌, ◌∙◌, ◌&&◌, ℕ, Bool, true, false, List, [], ◌∷◌, ◌++◌, refl, sym, ap, list_all}
+use Rattle.rl_text.proofs.Common.{◌≡◌, ◌∙◌, ℕ, Bool, true, false, List, [], ◌∷◌, ◌++◌, refl, sym, ap, list_all}
 use Rattle.rl_reading.proofs.Names.{first_passes}
 use Rattle.std.proofs.lemmas.Bool.{and_left, and_right}
-use Rattle.std.proofs.lemmas.List.Folds.{list_all-append}
 
 -- what a text begins with, it begins with whatever follows
 pub passes_more : (test : ℕ → Bool) (a b : List ℕ) → first_passes test a ≡ true → first_passes test (a ++ b) ≡ true
@@ -25,7 +24,3 @@ front_passes test (x ∷ xs) rest t e h = sym (ap (first_passes test) e) ∙ h
 pub all_breaks : (f : ℕ → Bool) (xs : List ℕ) (c : ℕ) (e : List ℕ) → f c ≡ false → list_all f (xs ++ (c ∷ e)) ≡ false
 all_breaks f [] c e h = and_left (f c) (list_all f e) h
 all_breaks f (x ∷ xs) c e h = and_right (f x) (list_all f (xs ++ (c ∷ e))) (all_breaks f xs c e h)
-
--- what passes in front adds nothing
-pub all_off : (f : ℕ → Bool) (xs t : List ℕ) → list_all f xs ≡ true → list_all f (xs ++ t) ≡ list_all f t
-all_off f xs t h = list_all-append f xs t ∙ ap (λ b. b && list_all f t) h

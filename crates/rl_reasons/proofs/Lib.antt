@@ -20,7 +20,6 @@ pub mod SignedFlaws
 pub mod OneUnitFlaw
 pub mod CodeDigitFlaws
 pub mod LimitLemmas
-pub mod Tails
 pub mod AsciiSuffix
 pub mod ReadNumbers
 pub mod ReadQuoted

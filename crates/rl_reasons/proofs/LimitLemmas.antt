@@ -6,7 +6,7 @@ use Rattle.std.specs.Str.{IsCharBoundary}
 use Rattle.std.proofs.lemmas.Bool.{le-leb, lt-leb}
 use Rattle.rl_text.specs.Texts.{IsTail}
 use Rattle.rl_forms.specs.Numbers.{IntReads}
-use Rattle.rl_forms.specs.Strict.{dec, spelled_number, StrictFloat, StrictInt}
+use Rattle.rl_forms.specs.Strict.{dec, StrictFloat, StrictInt}
 use Rattle.rl_forms.proofs.OneNumber.{begins_number, int_front}
 use Rattle.rl_forms.proofs.StrictNumbers.{float_strict_reads, minus_int, signed_float, strict_float, strict_int}
 use Rattle.rl_reading.specs.Founds.{suffix_in}
@@ -27,6 +27,7 @@ use Rattle.rl_text.proofs.TailLemmas.{cut_boundary, cut_chars}
 use Rattle.rl_reading.proofs.IntegerLemmas.{within_reads}
 use Rattle.rl_reasons.proofs.StrictExplainLemmas.{cut_bytes}
 use Rattle.rl_reasons.proofs.StrictTokens.{token_number, token_reads, truth_no_digit}
+use Rattle.rl_forms.specs.Spelling.{place_value}
 
 -- ---- the place
 
@@ -129,7 +130,7 @@ digits_read t x n s =
     let i = strict_int t x (Digits (dec n)) s in
     let e : Digits (dec n) ≡ Digits (dec i.magnitude) = i.contents_is in
     let same : dec n ≡ dec i.magnitude = cc in
-    let number : i.magnitude ≡ n = sym (dec_spells i.magnitude) ∙ ap (spelled_number 10) (sym same) ∙ dec_spells n in
+    let number : i.magnitude ≡ n = sym (dec_spells i.magnitude) ∙ ap (place_value 10) (sym same) ∙ dec_spells n in
     subst (λ z. IntReads t NoSign z x) number i.reads
 
 minus_read : (t number x : List ℕ) (n : ℕ) → chars t ≡ 45 ∷ number → StrictInt number (Digits (dec n)) x

@@ -4,7 +4,7 @@ use Rattle.rl_reading.proofs.Names.{after_run, first_passes, is_row_part, is_und
 use Rattle.std.specs.Option.{is_some}
 use Rattle.rl_text.specs.Texts.{is_continue, is_start}
 use Rattle.rl_forms.specs.Numbers.{is_power_sign}
-use Rattle.rl_forms.specs.Strict.{is_row, IsDigits, IsNumberSuffix}
+use Rattle.rl_forms.specs.Strict.{IsDigits, IsNumberSuffix}
 use Rattle.rl_text.proofs.Basics.{all_same, any_same, apart, digit_is_ten}
 use Rattle.rl_reading.specs.Mirrors.NumberAt.{after_digits, after_power_sign, capped, digit_row_at, has_digit_at, has_value, magnitude_at, radix_at, radix_of}
 use Rattle.rl_reading.specs.Mirrors.PlainAt.{is_some_text}
@@ -64,15 +64,15 @@ each_fails f g (c ∷ cs) h = or_parts (f c) (g c) h
 abbrev pub in_row : ℕ → Bool
 in_row = is_row_part (has_value 10)
 
-same_row : (d : List ℕ) → list_all (is_row is_ascii_digit) d ≡ list_all in_row d
-same_row = all_same (is_row is_ascii_digit) in_row (λ c. ap (λ b. b || (c == 95)) (digit_is_ten c))
+same_row : (d : List ℕ) → list_all (is_row_part is_ascii_digit) d ≡ list_all in_row d
+same_row = all_same (is_row_part is_ascii_digit) in_row (λ c. ap (λ b. b || (c == 95)) (digit_is_ten c))
 
 -- a row of the grammar is one of the code
-pub row_part : (d : List ℕ) → list_all (is_row is_ascii_digit) d ≡ true → list_all in_row d ≡ true
+pub row_part : (d : List ℕ) → list_all (is_row_part is_ascii_digit) d ≡ true → list_all in_row d ≡ true
 row_part d h = sym (same_row d) ∙ h
 
 -- and the other way about
-pub part_row : (d : List ℕ) → list_all in_row d ≡ true → list_all (is_row is_ascii_digit) d ≡ true
+pub part_row : (d : List ℕ) → list_all in_row d ≡ true → list_all (is_row_part is_ascii_digit) d ≡ true
 part_row d h = same_row d ∙ h
 
 pub some_value : (d : List ℕ) → list_any is_ascii_digit d ≡ list_any (has_value 10) d

@@ -1,10 +1,9 @@
 -- What the walk over a quoted literal finds is what the grammars say.
-use Rattle.rl_text.proofs.Common.{◌≡◌, ◌≢◌, ◌+◌, ℕ, ◌&&◌, Bool, true, false, not, ◌==◌, cond, List, [], ◌∷◌, ◌++◌, length, Option, Some, None, refl, sym, ap, subst, ◌∙◌, arith, and_parts, both_ways, eqb-true, inl, inr, flat_map, list_all, AllByRecursion, IsUtf8, or_from}
-use Rattle.rl_reading.proofs.Names.{after_run, first_passes, is_blank, is_string, Kind, StrictUnit, Itself, QuoteEscape, PlainEscape, AsciiEscape, ByteEscape, UnicodeEscape, LineBreak, strict_text, is_dropped_blank, is_strict_unit, is_plain, is_single}
+use Rattle.rl_text.proofs.Common.{◌≡◌, ◌≢◌, ◌+◌, ℕ, ◌&&◌, Bool, true, false, not, ◌==◌, cond, List, [], ◌∷◌, ◌++◌, length, Option, Some, None, refl, sym, ap, subst, ◌∙◌, arith, and_parts, both_ways, eqb-true, inl, inr, flat_map, list_all, AllByRecursion, IsUtf8}
+use Rattle.rl_reading.proofs.Names.{after_run, first_passes, is_string, Kind, StrictUnit, Itself, QuoteEscape, PlainEscape, AsciiEscape, ByteEscape, UnicodeEscape, LineBreak, strict_text, is_dropped_blank, is_strict_unit, is_plain, is_single}
 use Rattle.std.specs.Str.{chars}
-use Rattle.rl_text.specs.Texts.{is_continue, is_start}
 use Rattle.rl_forms.specs.Quoted.{QuotedUnit, IsUnit, texts, values}
-use Rattle.rl_forms.proofs.StrictQuoted.{MayFollow, is_return, no_return, stands}
+use Rattle.rl_forms.proofs.StrictQuoted.{MayFollow, is_return, no_blank, no_return, stands}
 use Rattle.rl_reading.specs.declared.found.Body.{Body}
 use Rattle.rl_reading.specs.declared.quoted_forms.QuotedForm.{QuotedForm}
 use Rattle.rl_reading.specs.declared.quoted_forms.QuotedForm.TheVariants.{Cooked as CookedForm, Raw as RawForm, Single as SingleForm}
@@ -22,7 +21,7 @@ use Rattle.rl_strict.specs.Mirrors.StrictAt.{ends_quoted, is_strict_suffix, unit
 use Rattle.rl_strict.proofs.StrictRowLemmas.{bare_run, one_end, one_none, units_end}
 use Rattle.rl_strict.proofs.StrictUnitRows.{row_closes, row_none, row_run}
 use Rattle.rl_reasons.specs.declared.flaws.FlawKind.{FlawKind}
-use Rattle.rl_reasons.specs.declared.flaws.FlawKind.TheVariants.{ExtraHash, TwoCharacters, Unclosed, UnderscoreSuffix}
+use Rattle.rl_reasons.specs.declared.flaws.FlawKind.TheVariants.{ExtraHash, TwoCharacters, Unclosed}
 use Rattle.rl_reasons.specs.Mirrors.WordFlawAt.{end_flaw_at}
 use Rattle.rl_reasons.specs.StrictFlawKinds.{is_raw_form, suffix_piece}
 use Rattle.rl_reasons.specs.QuotedRead.{StopsIn}
@@ -42,10 +41,9 @@ use Rattle.rl_forms.specs.Strict.{IsStrictSuffix}
 use Rattle.rl_reading.proofs.Names.{Str, ByteStr, CStr}
 use Rattle.rl_reading.proofs.RawLemmas.{opens, raw_found}
 use Rattle.rl_reading.proofs.FrontLenLemmas.{raw_lo}
-use Rattle.rl_reasons.specs.Mirrors.StrictFlawAt.{begins_hash, closed_flaw_at, strict_unit_flaw_at, suffix_end_flaw_at, suffix_rest}
-use Rattle.rl_reasons.specs.Mirrors.SuffixRead.{is_lone, suffix_end_read, suffix_read_at}
+use Rattle.rl_reasons.specs.Mirrors.StrictFlawAt.{strict_unit_flaw_at, suffix_rest}
+use Rattle.rl_reasons.specs.Mirrors.SuffixRead.{suffix_read_at}
 use Rattle.rl_reasons.specs.Mirrors.UnitFlawAt.{FoundFlaw, found_flaw}
-use Rattle.rl_reasons.proofs.NumberEnds.{all_run}
 use Rattle.std.specs.Prelude.{option_map, ◌⊎◌, nat_lt}
 use Rattle.rl_reading.proofs.Names.{Byte, Char, and_right}
 use Rattle.rl_forms.specs.Quoted.{content_of, is_line_end}
@@ -53,81 +51,9 @@ use Rattle.rl_forms.specs.Strict.{is_bare_character}
 use Rattle.rl_reading.specs.Mirrors.UnitAt.{escape_at, line_feed_at, unit_at}
 use Rattle.rl_strict.specs.Mirrors.StrictAt.{escape_rest}
 use Rattle.rl_reasons.proofs.StrictCookedFlaws.{cooked_unclosed, no_front, single_closed, single_open, single_unclosed, string_closed, string_open, unquoted_ends}
-use Rattle.rl_reasons.proofs.StrictSuffixFlaws.{hash_no_start, no_start_no_suffix, same_flaw}
+use Rattle.rl_reasons.proofs.StrictSuffixFlaws.{Judges, same_flaw, suffix_judged}
 
 -- ---- a suffix
-
-hash_no_suffix : (form : QuotedForm) (t : List ℕ) → begins_hash form t ≡ true → is_strict_suffix t ≡ false
-hash_no_suffix form [] h = absurd (both_ways false refl (and_parts (is_raw_form form) false h).1)
-hash_no_suffix form (c ∷ cs) h =
-    let At : ℕ → Type 0 = λ z. is_start z ≡ false in
-    no_start_no_suffix c cs
-    (subst At (sym (eqb-true c 35 (and_parts (is_raw_form form) (c == 35) h).1)) hash_no_start)
-
--- the tests of the definition and of the code, by what they ask
-same_tests : (q start some all : Bool) → (q ≡ true → start ≡ true) → (cond q some start && all)
-    ≡ ((start && all) && not (cond some false q))
-same_tests true true true true h = refl
-same_tests true true true false h = refl
-same_tests true true false true h = refl
-same_tests true true false false h = refl
-same_tests true false some all h = absurd (both_ways false refl (h refl))
-same_tests false true true true h = refl
-same_tests false true true false h = refl
-same_tests false true false true h = refl
-same_tests false true false false h = refl
-same_tests false false some all h = refl
-
-suffix_is : (t : List ℕ) → is_strict_suffix t ≡ (not (is_some_text (suffix_rest t)) && not (is_lone t))
-unfolding is_strict_suffix suffix_rest
-suffix_is [] = refl
-suffix_is (c ∷ cs) =
-    let At : ℕ → Type 0 = λ z. is_start z ≡ true in
-    same_tests (c == 95) (is_start c) (is_some_text cs) (list_all is_continue cs)
-    (λ e. subst At (sym (eqb-true c 95 e)) refl)
-    ∙ ap (λ b. b && not (is_lone (c ∷ cs))) (go (is_start c))
-  where
-    go : (b : Bool) → (b && list_all is_continue cs)
-        ≡ not (is_some_text (cond b (after_run is_continue cs) (c ∷ cs)))
-    go true = all_run is_continue cs
-    go false = refl
-
--- The text is a suffix, or has the flaw.
-abbrev pub Judges : QuotedForm → List ℕ → Option FoundFlaw → Type 0
-Judges form t None = is_strict_suffix t ≡ true
-Judges form t (Some f) = (is_strict_suffix t ≡ false) × (f ≡ closed_flaw_at form t)
-
-judged_end : (form : QuotedForm) (t : List ℕ) → begins_hash form t ≡ false → (r : List ℕ) → suffix_rest t ≡ r
-    → Judges form t (suffix_end_read form t r)
-judged_end form t hash [] e = go (is_lone t) refl
-  where
-    some : not (is_some_text (suffix_rest t)) ≡ true
-    some = ap (λ z. not (is_some_text z)) e
-
-    go : (b : Bool) → is_lone t ≡ b → Judges form t (cond b (Some (found_flaw UnderscoreSuffix [])) None)
-    go true h = (
-      suffix_is t ∙ ap (λ b. b && not (is_lone t)) some ∙ ap not h,
-      sym (ap (λ b. cond b (found_flaw ExtraHash t) (suffix_end_flaw_at form (suffix_rest t))) hash
-          ∙ ap (suffix_end_flaw_at form) e),
-    )
-    go false h = suffix_is t ∙ ap (λ b. b && not (is_lone t)) some ∙ ap not h
-judged_end form t hash (c ∷ cs) e = (
-  suffix_is t ∙ ap (λ z. not (is_some_text z) && not (is_lone t)) e,
-  sym (ap (λ b. cond b (found_flaw ExtraHash t) (suffix_end_flaw_at form (suffix_rest t))) hash
-      ∙ ap (suffix_end_flaw_at form) e),
-)
-
-pub suffix_judged : (form : QuotedForm) (t : List ℕ) → Judges form t (suffix_read_at form t)
-unfolding suffix_read_at
-suffix_judged form t = go (begins_hash form t) refl
-  where
-    go : (b : Bool) → begins_hash form t ≡ b
-        → Judges form t (cond b (Some (found_flaw ExtraHash t)) (suffix_end_read form t (suffix_rest t)))
-    go true h = (
-      hash_no_suffix form t h,
-      sym (ap (λ b. cond b (found_flaw ExtraHash t) (suffix_end_flaw_at form (suffix_rest t))) h),
-    )
-    go false h = judged_end form t h (suffix_rest t) refl
 
 pub judged_by : (form : QuotedForm) (t : List ℕ) (o : Option FoundFlaw) → o ≡ suffix_read_at form t → Judges form t o
 judged_by form t o e = subst (Judges form t) (sym e) (suffix_judged form t)
@@ -153,7 +79,7 @@ pub cooked_suffix : (k : Kind) (f : FlawKind) (t closing suffix piece rest : Lis
     → piece ≡ suffix_piece f closing suffix → StopsIn CookedForm k f t piece rest
 cooked_suffix k f t closing suffix piece rest s r e judged spoiled =
     let none = cooked_unclosed k t closing suffix s r e judged.0 in
-    let flaw = string_closed k f t closing suffix piece rest s r e none judged.1 spoiled in
+    let flaw = string_closed k f t closing suffix piece rest s r e judged.1 spoiled in
     record { none = none; stops = flaw.stops; has = flaw.has }
 
 pub cooked_open : (k : Kind) (f : FlawKind) (t closing piece rest : List ℕ) → is_string k ≡ true
@@ -177,11 +103,6 @@ pub record Lenient (k : Kind) (us : List StrictUnit) (rest : List ℕ) : Type 0 
   pub each : AllByRecursion (IsUnit k) units
   pub ends : RowEnds units rest
   pub text_is : texts units ≡ flat_map strict_text us
-
-no_blank : (t : List ℕ) → first_passes is_dropped_blank t ≡ false → first_passes is_return t ≡ false
-    → first_passes is_blank t ≡ false
-no_blank [] a b = refl
-no_blank (c ∷ t) a b = or_from (is_dropped_blank c) (c == 13) a b
 
 seam : (test : ℕ → Bool) (a b : List ℕ) → first_passes test a ≡ false → first_passes test b ≡ false
     → first_passes test (a ++ b) ≡ false
@@ -354,7 +275,7 @@ pub single_suffix : (k : Kind) (f : FlawKind) (t closing suffix piece rest : Lis
 single_suffix k f t closing suffix piece rest s u e judged spoiled =
     let none : ClosesUnits k t → ⊥ = λ c. both_ways (is_strict_suffix suffix) judged.0 (sym (ap (ends_quoted 39) e)
     ∙ (one_end k (ends_quoted 39 closing) t closing s u refl).1 c) in
-    let flaw = single_closed k f t closing suffix piece rest s u e none judged.1 spoiled in
+    let flaw = single_closed k f t closing suffix piece rest s u e judged.1 spoiled in
     record { none = none; stops = flaw.stops; has = flaw.has }
 
 pub single_unquoted_stops : (k : Kind) (f : FlawKind) (t closing piece rest : List ℕ) → is_single k ≡ true

@@ -10,10 +10,10 @@ use Rattle.rl_reading.specs.StrictUnits.{BeginsStrictUnit, BeginsStrictUnits, Br
 use Rattle.rl_reasons.specs.StrictFlawKinds.{suffix_piece}
 use Rattle.rl_strict.specs.StrictShapes.{ClosesForm, ClosesUnits}
 use Rattle.rl_strict.specs.Mirrors.StrictAt.{ends_quoted, is_strict_suffix, unit_rest}
-use Rattle.rl_reasons.specs.Mirrors.StrictFlawAt.{strict_unit_flaw_at, closed_flaw_at}
+use Rattle.rl_reasons.specs.Mirrors.StrictFlawAt.{strict_unit_flaw_at}
 use Rattle.rl_reasons.specs.Mirrors.UnitFlawAt.{FoundFlaw, found_flaw}
 use Rattle.rl_strict.proofs.StrictRowLemmas.{one_end, one_none, quote_stops, quoted_single, units_end, units_step}
-use Rattle.rl_reasons.proofs.StrictSuffixFlaws.{Closer, FlawInside, closed_flaw}
+use Rattle.rl_reasons.proofs.StrictSuffixFlaws.{Closer, FlawInside, SuffixSpoiled, closed_flaw}
 use Rattle.rl_reasons.proofs.StrictUnitFlaws.{HasStrictUnitFlaw, IsUnitText, strict_unit_spoils}
 use Rattle.rl_strict.proofs.StrictUnitLemmas.{StrictFront, unit_rest_complete, unit_rest_sound}
 use Rattle.rl_strict.proofs.StrictUnitRows.{breaks_to, row_closes}
@@ -85,14 +85,14 @@ cooked_unclosed k t closing suffix s r e h c = (string_closer k t closing suffix
     (subst (ClosesUnits k) (cooked_text k t closing suffix r e) c)
 
 pub string_closed : (k : Kind) (f : FlawKind) (t closing suffix piece rest : List ℕ) → is_string k ≡ true
-    → BeginsStrictUnits k t closing → closing ≡ 34 ∷ suffix → (ClosesUnits k t → ⊥) → found_flaw f rest
-    ≡ closed_flaw_at CookedForm suffix → piece ≡ suffix_piece f closing suffix → FlawInside CookedForm k f t piece rest
+    → BeginsStrictUnits k t closing → closing ≡ 34 ∷ suffix → SuffixSpoiled CookedForm f suffix rest
+    → piece ≡ suffix_piece f closing suffix → FlawInside CookedForm k f t piece rest
 unfolding string_closer
-string_closed k f t closing suffix piece rest s r e none same spoiled =
+string_closed k f t closing suffix piece rest s r e found spoiled =
     let c = string_closer k t closing suffix s r e in
     closed_flaw CookedForm k f t closing suffix piece rest c
     (r.text_is ∙ ap (λ z. flat_map strict_text r.units ++ z) e
-    ∙ sym (append_assoc (flat_map strict_text r.units) (34 ∷ []) suffix)) (r, e) none same spoiled
+    ∙ sym (append_assoc (flat_map strict_text r.units) (34 ∷ []) suffix)) (r, e) found spoiled
 
 -- ---- an open string
 
@@ -195,14 +195,14 @@ single_closer k u s is =
 
 pub single_closed : (k : Kind) (f : FlawKind) (t closing suffix piece rest : List ℕ) → is_single k ≡ true
     → unit_rest k t
-    ≡ Some closing → closing ≡ 39 ∷ suffix → (ClosesUnits k t → ⊥) → found_flaw f rest
-    ≡ closed_flaw_at SingleForm suffix → piece ≡ suffix_piece f closing suffix → FlawInside SingleForm k f t piece rest
+    ≡ Some closing → closing ≡ 39 ∷ suffix → SuffixSpoiled SingleForm f suffix rest
+    → piece ≡ suffix_piece f closing suffix → FlawInside SingleForm k f t piece rest
 unfolding single_closer
-single_closed k f t closing suffix piece rest s h e none same spoiled =
+single_closed k f t closing suffix piece rest s h e found spoiled =
     let u = unit_rest_sound k t closing (quoted_single k s) h in
     closed_flaw SingleForm k f t closing suffix piece rest (single_closer k u.unit s u.is_unit)
     (u.text_is ∙ ap (λ z. strict_text u.unit ++ z) e ∙ sym (append_assoc (strict_text u.unit) (39 ∷ []) suffix))
-    (front_unit k t closing u, e) none same spoiled
+    (front_unit k t closing u, e) found spoiled
 
 -- where no quote follows the unit
 single_unquoted : (k : Kind) (t rest : List ℕ) → is_single k ≡ true → StrictFront k t rest

@@ -6,8 +6,7 @@ use Rattle.std.proofs.lemmas.List.Folds.{list_any-append}
 use Rattle.std.specs.Prelude.{⊤}
 use Rattle.rl_text.specs.Texts.{is_continue, is_start}
 use Rattle.rl_forms.specs.Numbers.{is_power_sign}
-use Rattle.rl_forms.specs.Strict.{bare, dec, spelled_number, IsDigits, IsDecimalText, IsNumberSuffix, BasedPrefix, StrictInt, IsStrictExponent, IsDotAlone, IsPointed, IsScientific, StrictFloat}
-use Rattle.rl_forms.proofs.StrictNumbers.{same_value}
+use Rattle.rl_forms.specs.Strict.{dec, IsDigits, IsDecimalText, IsNumberSuffix, BasedPrefix, StrictInt, IsStrictExponent, IsDotAlone, IsPointed, IsScientific, StrictFloat}
 use Rattle.rl_text.proofs.Basics.{digit_is_ten, hex_is_sixteen, passes_same}
 use Rattle.rl_reading.specs.Mirrors.NumberAt.{after_digits, after_power_sign, capped, digit_row_at, has_digit_at, has_value, magnitude_at, radix_at}
 use Rattle.rl_reading.specs.Mirrors.PlainAt.{is_some_text}
@@ -27,6 +26,7 @@ use Rattle.rl_reasons.specs.Mirrors.NumberRead.{Ending, NumberRead, as_float, as
 use Rattle.rl_reasons.proofs.NumberEnds.{Fails, IsSign, Passes, SignCut, based_is, both_fail, digits_plain, digits_power, each_fails, end_of, fraction_is, fraction_none, front_digits, in_base, in_row, is_read, is_sign, names, names_none, number_end_at, of_base, part_row, power_is, row_bare, row_part, row_plain, row_tail, sign_cut, some_value, suffix_reads, suffix_whole, ten_first, ten_is, whole_digits, whole_dot, whole_end_at, whole_plain}
 use Rattle.rl_reasons.proofs.Stops.{Stops, lifted}
 use Rattle.rl_reasons.proofs.StrictSuffixFlaws.{goes_on_first, suffix_cut, suffix_stuck}
+use Rattle.rl_forms.specs.Spelling.{place_value, without_underscores}
 
 -- ---- a flaw after some front of a number
 
@@ -401,9 +401,10 @@ first_some (c ∷ cs) h = or_left (has_value 10 c) (list_any (has_value 10) cs) 
 
 -- an integer of base ten, from its parts
 int_of : (t d x : List ℕ) (m : Option ℕ) → IsDigits d → IsDecimalText t → IsNumberSuffix x
-    → first_passes is_exponent_letter x ≡ false → t ≡ d ++ x → m ≡ capped (spelled_number 10 (bare d)) → IntOf t m x
+    → first_passes is_exponent_letter x ≡ false → t ≡ d ++ x → m ≡ capped (place_value 10 (without_underscores d))
+    → IntOf t m x
 int_of t d x m h n s p text is = (
-  spelled_number 10 (bare d),
+  place_value 10 (without_underscores d),
   record {
     prefix = [];
     base = 10;
@@ -426,7 +427,7 @@ never_first (c ∷ cs) = refl
 
 -- after the whole part
 whole_judged : (t d y : List ℕ) (m : Option ℕ) → IsDigits d → IsDecimalText t → t ≡ d ++ y
-    → first_passes in_row y ≡ false → m ≡ capped (spelled_number 10 (bare d))
+    → first_passes in_row y ≡ false → m ≡ capped (place_value 10 (without_underscores d))
     → ReadJudged t whole_end_at d y (whole_read_at m y)
 unfolding whole_read_at
 whole_judged t d y m h n text stops is = go y text stops
@@ -495,7 +496,7 @@ decimal_judged t d n =
     ∙ ap (λ (q : ℕ × List ℕ). q.0) (not_based t n) in
     read_through t whole_end_at number_end_at (ten_first w) w y t (whole_read_at m y) text
     (both_fail in_row (names w) y stops (names_none w y ten)) (λ x k. ten_is w y x is ten k)
-    (whole_judged t w y m is n text stops (ap capped (sym (same_value 10 (bare w)))))
+    (whole_judged t w y m is n text stops refl)
 
 -- ---- other bases
 
@@ -612,7 +613,7 @@ based_judged b t w other text = go (first_passes is_ascii_digit y) refl (list_an
     read : list_any (of_base b) row ≡ true → first_passes is_float_mark y ≡ false → (x : List ℕ) → SuffixOf y x
         → IntOf t m x
     read some mark x s = (
-      spelled_number (radix b) (bare row),
+      place_value (radix b) (without_underscores row),
       record {
         prefix = prefix b;
         base = radix b;
@@ -627,7 +628,7 @@ based_judged b t w other text = go (first_passes is_ascii_digit y) refl (list_an
         text = whole ∙ ap (λ z. (prefix b ++ row) ++ z) s.1;
         contents = refl;
       },
-      ap capped (sym (same_value (radix b) (bare row))),
+      refl,
     )
 
     suffix : first_passes is_ascii_digit y ≡ false → list_any (of_base b) row ≡ true

@@ -14,10 +14,10 @@ use Rattle.rl_reasons.specs.Flaws.{StopsBefore}
 use Rattle.rl_reasons.specs.StrictFlawKinds.{IsOpen, StrictRawFlaw, suffix_piece}
 use Rattle.rl_strict.specs.StrictShapes.{ClosesForm, ClosesRaw}
 use Rattle.rl_strict.specs.Mirrors.StrictAt.{ends_raw, is_inside, is_raw_character, is_strict_suffix}
-use Rattle.rl_reasons.specs.Mirrors.StrictFlawAt.{raw_stop, held_flaw_of, closed_flaw_at}
-use Rattle.rl_reasons.specs.Mirrors.UnitFlawAt.{found_flaw, spoiled_flaw_of}
+use Rattle.rl_reasons.specs.Mirrors.StrictFlawAt.{raw_stop, held_flaw_of}
+use Rattle.rl_reasons.specs.Mirrors.UnitFlawAt.{spoiled_flaw_of}
 use Rattle.rl_strict.proofs.StrictRawLemmas.{NoCloser, inside_sound, none_before, nothing_inside, past_body, raw_close, raw_complete, raw_on, raw_sound}
-use Rattle.rl_reasons.proofs.StrictSuffixFlaws.{Closer, FlawInside, closed_flaw, same_flaw}
+use Rattle.rl_reasons.proofs.StrictSuffixFlaws.{Closer, FlawInside, SuffixSpoiled, closed_flaw, same_flaw}
 
 -- ---- what a raw string holds before its closer
 
@@ -276,12 +276,12 @@ module _ (k : Kind) (n : ℕ) (inside rest : List ℕ) (s : is_string k ≡ true
         (append_assoc before (34 ∷ hs) x) c);
   }
 
-  closed : (f : FlawKind) (suffix piece after : List ℕ) → rest ≡ 34 ∷ (hs ++ suffix) → (ClosesRaw k whole → ⊥)
-      → found_flaw f after ≡ closed_flaw_at RawForm suffix → piece ≡ suffix_piece f rest suffix
+  closed : (f : FlawKind) (suffix piece after : List ℕ) → rest ≡ 34 ∷ (hs ++ suffix)
+      → SuffixSpoiled RawForm f suffix after → piece ≡ suffix_piece f rest suffix
       → FlawInside RawForm k f whole piece after
   unfolding closer
-  closed f suffix piece after at none same spoils = closed_flaw RawForm k f whole rest suffix piece after closer
-      (cut ∙ ap (λ z. before ++ z) at ∙ sym (append_assoc before (34 ∷ hs) suffix)) (n, opened, at) none same spoils
+  closed f suffix piece after at found spoils = closed_flaw RawForm k f whole rest suffix piece after closer
+      (cut ∙ ap (λ z. before ++ z) at ∙ sym (append_assoc before (34 ∷ hs) suffix)) (n, opened, at) found spoils
 
 -- ---- the flaw after the opening quote, by what the code finds
 
@@ -327,16 +327,14 @@ raw_spoiled k f n hashes inside rest q z c cs s few e at is no_closer kind piece
 
 pub raw_closed : (k : Kind) (f : FlawKind) (n : ℕ) (hashes inside rest suffix q z : List ℕ) (c : ℕ) (cs : List ℕ)
     → is_string k ≡ true → n ≤ 255 → hashes ≡ replicate n 35 → rest ≡ raw_stop k hashes inside → rest ≡ c ∷ cs → c ≡ 34
-    → cs ≡ hashes ++ suffix → (ClosesRaw k (hashes ++ (34 ∷ inside)) → ⊥) → found_flaw f z
-    ≡ closed_flaw_at RawForm suffix → q ≡ suffix_piece f rest suffix
+    → cs ≡ hashes ++ suffix → SuffixSpoiled RawForm f suffix z → q ≡ suffix_piece f rest suffix
     → FlawInside RawForm k f (hashes ++ (34 ∷ inside)) q z
-raw_closed k f n hashes inside rest suffix q z c cs s few e at is quote more none same piece =
+raw_closed k f n hashes inside rest suffix q z c cs s few e at is quote more found piece =
     let less : n < 256 = omega (arith, few) in
     let text : rest ≡ 34 ∷ (replicate n 35 ++ suffix) = is ∙ ap (λ y. y ∷ cs) quote
     ∙ ap (λ y. 34 ∷ y) (more ∙ ap (λ y. y ++ suffix) e) in
     as_found k f f n hashes inside q q z z e refl refl refl
-    (closed k n inside rest s less (found_walk k n hashes inside rest e at) f suffix q z text
-    (λ y. none (subst (λ v. ClosesRaw k (v ++ (34 ∷ inside))) (sym e) y)) same piece)
+    (closed k n inside rest s less (found_walk k n hashes inside rest e at) f suffix q z text found piece)
 
 -- ---- the flaw before it
 

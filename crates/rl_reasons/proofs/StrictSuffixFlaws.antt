@@ -1,11 +1,11 @@
 -- Where the suffix of a closed literal stops, and how its front is completed.
-use Rattle.rl_text.proofs.Common.{◌≡◌, ℕ, ◌||◌, ◌&&◌, Bool, true, false, not, ◌==◌, cond, List, [], ◌∷◌, ◌++◌, refl, sym, ap, subst, ◌∙◌, inl, inr, arith, append-nil, and_from, and_parts, both_ways, cases_Bool, eqb-true, list_all, list_all-append, AllByRecursion, is_xid_continue, is_xid_start}
-use Rattle.rl_reading.proofs.Names.{and_right, cond_both, false_from_ne_true, after_run, first_passes, IsScalar, Kind}
+use Rattle.rl_text.proofs.Common.{Option, Some, None, ◌≡◌, ℕ, ◌||◌, ◌&&◌, Bool, true, false, not, ◌==◌, cond, List, [], ◌∷◌, ◌++◌, refl, sym, ap, subst, ◌∙◌, inl, inr, arith, append-nil, and_from, and_parts, both_ways, cases_Bool, eqb-true, list_all, list_all-append, AllByRecursion, is_xid_continue, is_xid_start}
+use Rattle.rl_reading.proofs.Names.{and_right, cond_both, after_run, first_passes, IsScalar, Kind}
 use Rattle.std.proofs.lemmas.Bool.{and_left}
 use Rattle.unicode_ident.proofs.IdentLemmas.{is_xid_start-ascii, is_xid_continue-ascii}
 use Rattle.rl_text.specs.Texts.{is_continue, is_start, is_white}
 use Rattle.rl_reasons.specs.declared.flaws.FlawKind.{FlawKind}
-use Rattle.rl_reasons.specs.declared.flaws.FlawKind.TheVariants.{BadSuffix, EarlyQuote, ExtraHash}
+use Rattle.rl_reasons.specs.declared.flaws.FlawKind.TheVariants.{BadSuffix, EarlyQuote, ExtraHash, UnderscoreSuffix}
 use Rattle.rl_reading.specs.declared.quoted_forms.QuotedForm.{QuotedForm}
 use Rattle.rl_reasons.specs.Flaws.{StopsBefore}
 use Rattle.rl_reasons.specs.StrictFlawKinds.{IsClosed, StrictQuotedFlaw, SuffixFlaw, form_quote, goes_on_with_suffix, is_raw_form, is_suffix_front, suffix_piece}
@@ -13,8 +13,9 @@ use Rattle.rl_strict.specs.StrictShapes.{ClosesForm}
 use Rattle.rl_reading.specs.Mirrors.NumberAt.{run}
 use Rattle.rl_reading.specs.Mirrors.PlainAt.{is_some_text}
 use Rattle.rl_strict.specs.Mirrors.StrictAt.{is_strict_suffix}
-use Rattle.rl_reasons.specs.Mirrors.StrictFlawAt.{suffix_rest, suffix_end_flaw_at, begins_hash, closed_flaw_at}
+use Rattle.rl_reasons.specs.Mirrors.StrictFlawAt.{begins_hash, suffix_rest}
 use Rattle.rl_reasons.specs.Mirrors.UnitFlawAt.{FoundFlaw, found_flaw}
+use Rattle.rl_reasons.specs.Mirrors.SuffixRead.{is_lone, suffix_end_read, suffix_read_at}
 use Rattle.rl_reading.proofs.RunLemmas.{run_all, run_ends, run_join}
 use Rattle.rl_reading.proofs.TestLemmas.{all_breaks}
 use Rattle.rl_reasons.proofs.Stops.{Flawed, Stops, lifted, stops_before}
@@ -123,7 +124,7 @@ suffix_stuck (d ∷ ds) c e h = and_right (cond (d == 95) (is_some_text (ds ++ (
     (list_all is_continue (ds ++ (c ∷ e))) (all_breaks is_continue ds c e h)
 
 -- a hash begins no word
-pub hash_no_start : is_start 35 ≡ false
+hash_no_start : is_start 35 ≡ false
 hash_no_start = and_left (35 == 95 || is_xid_start 35) (not (is_white 35)) (is_xid_start-ascii 35 (omega arith))
 
 -- ---- the flaw after a closer
@@ -134,18 +135,24 @@ pub record SuffixSpoiled (form : QuotedForm) (k : FlawKind) (t rest : List ℕ) 
   pub spoils : SuffixFlaw form k stops.front rest
 
 -- a hash too much
+hash_no_suffix : (form : QuotedForm) (t : List ℕ) → begins_hash form t ≡ true → is_strict_suffix t ≡ false
+hash_no_suffix form [] h = absurd (both_ways false refl (and_parts (is_raw_form form) false h).1)
+hash_no_suffix form (c ∷ cs) h =
+    let At : ℕ → Type 0 = λ z. is_start z ≡ false in
+    no_start_no_suffix c cs
+    (subst At (sym (eqb-true c 35 (and_parts (is_raw_form form) (c == 35) h).1)) hash_no_start)
+
 hash_spoils : (form : QuotedForm) (t : List ℕ) → begins_hash form t ≡ true → SuffixSpoiled form ExtraHash t t
 unfolding is_strict_suffix
 hash_spoils form t h =
     let p = and_parts (is_raw_form form) (first_passes (λ c. c == 35) t) h in
-    let At : ℕ → Type 0 = λ z. is_start z ≡ false in
     record {
       stops = record {
         front = [];
         text_is = refl;
         begins = record { ending = []; are_characters = tt; is_taken = refl };
-        stuck = λ c cs e same. no_start_no_suffix c e (subst At
-            (sym (eqb-true c 35 (sym (ap (first_passes (λ c. c == 35)) same) ∙ p.1))) hash_no_start);
+        stuck = λ c cs e same. hash_no_suffix form (c ∷ e) (and_from (is_raw_form form) (c == 35) p.0
+            (sym (ap (first_passes (λ c. c == 35)) same) ∙ p.1));
       };
       spoils = (p.0, refl, p.1);
     }
@@ -161,18 +168,40 @@ cut_stops t rest k = record {
       (ap (goes_on_with_suffix k.front) (sym h) ∙ k.ends));
 }
 
--- what stands after the first characters
-cut_spoils : (form : QuotedForm) (t rest : List ℕ) → SuffixCut t rest → is_strict_suffix t ≡ false → begins_hash form t
-    ≡ false → SuffixSpoiled form (suffix_end_flaw_at form rest).0 t (suffix_end_flaw_at form rest).1
-unfolding cut_stops
-cut_spoils form t [] k off hash =
-    let same : k.front ≡ t = sym (append-nil k.front) ∙ sym k.text_is in
-    record { stops = cut_stops t [] k; spoils = (only_underscore k.front k.is_front (ap is_strict_suffix same ∙ off), refl) }
-cut_spoils form t (c ∷ cs) k off hash = cond_both (c == form_quote form) _ _ P quote other
-  where
-    P : FoundFlaw → Type 0
-    P f = SuffixSpoiled form f.0 t f.1
+lone_is : (t : List ℕ) → is_lone t ≡ true → t ≡ 95 ∷ []
+lone_is [] h = absurd (cc)
+lone_is (c ∷ []) h = ap (λ z. z ∷ []) (eqb-true c 95 h)
+lone_is (c ∷ d ∷ ds) h = absurd (cc)
 
+-- The text is a suffix, or stops there for the code's reason.
+abbrev pub Judges : QuotedForm → List ℕ → Option FoundFlaw → Type 0
+Judges form t None = is_strict_suffix t ≡ true
+Judges form t (Some f) = (is_strict_suffix t ≡ false) × SuffixSpoiled form f.0 t f.1
+
+-- by what stands after the first characters
+judged_end : (form : QuotedForm) (t rest : List ℕ) → SuffixCut t rest → begins_hash form t ≡ false
+    → Judges form t (suffix_end_read form t rest)
+unfolding cut_stops is_strict_suffix
+judged_end form t [] k hash = go (is_lone t) refl
+  where
+    same : k.front ≡ t
+    same = sym (append-nil k.front) ∙ sym k.text_is
+
+    go : (b : Bool) → is_lone t ≡ b → Judges form t (cond b (Some (found_flaw UnderscoreSuffix [])) None)
+    go true h =
+        let e = lone_is t h in
+        (ap is_strict_suffix e, record { stops = cut_stops t [] k; spoils = (same ∙ e, refl) })
+    go false h = elim (cases_Bool (is_strict_suffix t)) [
+      | inl a ↦ a
+      | inr a ↦
+          let e = only_underscore t (subst (λ z. is_suffix_front z ≡ true) same k.is_front) a in
+          absurd (both_ways (is_lone t) h (ap is_lone e))
+    ]
+judged_end form t (c ∷ cs) k hash = (
+  ap is_strict_suffix k.text_is ∙ suffix_stuck k.front c cs k.ends,
+  cond_both (c == form_quote form) _ _ (λ (f : FoundFlaw). SuffixSpoiled form f.0 t f.1) quote other,
+)
+  where
     quote : (c == form_quote form) ≡ true → SuffixSpoiled form EarlyQuote t (c ∷ cs)
     quote e = record { stops = cut_stops t (c ∷ cs) k; spoils = (k.is_front, e) }
 
@@ -191,11 +220,14 @@ cut_spoils form t (c ∷ cs) k off hash = cond_both (c == form_quote form) _ _ P
       );
     }
 
-pub suffix_spoils : (form : QuotedForm) (t : List ℕ) → is_strict_suffix t ≡ false
-    → SuffixSpoiled form (closed_flaw_at form t).0 t (closed_flaw_at form t).1
-suffix_spoils form t off = cond_both (begins_hash form t) _ _ (λ (f : FoundFlaw). SuffixSpoiled form f.0 t f.1)
-    (hash_spoils form t)
-    (cut_spoils form t (suffix_rest t) (suffix_cut t) off)
+pub suffix_judged : (form : QuotedForm) (t : List ℕ) → Judges form t (suffix_read_at form t)
+unfolding suffix_read_at
+suffix_judged form t = go (begins_hash form t) refl
+  where
+    go : (b : Bool) → begins_hash form t ≡ b
+        → Judges form t (cond b (Some (found_flaw ExtraHash t)) (suffix_end_read form t (suffix_rest t)))
+    go true h = (hash_no_suffix form t h, hash_spoils form t h)
+    go false h = judged_end form t (suffix_rest t) (suffix_cut t) h
 
 -- ---- in a literal
 
@@ -220,13 +252,9 @@ pub record Closer (form : QuotedForm) (kind : Kind) : Type 0 where
 -- so the flaw is that of the suffix
 pub closed_flaw : (form : QuotedForm) (kind : Kind) (k : FlawKind) (inside closing suffix piece rest : List ℕ)
     (c : Closer form kind) → inside ≡ c.before ++ suffix → IsClosed form kind inside closing suffix
-    → (ClosesForm form kind inside → ⊥) → found_flaw k rest ≡ closed_flaw_at form suffix → piece
-    ≡ suffix_piece k closing suffix → FlawInside form kind k inside piece rest
-closed_flaw form kind k inside closing suffix piece rest c text closed none same spoiled =
-    let off : is_strict_suffix suffix ≡ false = false_from_ne_true (is_strict_suffix suffix)
-    (λ h. none (subst (ClosesForm form kind) (sym text) (c.good suffix h))) in
-    let f : SuffixSpoiled form k suffix rest = subst (λ (f : FoundFlaw). SuffixSpoiled form f.0 suffix f.1) (sym same)
-    (suffix_spoils form suffix off) in
+    → SuffixSpoiled form k suffix rest → piece ≡ suffix_piece k closing suffix
+    → FlawInside form kind k inside piece rest
+closed_flaw form kind k inside closing suffix piece rest c text closed f spoiled =
     let s = f.stops in
     record {
       stops = subst (λ z. StopsBefore (ClosesForm form kind) z rest) (sym text)

@@ -7,7 +7,8 @@ use Prim.Native.Char.{code}
 use Rattle.rl_forms.specs.declared.kind.Kind.{Kind}
 use Rattle.rl_forms.specs.declared.kind.Kind.TheVariants.{CStr}
 use Rattle.rl_text.specs.Texts.{first_passes, is_among, is_underscore}
-use Rattle.rl_forms.specs.Quoted.{Letter, letter_text, hex_value, place_value, without_underscores, is_hex_digit, is_line_end, is_single, is_string, has_unicode, holds_characters}
+use Rattle.rl_forms.specs.Quoted.{Letter, letter_text, hex_value, is_hex_digit, is_line_end, is_single, is_string, has_unicode, holds_characters}
+use Rattle.rl_forms.specs.Spelling.{place_value, without_underscores}
 use Rattle.rl_text.specs.Classes.{is_hash}
 use Rattle.rl_lexer.specs.Sources.{is_apostrophe}
 use Rattle.rl_reasons.specs.declared.flaws.FlawKind.{FlawKind}

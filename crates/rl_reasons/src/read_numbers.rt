@@ -116,7 +116,7 @@ fn after_sign(text: &str) -> &str
 
 /// The suffix of the float, from what follows the letter of its exponent.
 #[inline(always)]
-#[tactic(auto, using(crate::proofs::Tails::ok_tail, rl_text::proofs::TailLemmas::tail_step, rl_text::proofs::TailLemmas::tail_self), unfolding(crate::specs::Mirrors::NumberRead::power_end_at))]
+#[tactic(auto, using(rl_text::proofs::TailLemmas::ok_tail, rl_text::proofs::TailLemmas::tail_step, rl_text::proofs::TailLemmas::tail_self), unfolding(crate::specs::Mirrors::NumberRead::power_end_at))]
 fn read_power(text: &str) -> Result<&str, Stop<'_>>
     ensures value { outcome (λ x. chars x.now) result ≡ power_end_at (chars text.now) }
     ensures following { IfOk result (λ x. IsTail text.now x.now) }
@@ -134,7 +134,7 @@ fn read_power(text: &str) -> Result<&str, Stop<'_>>
 
 /// The suffix of the float, from what follows the digits of its fraction.
 #[inline(always)]
-#[tactic(auto, using(crate::proofs::Tails::ok_tail, rl_text::proofs::TailLemmas::tail_step, rl_text::proofs::TailLemmas::tail_self), unfolding(crate::specs::Mirrors::NumberRead::digits_end_at))]
+#[tactic(auto, using(rl_text::proofs::TailLemmas::ok_tail, rl_text::proofs::TailLemmas::tail_step, rl_text::proofs::TailLemmas::tail_self), unfolding(crate::specs::Mirrors::NumberRead::digits_end_at))]
 fn read_exponent(text: &str) -> Result<&str, Stop<'_>>
     ensures value { outcome (λ x. chars x.now) result ≡ digits_end_at (chars text.now) }
     ensures following { IfOk result (λ x. IsTail text.now x.now) }
@@ -147,7 +147,7 @@ fn read_exponent(text: &str) -> Result<&str, Stop<'_>>
 
 /// The suffix of the float, from what follows its dot.
 #[inline(always)]
-#[tactic(auto, using(crate::proofs::Tails::ok_tail, rl_text::proofs::TailLemmas::tail_step, rl_text::proofs::TailLemmas::tail_self), unfolding(crate::specs::Mirrors::NumberRead::fraction_end_at))]
+#[tactic(auto, using(rl_text::proofs::TailLemmas::ok_tail, rl_text::proofs::TailLemmas::tail_step, rl_text::proofs::TailLemmas::tail_self), unfolding(crate::specs::Mirrors::NumberRead::fraction_end_at))]
 fn read_fraction(text: &str) -> Result<&str, Stop<'_>>
     ensures value { outcome (λ x. chars x.now) result ≡ fraction_end_at (chars text.now) }
     ensures following { IfOk result (λ x. IsTail text.now x.now) }
@@ -166,7 +166,7 @@ fn read_fraction(text: &str) -> Result<&str, Stop<'_>>
 
 /// The number whose whole part, in base ten, is this row.
 #[inline(always)]
-#[tactic(auto, using(crate::proofs::Tails::ok_tail, rl_text::proofs::TailLemmas::tail_step, rl_text::proofs::TailLemmas::tail_self), unfolding(crate::specs::Mirrors::NumberRead::whole_read_at))]
+#[tactic(auto, using(rl_text::proofs::TailLemmas::ok_tail, rl_text::proofs::TailLemmas::tail_step, rl_text::proofs::TailLemmas::tail_self), unfolding(crate::specs::Mirrors::NumberRead::whole_read_at))]
 fn read_whole(row: DigitRow<'_>) -> Result<Number<'_>, Stop<'_>>
     ensures value { number_outcome result ≡ whole_read_at row.entry.magnitude (chars row.entry.rest.now) }
     ensures following { IfOk result (λ n. IsTail row.entry.rest.now (suffix_of n)) }
@@ -187,7 +187,7 @@ fn begins_float(text: &str) -> bool
 
 /// The integer of another base, from what follows its prefix.
 #[inline(never)]
-#[tactic(auto, using(crate::proofs::Tails::ok_tail, rl_text::proofs::TailLemmas::tail_step, rl_text::proofs::TailLemmas::tail_self), unfolding(crate::specs::Mirrors::NumberRead::based_read_at))]
+#[tactic(auto, using(rl_text::proofs::TailLemmas::ok_tail, rl_text::proofs::TailLemmas::tail_step, rl_text::proofs::TailLemmas::tail_self), unfolding(crate::specs::Mirrors::NumberRead::based_read_at))]
 fn read_based(radix: u32, text: &str) -> Result<Number<'_>, Stop<'_>>
     requires { (2 ≤ radix) × (radix ≤ 16) }
     ensures value { number_outcome result ≡ based_read_at radix (chars text.now) }
@@ -217,7 +217,7 @@ fn read_based(radix: u32, text: &str) -> Result<Number<'_>, Stop<'_>>
 
 /// The number that a text that begins with a digit is, all of it.
 #[inline(always)]
-#[tactic(auto, using(crate::proofs::Tails::ok_tail, rl_text::proofs::TailLemmas::tail_step), unfolding(crate::specs::Mirrors::NumberRead::number_read_at))]
+#[tactic(auto, using(rl_text::proofs::TailLemmas::ok_tail, rl_text::proofs::TailLemmas::tail_step), unfolding(crate::specs::Mirrors::NumberRead::number_read_at))]
 pub(crate) fn read_digits(text: &str) -> Result<Number<'_>, Stop<'_>>
     ensures value { number_outcome result ≡ number_read_at (chars text.now) }
     ensures following { IfOk result (λ n. IsTail text.now (suffix_of n)) }

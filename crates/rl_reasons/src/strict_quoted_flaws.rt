@@ -10,7 +10,7 @@ ghost use Rattle.rl_reading.specs.Forms.{has_form};
 ghost use Rattle.rl_reasons.specs.StrictFlawKinds.{StrictQuotedFlaw, form_quote, suffix_piece};
 ghost use Rattle.rl_strict.specs.StrictShapes.{ClosesForm};
 ghost use Rattle.rl_strict.specs.Mirrors.StrictAt.{is_raw_character};
-ghost use Rattle.rl_reasons.specs.Mirrors.StrictFlawAt.{raw_stop, suffix_rest, suffix_end_flaw_at, begins_hash, held_flaw_of, strict_escape_flaw_at, strict_unit_flaw_at, closed_flaw_at};
+ghost use Rattle.rl_reasons.specs.Mirrors.StrictFlawAt.{raw_stop, suffix_rest, suffix_end_flaw_at, begins_hash, held_flaw_of, strict_escape_flaw_at, strict_unit_flaw_at};
 ghost use Rattle.rl_reasons.specs.Mirrors.UnitFlawAt.{found_flaw};
 
 use crate::flaws::{FlawAt, FlawKind, make_flaw};

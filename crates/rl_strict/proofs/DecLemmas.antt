@@ -5,8 +5,9 @@ use Rattle.std.proofs.Common.{◌/◌, ◌%◌}
 use Rattle.std.proofs.lemmas.Bool.{agree_below_at}
 use Rattle.std.proofs.Math.Nat.{pow-succ'}
 use Rattle.std.specs.Fmt.{digits_onto, digit_glyph}
-use Rattle.rl_forms.specs.Strict.{dec, spelled_number}
+use Rattle.rl_forms.specs.Strict.{dec}
 use Rattle.rl_reading.proofs.PlainNumberLemmas.{onto_digits}
+use Rattle.rl_forms.specs.Spelling.{place_value}
 
 -- ---- one digit
 
@@ -18,9 +19,9 @@ glyph_zero d h = agree_below_at (λ d. eqb (digit_glyph false d) 48) (λ d. eqb 
 
 -- ---- what is spelled
 
-push_value : (d : ℕ) (ds : List ℕ) → d < 10 → spelled_number 10 (digit_glyph false d ∷ ds)
-    ≡ d * 10 ^ length ds + spelled_number 10 ds
-push_value d ds h = ap (λ v. v * 10 ^ length ds + spelled_number 10 ds) (glyph_value d h)
+push_value : (d : ℕ) (ds : List ℕ) → d < 10 → place_value 10 (digit_glyph false d ∷ ds)
+    ≡ d * 10 ^ length ds + place_value 10 ds
+push_value d ds h = ap (λ v. v * 10 ^ length ds + place_value 10 ds) (glyph_value d h)
 
 linear : (q r p x s : ℕ) → x ≡ r * p + s → q * (10 * p) + x ≡ (q * 10 + r) * p + s
 linear q r p x s h = omega arith
@@ -31,34 +32,34 @@ no_times p x = omega arith
 tenfold : (k : ℕ) → 10 ^ suc k ≡ 10 * 10 ^ k
 tenfold k = pow-succ' 10 k
 
-value_step : (n : ℕ) (ds more : List ℕ) (b : Bool) → (n / 10 == 0) ≡ b → spelled_number 10 more
-    ≡ n / 10 * 10 ^ suc (length ds) + spelled_number 10 (digit_glyph false (n % 10) ∷ ds)
-    → spelled_number 10 (cond b (digit_glyph false (n % 10) ∷ ds) more) ≡ n * 10 ^ length ds + spelled_number 10 ds
+value_step : (n : ℕ) (ds more : List ℕ) (b : Bool) → (n / 10 == 0) ≡ b → place_value 10 more
+    ≡ n / 10 * 10 ^ suc (length ds) + place_value 10 (digit_glyph false (n % 10) ∷ ds)
+    → place_value 10 (cond b (digit_glyph false (n % 10) ∷ ds) more) ≡ n * 10 ^ length ds + place_value 10 ds
 value_step n ds more true e more_is =
     let none : n / 10 ≡ 0 = eqb-true (n / 10) 0 e in
     let same : n % 10 ≡ n = omega arith in
-    push_value (n % 10) ds (omega arith) ∙ ap (λ d. d * 10 ^ length ds + spelled_number 10 ds) same
+    push_value (n % 10) ds (omega arith) ∙ ap (λ d. d * 10 ^ length ds + place_value 10 ds) same
 value_step n ds more false e more_is =
-    let x = spelled_number 10 (digit_glyph false (n % 10) ∷ ds) in
+    let x = place_value 10 (digit_glyph false (n % 10) ∷ ds) in
     let parts : n / 10 * 10 + n % 10 ≡ n = omega arith in
     more_is
     ∙ ap (λ p. n / 10 * p + x) (tenfold (length ds))
-    ∙ linear (n / 10) (n % 10) (10 ^ length ds) x (spelled_number 10 ds) (push_value (n % 10) ds (omega arith))
-    ∙ ap (λ m. m * 10 ^ length ds + spelled_number 10 ds) parts
+    ∙ linear (n / 10) (n % 10) (10 ^ length ds) x (place_value 10 ds) (push_value (n % 10) ds (omega arith))
+    ∙ ap (λ m. m * 10 ^ length ds + place_value 10 ds) parts
 
-onto_value : (k n : ℕ) (ds : List ℕ) → n ≤ k → spelled_number 10 (digits_onto (suc k) 10 false n ds)
-    ≡ n * 10 ^ length ds + spelled_number 10 ds
+onto_value : (k n : ℕ) (ds : List ℕ) → n ≤ k → place_value 10 (digits_onto (suc k) 10 false n ds)
+    ≡ n * 10 ^ length ds + place_value 10 ds
 onto_value zero n ds h =
     let now : List ℕ = digit_glyph false (n % 10) ∷ ds in
     let last : n / 10 ≡ 0 = omega arith in
-    value_step n ds now (n / 10 == 0) refl (no_times (10 ^ suc (length ds)) (spelled_number 10 now)
-    ∙ ap (λ q. q * 10 ^ suc (length ds) + spelled_number 10 now) (sym last))
+    value_step n ds now (n / 10 == 0) refl (no_times (10 ^ suc (length ds)) (place_value 10 now)
+    ∙ ap (λ q. q * 10 ^ suc (length ds) + place_value 10 now) (sym last))
 onto_value (suc k) n ds h =
     let now : List ℕ = digit_glyph false (n % 10) ∷ ds in
     value_step n ds (digits_onto (suc k) 10 false (n / 10) now) (n / 10 == 0) refl
     (onto_value k (n / 10) now (omega arith))
 
-pub dec_spells : (n : ℕ) → spelled_number 10 (dec n) ≡ n
+pub dec_spells : (n : ℕ) → place_value 10 (dec n) ≡ n
 unfolding dec
 dec_spells n = let e = onto_value n n [] (omega arith) in omega arith
 

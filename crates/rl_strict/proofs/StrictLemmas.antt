@@ -2,7 +2,7 @@
 use Rattle.rl_text.proofs.Common.{◌≡◌, ℕ, ◌⊎◌, ◌||◌, Bool, true, false, ◌==◌, List, [], ◌∷◌, ◌++◌, Some, None, refl, sym, ap, subst, ◌∙◌, inl, inr, append_assoc, is_ascii_digit, flat_map, IsTrue}
 use Rattle.rl_reading.proofs.Names.{◌↔◌, Kind, Str, ByteStr, CStr, Byte, Char, Int, Float, BoolKind, NoSign, opener, raw_opener, Contents, Truth, truth_text, strict_text, strict_contents, strict_content_of}
 use Rattle.std.specs.Prelude.{replicate, codes, if◌then◌else◌}
-use Rattle.rl_forms.specs.Strict.{StrictCooked, StrictRaw, StrictInt, StrictFloat, Strict, strict_opener, strict_raw_opener, strict_closer, strict_quoted_contents}
+use Rattle.rl_forms.specs.Strict.{StrictCooked, StrictRaw, StrictInt, StrictFloat, Strict, strict_opener, strict_raw_opener, strict_closer}
 use Rattle.rl_text.proofs.Basics.{apart}
 use Rattle.rl_forms.proofs.OneNumber.{begins_number, float_front, int_front}
 use Rattle.rl_forms.proofs.StrictNumbers.{strict_int, float_strict_reads}
@@ -16,6 +16,7 @@ use Rattle.rl_reading.proofs.FormLemmas.{front_complete, front_sound}
 use Rattle.rl_reading.proofs.StrictBackLemmas.{HasStrictUnits}
 use Rattle.rl_strict.proofs.StrictRowLemmas.{quoted_string, quoted_single}
 use Rattle.rl_reading.proofs.OpenerLemmas.{word_has_none}
+use Rattle.rl_forms.specs.Reading.{quoted_contents}
 
 -- a strict number
 abbrev pub IsStrictNumber : List ℕ → Type 0
@@ -63,7 +64,7 @@ quoted_strict t kind v x q s = absurd q
 units_token : (k : Kind) (t inside : List ℕ) → HasStrictUnits k → t ≡ opener k ++ inside → ClosesUnits k inside
     → IsToken t
 units_token k t inside q text c =
-    let v : Contents = strict_quoted_contents k (flat_map (strict_contents (strict_content_of k)) c.units) in
+    let v : Contents = quoted_contents k (flat_map (strict_contents (strict_content_of k)) c.units) in
     record {
       kind = k;
       contents = v;
@@ -90,7 +91,7 @@ raw_token : (k : Kind) (t inside : List ℕ) → HasStrictUnits k → t ≡ raw_
 raw_token k t inside q text c =
     let i = c.closes in
     let h : List ℕ = replicate c.hashes 35 in
-    let v : Contents = strict_quoted_contents k (strict_content_of k i.inside) in
+    let v : Contents = quoted_contents k (strict_content_of k i.inside) in
     record {
       kind = k;
       contents = v;

@@ -1,5 +1,5 @@
 -- Runs of bytes that pass a test, told as runs of characters.
-use Rattle.rl_text.proofs.Common.{◌≡◌, ◌≢◌, ◌==◌, ℕ, suc, ◌+◌, ◌<◌, ◌≤◌, ◌⊎◌, inl, inr, ◌||◌, Bool, true, false, not, cond, List, [], ◌∷◌, ◌++◌, length, take, drop, get_or, refl, sym, ap, subst, ◌∙◌, arith, and_from, and_parts, both_ways, eq-eqb, ltb-false, ltb-true, prefix_len-le-length, take-append-drop, encodes-chars, chars-append, IsUtf8-take, IsUtf8-drop, chars_past_char, encode_ascii, list_all, prefix_len, is_ascii, chars, encode_utf8_all, IsUtf8, IsCharBoundary}
+use Rattle.rl_text.proofs.Common.{◌≡◌, ◌≢◌, ◌==◌, ℕ, suc, ◌+◌, ◌<◌, ◌≤◌, ◌⊎◌, inl, inr, ◌||◌, Bool, true, false, not, cond, List, [], ◌∷◌, ◌++◌, length, take, drop, get_or, refl, sym, ap, subst, ◌∙◌, arith, and_from, and_parts, both_ways, eq-eqb, ltb-true, prefix_len-le-length, take-append-drop, encodes-chars, chars-append, IsUtf8-take, IsUtf8-drop, chars_past_char, encode_ascii, list_all, prefix_len, is_ascii, chars, encode_utf8_all, IsUtf8, IsCharBoundary}
 use Rattle.std.proofs.lemmas.Bool.{cond-false}
 use Rattle.std.proofs.lemmas.List.Sums.{prefix_len_stops}
 use Rattle.std.proofs.lemmas.Str.{IsCharBoundary-before_ascii, IsCharBoundary-end}
@@ -143,11 +143,6 @@ other_first t u high = go (chars t) (encodes-chars t u)
     go (c ∷ cs) e = false_unless (is_ascii c) (λ h. omega (arith, low_head c cs e (ltb-true c 128 h), ltb-true c 128 h))
 
 -- ---- the next mark
-
-none_left : (m : Marks) (cs : List ℕ) → AreAscii m → first_passes (is_other m) cs ≡ false → first_passes is_ascii cs
-    ≡ false → cs ≡ []
-none_left m [] a stops none = refl
-none_left m (c ∷ cs) a stops none = absurd (both_ways (is_other m c) stops (other_high m a c (ltb-false c 128 none)))
 
 pub not_false : (b : Bool) → not b ≡ false → b ≡ true
 not_false true h = refl

@@ -2,6 +2,7 @@
 use Rattle.rl_text.proofs.Common.{◌≡◌, ℕ, ◌-◌, ◌<◌, List, [], ◌++◌, length, take, drop, refl, sym, ap, subst, ◌∙◌, arith, append_assoc, length-append, Option, Some, None, take-append_seam, IsCharBoundary, chars, IsUtf8, chars-append, IfSome, IfNone, option_map}
 use Rattle.std.proofs.Math.Seq.{drop-append_seam}
 use Rattle.std.proofs.lemmas.Str.{IsCharBoundary-at_seam}
+use Rattle.std.specs.Prelude.{Result, Ok, Err, IfOk}
 use Rattle.rl_text.specs.Texts.{IsTail}
 
 pub tail_self : (t : List ℕ) → IsUtf8 t → IsTail t t
@@ -71,3 +72,9 @@ pub some_nearer : {I : Type 0} (rest : I → List ℕ) (a b : List ℕ) (r : Opt
     → IfSome r (λ i. IsTail b (rest i)) → IfSome r (λ i. length (rest i) < length a)
 some_nearer rest a b None s p = tt
 some_nearer rest a b (Some i) s p = nearer a b (rest i) s p
+
+-- what a call returns of a rest of the text stands in the text
+pub ok_tail : {X E : Type 0} (rest : X → List ℕ) (a b : List ℕ) (r : Result X E) → IsTail a b
+    → IfOk r (λ x. IsTail b (rest x)) → IfOk r (λ x. IsTail a (rest x))
+ok_tail rest a b (Ok x) p q = tail_step a b (rest x) p q
+ok_tail rest a b (Err e) p q = tt

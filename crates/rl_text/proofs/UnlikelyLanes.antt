@@ -1,5 +1,5 @@
 -- From the lanes of sixteen bytes to those at which a literal or a comment may begin.
-use Rattle.rl_text.proofs.Common.{◌≡◌, ℕ, zero, suc, ◌+◌, ◌-◌, ◌*◌, ◌^◌, ◌<◌, ◌≤◌, ◌==◌, nat_le, ◌||◌, ◌&&◌, Bool, true, false, not, cond, List, [], ◌∷◌, map, length, take, drop, refl, sym, ap, ap₂, ◌∙◌, arith, agree_below_at, nat_tests, map-map, prefix_len, bit_or, chunk, mask_l, get_or}
+use Rattle.rl_text.proofs.Common.{◌≡◌, ℕ, zero, suc, ◌+◌, ◌-◌, ◌*◌, ◌^◌, ◌<◌, ◌≤◌, ◌==◌, nat_le, ◌||◌, ◌&&◌, Bool, true, false, not, cond, List, [], ◌∷◌, map, length, take, drop, refl, sym, ap, ap₂, ◌∙◌, arith, agree_below_at, nat_tests, map-map, bit_or, chunk, mask_l, get_or}
 use lib.Bits.{bit_and, and_block, or_block}
 use Rattle.rl_text.specs.Mirrors.RunsAt.{has_bit, is_word_byte}
 use Rattle.rl_text.specs.Mirrors.UnlikelyAt.{is_likely_mark, is_likely_head, may_begin, begins_none, with_before, last_of, byte_before}
@@ -110,10 +110,6 @@ likely_mask bs at m w h some room marks words heads =
     ap₂ bit_or m_is both ∙ or_mask (λ x. is_likely_mark x.1) (λ x. not (is_word_byte x.0) && is_likely_head x.1) v
 
 -- ---- the first byte
-
-pub first_passes_on : (b : ℕ) (bs : List ℕ) → (is_likely_mark b || is_likely_head b) ≡ false
-    → prefix_len begins_none (with_before 0 (b ∷ bs)) ≡ 1 + prefix_len begins_none (drop 1 (with_before 0 (b ∷ bs)))
-first_passes_on b bs h = ap (λ t. cond (not t) (1 + prefix_len begins_none (with_before b bs)) 0) h
 
 pub begins_opposite : (x : ℕ × ℕ) → not (begins_none x) ≡ may_begin x
 begins_opposite x = sym (not-not (may_begin x))

@@ -180,10 +180,6 @@ wrong_closer old xs o d popped_is other =
     ∙ ap (λ gs. closes gs (closer_of d)) (groups-push xs o)
     ∙ other_closer o.delimiter d other
 
-pub no_group : {A : Type 0} (old : TreeBuilder A) (d : Delimiter) → old.opened.items ≡ []
-    → closes (groups_of old) (closer_of d) ≡ false
-no_group old d none = ap (λ os. closes (reverse (map group_of os)) (closer_of d)) none
-
 -- the text ends in a group
 pub ends_in_group : {A : Type 0} (old : TreeBuilder A) (xs : List (GroupBuilder A)) (o : GroupBuilder A)
     → old.opened.items ≡ xs ++ o ∷ [] → EndsInGroup (groups_of old) (record { kind = UnclosedGroup; at = o.at })

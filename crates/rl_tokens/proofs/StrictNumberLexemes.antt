@@ -4,7 +4,7 @@ use Rattle.rl_text.specs.Texts.{is_white, first_passes, begins, is_row_part, is_
 use Rattle.rl_forms.specs.Numbers.{Decimal, is_digit}
 use Rattle.rl_lexer.specs.Lexemes.{is_base_letter, begins_dot, LexedFraction, NoLexedFraction, LexedDot, lexed_fraction_text, LexedSign, NoLexedSign, LexedPlus, LexedMinus, lexed_sign_text, LexedExponent, NoLexedExponent, LexedPower, lexed_exponent_text, IsLexedFraction, IsLexedExponent, BasedLexeme, DecimalLexeme}
 use Rattle.rl_forms.specs.Reading.{Contents}
-use Rattle.rl_forms.specs.Strict.{is_row, IsDigits, IsDecimalText, IsStrictSuffix, IsNumberSuffix, StrictInt, StrictFloat, IsStrictExponent}
+use Rattle.rl_forms.specs.Strict.{IsDigits, IsDecimalText, IsStrictSuffix, IsNumberSuffix, StrictInt, StrictFloat, IsStrictExponent}
 use Rattle.rl_text.proofs.Basics.{all_weaker, passes_same, digit_is_ten, hex_is_sixteen}
 use Rattle.rl_forms.proofs.StrictNumbers.{suffix_of_strict, suffix_no_part}
 use Rattle.rl_lexer.proofs.LexemeRows.{not_among}
@@ -129,7 +129,7 @@ record DigitRow (row : List ℕ) : Type 0 where
 
 digit_row : (row : List ℕ) → IsDigits row → DigitRow row
 digit_row [] (first, each) = absurd (cc)
-digit_row (d ∷ more) (first, each) = record { digit = d; more = more; text = refl; is_digit = first; each = (and_parts (is_row is_ascii_digit d) (list_all (is_row is_ascii_digit) more) each).1 }
+digit_row (d ∷ more) (first, each) = record { digit = d; more = more; text = refl; is_digit = first; each = (and_parts (is_row_part is_ascii_digit d) (list_all (is_row_part is_ascii_digit) more) each).1 }
 
 suffix_no_numeral : (x : List ℕ) → IsNumberSuffix x → first_passes (is_row_part is_ascii_digit) x ≡ false
 suffix_no_numeral x is = passes_same (is_row_part is_ascii_digit) (is_row_part (is_digit Decimal))
@@ -155,14 +155,15 @@ record PowerRow (row : List ℕ) : Type 0 where
   pub is_digit : is_ascii_digit digit ≡ true
   pub each : list_all (is_row_part is_ascii_digit) more ≡ true
 
-power_row : (row : List ℕ) → list_all (is_row is_ascii_digit) row ≡ true → list_any is_ascii_digit row ≡ true
+power_row : (row : List ℕ) → list_all (is_row_part is_ascii_digit) row ≡ true → list_any is_ascii_digit row ≡ true
     → PowerRow row
 power_row [] each some = absurd (cc)
 power_row (c ∷ row) each some =
-    let p = and_parts (is_row is_ascii_digit c) (list_all (is_row is_ascii_digit) row) each in
+    let p = and_parts (is_row_part is_ascii_digit c) (list_all (is_row_part is_ascii_digit) row) each in
     go (is_ascii_digit c) refl p.0 p.1 (power_row row p.1) some
   where
-    go : (b : Bool) → is_ascii_digit c ≡ b → is_row is_ascii_digit c ≡ true → list_all (is_row is_ascii_digit) row
+    go : (b : Bool) → is_ascii_digit c ≡ b → is_row_part is_ascii_digit c ≡ true
+        → list_all (is_row_part is_ascii_digit) row
         ≡ true → (list_any is_ascii_digit row ≡ true → PowerRow row) → (b || list_any is_ascii_digit row) ≡ true
         → PowerRow (c ∷ row)
     go true digit here each rest some = record { underscores = 0; digit = c; more = row; text = refl; is_digit = digit; each = each }
@@ -225,7 +226,7 @@ hex_continues c h =
     continue_ascii c low ∙ ap (λ b. not b || ((is_ascii_alphanumeric c || (c == 95)) && not (is_white c))) (sym h)
     ∙ same
 
-row_continues : (n c : ℕ) → n ≤ 16 → is_row (λ d. nat_lt (digit_value d) n) c ≡ true → is_continue c ≡ true
+row_continues : (n c : ℕ) → n ≤ 16 → is_row_part (λ d. nat_lt (digit_value d) n) c ≡ true → is_continue c ≡ true
 row_continues n c few h =
     elim (or_cases (nat_lt (digit_value c) n) (c == 95) h) [
       | inl a ↦
@@ -237,9 +238,10 @@ row_continues n c few h =
 based_int : (letter n : ℕ) (t x : List ℕ) (v : Contents) (s : StrictInt t v x) → s.prefix ≡ 48 ∷ letter ∷ [] → s.base
     ≡ n → n ≤ 16 → is_base_letter letter ≡ true → LexedBefore EndsLiteral t
 based_int letter n t x v s front base few is =
-    let each : list_all (is_row (λ d. nat_lt (digit_value d) n)) s.row
-    ≡ true = subst (λ (k : ℕ). list_all (is_row (λ d. nat_lt (digit_value d) k)) s.row ≡ true) base s.each in
-    let digits : list_all is_continue s.row ≡ true = all_weaker (is_row (λ d. nat_lt (digit_value d) n)) is_continue
+    let each : list_all (is_row_part (λ d. nat_lt (digit_value d) n)) s.row
+    ≡ true = subst (λ (k : ℕ). list_all (is_row_part (λ d. nat_lt (digit_value d) k)) s.row ≡ true) base s.each in
+    let digits : list_all is_continue s.row ≡ true = all_weaker (is_row_part (λ d. nat_lt (digit_value d) n))
+    is_continue
     (λ c h. row_continues n c few h) s.row each in
     record {
       lexeme = BasedLexeme letter (s.row ++ x);

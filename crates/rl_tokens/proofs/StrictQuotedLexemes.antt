@@ -5,7 +5,7 @@ use Rattle.rl_forms.specs.declared.kind.Kind.{Kind}
 use Rattle.rl_forms.specs.declared.kind.Kind.TheVariants.{Str, ByteStr, CStr, Byte, Char, Int, Float, Bool as BoolKind}
 use Rattle.rl_lexer.specs.Lexemes.{LiteralPrefix, NoPrefix, BytePrefix, CPrefix, prefix_text, BodyPart, PlainPart, EscapedPart, body_text, IsBody, CharacterBody, OneCharacter, EscapedCharacter, character_body_text, IsCharacterBody, begins_hashes, IsRawBody, QuotedLexeme, RawLexeme, CharacterLexeme}
 use Rattle.rl_forms.specs.Reading.{Contents}
-use Rattle.rl_forms.specs.Strict.{StrictUnit, Itself, QuoteEscape, PlainEscape, AsciiEscape, ByteEscape, UnicodeEscape, LineBreak, spaced_digit, spaced_value, strict_text, spelled_number, is_octal, is_unicode_escape, is_bare_character, is_bare_in_string, is_strict_unit, strict_opener, strict_closer, HasUnits, StrictCooked, StrictRaw}
+use Rattle.rl_forms.specs.Strict.{StrictUnit, Itself, QuoteEscape, PlainEscape, AsciiEscape, ByteEscape, UnicodeEscape, LineBreak, spaced_digit, spaced_value, strict_text, is_octal, is_unicode_escape, is_bare_character, is_bare_in_string, is_strict_unit, strict_opener, strict_closer, HasUnits, StrictCooked, StrictRaw}
 use Rattle.rl_text.specs.Texts.{is_dropped_blank}
 use Rattle.rl_lexer.proofs.HashLemmas.{hashes_split}
 use Rattle.rl_text.proofs.Basics.{false_unless, apart, all_weaker, hex_is_sixteen}
@@ -13,6 +13,7 @@ use Rattle.rl_lexer.proofs.Pieces.{is_equal}
 use Rattle.rl_forms.proofs.StrictQuoted.{hex_first, octal_hex, one_unit, bare_not_backslash, between}
 use Rattle.rl_tokens.proofs.PrintedCuts.{LexedBefore}
 use Rattle.rl_tokens.proofs.LiteralEnds.{EndsLiteral, strict_suffix_lexed}
+use Rattle.rl_forms.specs.Spelling.{place_value}
 
 -- The two characters that end or break what stands between quotes, and what is neither.
 abbrev free : ℕ → ℕ → ℕ → Bool
@@ -107,7 +108,7 @@ byte_of : (a b : ℕ) (k : Kind) (high low : ℕ) → Outside a b → is_strict_
 byte_of a b ByteStr high low o h = hex_escape a b high low o h
 byte_of a b Byte high low o h = hex_escape a b high low o h
 byte_of a b CStr high low o h = hex_escape a b high low o (and_parts (is_ascii_hexdigit high && is_ascii_hexdigit low)
-    (not (spelled_number 16 (high ∷ low ∷ []) == 0)) h).0
+    (not (place_value 16 (high ∷ low ∷ []) == 0)) h).0
 byte_of a b kind high low o h = absurd (cc)
 
 unicode_of : (a b : ℕ) (k : Kind) (ds : List (ℕ × ℕ)) → Outside a b → is_strict_unit k (UnicodeEscape ds) ≡ true

@@ -5,7 +5,7 @@ use Rattle.std.specs.List.{list_any}
 use Prim.Native.Char.{code}
 use Rattle.rl_text.specs.Classes.{after_run}
 use Rattle.rl_text.specs.Texts.{first_passes, is_underscore, xid_ok, is_row_part}
-use Rattle.rl_forms.specs.Quoted.{place_value, without_underscores}
+use Rattle.rl_forms.specs.Spelling.{place_value, without_underscores}
 use Rattle.rl_forms.specs.Numbers.{Sign, NoSign, Minus, limit, is_exponent_letter}
 
 -- the characters at the front that pass the test

@@ -6,7 +6,7 @@ use Rattle.rl_text.specs.Classes.{after_run}
 use Rattle.rl_text.specs.Texts.{is_continue, is_start, begins, first_passes}
 use Rattle.rl_forms.specs.Quoted.{is_string}
 use Rattle.rl_reasons.specs.declared.flaws.FlawKind.{FlawKind}
-use Rattle.rl_reasons.specs.declared.flaws.FlawKind.TheVariants.{BadSuffix, CarriageReturn, EarlyQuote, ExtraHash, UnderscoreSuffix, Unclosed}
+use Rattle.rl_reasons.specs.declared.flaws.FlawKind.TheVariants.{BadSuffix, CarriageReturn, EarlyQuote, UnderscoreSuffix, Unclosed}
 use Rattle.rl_reading.specs.declared.quoted_forms.QuotedForm.{QuotedForm}
 use Rattle.rl_reasons.specs.StrictFlawKinds.{form_quote, is_raw_form}
 use Rattle.rl_strict.specs.Mirrors.StrictAt.{is_raw_character}
@@ -40,11 +40,6 @@ suffix_end_flaw_at form (c ∷ cs) =
 -- a hash too much
 abbrev pub begins_hash : QuotedForm → List ℕ → Bool
 begins_hash form t = is_raw_form form && first_passes (λ c. c == code "#") t
-
--- of what follows the closer
-abbrev pub closed_flaw_at : QuotedForm → List ℕ → FoundFlaw
-closed_flaw_at form t = if begins_hash form t then found_flaw ExtraHash t else suffix_end_flaw_at form
-    (suffix_rest t)
 
 -- what follows the characters that a raw string of the kind holds, up to its closer
 unfoldable pub raw_stop : Kind → List ℕ → List ℕ → List ℕ

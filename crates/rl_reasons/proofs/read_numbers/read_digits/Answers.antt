@@ -1,6 +1,5 @@
-use Rattle.rl_text.proofs.TailLemmas.{tail_step}
+use Rattle.rl_text.proofs.TailLemmas.{ok_tail, tail_step}
 use Rattle.rl_reasons.specs.StrictNumbersRead.{suffix_of}
-use Rattle.rl_reasons.proofs.Tails.{ok_tail}
 use Rattle.rl_reasons.proofs.read_numbers.read_digits.Goals as goal
 
 pub returns-then-radix-eq10-clause-following : goal.returns-then-radix-eq10-clause-following

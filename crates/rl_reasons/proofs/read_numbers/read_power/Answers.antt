@@ -1,5 +1,4 @@
-use Rattle.rl_text.proofs.TailLemmas.{tail_step}
-use Rattle.rl_reasons.proofs.Tails.{ok_tail}
+use Rattle.rl_text.proofs.TailLemmas.{ok_tail, tail_step}
 use Rattle.rl_reasons.proofs.read_numbers.read_power.Goals as goal
 
 pub returns-then-row-clause-following : goal.returns-then-row-clause-following

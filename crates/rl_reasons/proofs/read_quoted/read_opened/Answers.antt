@@ -75,7 +75,7 @@ returns-in-Some-suffix_flaw-clause-stops c =
     closer.1 judged.0 in
     in_same _ _ _ _ _ _ whole (raw_ending _ _ _ _ _ none (raw_closed c.args.kind _ n
     (chars c.before-hashes.result.now) (chars c.args.opened.now) _ _ _ _ _ _ s few e c.skip_raw-closing.ensures
-    c.in-Some.ensures.chars closer.0 closer.1 none judged.1 c.in-Some-suffix_flaw.ensures.piece))
+    c.in-Some.ensures.chars closer.0 closer.1 judged.1 c.in-Some-suffix_flaw.ensures.piece))
 
 pub returns-in-None-clause-stops : goal.returns-in-None-clause-stops
 returns-in-None-clause-stops c =
