@@ -32,9 +32,10 @@ use Rattle.rl_reasons.proofs.FileSuffixes.{end_flaw_read, first_read, lf_flaw, l
 use Rattle.rl_reasons.proofs.FileEscapes.{unit_flaw_read}
 use Rattle.rl_reasons.proofs.FileUnits.{closer_read, hashes_free, not_string, single_in, single_read, stuck_alone}
 use Rattle.rl_reasons.proofs.ReadLemmas.{form_flaw, form_token}
-use Rattle.rl_reasons.proofs.ReadQuoted.{Judges, cooked_open, cooked_suffix, judged_by, raw_ending, raw_going, raw_unopened_none, single_closes, single_open_stops, single_suffix, single_unquoted_stops}
+use Rattle.rl_reasons.proofs.ReadQuoted.{cooked_open, cooked_suffix, judged_by, raw_ending, raw_going, raw_unopened_none, single_closes, single_open_stops, single_suffix, single_unquoted_stops}
 use Rattle.rl_reasons.proofs.StrictCookedFlaws.{cooked_closes, no_front}
 use Rattle.rl_reasons.proofs.StrictRawFlaws.{raw_closed, raw_closes, raw_end_none, raw_ended, raw_many_hashes, raw_no_quote, raw_off, raw_spoiled, raw_unfinished}
+use Rattle.rl_reasons.proofs.StrictSuffixFlaws.{Judges}
 use Rattle.rl_reasons.proofs.StrictTokens.{no_token}
 use Rattle.rl_reasons.proofs.StrictWordFlaws.{IsStrictFlaw, moved, strict_minus, strict_word}
 
@@ -240,7 +241,7 @@ raw_end k n c t hashes quote opened closing after suffix (Some f) s few e h q at
       (sym (opened_read n t hashes quote opened e h q)) (raw_ending k f.kind (hashes ++ (34 ∷ lf_text opened))
       (lf_text (chars f.piece.now)) (lf_text (chars f.rest.now)) none (raw_closed k f.kind n hashes (lf_text opened)
       (lf_text closing) (lf_text suffix) (lf_text (chars f.piece.now)) (lf_text (chars f.rest.now)) c (lf_text after) s
-      few h at is c_is back none judged.1 as_read))),
+      few h at is c_is back judged.1 as_read))),
 )
 
 -- no closer stands there as it is read
