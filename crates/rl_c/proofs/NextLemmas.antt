@@ -88,17 +88,6 @@ pub ends : (text borrowed rest : List ℕ) → borrowed ≡ text → Skipped (ch
 ends text borrowed rest same skipped nothing =
     subst (λ z. Skipped (chars z) []) same (subst (Skipped (chars borrowed)) (ap chars nothing ∙ chars-nil) skipped)
 
-pub begins_none : (text borrowed : List ℕ) (start : CursorState) (r : Rejection) (status : ℕ) → borrowed ≡ text
-    → start.text ≡ borrowed → Skipped (chars borrowed) (chars start.rest) → IsCursorState borrowed start.rest
-    → HasNoNextLiteral start → RejectsNext start r → status ≡ rejection_number r.kind → BeginsNoLiteral text status r.at
-begins_none text borrowed start r status same of skipped state none rejects is = record {
-  start = start;
-  starts = starts_in text borrowed start same of skipped state;
-  none = none;
-  reported = (r.kind, rejects.reason, is);
-  place = rejects.place ∙ ap length (of ∙ same);
-}
-
 -- where something was found, and where nothing was
 pub reported_some : (text : List ℕ) (found : Option Found) (f : Found) (r : Reading) → found ≡ Some f
     → FindsReading text found → ReportsFound text found r → ReportsReading text r

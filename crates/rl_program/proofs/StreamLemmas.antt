@@ -12,10 +12,6 @@ pub record IsWritten (old new : Option (List ℕ)) (all rest : List ℕ) : Type 
   pub all_is : all ≡ front ++ rest
   pub appends : Appends old new front
 
--- nothing yet
-pub written_none : (a : Option (List ℕ)) (all : List ℕ) → IsWritten a a all all
-written_none a all = record { front = []; all_is = refl; appends = Appends-nil a }
-
 -- one write more
 pub written_more : (a b c : Option (List ℕ)) (all rest piece left : List ℕ) → IsWritten a b all rest → Appends b c piece
     → rest ≡ piece ++ left → IsWritten a c all left

@@ -54,11 +54,6 @@ pub refuses_left : {T A : Type 0} (placing : Placing) (runs : List Tree → Span
 refuses_left placing runs token value rest at ran some reported =
     inr (inr (inl (record { value = value; rest = rest; ran = ran; some = some; place = at; reported = reported; error = refl })))
 
--- the first tree's span, whatever the scope
-pub first_of_some : (rest : List Tree) (scope other : Span) → rest ≢ [] → first_span rest scope ≡ first_span rest other
-first_of_some [] scope other some = absurd (some refl)
-first_of_some (t ∷ ts) scope other some = refl
-
 -- the lexer's error at the literal's span, made of one at a place inside it
 pub moved_refusal : {A : Type 0} (kind : LexKind) (place : Span) (at : Span) (e : Error A) → e
     ≡ lex_rejection kind place → record { span = at; kind = e.kind } ≡ lex_rejection kind at
