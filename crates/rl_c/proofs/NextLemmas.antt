@@ -7,13 +7,12 @@ use Rattle.rl_lexer.specs.Skipping.{Skipped}
 use Rattle.rl_text.proofs.Rests.{tail_length}
 use Rattle.rl_reading.specs.declared.found.Found.{Found}
 use Rattle.rl_reading.specs.declared.next_literals.NextLiteral.{NextLiteral}
-use Rattle.rl_reading.specs.declared.next_literals.Rejection.{Rejection}
-use Rattle.rl_reading.specs.NextLiterals.{FindsReading, IsLiteralToken, TakesNextLiteral, HasNoNextLiteral, RejectsNext}
+use Rattle.rl_reading.specs.NextLiterals.{FindsReading, IsLiteralToken, TakesNextLiteral}
 use Rattle.rl_lexer.proofs.TruthWords.{truth_chars}
 use Rattle.rl_c.specs.declared.next.Next.{Next}
 use Rattle.rl_c.specs.declared.reading.Reading.{Reading}
 use Rattle.rl_c.specs.Crossing.{ReportsFound, ReportsReading, ReportsVerbatim, ReportsLiteral}
-use Rattle.rl_c.specs.Lists.{Starts, ReportsToken, ReportsNext, BeginsLiteral, BeginsNoLiteral, rejection_number}
+use Rattle.rl_c.specs.Lists.{Starts, ReportsToken, ReportsNext, BeginsLiteral}
 
 -- what was found of a literal token is reported
 pub token_reported : (text : List ℕ) (found : Option Found) (r : Reading) → FindsReading text found

@@ -1,5 +1,5 @@
 -- Names in order, and steps of a walk.
-use Rattle.std.proofs.Common.{◌≡◌, inl, inr, ℕ, ◌+◌, ◌<◌, List, [], ◌∷◌, ◌++◌, length, refl, sym, ap, ◌∙◌, subst, append_assoc, append-nil, arith, string_bytes}
+use Rattle.std.proofs.Common.{◌≡◌, inl, inr, ℕ, ◌+◌, ◌<◌, List, [], ◌∷◌, ◌++◌, length, refl, sym, ap, ◌∙◌, subst, arith, string_bytes}
 use Rattle.std.specs.Prelude.{String, Option, Some, None, Ok, Err, IfSome, Bool, true, ◌⊎◌}
 use Rattle.std.specs.List.{flat_map}
 use Rattle.std.specs.List.Sorted.{IsSorted, IsPermutation}
@@ -11,7 +11,7 @@ use Rattle.std.proofs.lemmas.List.Sorted.{IsPermutation-map}
 use Rattle.rl_files.specs.Trees.{World, string_texts}
 use Rattle.rl_files.specs.declared.tree.PathError.{PathError}
 use Rattle.rl_files.specs.declared.tree.PathError.TheVariants.{NotADirectory, OutOfMemory, NameNotUtf8}
-use Rattle.rl_files.specs.Walks.{Spot, AtDirectory, AtFile, AtBadName, Visited, FileAt, ErrorAt, Visits, VisitsNothing, VisitsFile, VisitsBadName, EntersDirectory, MissesDirectory, IsGivenFile, WalksOn, VisitsFirst, VisitsNone, EntersInOrder, spots_of, given_spots}
+use Rattle.rl_files.specs.Walks.{Spot, AtDirectory, AtFile, AtBadName, Visited, FileAt, ErrorAt, Visits, VisitsNothing, VisitsFile, VisitsBadName, EntersDirectory, MissesDirectory, IsGivenFile, WalksOn, VisitsFirst, VisitsNone, EntersInOrder, spots_of}
 
 -- texts in order are lists of bytes in order
 pub texts_sorted : {A : Type 0} (xs : List (String A)) → IsSorted string_cmp xs

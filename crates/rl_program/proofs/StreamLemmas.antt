@@ -3,7 +3,7 @@ use Rattle.rl_text.proofs.Common.{List, None, Option, Some, [], ap, append-nil, 
 use Rattle.std.proofs.Common.{length-drop}
 use Rattle.std.specs.Prelude.{IfSome}
 use Rattle.std.specs.Io.KnownBytes.{Appends, Consumes, IsAtEnd, Keeps}
-use Rattle.std.proofs.KnownBytes.{Appends-nil, Appends-trans, Appends-kept, Consumes-all, Consumes-trans}
+use Rattle.std.proofs.KnownBytes.{Appends-trans, Appends-kept, Consumes-all, Consumes-trans}
 use Rattle.rl_program.specs.Streams.{AppendsBeginning}
 
 -- So much of the bytes has been written: a front of them, and the rest is left.

@@ -1,6 +1,6 @@
 -- Parsing inside a literal, and a literal with nothing after its closing quote.
 use Rattle.rl_reading.proofs.Names.{Characters, HasContents, HasSuffix, SpannedText, Str}
-use Rattle.rl_text.proofs.Common.{Err, List, Ok, Result, [], ap, arith, chars, chars-nil, inl, inr, length, nat_tests, refl, subst, true, ℕ, ◌==◌, ◌∙◌, ◌∷◌, ◌≡◌, ◌≢◌, ◌⊎◌}
+use Rattle.rl_text.proofs.Common.{Err, List, Ok, Result, [], ap, arith, chars, chars-nil, inl, inr, length, nat_tests, refl, subst, true, ℕ, ◌==◌, ◌∙◌, ◌≡◌, ◌≢◌, ◌⊎◌}
 use Rattle.std.proofs.lemmas.List.{nil_from_length}
 use Rattle.rl_text.specs.declared.span.Span.{Span}
 use Rattle.rl_lexer.specs.declared.lex_error.LexKind.{LexKind}
@@ -12,7 +12,6 @@ use Rattle.rl_tokens.specs.Trees.{Tree}
 use Rattle.rl_tokens.specs.Whole.{RejectsLexing, place_at}
 use Rattle.rl_tokens.specs.Lexing.{Lexes}
 use Rattle.rl_lexer.specs.Cuts.{Rejects}
-use Rattle.rl_tokens.specs.Buffers.{first_span}
 use Rattle.rl_tokens.proofs.TreeRests.{run_moved}
 use Rattle.rl_quoted.specs.declared.inside.Placing.{Placing}
 use Rattle.rl_quoted.specs.Inside.{AreInside, AreMoved, IsLeftoverAt, IsReportedAt, RejectsLexingInside, RejectsInsideAt, Runs}
