@@ -7,13 +7,12 @@ use Rattle.rl_lexer.specs.Skipping.{Skipped}
 use Rattle.rl_text.proofs.Rests.{tail_length}
 use Rattle.rl_reading.specs.declared.found.Found.{Found}
 use Rattle.rl_reading.specs.declared.next_literals.NextLiteral.{NextLiteral}
-use Rattle.rl_reading.specs.declared.next_literals.Rejection.{Rejection}
-use Rattle.rl_reading.specs.NextLiterals.{FindsReading, IsLiteralToken, TakesNextLiteral, HasNoNextLiteral, RejectsNext}
+use Rattle.rl_reading.specs.NextLiterals.{FindsReading, IsLiteralToken, TakesNextLiteral}
 use Rattle.rl_lexer.proofs.TruthWords.{truth_chars}
 use Rattle.rl_c.specs.declared.next.Next.{Next}
 use Rattle.rl_c.specs.declared.reading.Reading.{Reading}
 use Rattle.rl_c.specs.Crossing.{ReportsFound, ReportsReading, ReportsVerbatim, ReportsLiteral}
-use Rattle.rl_c.specs.Lists.{Starts, ReportsToken, ReportsNext, BeginsLiteral, BeginsNoLiteral, rejection_number}
+use Rattle.rl_c.specs.Lists.{Starts, ReportsToken, ReportsNext, BeginsLiteral}
 
 -- what was found of a literal token is reported
 pub token_reported : (text : List ℕ) (found : Option Found) (r : Reading) → FindsReading text found
@@ -87,17 +86,6 @@ pub ends : (text borrowed rest : List ℕ) → borrowed ≡ text → Skipped (ch
     → Skipped (chars text) []
 ends text borrowed rest same skipped nothing =
     subst (λ z. Skipped (chars z) []) same (subst (Skipped (chars borrowed)) (ap chars nothing ∙ chars-nil) skipped)
-
-pub begins_none : (text borrowed : List ℕ) (start : CursorState) (r : Rejection) (status : ℕ) → borrowed ≡ text
-    → start.text ≡ borrowed → Skipped (chars borrowed) (chars start.rest) → IsCursorState borrowed start.rest
-    → HasNoNextLiteral start → RejectsNext start r → status ≡ rejection_number r.kind → BeginsNoLiteral text status r.at
-begins_none text borrowed start r status same of skipped state none rejects is = record {
-  start = start;
-  starts = starts_in text borrowed start same of skipped state;
-  none = none;
-  reported = (r.kind, rejects.reason, is);
-  place = rejects.place ∙ ap length (of ∙ same);
-}
 
 -- where something was found, and where nothing was
 pub reported_some : (text : List ℕ) (found : Option Found) (f : Found) (r : Reading) → found ≡ Some f

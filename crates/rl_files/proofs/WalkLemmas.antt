@@ -1,5 +1,5 @@
 -- Names in order, and steps of a walk.
-use Rattle.std.proofs.Common.{◌≡◌, inl, inr, ℕ, ◌+◌, ◌<◌, List, [], ◌∷◌, ◌++◌, length, refl, sym, ap, ◌∙◌, subst, append_assoc, append-nil, arith, string_bytes}
+use Rattle.std.proofs.Common.{◌≡◌, inl, inr, ℕ, ◌+◌, ◌<◌, List, [], ◌∷◌, ◌++◌, length, refl, sym, ap, ◌∙◌, subst, arith, string_bytes}
 use Rattle.std.specs.Prelude.{String, Option, Some, None, Ok, Err, IfSome, Bool, true, ◌⊎◌}
 use Rattle.std.specs.List.{flat_map}
 use Rattle.std.specs.List.Sorted.{IsSorted, IsPermutation}
@@ -11,23 +11,7 @@ use Rattle.std.proofs.lemmas.List.Sorted.{IsPermutation-map}
 use Rattle.rl_files.specs.Trees.{World, string_texts}
 use Rattle.rl_files.specs.declared.tree.PathError.{PathError}
 use Rattle.rl_files.specs.declared.tree.PathError.TheVariants.{NotADirectory, OutOfMemory, NameNotUtf8}
-use Rattle.rl_files.specs.Walks.{Spot, AtDirectory, AtFile, AtBadName, Visited, FileAt, ErrorAt, Visits, VisitsNothing, VisitsFile, VisitsBadName, EntersDirectory, MissesDirectory, IsGivenFile, WalksOn, VisitsFirst, VisitsNone, EntersInOrder, spots_of, given_spots}
-
--- the last name of some, and those before it
-pub pieces_last : {A X : Type 0} (f : List ℕ → List X) (xs : List (String A)) (n : String A) (rest : List X)
-    → flat_map f (string_texts (xs ++ n ∷ [])) ++ rest ≡ flat_map f (string_texts xs) ++ (f (string_bytes n) ++ rest)
-pieces_last {A} {X} f [] n rest = ap (λ (z : List X). z ++ rest) (append-nil (f (string_bytes n)))
-pieces_last {A} {X} f (x ∷ xs) n rest =
-    append_assoc (f (string_bytes x)) (flat_map f (string_texts (xs ++ n ∷ []))) rest
-    ∙ ap (λ (z : List X). f (string_bytes x) ++ z) (pieces_last f xs n rest)
-    ∙ sym (append_assoc (f (string_bytes x)) (flat_map f (string_texts xs)) (f (string_bytes n) ++ rest))
-
--- the last path of some, and those before it
-pub given_last : {A : Type 0} (xs : List (String A)) (n : String A) (rest : List Spot)
-    → given_spots (string_texts (xs ++ n ∷ [])) ++ rest ≡ given_spots (string_texts xs)
-    ++ (AtDirectory true (string_bytes n) ∷ rest)
-given_last [] n rest = refl
-given_last (x ∷ xs) n rest = ap (λ (z : List Spot). AtDirectory true (string_bytes x) ∷ z) (given_last xs n rest)
+use Rattle.rl_files.specs.Walks.{Spot, AtDirectory, AtFile, AtBadName, Visited, FileAt, ErrorAt, Visits, VisitsNothing, VisitsFile, VisitsBadName, EntersDirectory, MissesDirectory, IsGivenFile, WalksOn, VisitsFirst, VisitsNone, EntersInOrder, spots_of}
 
 -- texts in order are lists of bytes in order
 pub texts_sorted : {A : Type 0} (xs : List (String A)) → IsSorted string_cmp xs

@@ -3,7 +3,7 @@ use Rattle.rl_text.proofs.Common.{List, None, Option, Some, [], ap, append-nil, 
 use Rattle.std.proofs.Common.{length-drop}
 use Rattle.std.specs.Prelude.{IfSome}
 use Rattle.std.specs.Io.KnownBytes.{Appends, Consumes, IsAtEnd, Keeps}
-use Rattle.std.proofs.KnownBytes.{Appends-nil, Appends-trans, Appends-kept, Consumes-all, Consumes-trans}
+use Rattle.std.proofs.KnownBytes.{Appends-trans, Appends-kept, Consumes-all, Consumes-trans}
 use Rattle.rl_program.specs.Streams.{AppendsBeginning}
 
 -- So much of the bytes has been written: a front of them, and the rest is left.
@@ -11,10 +11,6 @@ pub record IsWritten (old new : Option (List ℕ)) (all rest : List ℕ) : Type 
   pub front : List ℕ
   pub all_is : all ≡ front ++ rest
   pub appends : Appends old new front
-
--- nothing yet
-pub written_none : (a : Option (List ℕ)) (all : List ℕ) → IsWritten a a all all
-written_none a all = record { front = []; all_is = refl; appends = Appends-nil a }
 
 -- one write more
 pub written_more : (a b c : Option (List ℕ)) (all rest piece left : List ℕ) → IsWritten a b all rest → Appends b c piece

@@ -1,6 +1,6 @@
 -- Parsing inside a literal, and a literal with nothing after its closing quote.
 use Rattle.rl_reading.proofs.Names.{Characters, HasContents, HasSuffix, SpannedText, Str}
-use Rattle.rl_text.proofs.Common.{Err, List, Ok, Result, [], ap, arith, chars, chars-nil, inl, inr, length, nat_tests, refl, subst, true, ℕ, ◌==◌, ◌∙◌, ◌∷◌, ◌≡◌, ◌≢◌, ◌⊎◌}
+use Rattle.rl_text.proofs.Common.{Err, List, Ok, Result, [], ap, arith, chars, chars-nil, inl, inr, length, nat_tests, refl, subst, true, ℕ, ◌==◌, ◌∙◌, ◌≡◌, ◌≢◌, ◌⊎◌}
 use Rattle.std.proofs.lemmas.List.{nil_from_length}
 use Rattle.rl_text.specs.declared.span.Span.{Span}
 use Rattle.rl_lexer.specs.declared.lex_error.LexKind.{LexKind}
@@ -12,7 +12,6 @@ use Rattle.rl_tokens.specs.Trees.{Tree}
 use Rattle.rl_tokens.specs.Whole.{RejectsLexing, place_at}
 use Rattle.rl_tokens.specs.Lexing.{Lexes}
 use Rattle.rl_lexer.specs.Cuts.{Rejects}
-use Rattle.rl_tokens.specs.Buffers.{first_span}
 use Rattle.rl_tokens.proofs.TreeRests.{run_moved}
 use Rattle.rl_quoted.specs.declared.inside.Placing.{Placing}
 use Rattle.rl_quoted.specs.Inside.{AreInside, AreMoved, IsLeftoverAt, IsReportedAt, RejectsLexingInside, RejectsInsideAt, Runs}
@@ -53,11 +52,6 @@ pub refuses_left : {T A : Type 0} (placing : Placing) (runs : List Tree → Span
     (record { span = at; kind = Unexpected })
 refuses_left placing runs token value rest at ran some reported =
     inr (inr (inl (record { value = value; rest = rest; ran = ran; some = some; place = at; reported = reported; error = refl })))
-
--- the first tree's span, whatever the scope
-pub first_of_some : (rest : List Tree) (scope other : Span) → rest ≢ [] → first_span rest scope ≡ first_span rest other
-first_of_some [] scope other some = absurd (some refl)
-first_of_some (t ∷ ts) scope other some = refl
 
 -- the lexer's error at the literal's span, made of one at a place inside it
 pub moved_refusal : {A : Type 0} (kind : LexKind) (place : Span) (at : Span) (e : Error A) → e

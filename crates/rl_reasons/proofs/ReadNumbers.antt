@@ -1,5 +1,5 @@
 -- What the walk over a strict number returns is what the grammar says: a number, or none and where it stops.
-use Rattle.rl_text.proofs.Common.{◌≡◌, ◌≢◌, ◌||◌, ℕ, Bool, true, false, ◌==◌, cond, List, [], ◌∷◌, ◌++◌, Some, refl, ap, subst, sym, ◌∙◌, append_cancel_right, and_from, both_ways, is_ascii_digit}
+use Rattle.rl_text.proofs.Common.{None, ◌≡◌, ◌≢◌, ◌||◌, ℕ, Bool, true, false, ◌==◌, cond, List, [], ◌∷◌, ◌++◌, Some, refl, ap, subst, sym, ◌∙◌, append_cancel_right, and_from, both_ways, is_ascii_digit}
 use Rattle.rl_reading.proofs.Names.{first_passes}
 use Rattle.std.proofs.lemmas.Bool.{or_left}
 use Rattle.std.specs.Prelude.{Result, Ok, Err, IfOk, IfErr}
@@ -16,7 +16,7 @@ use Rattle.rl_reasons.specs.declared.read_numbers.Stop.{Stop}
 use Rattle.rl_reasons.specs.StrictNumberFlaws.{IsDigitFlaw, IsStrictNumberFlaw}
 use Rattle.rl_reasons.specs.StrictNumbersRead.{IsNumberRead, IsStop}
 use Rattle.rl_reasons.specs.Mirrors.StrictFlawAt.{suffix_rest}
-use Rattle.rl_reasons.specs.Mirrors.NumberRead.{Ending, digits_end_at, ended, fraction_end_at, number_outcome, number_read_at, stopped, suffix_end_at}
+use Rattle.rl_reasons.specs.Mirrors.NumberRead.{Ending, NumberRead, digits_end_at, ended, fraction_end_at, number_outcome, number_read_at, stopped, suffix_end_at}
 use Rattle.rl_reasons.proofs.NumberEnds.{Fails, Passes, decimal_is, end_of, is_read, number_end_at, whole_plain}
 use Rattle.rl_reasons.proofs.NumberTokens.{number_passes}
 use Rattle.rl_reasons.proofs.StrictNumberFlaws.{ReadJudged, Says, TailFlaw, number_is_token, number_judged}
@@ -120,21 +120,25 @@ number_stop t k rest d code f = record {
 
 -- ---- what a call returned
 
-judged : (t : List ℕ) (r : Result Number Stop) → first_passes is_ascii_digit t ≡ true
-    → number_outcome r ≡ number_read_at t → ReadJudged t number_end_at [] t (number_outcome r)
+judged : (t : List ℕ) (r : NumberRead) → first_passes is_ascii_digit t ≡ true → r ≡ number_read_at t
+    → ReadJudged t number_end_at [] t r
 judged t r d e = subst (ReadJudged t number_end_at [] t) (sym e) (number_judged t d)
+
+pub stop_of : (t : List ℕ) (k : FlawKind) (rest : List ℕ) → first_passes is_ascii_digit t ≡ true
+    → ◌≡◌ {A = NumberRead} (Some k, None, rest) (number_read_at t) → IsStop t k rest
+stop_of t k rest d e = number_stop t k rest d (ap end_of e) (judged t (Some k, None, rest) d e)
 
 pub read_ok : (t : List ℕ) (r : Result Number Stop) → first_passes is_ascii_digit t ≡ true → number_outcome r
     ≡ number_read_at t → IfOk r (IsNumberRead t)
-read_ok t (Ok (Integer m x)) d e = judged t (Ok (Integer m x)) d e
-read_ok t (Ok (Float x)) d e = judged t (Ok (Float x)) d e
+read_ok t (Ok (Integer m x)) d e = judged t (number_outcome (Ok (Integer m x))) d e
+read_ok t (Ok (Float x)) d e = judged t (number_outcome (Ok (Float x))) d e
 read_ok t (Err s) d e = tt
 
 pub read_err : (t : List ℕ) (r : Result Number Stop) → first_passes is_ascii_digit t ≡ true → number_outcome r
     ≡ number_read_at t → IfErr r (λ s. IsStop t s.kind (chars s.rest.now))
 read_err t (Ok (Integer m x)) d e = tt
 read_err t (Ok (Float x)) d e = tt
-read_err t (Err s) d e = number_stop t s.kind (chars s.rest.now) d (ap end_of e) (judged t (Err s) d e)
+read_err t (Err s) d e = stop_of t s.kind (chars s.rest.now) d e
 
 pub read_token : (t : List ℕ) (r : Result Number Stop) → first_passes is_ascii_digit t ≡ true → number_outcome r
     ≡ number_read_at t → IfOk r (λ n. IsToken t)

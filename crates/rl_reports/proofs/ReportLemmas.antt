@@ -56,17 +56,6 @@ error_reported path why a b errors utf8 first shown written =
     ∙ ap (λ (z : List ℕ). z ++ after) (shown ∙ ap (λ (z : List ℕ). z ++ visible (chars path)) begun)
     ∙ append_assoc (codes "rl_scan: ") (visible (chars path)) after
 
--- a file that can't be read
-pub not_read : {A E : Type 0} (command : Command) (holds : Option World) (path : List ℕ) (why : PathError)
-    (r : Result (Report A) E) → (why ≡ OutOfMemory) ⊎ IfSome holds (λ w. w.bytes path ≡ Err why)
-    → IfOk r (λ p. IsErrorReport path why (in_report p)) → IfOk r
-    (λ p. IfSome holds (λ w. IsReport command w (FileAt path) (in_report p)))
-not_read command None path why (Ok p) found is = tt
-not_read command None path why (Err e) found is = tt
-not_read command (Some w) path why (Ok p) (inl memory) is = inr (why, inl memory, is)
-not_read command (Some w) path why (Ok p) (inr found) is = inr (why, inr (inl found), is)
-not_read command (Some w) path why (Err e) found is = tt
-
 -- a file that was read
 pub was_read : {A : Type 0} (command : Command) (holds : Option World) (path bytes : List ℕ) (p : Report A)
     → IfSome holds (λ w. w.bytes path ≡ Ok bytes) → (IsUtf8 bytes × IsTextReport command path bytes (in_report p))

@@ -23,19 +23,6 @@ pub record Ran (command : Command) (w : World) (old new : List Spot) (streams : 
   pub reports : AreReports command w visits printed
   pub written : IsWritten streams printed tally
 
--- nothing yet
-pub ran_none : (command : Command) (holds : Option World) (old : List Spot) (out err : Option (List ℕ))
-    → IfSome holds (λ w. Ran command w old old (record { out_old = out; out_new = out; err_old = err; err_new = err })
-    (record { found = false; failed = false }))
-ran_none command None old out err = tt
-ran_none command (Some w) old out err = record {
-  visits = [];
-  printed = nothing;
-  goes = λ more m. m;
-  reports = refl;
-  written = record { on_out = Appends-nil out; on_err = Appends-nil err; found = refl; failed = refl };
-}
-
 -- a list with an element isn't empty
 not_empty : (n : ℕ) → not (suc n == 0) ≡ true
 not_empty n = search rules
@@ -118,19 +105,6 @@ ran_more command (Some w) old mid new visit o0 o1 o2 e0 e1 e2 before more after 
       reports = reports_more command w ran.visits visit ran.printed one ran.reports is;
       written = written_more o0 o1 o2 e0 e1 e2 ran.printed one before more after ran.written written found failed;
     }
-
--- no more
-pub ran_all : (command : Command) (holds : Option World) (old mid : List Spot) (streams : Streams) (tally : Tally)
-    → IfSome holds (λ w. Ran command w old mid streams tally) → VisitsNone holds mid
-    → IfSome holds (λ w. WritesWalk command w old streams tally)
-ran_all command None old mid streams tally ran none = tt
-ran_all command (Some w) old mid streams tally ran none = (
-  ran.visits,
-  ran.printed,
-  subst (λ (z : List Visited). Visits w old z) (append-nil ran.visits) (ran.goes [] none),
-  ran.reports,
-  ran.written,
-)
 
 -- all of it is a beginning
 all_of : (old new : Option (List ℕ)) (bytes : List ℕ) → Appends old new bytes → AppendsBeginning old new bytes

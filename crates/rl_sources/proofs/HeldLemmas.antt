@@ -87,14 +87,6 @@ pub bytes_kind : (kind : Kind) → (kind ≡ ByteStr) ⊎ (kind ≡ CStr) → is
 bytes_kind kind (inl e) = ap is_string e
 bytes_kind kind (inr e) = ap is_string e
 
-pub byte_itself : (text : List ℕ) (found : Found) → found.kind ≡ Byte → IsFound text found
-    → AreContentsOf (chars text) Byte (found.unit ∷ [])
-byte_itself text found same is = record {
-  value = found.unit ∷ [];
-  contents = (unit_of Byte text found same refl is).reads;
-  bytes_are = refl;
-}
-
 pub char_bytes : (text bytes : List ℕ) (found : Found) (c : ℕ) → found.kind ≡ Char → IsFound text found → c ≡ found.unit
     → bytes ≡ encode_utf8 c → AreContentsOf (chars text) Char bytes
 char_bytes text bytes found c same is unit e = record {

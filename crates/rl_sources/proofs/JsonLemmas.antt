@@ -58,9 +58,6 @@ chosen_off b x y old new is e = e ∙ ap (λ (t : Bool). old ++ cond t x y) (sym
 
 -- ---- numbers
 
-pub first_ascii : (c n : ℕ) → IsAscii (c ∷ []) → IsAscii (c ∷ decimal n)
-first_ascii c n h = IsAscii-append (c ∷ []) (decimal n) h (decimal_ascii n)
-
 numbers_ascii : (ns : List ℕ) → IsAscii (more_numbers ns)
 numbers_ascii [] = IsAscii-nil
 numbers_ascii (n ∷ ns) =

@@ -193,9 +193,6 @@ unshown_passed options old new lax p = record {
   following = p.following;
 }
 
-pub unshown_none : (options : Options) (old : CursorState) → IsCursorState old.text old.rest → IsUnshown options old old
-unshown_none options old is = record { adds = adds_none options (chars old.text) (chars old.rest) [] refl; same = refl; following = tail_self old.rest is.following.is_text }
-
 pub unshown_more : (options : Options) (a b d : CursorState) (l : SourceToken) → IsUnshown options a b
     → TakesSource b l d → (IsTrue options.rejects_strays → source_view l.form ≢ StrayKind)
     → (IsLiteralText (source_view l.form) (chars l.text.now) → ⊥) → IsUnshown options a d
@@ -281,17 +278,6 @@ pub record HasWritten (options : Options) (whole rest : List ℕ) (any : Bool) (
   pub shows : ShowsUpTo options whole cuts rest shown
   pub any_is : IsTrue any ↔ (shown ≢ [])
   pub written : AppendsBytes old new (encode_utf8_all shown)
-
--- nothing yet
-pub written_none : (options : Options) (whole rest : List ℕ) (out : Option (List ℕ)) → IsCutUpTo whole [] rest
-    → HasWritten options whole rest false out out
-written_none options whole rest out cut = record {
-  cuts = [];
-  shown = [];
-  shows = record { are_cuts = cut; accepted = λ rejects. All-nil IsNoStray; lines = refl };
-  any_is = (λ e. absurd (false≢true e), λ some. absurd (some refl));
-  written = Appends-nil out;
-}
 
 -- the lines as bytes
 lines_bytes : (shown lines : List ℕ) → IsUtf8 lines → encode_utf8_all (shown ++ chars lines) ≡ encode_utf8_all shown

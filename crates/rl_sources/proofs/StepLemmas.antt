@@ -98,13 +98,6 @@ front_bare place old new utf8 written =
     pushed old new (place_text place ++ 32 ∷ []) utf8 written
     ∙ ap (λ z. chars old ++ z) (chars-IsAscii (place_text place ++ 32 ∷ []) (spaced_ascii place))
 
--- four pieces, one after another
-pub four_pieces : (old a b d new p q r s : List ℕ) → a ≡ old ++ p → b ≡ a ++ q → d ≡ b ++ r → new ≡ d ++ s
-    → new ≡ old ++ (p ++ (q ++ (r ++ s)))
-four_pieces old a b d new p q r s e f g h =
-    h ∙ ap (λ z. z ++ s) (g ∙ ap (λ z. z ++ r) (f ∙ ap (λ z. z ++ q) e))
-    ∙ append_assoc ((old ++ p) ++ q) r s ∙ append_assoc (old ++ p) q (r ++ s) ∙ append_assoc old p (q ++ (r ++ s))
-
 pub front_in_file : (path : List ℕ) (place : Place) (old new : List ℕ) → IsUtf8 old → IsUtf8 path
     → new ≡ old ++ (path ++ (58 ∷ (place_text place ++ 58 ∷ 32 ∷ [])))
     → chars new ≡ chars old ++ (chars path ++ (58 ∷ (place_text place ++ 58 ∷ 32 ∷ [])))
