@@ -19,7 +19,7 @@ pub(crate) trait Lines {
 impl Lines for Vec<Lit> {
     fn lines(&self, alloc: Global) -> Result<String, AllocError> {
         let mut lines = String::new(alloc);
-        for literal in self {
+        for literal in self.as_slice() {
             push_literal(alloc, &mut lines, literal)?;
         }
         Ok(lines)

@@ -4,7 +4,7 @@ use crate::{flaws, numbers, quoted};
 use navyspindle::{write_byte, write_byte_str, write_char, write_str, Lit, LitBool};
 use navyspindle_programs::rattle_std::alloc::Global;
 use navyspindle_programs::rl_grammar::{self, Kind};
-use navyspindle_programs::{rl_lines, rl_tokens, rust_literals};
+use navyspindle_programs::{rl_commands, rl_tokens, rust_literals};
 use std::collections::hash_map::DefaultHasher;
 use std::hash::{BuildHasher, BuildHasherDefault};
 
@@ -33,7 +33,7 @@ fn line_of(literal: &Lit) -> String {
 
 /// The same of the proved literal.
 fn proved_line(literal: &Proved) -> String {
-    rl_lines::line_of(Global, literal)
+    rl_commands::line_of(Global, literal)
         .unwrap()
         .as_str()
         .to_owned()
