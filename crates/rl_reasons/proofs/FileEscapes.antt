@@ -1,10 +1,9 @@
 -- Escapes of a literal of a file: the code finds the same in what is read.
-use Rattle.rl_text.proofs.Common.{◌≡◌, ◌≢◌, ℕ, ◌+◌, ◌*◌, Bool, true, false, not, ◌==◌, ◌&&◌, ◌||◌, cond, List, [], ◌∷◌, Option, Some, None, refl, sym, ap, subst, ◌∙◌, both_ways, digit_value, nat_lt, option_and_then, option_map, scalar}
+use Rattle.rl_text.proofs.Common.{◌≡◌, ℕ, ◌+◌, ◌*◌, Bool, true, false, not, ◌==◌, ◌&&◌, cond, List, [], ◌∷◌, Option, Some, None, refl, sym, ap, subst, ◌∙◌, digit_value, nat_lt, option_and_then, option_map, scalar}
 use Rattle.rl_reading.proofs.Names.{ByteStr, CStr, Kind, Str, after_run, allows_code, content_of, has_unicode, holds_characters, is_dropped_blank, is_line_end, is_strict_unit, is_string, Itself, may_be_hex}
 use Rattle.rl_reading.specs.Mirrors.UnitAt.{CodeDigits, brace_at, close_at, closed_at, code_digits, code_digits_at, digit_at, after_blanks, escape_at, first_code_digits_at, found, hex_at, named_at, named_in, number_if, unicode_at}
 use Rattle.rl_strict.specs.Mirrors.StrictAt.{escape_rest, unit_rest}
-use Rattle.rl_reasons.specs.declared.flaws.FlawKind.{FlawKind}
-use Rattle.rl_reasons.specs.declared.flaws.FlawKind.TheVariants.{CarriageReturn, EmptyBraces, NoBrace, NoHexDigit, NoUnicode, Nul, PastAscii, TooManyDigits, Unclosed, UnknownEscape}
+use Rattle.rl_reasons.specs.declared.flaws.FlawKind.TheVariants.{CarriageReturn, EmptyBraces, NoBrace, NoHexDigit, NoUnicode, Nul, PastAscii, TooManyDigits, UnknownEscape}
 use Rattle.rl_reasons.specs.FileTexts.{is_dropped, lf_text}
 use Rattle.rl_reasons.specs.Mirrors.StrictFlawAt.{strict_escape_flaw_at, strict_unit_flaw_at}
 use Rattle.rl_reasons.specs.Mirrors.UnitFlawAt.{FoundFlaw, character_flaw_of, code_flaw_at, code_flaw_of, escape_flaw_at, first_digit_flaw_at, found_flaw, hex_flaw_at, is_code, low_digit_flaw_at, unclosed_flaw_at, unicode_flaw_at}

@@ -1,7 +1,6 @@
 -- Quoted literals of a file, words and numbers: where the walk stops, and why.
-use Rattle.rl_text.proofs.Common.{◌≡◌, ◌≢◌, ℕ, ◌<◌, ◌≤◌, Bool, true, false, not, ◌==◌, ◌&&◌, List, [], ◌∷◌, ◌++◌, Option, Some, None, IfNone, IfSome, refl, sym, ap, subst, ◌∙◌, inl, inr, and_parts, both_ways, cases_Bool, is_ascii_digit, list_all, option_map, replicate}
-use Rattle.rl_reading.proofs.Names.{HasReading, Kind, Str, ByteStr, CStr, Byte, Char, first_passes, is_hash, is_single, is_string, truth_text}
-use Rattle.std.proofs.lemmas.Bool.{false≢true}
+use Rattle.rl_text.proofs.Common.{◌≡◌, ◌≢◌, ℕ, ◌<◌, ◌≤◌, Bool, true, false, not, ◌==◌, ◌&&◌, List, [], ◌∷◌, ◌++◌, Option, Some, None, IfNone, IfSome, refl, sym, ap, subst, ◌∙◌, inr, and_parts, both_ways, is_ascii_digit, list_all, option_map, replicate}
+use Rattle.rl_reading.proofs.Names.{Kind, Str, ByteStr, CStr, Byte, Char, first_passes, is_hash, is_single, is_string, truth_text}
 use Rattle.rl_text.specs.Texts.{begins}
 use Rattle.rl_text.proofs.Basics.{apart}
 use Rattle.rl_reading.specs.Mirrors.PlainAt.{is_some_text}
@@ -12,7 +11,7 @@ use Rattle.rl_reading.specs.declared.quoted_forms.QuotedForm.TheVariants.{Cooked
 use Rattle.rl_reading.specs.StrictUnits.{BeginsStrictUnits}
 use Rattle.rl_reading.proofs.FormLemmas.{front_sound}
 use Rattle.rl_strict.specs.Mirrors.StrictAt.{unit_rest}
-use Rattle.rl_strict.specs.StrictShapes.{ClosesForm, ClosesRaw, ClosesUnits, IsToken}
+use Rattle.rl_strict.specs.StrictShapes.{ClosesForm, ClosesRaw, IsToken}
 use Rattle.rl_strict.proofs.StrictUnitRows.{row_none}
 use Rattle.rl_reasons.specs.declared.flaws.FlawAt.{FlawAt}
 use Rattle.rl_reasons.specs.declared.flaws.FlawKind.{FlawKind}
@@ -27,7 +26,7 @@ use Rattle.rl_reasons.specs.Mirrors.StrictFlawAt.{held_flaw_of, raw_stop, strict
 use Rattle.rl_reasons.specs.Mirrors.SuffixRead.{suffix_read_at}
 use Rattle.rl_reasons.specs.Mirrors.UnitFlawAt.{FoundFlaw, found_flaw}
 use Rattle.rl_reasons.specs.Mirrors.WordFlawAt.{end_flaw_at, word_flaw_at}
-use Rattle.rl_reasons.proofs.FileTextLemmas.{by_first, form_rest, free_text, lacks_cr, line_of, rest_free, rest_self, rest_step, rest_text, same_text, stops_rest, token_same, when_kept}
+use Rattle.rl_reasons.proofs.FileTextLemmas.{form_rest, free_text, lacks_cr, line_of, rest_free, rest_self, rest_step, stops_rest, token_same, when_kept}
 use Rattle.rl_reasons.proofs.FileSuffixes.{end_flaw_read, first_read, lf_flaw, lf_opener, opener_read, some_read, suffix_place, suffix_read, word_read}
 use Rattle.rl_reasons.proofs.FileEscapes.{unit_flaw_read}
 use Rattle.rl_reasons.proofs.FileUnits.{closer_read, hashes_free, not_string, single_in, single_read, stuck_alone}
@@ -37,7 +36,7 @@ use Rattle.rl_reasons.proofs.StrictCookedFlaws.{cooked_closes, no_front}
 use Rattle.rl_reasons.proofs.StrictRawFlaws.{raw_closed, raw_closes, raw_end_none, raw_ended, raw_many_hashes, raw_no_quote, raw_off, raw_spoiled, raw_unfinished}
 use Rattle.rl_reasons.proofs.StrictSuffixFlaws.{Judges}
 use Rattle.rl_reasons.proofs.StrictTokens.{no_token}
-use Rattle.rl_reasons.proofs.StrictWordFlaws.{IsStrictFlaw, moved, strict_minus, strict_word}
+use Rattle.rl_reasons.proofs.StrictWordFlaws.{IsStrictFlaw, strict_minus, strict_word}
 
 -- what a call returned
 abbrev pub flaw_of : FlawAt → FoundFlaw

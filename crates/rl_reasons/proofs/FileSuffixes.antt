@@ -1,11 +1,11 @@
 -- What follows the closer of a quoted literal of a file, words, and openers: the code finds the same in what is read.
-use Rattle.rl_text.proofs.Common.{◌≡◌, ℕ, Bool, true, false, not, ◌==◌, ◌&&◌, ◌||◌, cond, List, [], ◌∷◌, ◌++◌, Option, Some, None, refl, sym, ap, subst, ◌∙◌, arith, and_parts, not-true, is_xid_continue, is_xid_continue-ascii, is_xid_start, is_xid_start-ascii, list_all, option_map}
+use Rattle.rl_text.proofs.Common.{◌≡◌, ℕ, Bool, true, false, not, ◌==◌, ◌&&◌, ◌||◌, cond, List, [], ◌∷◌, Option, Some, None, refl, sym, ap, subst, ◌∙◌, arith, and_parts, not-true, is_xid_continue, is_xid_continue-ascii, is_xid_start, is_xid_start-ascii, list_all, option_map}
 use Rattle.rl_reading.proofs.Names.{ByteStr, CStr, Kind, Str, after_run, first_passes, truth_text}
 use Rattle.std.proofs.lemmas.Bool.{and_left}
 use Rattle.rl_text.specs.Texts.{is_continue, is_start, is_white}
 use Rattle.rl_text.proofs.Basics.{all_weaker, apart}
 use Rattle.rl_reading.specs.Mirrors.NumberAt.{run}
-use Rattle.rl_reading.specs.Mirrors.OpenerAt.{FoundOpener, byte_opener_at, found_opener, opener_at, string_opener_at}
+use Rattle.rl_reading.specs.Mirrors.OpenerAt.{FoundOpener, byte_opener_at, opener_at, string_opener_at}
 use Rattle.rl_reading.specs.Mirrors.PlainAt.{is_some_text}
 use Rattle.rl_reading.specs.declared.quoted_forms.QuotedForm.{QuotedForm}
 use Rattle.rl_reading.specs.declared.quoted_forms.QuotedForm.TheVariants.{Cooked as CookedForm, Raw as RawForm, Single as SingleForm}

@@ -1,5 +1,5 @@
 -- Texts without each CR that an LF follows, and rests of them.
-use Rattle.rl_text.proofs.Common.{◌≡◌, ℕ, Bool, true, false, not, ◌==◌, ◌&&◌, cond, List, [], ◌∷◌, ◌++◌, refl, sym, ap, subst, ◌∙◌, append_assoc, and_parts, both_ways, eqb-true, flat_map, list_all, list_all-append, not-true}
+use Rattle.rl_text.proofs.Common.{◌≡◌, ℕ, Bool, true, false, not, ◌==◌, cond, List, [], ◌∷◌, ◌++◌, refl, sym, ap, subst, ◌∙◌, append_assoc, and_parts, both_ways, eqb-true, flat_map, list_all, list_all-append, not-true}
 use Rattle.rl_reading.proofs.Names.{Kind, first_passes, is_string, strict_text}
 use Rattle.std.proofs.Math.Bool.{and-false}
 use Rattle.std.proofs.lemmas.Bool.{and_left}

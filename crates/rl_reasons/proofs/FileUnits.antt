@@ -1,7 +1,6 @@
 -- Units inside quoted literals of a file, one after another, as they are read.
-use Rattle.rl_text.proofs.Common.{◌≡◌, ◌≢◌, ℕ, zero, suc, Bool, true, false, not, ◌==◌, ◌&&◌, ◌||◌, cond, List, [], ◌∷◌, ◌++◌, Option, Some, None, refl, sym, ap, subst, ◌∙◌, inl, inr, and_parts, append_cancel_right, both_ways, cases_Bool, eqb-true, list_all, nat_lt, option_map, or_from, replicate}
-use Rattle.rl_reading.proofs.Names.{and_right, cond_both, false_from_ne_true, Kind, Str, ByteStr, CStr, Byte, Char, after_run, first_passes, is_dropped_blank, is_line_end, is_plain, is_single, is_strict_unit, is_string, strict_text, StrictUnit, Itself, QuoteEscape, PlainEscape, AsciiEscape, ByteEscape, UnicodeEscape, LineBreak}
-use Rattle.std.proofs.lemmas.Bool.{and_left}
+use Rattle.rl_text.proofs.Common.{◌≡◌, ℕ, zero, suc, Bool, true, false, not, ◌==◌, ◌&&◌, ◌||◌, cond, List, [], ◌∷◌, ◌++◌, Option, Some, None, refl, sym, ap, subst, ◌∙◌, append_cancel_right, list_all, option_map, or_from, replicate}
+use Rattle.rl_reading.proofs.Names.{and_right, Kind, Str, ByteStr, CStr, Byte, Char, after_run, first_passes, is_dropped_blank, is_plain, is_single, is_strict_unit, is_string, strict_text, StrictUnit, Itself, QuoteEscape, PlainEscape, AsciiEscape, ByteEscape, UnicodeEscape, LineBreak}
 use Rattle.rl_text.specs.Texts.{begins}
 use Rattle.rl_text.proofs.Basics.{all_weaker, apart}
 use Rattle.rl_reading.specs.Mirrors.UnitAt.{escape_at, unit_at}
@@ -15,7 +14,7 @@ use Rattle.rl_strict.proofs.StrictUnitRows.{breaks_to, row_join, row_none, row_u
 use Rattle.rl_reasons.specs.FileTexts.{is_dropped, lf_text}
 use Rattle.rl_reasons.specs.FileWalks.{IsFileRest}
 use Rattle.rl_reasons.specs.Mirrors.StrictFlawAt.{raw_stop}
-use Rattle.rl_reasons.proofs.FileTextLemmas.{by_first, closes_free, free_text, front_free, lacks_cr, other_kept, rest_free, rest_line, rest_self, rest_step, row_rest, when_kept}
+use Rattle.rl_reasons.proofs.FileTextLemmas.{by_first, closes_free, free_text, front_free, lacks_cr, other_kept, rest_free, rest_line, rest_step, row_rest, when_kept}
 use Rattle.rl_reasons.proofs.FileSuffixes.{both, run_rest}
 use Rattle.rl_reasons.proofs.FileEscapes.{escape_read, lf_pair}
 use Rattle.rl_reasons.proofs.ReadQuoted.{plain_row, single_closes}
