@@ -156,7 +156,7 @@ fn entry_of<'t>(text: &'t str, next: NextSetting<'t>) -> Entry<'t> {
     }
 }
 
-/// Why no setting stands next, after these names: its own stood before, or what the step tells.
+/// Why no setting stands next, after these names: its own stood before, or what the step returns.
 #[cold]
 fn rejected(names: &BTreeSet<&str>, rejection: SettingRejection<'_>) -> SettingsError {
     match rejection.name {

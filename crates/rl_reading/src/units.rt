@@ -391,7 +391,7 @@ fn byte_run_len(bytes: &[u8]) -> usize
     ascii_len_before(ends_of_runs(Kind::ByteStr), bytes)
 }
 
-/// How many bytes at the front are plain, told at once before an escape: these often stand side by side.
+/// How many bytes at the front are plain, known at once before an escape: these often stand side by side.
 #[inline(always)]
 fn plain_len(kind: Kind, bytes: &[u8]) -> usize
     requires { IsTrue (is_string kind) }

@@ -236,9 +236,9 @@ fn take_setting<'t>(
 }
 
 /// Takes the next setting of a text that ends at the byte `end`: an identifier, `=` and a literal, which a minus may begin, and
-/// after it a comma or the text's end. Or it tells what stands there instead, and takes nothing: the first of these parts that is
-/// missed, with the whole group where one stands in its place; or the lexer's error there. No memory is taken, so whether a name
-/// stood before is for the caller.
+/// after it a comma or the text's end. Or it returns the error of what stands there instead, and takes nothing: the first of
+/// these parts that is missed, with the whole group where one stands in its place; or the lexer's error there. No memory is
+/// taken, so whether a name stood before is for the caller.
 ///
 /// Each group is closed in a text that has no [`first_error`](crate::first_error).
 pub fn settings_step<'t>(tokens: &mut Tokens<'t>, end: usize) -> SettingStep<'t>

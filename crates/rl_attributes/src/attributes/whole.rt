@@ -91,7 +91,7 @@ fn read_flat<A: Allocator + Copy>(alloc: A, text: &str, file: u32) -> Option<Att
             return None;
         };
         if let Err(failed) = entries.push(entry) {
-            // By a call: letting go of an entry here is as many steps again to prove.
+            // By a call: dropping an entry here is as many steps again to prove.
             drop(failed);
             return None;
         }
@@ -102,7 +102,7 @@ fn read_flat<A: Allocator + Copy>(alloc: A, text: &str, file: u32) -> Option<Att
     })
 }
 
-/// The attributes of a text by its trees, or why it is none. The lexer's error is told before a tree is made.
+/// The attributes of a text by its trees, or why it is none. The lexer's error is reported before a tree is made.
 fn read_trees<A: Allocator + Copy>(alloc: A, text: &str, file: u32) -> Result<Attrs<A>, Error<A>>
     ensures attributes { IfOk result
         (λ attrs. AreAttributesOf (chars text.now) file (attributes_of (entries_of attrs))) }

@@ -20,7 +20,7 @@ pub fn split_ascii(text: &str) -> Option<(u8, &str)> {
 
 /// The character of ASCII at a place of the text, as its byte, and the place after it.
 ///
-/// What goes on by places makes no rest of the text, which takes a test each time where what is proved isn't known.
+/// A walk by places makes no rests of the text: in Rust each takes a test that it begins between characters.
 #[inline(always)]
 pub fn ascii_at(text: &str, at: usize) -> Option<(u8, usize)> {
     let bytes = text.as_bytes();
