@@ -190,6 +190,6 @@ WRONG = [Wrong(*row) for row in [
     ('kind.rs', "Kind::CStr => \"C string literal\",", "Kind::CStr => \"string literal\",",
      'a C string is called a string in messages'),
     # lib.rs
-    ('lib.rs', "rl_strict::is_token(text)", "rl_strict::is_token(text.strip_prefix('-').unwrap_or(text))",
+    ('lib.rs', "rl_reasons::read(text).is_ok()", "rl_reasons::read(text.strip_prefix('-').unwrap_or(text)).is_ok()",
      'a number after a minus is a token'),
 ]]

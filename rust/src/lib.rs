@@ -104,7 +104,7 @@ pub use write::{write_byte, write_byte_str, write_c_str, write_char, write_str};
 /// ```
 #[must_use]
 pub fn is_token(text: &str) -> bool {
-    rl_reasons::is_token(text)
+    rl_reasons::read(text).is_ok()
 }
 
 /// The examples of `README.md`.

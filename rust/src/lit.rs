@@ -423,7 +423,8 @@ impl FromStr for Lit<'static> {
 #[cfg(test)]
 mod tests {
     use super::*;
-    use crate::rl_reasons::{explain_value, is_token};
+    use crate::is_token;
+    use crate::rl_reasons::explain_value;
     use std::format;
 
     /// All texts of up to so many of these characters, after the front.

@@ -163,9 +163,6 @@ pub fn explain_signed_value_in_file(text: &str) -> Option<Flaw>
 {
     match strip_byte(text, b'-') {
         Some(number) => minus_flaw(text, number),
-        None => match explain_value_in_file(text) {
-            Some(flaw) => Some(flaw),
-            None => None,
-        },
+        None => explain_value_in_file(text),
     }
 }

@@ -21,4 +21,4 @@ pub use crate::limits::{explain_limit, explain_value, limit_flaw};
 pub use crate::read_numbers::Number;
 pub use crate::signed_flaws::explain_signed;
 pub use crate::strict_flaws::explain;
-pub use crate::strict_reading::{Reading, is_token, read, read_signed};
+pub use crate::strict_reading::{Reading, read, read_signed};

@@ -75,8 +75,7 @@ fn tree_end(form: Form, hi: usize, following: &Tokens<'_>) -> usize
     let mut ahead = following.fork();
     let mut depth = depth_after(form, 0);
     let mut end = hi;
-    // As many groups at most are opened as bytes are left, so the count doesn't overflow: the invariant says so of this.
-    let most = following.rest().len();
+    // As many groups at most are opened as bytes are left, so the count doesn't overflow.
     while depth > 0 {
         let Some(token) = ahead.next() else {
             return end;

@@ -10,8 +10,8 @@ use core::ops::{BitAnd, BitOr, Sub};
 /// What moves the highest bits into the highest byte, in their order.
 const GATHER: u64 = 0x0002_0408_1020_4081;
 
-/// The numbers that hold N lanes, each made of its index. It is written out, without a loop, an index that is tested or a number
-/// that is made in vain, which costs least where nothing is optimized.
+/// The numbers that hold N lanes, each made of its index, and 0 for those past N. They are written out: where nothing is
+/// optimized, a loop costs more, and so does each index that has to be tested.
 macro_rules! eights {
     ($lanes:ident, $at:ident => $eight:expr) => {
         [

@@ -99,9 +99,6 @@ fn minus_flaw(text: &str, number: &str) -> Option<Flaw> {
 pub fn explain_signed_value_in_file(text: &str) -> Option<Flaw> {
     match strip_byte(text, b'-') {
         Some(number) => minus_flaw(text, number),
-        None => match explain_value_in_file(text) {
-            Some(flaw) => Some(flaw),
-            None => None,
-        },
+        None => explain_value_in_file(text),
     }
 }

@@ -20,4 +20,4 @@ pub use crate::rl_reasons::limits::{explain_limit, explain_value, limit_flaw};
 pub use crate::rl_reasons::read_numbers::Number;
 pub use crate::rl_reasons::signed_flaws::explain_signed;
 pub use crate::rl_reasons::strict_flaws::explain;
-pub use crate::rl_reasons::strict_reading::{Reading, is_token, read, read_signed};
+pub use crate::rl_reasons::strict_reading::{Reading, read, read_signed};

@@ -215,15 +215,6 @@ pub fn read(text: &str) -> Result<Reading, Flaw> {
     }
 }
 
-/// Whether the text is a literal token of the strict grammar, of any kind and with any suffix:
-/// `0xFF_u8` is one, `-1`, `1e` and `r"a"b"` are none. No memory is taken.
-///
-/// Every strict text is a literal of the lenient grammar too, unless it is an integer past 128
-/// bits: here integers have no limit. The reverse doesn't hold.
-pub fn is_token(text: &str) -> bool {
-    read(text).is_ok()
-}
-
 /// The number that stands after a minus; or else why none does, and the text from there on.
 #[inline(always)]
 fn read_minus(number: &str) -> Result<Number<'_>, Stop<'_>> {

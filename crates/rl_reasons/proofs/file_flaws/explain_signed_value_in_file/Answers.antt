@@ -1,6 +1,7 @@
+use Rattle.std.proofs.lemmas.Option.{IfSome_then}
 use Rattle.rl_reasons.proofs.FilePlaces.{unsigned}
 use Rattle.rl_reasons.proofs.file_flaws.explain_signed_value_in_file.Goals as goal
 
-pub returns-in-Some-explain_value_in_file-clause-some : goal.returns-in-Some-explain_value_in_file-clause-some
-returns-in-Some-explain_value_in_file-clause-some c = unsigned _ _ c.in-None.ensures.rest
-    c.in-Some-explain_value_in_file.ensures.some
+pub returns-in-None-clause-some : goal.returns-in-None-clause-some
+returns-in-None-clause-some c = IfSome_then c.explain_value_in_file.result c.explain_value_in_file.ensures.some
+    (λ flaw e. unsigned _ flaw c.in-None.ensures.rest e)

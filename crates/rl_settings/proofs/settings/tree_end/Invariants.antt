@@ -7,7 +7,7 @@ use Rattle.rl_settings.proofs.settings.tree_end.Given as goal
 abbrev pub invariant-loop-depth : goal.invariant-loop-depth
 invariant-loop-depth l = record {
   leads : Leads l.depth l.end l.ahead (depth_after (form_view l.fn.form) 0) l.hi l.following;
-  shallow : l.depth + length l.ahead.rest ≤ 1 + l.most;
+  shallow : l.depth + length l.ahead.rest ≤ 1 + length l.following.rest;
 }
 
 abbrev pub decreases-loop-depth : goal.decreases-loop-depth
