@@ -1,29 +1,38 @@
-"""The limits: for each corpus and work of ours the instructions a byte that it may take."""
+"""The limits: for each corpus and work of ours the instructions a byte that it may take, and the lowest that these were."""
 import os
 
 from measure import build, counts, sources
 
 PATH = os.path.join(build.BENCH, 'limits')
-HEAD = '# corpus, work, and the instructions a byte that it may take (bench/run --new-limits)\n'
+HEAD = '# corpus, work, the instructions a byte that it may take, and the lowest that these were (bench/run --new-limits)\n'
 # two per cent above what was reached
 ROOM = 1.02
 
 
 def write(taken, rows):
-    """Writes the limits anew."""
-    ours = {(row.corpus, row.work) for row in rows if row.whose == 'ours'}
+    """Writes the limits anew, and prints each that rises above the lowest that it was: docs/PERFORMANCE.md has a table of these."""
+    ours, was = {(row.corpus, row.work) for row in rows if row.whose == 'ours'}, read_all()
     with open(PATH, 'w') as file:
         file.write(HEAD)
-        for (corpus, work), found in taken.items():
-            if (corpus, work) in ours:
-                file.write('%s\t%s\t%.3f\n' % (corpus, work, ROOM * found[0]))
+        for name, found in taken.items():
+            if name in ours:
+                limit = round(ROOM * found[0], 3)
+                lowest = min(limit, was.get(name, (limit, limit))[1])
+                file.write('%s\t%s\t%.3f\t%.3f\n' % (*name, limit, lowest))
+                if limit > lowest:
+                    print('| %s | `%s` | %.3f | %.3f |' % (*name, lowest, limit))
     return 0
 
 
-def read():
+def read_all():
+    """The limit of each row, and the lowest that it was."""
     with open(PATH) as file:
         lines = [line.rstrip('\n').split('\t') for line in file if not line.startswith('# ')]
-    return {(corpus, work): float(most) for corpus, work, most in lines}
+    return {(corpus, work): (float(most), float(lowest)) for corpus, work, most, lowest in lines}
+
+
+def read():
+    return {name: most for name, (most, _) in read_all().items()}
 
 
 def check(driver, jobs, rows, corpus):

@@ -2,6 +2,7 @@
 //! texts, with kind, contents and suffix as `rl_tool text` prints them.
 
 use navyspindle::{write_byte_str, write_c_str, write_str, Lit, ParseErrorKind};
+use std::collections::HashSet;
 use std::ffi::CString;
 use std::fs;
 
@@ -108,13 +109,24 @@ fn the_words_are_the_programs() {
         "/../crates/rl_reasons/specs/FlawWords.antt"
     );
     let table = fs::read_to_string(path).expect("the table of words");
-    for text in [
-        "", "truex", "r#", "\"a", "\"\\q\"", "'ab'", "1.5.", "b\"é\"",
-    ] {
+    let rows = table
+        .lines()
+        .filter(|it| it.starts_with("flaw_message ") && it.contains('='));
+    let rows: HashSet<String> = rows.map(String::from).collect();
+    let words = r###"truex br# r#x --1 r#"a" "\q" b"\u{e9}" "\x4" "\u0041" "\u{}" "\u{0000041}" "\x80" "\u{110000}"
+        "\u{D83D}" c"\0" b"é" b'' 'ab' 1e+x 1.5.0 340282366920938463463374607431768211456 r"a"b" r#"a"## "a"_ 0xg
+        0b102 0x1.5 1.f32"###;
+    let hashes = format!("r{}", "#".repeat(256));
+    let others = ["", "b'\t'", "\"a\rb\"", &hashes];
+    let texts = words.split_whitespace().chain(others);
+    let said = texts.map(|text| {
         let ParseErrorKind::Flaw(kind) = Lit::parse(text).unwrap_err().kind() else {
             panic!("{text}")
         };
-        let line = format!("flaw_message {kind:?} = codes {:?}", kind.to_string());
-        assert!(table.lines().any(|it| it == line), "{line}");
-    }
+        format!("flaw_message {kind:?} = codes {:?}", kind.to_string())
+    });
+    // A minus of a number is part of what `parse` reads.
+    let sign = "flaw_message Minus = codes \"a literal token has no sign\"";
+    let said: HashSet<String> = said.chain([sign.to_owned()]).collect();
+    assert_eq!(said, rows);
 }

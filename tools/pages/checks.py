@@ -176,6 +176,14 @@ def check_paths(tell):
                 tell(f'{page}: no file {name}')
 
 
+def check_lengths(tell):
+    """Where a row of a table gives a file of definitions and how many lines it has, it has as many."""
+    for page in pages():
+        for path, lines in re.findall(r'(?m)^\| `(crates/\S+\.antt)` \| (\d+) \|', read(page)):
+            if is_there(path, page) and read(path).count('\n') != int(lines):
+                tell(f"{page}: {path} has {read(path).count(chr(10))} lines, and not {lines}")
+
+
 def check_words(tell):
     """Each word in code font that is written as definitions and types are stands in a source."""
     known = set()
@@ -269,6 +277,19 @@ def check_terms(tell):
                     tell(f'{path}:{number}: {found[0]}: another word is the field\'s')
 
 
+def check_limits(tell):
+    """Each limit of speed that is above the lowest that it was stands on a page."""
+    shown = read('docs/PERFORMANCE.md')
+    for line in read('bench/limits').split('\n'):
+        if line and not line.startswith('# '):
+            corpus, work, limit, lowest = line.split('\t')
+            row = f'| {corpus} | `{work}` | {lowest} | {limit} |'
+            if float(lowest) > float(limit):
+                tell(f'bench/limits: {corpus}, {work}: the lowest limit is above the limit')
+            if float(lowest) < float(limit) and row not in shown:
+                tell(f'docs/PERFORMANCE.md: no row {row}')
+
+
 def check_diagrams(tell):
     """Each diagram shows a definition that stands and is on a page; that of the crates shows them."""
     loader = importlib.machinery.SourceFileLoader('diagrams', os.path.join(TOP, 'tools', 'diagrams'))
@@ -291,5 +312,5 @@ def check_diagrams(tell):
 
 
 OF_PAGES = (
-    check_core, check_paths, check_pieces, check_definitions, check_names, check_words, check_owners, check_refusals,
-    check_diagrams, check_terms)
+    check_core, check_paths, check_pieces, check_definitions, check_names, check_lengths, check_words, check_owners,
+    check_refusals, check_diagrams, check_limits, check_terms)

@@ -102,8 +102,9 @@ class Prover:
 
     def check(self, name, folder, kept, paths):
         """What the prover says of these functions and of those that they call, or else of the whole crate, as it stands in the folder,
-        over what it kept there."""
-        return self.run([*self.words(name, kept), *[word for it in paths for word in ('--only', it)]], folder, LONGEST)
+        over what it kept there. It takes holes for proofs."""
+        only = [word for it in paths for word in ('--only', it)]
+        return self.run([*self.words(name, kept), '--allow-holes', '--short-goals', *only], folder, LONGEST)
 
     def run(self, words, folder, longest):
         """What a command said, and how it ended."""

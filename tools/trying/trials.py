@@ -3,6 +3,7 @@ import re
 import threading
 
 from .edits import control_of, read, with_regions, write
+from .holes import Holes
 
 # A check with more edits than these takes much memory.
 MOST = 40
@@ -17,8 +18,10 @@ SAYING = threading.Lock()
 class Trials:
     """The edits of a crate that are tried in this run, on a copy of it, and what came of them."""
 
-    def __init__(self, crate, folder, edits, check):
+    def __init__(self, crate, folder, proved, edits, check):
         self.crate, self.folder, self.check = crate, folder, check
+        # The proofs of the functions that a check doesn't ask of, which are `proved`'s.
+        self.holes = Holes(crate, folder, proved)
         self.edits, self.changed, self.regions = [], {}, {}
         # What the prover calls a function.
         self.names = {}
@@ -103,16 +106,26 @@ class Trials:
         was = {it: read(f'{self.folder}/{it}') for it in texts}
         for file, text in texts.items():
             write(f'{self.folder}/{file}', text)
-        paths = self.paths(chosen)
-        self.checks += 1
-        verdicts = self.check(paths)
-        if verdicts.status == NO_SUCH and paths:
-            # It has a name of its own for one, as for a method of a type's alias, which the whole crate shows.
-            self.checks += 1
-            verdicts = self.check([])
+        verdicts = self.checked_over(chosen)
         for file, text in was.items():
             write(f'{self.folder}/{file}', text)
         return verdicts
+
+    def checked_over(self, chosen):
+        """What the prover says over holes in place of the other proofs, of which it may take none for a function."""
+        paths = self.paths(chosen)
+        self.holes.dig([function for it in chosen for function in self.changed[it]])
+        verdicts = self.counted(paths)
+        if verdicts.status == NO_SUCH and paths:
+            # It has a name of its own for one, as for a method of a type's alias, which the whole crate shows.
+            verdicts = self.counted([])
+        if self.holes.give_up([it for it in verdicts.of if verdicts.is_refused(it)]):
+            return self.checked_over(chosen)
+        return verdicts
+
+    def counted(self, paths):
+        self.checks += 1
+        return self.check(paths)
 
     def is_judged(self, edit, chosen, verdicts):
         """Reports what came of the edit; false where it has to be tried again, with others left out."""

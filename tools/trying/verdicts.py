@@ -4,6 +4,9 @@ import re
 # What the prover says of answers that name what an edit took away.
 LOST = re.compile(r'has no field|is not in scope|has no `|was not admitted')
 
+# What it says of a function that is proved, or would be but for holes in place of other proofs.
+WELL = ('proved', 'no holes', 'depends on a hole')
+
 
 class Verdicts:
     """What a check said of each function, and how it ended."""
@@ -15,8 +18,8 @@ class Verdicts:
     def is_whole(self):
         """Whether the check came to its end: another may have said nothing of some functions."""
         last = self.said.rstrip('\n').rpartition('\n')[2]
-        # (the second of some functions, and those that they call)
-        wanted = {0: ('logic=proved ', 'only='), 1: ('logic=not-proved', 'only=')}.get(self.status)
+        # (the first of a whole crate)
+        wanted = {0: ('holes=', 'only='), 1: ('holes=', 'only=')}.get(self.status)
         return bool(self.of and wanted and last.startswith(wanted))
 
     def why(self):
@@ -35,7 +38,7 @@ class Verdicts:
     def is_refused(self, name):
         """Whether the function is refused by itself, and not only since it calls one that is."""
         verdict = self.of[name]
-        return verdict != 'proved' and ('it calls' not in verdict or 'did not prove' in verdict)
+        return not verdict.startswith(WELL) and ('it calls' not in verdict or 'did not prove' in verdict)
 
     def goals(self, function):
         """The function's goals that weren't proved, except those whose answer names what is gone. Of a function that calls one that isn't

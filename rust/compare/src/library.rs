@@ -62,7 +62,11 @@ mod exports {
         pub fn rl_layout(layout: &mut [usize; 8]);
         pub fn rl_find(text: *const u8, len: usize, reading: &mut Reading) -> bool;
         pub fn rl_explain(text: *const u8, len: usize, explanation: &mut Explanation) -> bool;
-        pub fn rl_explain_signed(text: *const u8, len: usize, explanation: &mut Explanation) -> bool;
+        pub fn rl_explain_signed(
+            text: *const u8,
+            len: usize,
+            explanation: &mut Explanation,
+        ) -> bool;
         pub fn rl_place_of(text: *const u8, len: usize, at: usize, place: &mut Place) -> bool;
         pub fn rl_is_token(text: *const u8, len: usize) -> bool;
         pub fn rl_next(text: *const u8, len: usize, next: &mut Next) -> u8;

@@ -4,7 +4,7 @@
 //! `files NAME..`: whole files as sources and lists, each of their literals, and each with something wrong in it; of a file of
 //! lines with a field `"input"` the inputs, which are in hexadecimal; `settings COUNT [SEED]`: of the package alone texts of
 //! settings that are put together of parts, so that the answer is known. It prints how many texts were asked, and ends with status 1
-//! where an answer differs.
+//! where an answer differs or none was asked, and with 2 where a file can't be read.
 
 mod answers;
 mod library;
@@ -138,7 +138,9 @@ fn run(arguments: &[String]) -> Option<Tally> {
         }
         "files" => {
             for name in &arguments[1..] {
-                let text = fs::read_to_string(name).unwrap_or_default();
+                let text = fs::read_to_string(name)
+                    .map_err(|error| eprintln!("{name}: {error}"))
+                    .ok()?;
                 if name.ends_with(".jsonl") {
                     inputs(&text).for_each(|input| tally.all(&input));
                 } else {
@@ -159,5 +161,5 @@ fn main() -> ExitCode {
         return ExitCode::from(2);
     };
     println!("{} {}: {} differ", tally.asked, arguments[0], tally.differ);
-    ExitCode::from(u8::from(tally.differ > 0))
+    ExitCode::from(u8::from(tally.asked == 0 || tally.differ > 0))
 }
