@@ -23,7 +23,7 @@ use rl_reading::digit_rows::begins_digit;
 use rl_reading::quoted_forms::{QuotedForm, split_opener};
 use rl_reading::units::is_bare_character;
 use rl_reading::{Body, truth_of};
-use rl_text::text::strip_byte;
+use rl_text::text::{split_ascii, strip_byte};
 
 /// What a token reads as. Places are bytes of its text.
 #[derive(Clone, Copy)]
@@ -77,19 +77,14 @@ fn bare_of(text: &str) -> Option<u8>
 pub fn front_of(text: &str) -> Front<'_>
     ensures { BeginsAs text.now result }
 {
-    if let Some(inside) = strip_byte(text, b'"') {
-        return Front::Quote(inside);
-    }
-    if let Some(c) = bare_of(text) {
-        return Front::Bare(c);
-    }
-    if let Some(inside) = strip_byte(text, b'\'') {
-        return Front::Apostrophe(inside);
-    }
-    if begins_digit(text) {
-        Front::Digit
-    } else {
-        Front::Other
+    match split_ascii(text) {
+        Some((b'"', inside)) => Front::Quote(inside),
+        Some((b'\'', inside)) => match bare_of(text) {
+            Some(c) => Front::Bare(c),
+            None => Front::Apostrophe(inside),
+        },
+        Some((b'0'..=b'9', _)) => Front::Digit,
+        _ => Front::Other,
     }
 }
 
