@@ -10,8 +10,8 @@ use Rattle.rl_tokens.specs.declared.error.Error.{Error}
 use Rattle.rl_text.specs.Texts.{SpannedText}
 use Rattle.rl_tokens.specs.Trees.{Tree}
 use Rattle.rl_tokens.specs.Buffers.{begins_ident, begins_mark, IsAfterMark}
-use Rattle.rl_grammar.specs.Fronts.{IsFront}
-use Rattle.rl_grammar.proofs.FrontLemmas.{one_front, front_rest}
+use Rattle.rl_fronts.specs.Fronts.{IsFront}
+use Rattle.rl_fronts.proofs.FrontLemmas.{one_front, front_rest}
 use Rattle.rl_attributes.specs.Attributes.{Attribute, IsAttribute, AreListed, names_of, is_named, NamesDiffer, MissesName, RepeatsName, MissesEquals, MissesLiteral, MissesComma, RejectsNextAttribute, StandBefore, RejectsAttributes, HasNewName}
 use Rattle.rl_attributes.specs.AttributeSteps.{IsNext}
 

@@ -21,7 +21,7 @@ use Rattle.rl_tokens.specs.Whole.{place_at, RejectsAll, LeavesTrees}
 use Rattle.rl_tokens.proofs.LexLaws.{one_list, never_both}
 use Rattle.rl_tokens.proofs.TreeRests.{rest_self}
 use Rattle.rust_literals.specs.Parsing.{RunsLit, IsLitFront}
-use Rattle.rl_grammar.specs.Fronts.{IsFront}
+use Rattle.rl_fronts.specs.Fronts.{IsFront}
 use Rattle.rust_literals.specs.declared.lit.Lit.{Lit}
 use Rattle.rl_forms.specs.Reading.{IsReadAs}
 use Rattle.rust_literals.specs.Literals.{kind_of, token_of}

@@ -21,7 +21,7 @@ use Rattle.rl_settings.specs.SettingSteps.{TakesName, TakesMark, TakesComma, Set
 use Rattle.rl_tokens.specs.Puncts.{Mark}
 use Rattle.rl_tokens.specs.Trees.{Tree, IdentTree, PunctTree, LiteralTree}
 use Rattle.rl_tokens.specs.Buffers.{IsAfterMark}
-use Rattle.rl_grammar.specs.Fronts.{IsFront, joined, joined_span}
+use Rattle.rl_fronts.specs.Fronts.{IsFront, joined, joined_span}
 use Rattle.rust_literals.specs.Flat.{LexesTreesUpTo}
 use Rattle.rust_literals.proofs.FlatLemmas.{tree_more}
 use Rattle.rust_literals.proofs.LitLemmas.{found_behind}

@@ -10,7 +10,7 @@ use Rattle.rl_tokens.specs.Errors.{memory_at}
 use Rattle.rl_text.specs.Texts.{SpannedText}
 use Rattle.rl_tokens.specs.Trees.{Tree, IdentTree}
 use Rattle.rl_tokens.specs.Buffers.{first_span, begins_ident, begins_mark, IsAfterMark, IsRejection}
-use Rattle.rl_grammar.specs.Fronts.{IsFront, HasNoFront}
+use Rattle.rl_fronts.specs.Fronts.{IsFront, HasNoFront}
 use Rattle.rl_tokens.specs.Lexing.{Lexes}
 use Rattle.rl_tokens.specs.Whole.{place_at, RejectsLexing}
 

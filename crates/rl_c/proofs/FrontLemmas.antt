@@ -8,7 +8,7 @@ use Rattle.rl_lexer.specs.Lexemes.{LexemeForm, LiteralForm, IdentifierForm, Deli
 use Rattle.rl_lexer.specs.Cuts.{LexedToken, end_of, LexesUpTo, is_opener}
 use Rattle.rl_tokens.specs.Lexing.{flat_form, flat_token, delimiter_for}
 use Rattle.rl_tokens.specs.Trees.{Tree, GroupTree, IdentTree, PunctTree, LiteralTree, flat_trees, FlatToken, Opening, Closing, FlatIdent, FlatPunct, FlatLiteral}
-use Rattle.rl_grammar.specs.Fronts.{IsFront, joined_span}
+use Rattle.rl_fronts.specs.Fronts.{IsFront, joined_span}
 use Rattle.rl_reading.proofs.MinusLemmas.{minus_chars}
 use Rattle.rl_c.specs.declared.reading.Reading.{Reading}
 use Rattle.rl_c.specs.Crossing.{ReportsReading, ReportsLiteral}

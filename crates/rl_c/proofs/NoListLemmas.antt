@@ -12,7 +12,7 @@ use Rattle.rl_lexer.proofs.LexemeFronts.{lexeme_at-past, one_front, same_pair}
 use Rattle.rl_lexer.proofs.Pieces.{one_rest, skipped_again}
 use Rattle.rl_reading.specs.NextLiterals.{BeginsNone, HasNoNumber, HasNoNextLiteral}
 use Rattle.rl_reading.proofs.MinusLemmas.{minus_chars}
-use Rattle.rl_grammar.proofs.FrontLemmas.{truth_reads}
+use Rattle.rl_fronts.proofs.FrontLemmas.{truth_reads}
 use Rattle.rl_c.specs.declared.next.Next.{Next}
 use Rattle.rl_c.specs.declared.reading.Reading.{Reading}
 use Rattle.rl_c.specs.Crossing.{ReportsReading}

@@ -3,7 +3,7 @@ use Rattle.rl_reading.proofs.Names.{Digits, Float, HasContents, HasSuffix, float
 use Rattle.rl_text.proofs.Common.{IsUtf8, List, ap, chars, drop, slice_range, subst, sym, take, ℕ, ◌-◌, ◌∙◌, ◌≡◌}
 use Rattle.rl_forms.specs.Reading.{ReadsFloat}
 use Rattle.rl_reading.specs.Founds.{body_in, suffix_in}
-use Rattle.rl_grammar.proofs.NumberFoundLemmas.{found_float}
+use Rattle.rl_fronts.proofs.NumberFoundLemmas.{found_float}
 use Rattle.rl_forms.proofs.OneNumber.{float_once}
 use Rattle.rl_c.specs.declared.reading.Reading.{Reading}
 use Rattle.rl_c.specs.Crossing.{IsOfKind}

@@ -10,9 +10,9 @@ use Rattle.rl_lexer.specs.Cuts.{LexedToken, end_of, LexesUpTo, after_form, open_
 use Rattle.rl_tokens.specs.Lexing.{flat_form, flat_token}
 use Rattle.rl_tokens.specs.Trees.{Tree, IdentTree, PunctTree, LiteralTree, flat, flat_trees}
 use Rattle.rl_lexer.proofs.CutLemmas.{byte_len-append}
-use Rattle.rl_grammar.specs.Fronts.{IsFront, joined, joined_span}
+use Rattle.rl_fronts.specs.Fronts.{IsFront, joined, joined_span}
 use Rattle.rl_reading.proofs.MinusLemmas.{minus_chars}
-use Rattle.rl_grammar.proofs.FrontLemmas.{truth_reads}
+use Rattle.rl_fronts.proofs.FrontLemmas.{truth_reads}
 use Rattle.rl_c.specs.declared.reading.Reading.{Reading}
 use Rattle.rl_c.specs.Crossing.{ReportsReading, ReportsLiteral}
 use Rattle.rl_c.specs.Lists.{ReportsToken}

@@ -8,7 +8,7 @@ use Rattle.rl_tokens.specs.Lexing.{Lexes}
 use Rattle.rl_lexer.specs.Skipping.{Skipped}
 use Rattle.rl_text.specs.Texts.{SpannedText}
 use Rattle.rl_tokens.specs.Trees.{Tree}
-use Rattle.rl_grammar.specs.Fronts.{IsFront}
+use Rattle.rl_fronts.specs.Fronts.{IsFront}
 use Rattle.rl_c.specs.declared.next.Next.{Next}
 use Rattle.rl_c.specs.declared.reading.Reading.{Reading}
 use Rattle.rl_c.specs.Crossing.{ReportsReading, ReportsLiteral}

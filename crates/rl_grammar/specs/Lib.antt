@@ -1,6 +1,6 @@
--- What stands here, and what stands in the crates below and is passed on under its name here.
-pub mod FrontTokens
-pub mod Fronts
+-- What stands in the crates below and is passed on under its name here.
+pub use Rattle.rl_fronts.specs.FrontTokens
+pub use Rattle.rl_fronts.specs.Fronts
 pub use Rattle.rl_reasons.specs.FileTexts
 pub use Rattle.rl_reasons.specs.FlawKinds
 pub use Rattle.rl_reasons.specs.FlawWords

@@ -7,7 +7,7 @@ use Rattle.std.specs.Str.{chars}
 use Rattle.rl_text.specs.Texts.{xid_ok, SpannedText}
 use Rattle.rl_tokens.specs.Trees.{Tree}
 use Rattle.rl_tokens.specs.Lexing.{Lexes}
-use Rattle.rl_grammar.specs.Fronts.{IsFront}
+use Rattle.rl_fronts.specs.Fronts.{IsFront}
 use Rattle.rl_forms.specs.Reading.{Contents, Characters, Bytes, Digits, Truth, truth_text, Reads, HasNoReading, IsReadAs}
 use Rattle.rl_forms.specs.Written.{written_text}
 

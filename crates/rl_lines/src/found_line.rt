@@ -9,7 +9,8 @@ ghost use Rattle.rl_lines.specs.FoundLines.{IsShownOf};
 ghost use Rattle.rl_lines.specs.Lines.{Appends, IsLineOf, IsLineOfKind};
 
 use crate::line::{push_kind, push_text, push_verbatim};
-use rl_grammar::{Found, bytes_of_body, digits_of_found, str_of_body};
+use rl_fronts::{bytes_of_body, digits_of_found, str_of_body};
+use rl_reading::Found;
 use rl_tokens::{CString, Error, Kind, Literal};
 use std::alloc::{AllocError, Allocator};
 

@@ -25,7 +25,7 @@ ghost use Rattle.rl_quoted.specs.Inside.{
 };
 
 use crate::lit_str::LitStr;
-use rl_grammar::spans_of;
+use rl_fronts::spans_of;
 use rl_tokens::{
     ByParse, Error, ErrorKind, Parse, ParseBuffer, Parser, Span, TokenStream, trees_of_text,
 };

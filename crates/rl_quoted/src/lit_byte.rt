@@ -8,7 +8,8 @@ ghost use Rattle.rl_forms.specs.Reading.{Bytes, HasContents};
 ghost use Rattle.rl_forms.specs.Written.{IsWrittenForm};
 
 use crate::quoted::{Quoted, QuotedKind};
-use rl_grammar::{Kind, byte_of_body};
+use rl_forms::Kind;
+use rl_reading::byte_of_body;
 use rl_tokens::{Error, Literal, Span};
 use std::alloc::{Allocator, Global};
 

@@ -9,7 +9,8 @@ ghost use Rattle.rl_forms.specs.Written.{IsWrittenForm};
 ghost use Rattle.rl_reading.specs.WholeShapes.{IsPlain};
 
 use crate::quoted::{Quoted, QuotedKind};
-use rl_grammar::{Kind, bytes_of_body};
+use rl_forms::Kind;
+use rl_fronts::bytes_of_body;
 use rl_tokens::{CString, Error, Literal, Span};
 use std::alloc::{Allocator, Global};
 

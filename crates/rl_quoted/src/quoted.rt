@@ -23,9 +23,9 @@ ghost use Rattle.rl_quoted.specs.Suffixes.{HasSomeSuffix};
 ghost use Rattle.rl_forms.specs.Words.{kind_name};
 
 use crate::written::written_body;
-use rl_grammar::{
-    Body, Found, Kind, Segments, byte_of_body, char_of_body, find, next_is, take_kind,
-};
+use rl_forms::Kind;
+use rl_fronts::{next_is, take_kind};
+use rl_reading::{Body, Found, Segments, byte_of_body, char_of_body, find};
 use rl_tokens::{
     Error, Literal, Parse, ParseBuffer, Span, ToTokens, Token, TokenStream, append_literal,
 };
@@ -320,7 +320,7 @@ impl<K: QuotedKind, A: Allocator> Quoted<K, A> {
 
 /// Takes the literal of the kind that stands next. It is rejected as [`take_kind`] says.
 impl<K: QuotedKind, A: Allocator> Parse<A> for Quoted<K, A> {
-    ghost use Rattle.rl_grammar.specs.Fronts.{RunsAs};
+    ghost use Rattle.rl_fronts.specs.Fronts.{RunsAs};
     ghost use Rattle.rl_forms.specs.Words.{kind_word};
 
     ghost runs = { RunsAs K.KIND (kind_word K.KIND) };
@@ -335,7 +335,7 @@ impl<K: QuotedKind, A: Allocator> Parse<A> for Quoted<K, A> {
 
 /// True exactly where the parser succeeds, if memory is found.
 impl<K: QuotedKind, A: Allocator> Token for Quoted<K, A> {
-    ghost use Rattle.rl_grammar.specs.Fronts.{HasFrontOf};
+    ghost use Rattle.rl_fronts.specs.Fronts.{HasFrontOf};
     ghost use Rattle.rl_forms.specs.Words.{kind_shown};
 
     ghost peeks = { HasFrontOf K.KIND };

@@ -6,7 +6,8 @@ ghost use Rattle.rl_forms.specs.Quoted.{is_string};
 ghost use Rattle.rl_reading.specs.Founds.{is_quoted};
 ghost use Rattle.rl_quoted.specs.Places.{IsWrittenAs, StandsAt};
 
-use rl_grammar::{Body, Kind};
+use rl_forms::Kind;
+use rl_reading::Body;
 
 /// Whether the body of a string is all of the value.
 fn is_whole(kind: Kind, body: &[u8], value: &[u8]) -> bool

@@ -10,7 +10,9 @@ ghost use Rattle.rl_reading.specs.Founds.{IsFound, is_quoted};
 ghost use Rattle.rl_reading.specs.Segments.{IsBytePlace, IsByteEnd};
 ghost use Rattle.rl_sources.specs.Held.{AreContentsOf, Holds, IsCutAt, IsHeldAt, StandsFirst, StandsFrom};
 
-use rl_grammar::{Found, Kind, bytes_of_body, str_of_body};
+use rl_forms::Kind;
+use rl_fronts::{bytes_of_body, str_of_body};
+use rl_reading::Found;
 use std::alloc::{AllocError, Allocator};
 
 /// Where bytes that are looked for stand first among others.

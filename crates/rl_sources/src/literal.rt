@@ -2,7 +2,9 @@
 
 ghost use Rattle.std.specs.Prelude.{◌≡◌, None, Some, MatchOption};
 
-use rl_grammar::{Flaw, Found, Kind};
+use rl_forms::Kind;
+use rl_reading::Found;
+use rl_reasons::Flaw;
 use rl_tokens::SourceToken;
 
 /// A literal of a source.

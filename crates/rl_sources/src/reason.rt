@@ -15,7 +15,7 @@ use crate::literal::Literal;
 use crate::options::{Form, Options};
 use crate::place::{Place, Places, place_inside, push_front};
 use rl_files::push_visible;
-use rl_grammar::{Flaw, FlawKind};
+use rl_reasons::{Flaw, FlawKind};
 use rl_tokens::LexKind;
 use std::alloc::{AllocError, Allocator};
 

@@ -5,9 +5,9 @@ use Rattle.std.specs.List.{AllByRecursion}
 use Rattle.rl_text.specs.Texts.{SpannedText}
 use Rattle.rl_tokens.specs.Trees.{Tree, GroupTree, IdentTree, PunctTree, LiteralTree, FlatToken, flat_trees}
 use Rattle.rl_tokens.specs.Lexing.{flat_token, Lexes}
-use Rattle.rl_grammar.specs.Fronts.{IsFront, HasNoFront}
+use Rattle.rl_fronts.specs.Fronts.{IsFront, HasNoFront}
 use Rattle.rl_tokens.proofs.CutLaws.{begins_cut}
-use Rattle.rl_grammar.proofs.FrontLemmas.{one_front}
+use Rattle.rl_fronts.proofs.FrontLemmas.{one_front}
 use Rattle.rust_literals.specs.declared.lit.Lit.{Lit}
 use Rattle.rust_literals.specs.Parsing.{ReadsLiterals}
 use Rattle.rust_literals.specs.Flat.{IsNoGroup, AreBegun}

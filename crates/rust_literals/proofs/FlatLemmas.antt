@@ -12,7 +12,7 @@ use Rattle.rl_tokens.specs.Trees.{Tree, IdentTree, PunctTree, LiteralTree, flat_
 use Rattle.rl_lexer.specs.Skipping.{Skipped}
 use Rattle.rl_lexer.specs.Cuts.{LexesUpTo, after_form}
 use Rattle.rl_tokens.specs.Lexing.{flat_form, flat_token}
-use Rattle.rl_grammar.specs.Fronts.{joined, joined_span}
+use Rattle.rl_fronts.specs.Fronts.{joined, joined_span}
 use Rattle.rl_lexer.proofs.CutLemmas.{open_more}
 use Rattle.rl_tokens.proofs.BorrowedTokens.{flat_borrowed}
 use Rattle.rl_tokens.proofs.NestLemmas.{flat_trees-append}

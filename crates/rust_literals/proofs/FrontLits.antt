@@ -7,8 +7,8 @@ use Rattle.rl_tokens.specs.declared.error.Error.{Error}
 use Rattle.rl_tokens.specs.Errors.{memory_at}
 use Rattle.rl_tokens.specs.Trees.{Tree}
 use Rattle.rl_tokens.specs.Buffers.{first_span, IsRejection}
-use Rattle.rl_grammar.specs.Fronts.{IsFront, HasNoFront, PassesOther}
-use Rattle.rl_grammar.proofs.FrontLemmas.{other_of}
+use Rattle.rl_fronts.specs.Fronts.{IsFront, HasNoFront, PassesOther}
+use Rattle.rl_fronts.proofs.FrontLemmas.{other_of}
 use Rattle.rust_literals.specs.declared.lit.Lit.{Lit}
 use Rattle.rust_literals.specs.declared.lit_bool.LitBool.{LitBool}
 use Rattle.rust_literals.specs.Literals.{IsReadFrom}

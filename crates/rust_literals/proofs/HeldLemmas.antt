@@ -14,7 +14,7 @@ use Rattle.rl_reading.specs.declared.found.Found.{Found}
 use Rattle.rl_reading.specs.Founds.{IsFound, IsFoundFloat, IsFoundNumber, body_in, suffix_in}
 use Rattle.rl_reading.specs.NumberShapes.{AreDigits, IsNumber}
 use Rattle.rl_reading.specs.WholeShapes.{IsSplit, IsPlain}
-use Rattle.rl_grammar.proofs.NumberFoundLemmas.{number_integer, number_float, number_stands, plain_digits}
+use Rattle.rl_fronts.proofs.NumberFoundLemmas.{number_integer, number_float, number_stands, plain_digits}
 use Rattle.rust_literals.specs.Held.{HasDigits, HasOwnSuffix, HoldsNumber}
 use Rattle.rust_literals.specs.Refusals.{IsNoNumber, IsRejectedAs}
 

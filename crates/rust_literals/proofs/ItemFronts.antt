@@ -6,11 +6,11 @@ use Rattle.std.proofs.lemmas.Str.{chars-encodes}
 use Rattle.rl_text.specs.declared.span.Span.{Span}
 use Rattle.rl_forms.specs.declared.kind.Kind.TheVariants.{Bool as BoolKind}
 use Rattle.rl_tokens.specs.Trees.{Tree}
-use Rattle.rl_grammar.specs.Fronts.{joined_span, joined, IsFront}
+use Rattle.rl_fronts.specs.Fronts.{joined_span, joined, IsFront}
 use Rattle.rl_forms.specs.Printed.{Item, WordItem, LiteralItem, MinusItem, item_text, Entry, token_at}
 use Rattle.rl_tokens.specs.PrintedTrees.{item_trees, printed_trees}
 use Rattle.rl_text.proofs.LowBytes.{low_front}
-use Rattle.rl_grammar.proofs.FrontLemmas.{truth_reads}
+use Rattle.rl_fronts.proofs.FrontLemmas.{truth_reads}
 use Rattle.rust_literals.proofs.LitLemmas.{SpellsWords}
 use Rattle.rust_literals.specs.declared.lit.Lit.{Lit}
 use Rattle.rust_literals.specs.Literals.{IsReadFrom}

@@ -2,8 +2,8 @@
 use Rattle.std.proofs.Common.{◌≡◌, ◌≢◌, ◌<◌, List, [], ◌∷◌, ◌++◌, length, refl, sym, ◌∙◌, ap, subst}
 use Rattle.rl_text.specs.Texts.{SpannedText}
 use Rattle.rl_tokens.specs.Trees.{Tree}
-use Rattle.rl_grammar.specs.Fronts.{HasNoFront}
-use Rattle.rl_grammar.proofs.FrontLemmas.{one_front, front_shorter}
+use Rattle.rl_fronts.specs.Fronts.{HasNoFront}
+use Rattle.rl_fronts.proofs.FrontLemmas.{one_front, front_shorter}
 use Rattle.rust_literals.specs.declared.lit.Lit.{Lit}
 use Rattle.rust_literals.specs.Literals.{IsReadFrom}
 use Rattle.rust_literals.specs.Parsing.{IsLitFront, ReadsLiterals}

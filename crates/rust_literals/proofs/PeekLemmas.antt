@@ -8,8 +8,8 @@ use Rattle.rl_tokens.specs.declared.error.ErrorKind.{ErrorKind}
 use Rattle.rl_tokens.specs.declared.error.ErrorKind.TheVariants.{Memory}
 use Rattle.rl_tokens.specs.Trees.{Tree}
 use Rattle.rl_tokens.specs.Buffers.{MissesWord}
-use Rattle.rl_grammar.specs.Fronts.{HasFront, HasFrontOf, RunsAs}
-use Rattle.rl_grammar.proofs.FrontLemmas.{front_of}
+use Rattle.rl_fronts.specs.Fronts.{HasFront, HasFrontOf, RunsAs}
+use Rattle.rl_fronts.proofs.FrontLemmas.{front_of}
 use Rattle.rust_literals.specs.declared.lit.Lit.{Lit}
 use Rattle.rust_literals.specs.declared.lit_bool.LitBool.{LitBool}
 use Rattle.rust_literals.specs.Parsing.{RunsLit, RunsTruth}

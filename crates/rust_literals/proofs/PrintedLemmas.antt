@@ -11,7 +11,7 @@ use Rattle.rl_forms.specs.Printed.{Item, WordItem, LiteralItem, MinusItem, item_
 use Rattle.rl_tokens.specs.PrintedTrees.{printed_trees}
 use Rattle.rl_text.proofs.Basics.{scalars_parts}
 use Rattle.rl_tokens.proofs.PrintedLaws.{printed_lexes}
-use Rattle.rl_grammar.proofs.FrontLemmas.{truth_reads}
+use Rattle.rl_fronts.proofs.FrontLemmas.{truth_reads}
 use Rattle.rust_literals.specs.declared.lit.Lit.{Lit}
 use Rattle.rust_literals.specs.Parsing.{AreRead}
 use Rattle.rust_literals.specs.ReadBack.{HoldsOrMemory, IsItemRead, AreItems}

@@ -13,7 +13,7 @@ use Rattle.rl_forms.proofs.StrictNumbers.{strict_int, minus_int}
 use Rattle.rl_reading.specs.WholeShapes.{is_number_front}
 use Rattle.rl_reading.proofs.NumberLemmas.{past_number}
 use Rattle.rl_reading.proofs.ReadingLemmas.{only_number}
-use Rattle.rl_grammar.proofs.FrontLemmas.{truth_reads}
+use Rattle.rl_fronts.proofs.FrontLemmas.{truth_reads}
 use Rattle.rust_literals.specs.declared.lit.Lit.{Lit}
 use Rattle.rust_literals.specs.Literals.{kind_of, IsReadFrom, IsLitOf}
 use Rattle.rust_literals.specs.LitParts.{AgreesWithStrict}

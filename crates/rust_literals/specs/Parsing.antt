@@ -11,7 +11,7 @@ use Rattle.rl_tokens.specs.Trees.{Tree}
 use Rattle.rl_forms.specs.Reading.{Reads, Truth}
 use Rattle.rl_tokens.specs.Lexing.{Lexes}
 use Rattle.rl_tokens.specs.Buffers.{first_span, IsRejection}
-use Rattle.rl_grammar.specs.Fronts.{IsFront, HasFront, HasNoFront, PassesOther, LacksMemoryAtFront}
+use Rattle.rl_fronts.specs.Fronts.{IsFront, HasFront, HasNoFront, PassesOther, LacksMemoryAtFront}
 use Rattle.rl_tokens.specs.Whole.{RejectsLexing}
 use Rattle.rust_literals.specs.declared.lit.Lit.{Lit}
 use Rattle.rust_literals.specs.declared.lit_bool.LitBool.{LitBool}

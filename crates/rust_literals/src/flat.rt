@@ -25,7 +25,7 @@ ghost use Rattle.rust_literals.specs.Flat.{ReadsNext, AddsNext, AreBegun};
 
 use crate::lit::Lit;
 use crate::lit_bool::LitBool;
-use rl_grammar::{find_negative, truth_of};
+use rl_reading::{find_negative, truth_of};
 use rl_tokens::{Form, Literal, Span, Tokens};
 use std::alloc::{AllocError, Allocator, Global};
 

@@ -3,7 +3,7 @@
 ghost use Rattle.std.specs.Prelude.{◌≡◌, ◌<◌, List, ℕ, length};
 ghost use Rattle.rl_forms.specs.declared.kind.Kind.{Kind};
 ghost use Rattle.rl_forms.specs.declared.kind.Kind.TheVariants.{Bool as BoolKind};
-ghost use Rattle.rl_grammar.specs.Fronts.{HasFront, HasFrontOf, RunsAs};
+ghost use Rattle.rl_fronts.specs.Fronts.{HasFront, HasFrontOf, RunsAs};
 ghost use Rattle.rust_literals.specs.declared.lit.Lit.{Lit};
 ghost use Rattle.rust_literals.specs.Literals.{kind_of, token_of};
 ghost use Rattle.rl_tokens.specs.Trees.{Tree};

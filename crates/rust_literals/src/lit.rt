@@ -7,7 +7,7 @@ ghost use Rattle.rl_forms.specs.Reading.{HasNoReading, HasReading, HasSuffix};
 ghost use Rattle.rl_reasons.specs.Limits.{ExplainsValue};
 ghost use Rattle.rl_reasons.specs.SignedFlaws.{IsSignedToken};
 ghost use Rattle.rl_reading.specs.Founds.{IsFound};
-ghost use Rattle.rl_grammar.specs.FrontTokens.{front_token};
+ghost use Rattle.rl_fronts.specs.FrontTokens.{front_token};
 ghost use Rattle.rust_literals.specs.Held.{HasOwnSuffix};
 ghost use Rattle.rust_literals.specs.Literals.{IsReadFrom};
 
@@ -17,7 +17,10 @@ use crate::lit_bool::{LitBool, word};
 use crate::lit_float::LitFloat;
 use crate::lit_int::LitInt;
 use crate::number::{Number, NumberKind};
-use rl_grammar::{Flaw, Found, Front, Kind, explain_value, find};
+use rl_forms::Kind;
+use rl_fronts::Front;
+use rl_reading::{Found, find};
+use rl_reasons::{Flaw, explain_value};
 use rl_quoted::{LitByte, LitByteStr, LitCStr, LitChar, LitStr, Quoted, QuotedKind};
 use rl_tokens::{Error, Kept, Literal, Parse, ParseBuffer, Span, Token};
 use std::alloc::{Allocator, Global};
@@ -311,7 +314,7 @@ impl<A: Allocator + Copy> Parse<A> for Lit<A> {
 /// True exactly where the parser succeeds, if memory is found.
 impl<A: Allocator> Token for Lit<A> {
     ghost use Rattle.std.specs.Prelude.{codes};
-    ghost use Rattle.rl_grammar.specs.Fronts.{HasFront};
+    ghost use Rattle.rl_fronts.specs.Fronts.{HasFront};
 
     ghost peeks = { HasFront };
 

@@ -6,7 +6,8 @@ ghost use Rattle.rl_forms.specs.Reading.{truth_text};
 
 mod copies;
 
-use rl_grammar::{Front, Kind, next_is};
+use rl_forms::Kind;
+use rl_fronts::{Front, next_is};
 use rl_tokens::{Error, Ident, Parse, ParseBuffer, Span, Token};
 use std::alloc::Allocator;
 
@@ -97,7 +98,7 @@ impl<A: Allocator> Parse<A> for LitBool {
 impl Token for LitBool {
     ghost use Rattle.std.specs.Prelude.{codes};
     ghost use Rattle.rl_forms.specs.declared.kind.Kind.TheVariants.{Bool as BoolKind};
-    ghost use Rattle.rl_grammar.specs.Fronts.{HasFrontOf};
+    ghost use Rattle.rl_fronts.specs.Fronts.{HasFrontOf};
 
     ghost peeks = { HasFrontOf BoolKind };
 

@@ -8,7 +8,8 @@ ghost use Rattle.rl_reading.specs.Founds.{IsFoundNumber};
 ghost use Rattle.rust_literals.specs.Refusals.{IsNoNumber};
 
 use crate::number::{Number, NumberKind};
-use rl_grammar::{Found, Kind, find_int};
+use rl_forms::Kind;
+use rl_reading::{Found, find_int};
 use rl_tokens::ErrorKind;
 use std::alloc::{Allocator, Global};
 

@@ -15,7 +15,9 @@ ghost use Rattle.rust_literals.specs.Refusals.{IsNoNumber, IsRejectedAs};
 mod base10;
 mod copies;
 
-use rl_grammar::{Found, Kind, digits_of_found, next_is, take_kind};
+use rl_forms::Kind;
+use rl_fronts::{digits_of_found, next_is, take_kind};
+use rl_reading::Found;
 use rl_tokens::{Error, ErrorKind, Kept, Literal, Parse, ParseBuffer, Span, Token};
 use std::alloc::{Allocator, Global};
 use std::fmt;
@@ -250,7 +252,7 @@ impl<K: NumberKind, A: Allocator> fmt::Display for Number<K, A> {
 
 /// Takes the number of the kind that stands next. It is rejected as [`take_kind`] says.
 impl<K: NumberKind, A: Allocator + Copy> Parse<A> for Number<K, A> {
-    ghost use Rattle.rl_grammar.specs.Fronts.{RunsAs};
+    ghost use Rattle.rl_fronts.specs.Fronts.{RunsAs};
     ghost use Rattle.rl_forms.specs.Words.{kind_word};
 
     ghost runs = { RunsAs K.KIND (kind_word K.KIND) };
@@ -273,7 +275,7 @@ impl<K: NumberKind, A: Allocator + Copy> Parse<A> for Number<K, A> {
 
 /// True exactly where the parser succeeds, if memory is found.
 impl<K: NumberKind, A: Allocator> Token for Number<K, A> {
-    ghost use Rattle.rl_grammar.specs.Fronts.{HasFrontOf};
+    ghost use Rattle.rl_fronts.specs.Fronts.{HasFrontOf};
     ghost use Rattle.rl_forms.specs.Words.{kind_shown};
 
     ghost peeks = { HasFrontOf K.KIND };

@@ -13,7 +13,7 @@ ghost use Rattle.rust_literals.specs.Reprints.{Spaced, lits_of, IsReprint, SameB
 
 use crate::flat::read_flat;
 use crate::lit::Lit;
-use rl_grammar::Front;
+use rl_fronts::Front;
 use rl_tokens::{Error, ParseBuffer, Span, trees_of_text};
 use std::alloc::{Allocator, Global};
 

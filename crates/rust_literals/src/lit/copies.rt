@@ -21,7 +21,7 @@ ghost use Rattle.rust_literals.specs.Literals.{kind_of};
 ghost use Rattle.rust_literals.specs.LitParts.{lit_span};
 
 use crate::lit::Lit;
-use rl_grammar::Kind;
+use rl_forms::Kind;
 use rl_tokens::{Error, Kept, Literal, Span, ToTokens, TokenStream, TokenTree};
 use std::alloc::Allocator;
 use std::fmt;

@@ -1,6 +1,6 @@
 use Rattle.rl_text.proofs.Common.{chars, inl}
 use Rattle.rl_reading.specs.Founds.{body_in}
-use Rattle.rl_grammar.proofs.NumberFoundLemmas.{plain_digits}
+use Rattle.rl_fronts.proofs.NumberFoundLemmas.{plain_digits}
 use Rattle.rl_lines.proofs.FoundLineLemmas.{number_shown}
 use Rattle.rl_lines.proofs.found_line.push_number.Goals as goal
 

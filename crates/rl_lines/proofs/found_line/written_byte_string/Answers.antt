@@ -1,6 +1,6 @@
 use Rattle.rl_reading.proofs.Names.{ByteStr, Bytes, is_string}
 use Rattle.rl_text.proofs.Common.{ap, chars, inl, refl}
-use Rattle.rl_grammar.proofs.ByteContents.{plain_contents_bytes}
+use Rattle.rl_fronts.proofs.ByteContents.{plain_contents_bytes}
 use Rattle.rl_lines.proofs.FoundLineLemmas.{written_shown}
 use Rattle.rl_lines.proofs.found_line.written_byte_string.Goals as goal
 

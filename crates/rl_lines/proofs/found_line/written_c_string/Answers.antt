@@ -1,7 +1,7 @@
 use Rattle.rl_reading.proofs.Names.{Bytes, CStr, is_string}
 use Rattle.rl_text.proofs.Common.{ap, chars, refl, ◌≡◌}
 use Rattle.std.proofs.lemmas.Result.{IfOk-at_ok}
-use Rattle.rl_grammar.proofs.ByteContents.{no_zero_of, is_made}
+use Rattle.rl_fronts.proofs.ByteContents.{no_zero_of, is_made}
 use Rattle.rl_lines.proofs.FoundLineLemmas.{written_shown}
 use Rattle.rl_lines.proofs.found_line.written_c_string.Goals as goal
 

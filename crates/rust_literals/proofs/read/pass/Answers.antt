@@ -1,7 +1,7 @@
 use Rattle.std.proofs.Common.{arith, ◌≡◌, [], drop, ◌∙◌, subst}
 use Rattle.std.proofs.Math.ListN.{drop_of_length-le}
 use Rattle.rl_tokens.specs.Buffers.{trees_in}
-use Rattle.rl_grammar.specs.FrontTokens.{front_token}
+use Rattle.rl_fronts.specs.FrontTokens.{front_token}
 use Rattle.rust_literals.specs.Parsing.{ReadsLiterals}
 use Rattle.rust_literals.proofs.BegunLemmas.{pass_one}
 use Rattle.rust_literals.proofs.read.pass.Goals as goal

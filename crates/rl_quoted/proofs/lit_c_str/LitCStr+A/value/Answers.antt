@@ -1,6 +1,6 @@
 use Rattle.rl_text.proofs.Common.{chars, ◌≡◌}
 use Rattle.std.proofs.lemmas.Result.{IfOk-at_ok}
-use Rattle.rl_grammar.proofs.ByteContents.{no_zero_of, is_made}
+use Rattle.rl_fronts.proofs.ByteContents.{no_zero_of, is_made}
 use Rattle.rl_quoted.proofs.lit_c_str.LitCStr+A.value.Goals as goal
 
 pub unwrap-requires : goal.unwrap-requires

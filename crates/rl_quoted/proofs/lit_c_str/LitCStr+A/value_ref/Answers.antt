@@ -1,5 +1,5 @@
 use Rattle.rl_text.proofs.Common.{IsUtf8, inr, refl, rules}
-use Rattle.rl_grammar.proofs.ByteContents.{plain_contents_bytes}
+use Rattle.rl_fronts.proofs.ByteContents.{plain_contents_bytes}
 use Rattle.rl_quoted.proofs.lit_c_str.LitCStr+A.value_ref.Goals as goal
 
 pub returns-then-plain-clause-some : goal.returns-then-plain-clause-some

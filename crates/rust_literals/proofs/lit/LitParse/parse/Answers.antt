@@ -1,7 +1,7 @@
 use Rattle.std.proofs.Common.{inr, refl, subst}
 use Rattle.rl_tokens.specs.Buffers.{trees_in, scope_of, IsRest}
-use Rattle.rl_grammar.specs.Fronts.{HasNoFront}
-use Rattle.rl_grammar.specs.FrontTokens.{front_token}
+use Rattle.rl_fronts.specs.Fronts.{HasNoFront}
+use Rattle.rl_fronts.specs.FrontTokens.{front_token}
 use Rattle.rust_literals.proofs.FrontLits.{lit_front, lit_memory}
 use Rattle.rust_literals.proofs.lit.LitParse.parse.Goals as goal
 

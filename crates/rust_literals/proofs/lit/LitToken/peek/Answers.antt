@@ -1,7 +1,7 @@
 use Rattle.std.proofs.Common.{subst, refl}
 use Rattle.rl_tokens.specs.Buffers.{trees_in}
-use Rattle.rl_grammar.specs.Fronts.{IsFront}
-use Rattle.rl_grammar.specs.FrontTokens.{front_token}
+use Rattle.rl_fronts.specs.Fronts.{IsFront}
+use Rattle.rl_fronts.specs.FrontTokens.{front_token}
 use Rattle.rust_literals.proofs.lit.LitToken.peek.Goals as goal
 
 pub returns-in-Some : goal.returns-in-Some

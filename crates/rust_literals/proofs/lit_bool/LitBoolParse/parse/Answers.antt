@@ -1,7 +1,7 @@
 use Rattle.rl_text.proofs.Common.{codes, subst}
 use Rattle.rl_forms.specs.declared.kind.Kind.TheVariants.{Bool as BoolKind}
 use Rattle.rl_tokens.specs.Buffers.{trees_in, scope_of, IsRest}
-use Rattle.rl_grammar.specs.FrontTokens.{front_token}
+use Rattle.rl_fronts.specs.FrontTokens.{front_token}
 use Rattle.rust_literals.proofs.FrontLits.{none_passed, other_passed, truth_front}
 use Rattle.rust_literals.proofs.lit_bool.LitBoolParse.parse.Goals as goal
 

@@ -1,0 +1,2 @@
+pub mod FrontTokens
+pub mod Fronts

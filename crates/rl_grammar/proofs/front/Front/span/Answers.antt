@@ -1,5 +1,0 @@
-use Rattle.rl_text.proofs.Common.{rules}
-use Rattle.rl_grammar.proofs.front.Front.span.Goals as goal
-
-pub returns-in-Negative : goal.returns-in-Negative
-returns-in-Negative g c = search rules steps 300000
