@@ -69,11 +69,14 @@ mod write;
 #[doc(hidden)]
 pub mod rendered {
     pub use crate::proved::{
-        rl_forms, rl_lexer, rl_reading, rl_reasons, rl_settings, rl_strict, rl_text,
+        rl_file_reasons, rl_forms, rl_lexer, rl_reading, rl_reasons, rl_settings, rl_strict,
+        rl_text,
     };
 }
 
-use proved::{rl_forms, rl_lexer, rl_reading, rl_reasons, rl_settings, rl_strict, rl_text};
+use proved::{
+    rl_file_reasons, rl_forms, rl_lexer, rl_reading, rl_reasons, rl_settings, rl_strict, rl_text,
+};
 
 pub use characters::{LitByte, LitChar};
 pub use error::{ErrorKind, ListError, Part};

@@ -3,12 +3,13 @@
 use crate::kind::Kind;
 use crate::parse_error::ParseError;
 use crate::places::{Places, Segments};
+use crate::rl_file_reasons::explain_signed_value_in_file;
 use crate::rl_forms;
 use crate::rl_reading::{find, is_plain_integer, Body, Found};
+use crate::rl_reasons::limit_flaw;
 use crate::rl_reasons::strict_reading::{
     front_of, read_character, read_digits, read_other, read_signed, read_string, Front, Reading,
 };
-use crate::rl_reasons::{explain_signed_value_in_file, limit_flaw};
 use crate::{
     LitBool, LitByte, LitByteStr, LitCStr, LitChar, LitFloat, LitInt, LitStr, LitVerbatim,
 };

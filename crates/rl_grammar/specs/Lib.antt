@@ -1,7 +1,7 @@
 -- What stands in the crates below and is passed on under its name here.
 pub use Rattle.rl_fronts.specs.FrontTokens
 pub use Rattle.rl_fronts.specs.Fronts
-pub use Rattle.rl_reasons.specs.FileTexts
+pub use Rattle.rl_file_reasons.specs.FileTexts
 pub use Rattle.rl_reasons.specs.FlawKinds
 pub use Rattle.rl_reasons.specs.FlawWords
 pub use Rattle.rl_reasons.specs.Flaws

@@ -25,10 +25,3 @@ pub mod ReadNumbers
 pub mod ReadQuoted
 pub mod ReadLemmas
 pub mod FrontLemmas
-pub mod FileTextLemmas
-pub mod FileSuffixes
-pub mod FileEscapes
-pub mod FileNumbers
-pub mod FileUnits
-pub mod FileForms
-pub mod FilePlaces

@@ -11,6 +11,4 @@ pub mod StrictNumbersRead
 pub mod QuotedRead
 pub mod StrictRead
 pub mod Fronts
-pub mod FileTexts
-pub mod FileWalks
 pub mod Mirrors

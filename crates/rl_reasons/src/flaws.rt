@@ -170,7 +170,7 @@ pub struct FlawAt<'t> {
 }
 
 /// The flaw at the front of the text.
-pub(crate) fn make_flaw(kind: FlawKind, rest: &str) -> FlawAt<'_>
+pub fn make_flaw(kind: FlawKind, rest: &str) -> FlawAt<'_>
     ensures { (result.kind ≡ kind) × (result.rest.now ≡ rest.now) × (result.piece.now ≡ rest.now) }
 {
     FlawAt {
@@ -271,7 +271,7 @@ fn place_in(span: Span, at: usize) -> usize
 }
 
 /// The flaw at the front of the text: of one kind where the text is empty, else of the other.
-pub(crate) fn end_flaw(at_end: FlawKind, before: FlawKind, text: &str) -> FlawAt<'_>
+pub fn end_flaw(at_end: FlawKind, before: FlawKind, text: &str) -> FlawAt<'_>
     ensures { found_flaw result.kind (chars result.rest.now)
         ≡ end_flaw_at at_end before (chars text.now) }
 {
@@ -313,7 +313,7 @@ fn letters_flaw<'t>(word: &str, text: &'t str) -> FlawAt<'t>
 
 /// The flaw of a text that begins neither as a number nor as a quoted literal.
 #[tactic(auto, unfolding(crate::specs::Mirrors::WordFlawAt::word_flaw_at))]
-pub(crate) fn first_flaw(text: &str) -> FlawAt<'_>
+pub fn first_flaw(text: &str) -> FlawAt<'_>
     ensures { found_flaw result.kind (chars result.rest.now) ≡ word_flaw_at (chars text.now) }
 {
     match split_char(text) {

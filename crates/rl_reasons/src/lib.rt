@@ -1,21 +1,17 @@
 //! Why a text is no literal of Rust, or has no value, and where. No memory is taken.
 #![tactic(auto)]
 
-mod file_flaws;
-mod file_units;
-mod file_walk;
-mod flaws;
+pub mod flaws;
 pub mod laws;
-mod limits;
+pub mod limits;
 mod quoted_flaws;
 pub mod read_numbers;
 pub mod read_quoted;
 mod signed_flaws;
-mod strict_flaws;
-mod strict_quoted_flaws;
+pub mod strict_flaws;
+pub mod strict_quoted_flaws;
 pub mod strict_reading;
 
-pub use crate::file_flaws::{explain_in_file, explain_signed_value_in_file, explain_value_in_file};
 pub use crate::flaws::{Flaw, FlawKind};
 pub use crate::limits::{explain_limit, explain_value, limit_flaw};
 pub use crate::read_numbers::Number;

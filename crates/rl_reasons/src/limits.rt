@@ -11,7 +11,7 @@ use crate::flaws::{Flaw, FlawKind, make_flaw};
 use crate::strict_reading::{Reading, read_signed};
 
 /// The place of the suffix, where the reading is an integer past 128 bits.
-pub(crate) fn past_at(reading: Reading) -> Option<usize>
+pub fn past_at(reading: Reading) -> Option<usize>
     ensures { result ≡ past_at reading }
 {
     match reading {
@@ -31,7 +31,7 @@ pub fn limit_flaw(text: &str, suffix_at: usize) -> Flaw
 }
 
 /// The flaw of the text, where what it reads as is an integer past 128 bits.
-pub(crate) fn limit_of(text: &str, reading: Reading) -> Option<Flaw>
+pub fn limit_of(text: &str, reading: Reading) -> Option<Flaw>
     requires { IsSignedRead text.now reading }
     ensures none { IfNone result (IsPast (chars text.now) → ⊥) }
     ensures some { IfSome result (IsLimitFlaw (chars text.now)) }

@@ -218,7 +218,7 @@ fn read_based(radix: u32, text: &str) -> Result<Number<'_>, Stop<'_>>
 /// The number that a text that begins with a digit is, all of it.
 #[inline(always)]
 #[tactic(auto, using(rl_text::proofs::TailLemmas::ok_tail, rl_text::proofs::TailLemmas::tail_step), unfolding(crate::specs::Mirrors::NumberRead::number_read_at))]
-pub(crate) fn read_digits(text: &str) -> Result<Number<'_>, Stop<'_>>
+pub fn read_digits(text: &str) -> Result<Number<'_>, Stop<'_>>
     ensures value { number_outcome result ≡ number_read_at (chars text.now) }
     ensures following { IfOk result (λ n. IsTail text.now (suffix_of n)) }
 {

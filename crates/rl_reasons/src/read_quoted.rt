@@ -70,7 +70,7 @@ fn some_suffix_flaw<'t>(form: QuotedForm, closing: &'t str, suffix: &'t str) -> 
 /// The flaw after the closer, where no suffix stands alone. Most literals have none, which is seen here.
 #[inline(always)]
 #[tactic(auto, using(rl_reading::proofs::CutLemmas::some_text), unfolding(crate::specs::Mirrors::SuffixRead::suffix_read_at, crate::specs::Mirrors::StrictFlawAt::suffix_rest))]
-pub(crate) fn suffix_flaw<'t>(
+pub fn suffix_flaw<'t>(
     form: QuotedForm,
     closing: &'t str,
     suffix: &'t str,
@@ -123,7 +123,7 @@ pub struct Single {
 
 /// What the unit of a character or a byte at the front stands for, and the text after it.
 #[inline(always)]
-pub(crate) fn split_unit(kind: Kind, text: &str) -> Option<(Piece, &str)>
+pub fn split_unit(kind: Kind, text: &str) -> Option<(Piece, &str)>
     requires { IsTrue (is_single kind) }
     ensures rest { option_map (λ p. chars p.1.now) result ≡ unit_rest kind (chars text.now) }
     ensures value { IfSome result (λ p. unit_at kind (chars text.now) ≡ Some (piece_value kind p.0, chars p.1.now)) }

@@ -15,7 +15,7 @@ use crate::strict_reading::read;
 use rl_text::text::split_char;
 
 /// Whether the text begins with a minus.
-pub(crate) fn begins_minus(text: &str) -> bool
+pub fn begins_minus(text: &str) -> bool
     ensures { result ≡ begins_char (code "-") (chars text.now) }
 {
     matches!(split_char(text), Some(('-', _)))

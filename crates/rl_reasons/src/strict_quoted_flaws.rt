@@ -53,7 +53,7 @@ fn strict_escape_flaw(kind: Kind, text: &str) -> FlawAt<'_>
 
 /// Why no strict unit of the kind stands at the front, and the text from there on.
 #[tactic(auto, unfolding(crate::specs::Mirrors::StrictFlawAt::strict_unit_flaw_at))]
-pub(crate) fn unit_flaw(kind: Kind, text: &str) -> FlawAt<'_>
+pub fn unit_flaw(kind: Kind, text: &str) -> FlawAt<'_>
     ensures { found_flaw result.kind (chars result.rest.now) ≡ strict_unit_flaw_at kind (chars text.now) }
 {
     match split_char(text) {
@@ -65,7 +65,7 @@ pub(crate) fn unit_flaw(kind: Kind, text: &str) -> FlawAt<'_>
 }
 
 /// Whether a raw string of the kind goes no further: its closer begins with the character, or it can't hold that.
-pub(crate) fn halts(kind: Kind, hashes: &str, c: char, after: &str) -> bool
+pub fn halts(kind: Kind, hashes: &str, c: char, after: &str) -> bool
     ensures { result ≡ ((c == code "\"" && begins (chars hashes.now) (chars after.now)) || not (is_raw_character kind c)) }
 {
     after_closer(hashes, c, after).is_some() || !is_raw_character(kind, c)
@@ -86,7 +86,7 @@ pub(crate) fn skip_raw<'t>(kind: Kind, hashes: &str, text: &'t str) -> &'t str
 }
 
 /// The flaw at a character that a raw string of the kind can't hold.
-pub(crate) fn held_flaw(kind: Kind, c: char) -> FlawKind
+pub fn held_flaw(kind: Kind, c: char) -> FlawKind
     ensures { result ≡ held_flaw_of kind c }
 {
     match c {
@@ -96,7 +96,7 @@ pub(crate) fn held_flaw(kind: Kind, c: char) -> FlawKind
 }
 
 /// The text after the hashes at its front, but not after more than 255.
-pub(crate) fn skip_few_hashes(text: &str) -> &str
+pub fn skip_few_hashes(text: &str) -> &str
     ensures hashes { (n : ℕ) × (n ≤ 255) × (chars text.now ≡ replicate n (code "#") ++ chars result.now)
         × (n < 255 → IsFalse (first_passes is_hash (chars result.now))) }
     ensures following { IsTail text.now result.now }

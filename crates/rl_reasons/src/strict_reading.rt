@@ -90,7 +90,7 @@ pub fn front_of(text: &str) -> Front<'_>
 
 /// The number, by the place of its suffix in the text that ends with it.
 #[inline(always)]
-pub(crate) fn placed(text: &str, number: Number<'_>) -> Reading
+pub fn placed(text: &str, number: Number<'_>) -> Reading
     requires { IsTail text.now (suffix_of number) }
     ensures { result ≡ placed_in text.now number.entry }
 {

@@ -22,7 +22,7 @@ use Rattle.std.proofs.lemmas.Bool.{false≢true}
 use Rattle.rl_files.specs.Visible.{visible}
 use Rattle.rl_lines.specs.Lines.{Appends}
 use Rattle.rl_lines.proofs.LineLemmas.{pushed}
-use Rattle.rl_reasons.specs.FileTexts.{ExplainsInFile}
+use Rattle.rl_file_reasons.specs.FileTexts.{ExplainsInFile}
 use Rattle.rl_sources.specs.declared.options.Options.{Options}
 use Rattle.rl_sources.specs.declared.place.Place.{Place}
 use Rattle.rl_sources.specs.Held.{IsCutAt}

@@ -33,7 +33,7 @@ use Rattle.rl_sources.specs.Held.{Holds, IsHeldAt}
 use Rattle.rl_sources.specs.Hidden.{HoldsHidden, IsHiddenAt}
 use Rattle.rl_sources.specs.Scans.{FindsFlaw, FindsNoFlaw, IsAskedLine, IsBad, IsPicked, IsPlacedLine, IsFlawLine, IsHeldLine, IsHiddenLine, IsLineAt, IsLineEnd, IsLineIn, IsPickedLine, IsPrintedAs, IsShownLiteral}
 use Rattle.rl_sources.specs.Steps.{LooksForFlaws}
-use Rattle.rl_reasons.proofs.FilePlaces.{signed_same}
+use Rattle.rl_file_reasons.proofs.FilePlaces.{signed_same}
 use Rattle.rl_reasons.proofs.LimitLemmas.{read_within}
 
 -- ---- places are ASCII

@@ -16,7 +16,7 @@ use Rattle.rl_reasons.specs.declared.flaws.Flaw.{Flaw}
 use Rattle.rl_reasons.specs.Limits.{ExplainsLimit}
 use Rattle.rl_reasons.specs.FlawWords.{flaw_message}
 use Rattle.rl_strict.specs.StrictShapes.{IsToken}
-use Rattle.rl_reasons.specs.FileTexts.{lf_text, ExplainsInFile}
+use Rattle.rl_file_reasons.specs.FileTexts.{lf_text, ExplainsInFile}
 use Rattle.rl_lines.specs.Lines.{IsLineOf, IsLabelOf, Joins}
 use Rattle.rl_files.specs.Visible.{visible, visible_lines}
 use Rattle.rl_program.specs.Streams.{AppendsBeginning}

@@ -6,7 +6,8 @@ ghost use Rattle.rl_sources.specs.Scans.{FindsFlaw, FindsNoFlaw};
 ghost use Rattle.rl_sources.specs.Steps.{LooksForFlaws};
 
 use crate::options::{Options, Shown};
-use rl_reasons::{Flaw, explain_value_in_file};
+use rl_file_reasons::explain_value_in_file;
+use rl_reasons::Flaw;
 
 /// Whether flaws are looked for.
 fn looks_for_flaws(options: &Options<'_>) -> bool

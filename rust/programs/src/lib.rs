@@ -11,17 +11,19 @@
 mod proved;
 pub mod rattle_std;
 
-use navyspindle::rendered::{rl_forms, rl_lexer, rl_reading, rl_reasons, rl_settings, rl_text};
+use navyspindle::rendered::{
+    rl_file_reasons, rl_forms, rl_lexer, rl_reading, rl_reasons, rl_settings, rl_text,
+};
 #[cfg(not(feature = "rendered"))]
 use proved::{
-    rl_attributes, rl_commands, rl_files, rl_grammar, rl_lines, rl_program, rl_quoted, rl_reports,
-    rl_sources, rl_tokens, rust_literals,
+    rl_attributes, rl_commands, rl_files, rl_fronts, rl_grammar, rl_lines, rl_program, rl_quoted,
+    rl_reports, rl_sources, rl_tokens, rust_literals,
 };
 
 /// The libraries, of which the tests make programs.
 #[cfg(feature = "rendered")]
 pub use proved::{
-    rl_attributes, rl_commands, rl_files, rl_grammar, rl_lines, rl_program, rl_quoted, rl_reports,
-    rl_sources, rl_tokens, rust_literals,
+    rl_attributes, rl_commands, rl_files, rl_fronts, rl_grammar, rl_lines, rl_program, rl_quoted,
+    rl_reports, rl_sources, rl_tokens, rust_literals,
 };
 pub use proved::{rl_scan, rl_tool};

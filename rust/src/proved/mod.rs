@@ -1,5 +1,6 @@
 //! What `tools/render` makes of the core crates: their functions without the contracts.
 
+pub mod rl_file_reasons;
 pub mod rl_forms;
 pub mod rl_lexer;
 pub mod rl_reading;

@@ -144,7 +144,7 @@ pub struct FlawAt<'t> {
 }
 
 /// The flaw at the front of the text.
-pub(crate) fn make_flaw(kind: FlawKind, rest: &str) -> FlawAt<'_> {
+pub fn make_flaw(kind: FlawKind, rest: &str) -> FlawAt<'_> {
     FlawAt {
         kind,
         piece: rest,
@@ -219,7 +219,7 @@ fn place_in(span: Span, at: usize) -> usize {
 }
 
 /// The flaw at the front of the text: of one kind where the text is empty, else of the other.
-pub(crate) fn end_flaw(at_end: FlawKind, before: FlawKind, text: &str) -> FlawAt<'_> {
+pub fn end_flaw(at_end: FlawKind, before: FlawKind, text: &str) -> FlawAt<'_> {
     match split_char(text) {
         None => make_flaw(at_end, text),
         Some(_) => make_flaw(before, text),
@@ -252,7 +252,7 @@ fn letters_flaw<'t>(word: &str, text: &'t str) -> FlawAt<'t> {
 }
 
 /// The flaw of a text that begins neither as a number nor as a quoted literal.
-pub(crate) fn first_flaw(text: &str) -> FlawAt<'_> {
+pub fn first_flaw(text: &str) -> FlawAt<'_> {
     match split_char(text) {
         None => make_flaw(FlawKind::Empty, text),
         Some(('b' | 'c', rest)) => end_flaw(FlawKind::Unfinished, FlawKind::NoLiteral, rest),

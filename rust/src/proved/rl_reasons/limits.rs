@@ -5,7 +5,7 @@ use crate::rl_reasons::flaws::{Flaw, FlawKind, make_flaw};
 use crate::rl_reasons::strict_reading::{Reading, read_signed};
 
 /// The place of the suffix, where the reading is an integer past 128 bits.
-pub(crate) fn past_at(reading: Reading) -> Option<usize> {
+pub fn past_at(reading: Reading) -> Option<usize> {
     match reading {
         Reading::Integer(None, suffix_at) => Some(suffix_at),
         _ => None,
@@ -19,7 +19,7 @@ pub fn limit_flaw(text: &str, suffix_at: usize) -> Flaw {
 }
 
 /// The flaw of the text, where what it reads as is an integer past 128 bits.
-pub(crate) fn limit_of(text: &str, reading: Reading) -> Option<Flaw> {
+pub fn limit_of(text: &str, reading: Reading) -> Option<Flaw> {
     match past_at(reading) {
         Some(suffix_at) => Some(limit_flaw(text, suffix_at)),
         None => None,

@@ -1,20 +1,16 @@
 // Rendered from crates/rl_reasons/src/lib.rt by tools/render, which erases contracts: change that file, and render anew.
 //! Why a text is no literal of Rust, or has no value, and where. No memory is taken.
 
-mod file_flaws;
-mod file_units;
-mod file_walk;
-mod flaws;
-mod limits;
+pub mod flaws;
+pub mod limits;
 mod quoted_flaws;
 pub mod read_numbers;
 pub mod read_quoted;
 mod signed_flaws;
-mod strict_flaws;
-mod strict_quoted_flaws;
+pub mod strict_flaws;
+pub mod strict_quoted_flaws;
 pub mod strict_reading;
 
-pub use crate::rl_reasons::file_flaws::{explain_in_file, explain_signed_value_in_file, explain_value_in_file};
 pub use crate::rl_reasons::flaws::{Flaw, FlawKind};
 pub use crate::rl_reasons::limits::{explain_limit, explain_value, limit_flaw};
 pub use crate::rl_reasons::read_numbers::Number;

@@ -165,7 +165,7 @@ fn read_based(radix: u32, text: &str) -> Result<Number<'_>, Stop<'_>> {
 
 /// The number that a text that begins with a digit is, all of it.
 #[inline(always)]
-pub(crate) fn read_digits(text: &str) -> Result<Number<'_>, Stop<'_>> {
+pub fn read_digits(text: &str) -> Result<Number<'_>, Stop<'_>> {
     let (radix, digits) = split_radix(text);
     if radix == 10 {
         read_whole(read_row(digits, 10))

@@ -47,7 +47,7 @@ fn some_suffix_flaw<'t>(form: QuotedForm, closing: &'t str, suffix: &'t str) -> 
 
 /// The flaw after the closer, where no suffix stands alone. Most literals have none, which is seen here.
 #[inline(always)]
-pub(crate) fn suffix_flaw<'t>(
+pub fn suffix_flaw<'t>(
     form: QuotedForm,
     closing: &'t str,
     suffix: &'t str,
@@ -91,7 +91,7 @@ pub struct Single {
 
 /// What the unit of a character or a byte at the front stands for, and the text after it.
 #[inline(always)]
-pub(crate) fn split_unit(kind: Kind, text: &str) -> Option<(Piece, &str)> {
+pub fn split_unit(kind: Kind, text: &str) -> Option<(Piece, &str)> {
     match split_char(text) {
         None => None,
         Some(('\\', _)) => unit(kind, text),

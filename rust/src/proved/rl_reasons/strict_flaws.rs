@@ -6,7 +6,7 @@ use crate::rl_reasons::strict_reading::read;
 use crate::rl_text::text::split_char;
 
 /// Whether the text begins with a minus.
-pub(crate) fn begins_minus(text: &str) -> bool {
+pub fn begins_minus(text: &str) -> bool {
     matches!(split_char(text), Some(('-', _)))
 }
 

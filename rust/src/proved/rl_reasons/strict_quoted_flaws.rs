@@ -33,7 +33,7 @@ fn strict_escape_flaw(kind: Kind, text: &str) -> FlawAt<'_> {
 }
 
 /// Why no strict unit of the kind stands at the front, and the text from there on.
-pub(crate) fn unit_flaw(kind: Kind, text: &str) -> FlawAt<'_> {
+pub fn unit_flaw(kind: Kind, text: &str) -> FlawAt<'_> {
     match split_char(text) {
         None => make_flaw(FlawKind::Unclosed, text),
         Some(('\\', rest)) => strict_escape_flaw(kind, rest),
@@ -43,7 +43,7 @@ pub(crate) fn unit_flaw(kind: Kind, text: &str) -> FlawAt<'_> {
 }
 
 /// Whether a raw string of the kind goes no further: its closer begins with the character, or it can't hold that.
-pub(crate) fn halts(kind: Kind, hashes: &str, c: char, after: &str) -> bool {
+pub fn halts(kind: Kind, hashes: &str, c: char, after: &str) -> bool {
     after_closer(hashes, c, after).is_some() || !is_raw_character(kind, c)
 }
 
@@ -60,7 +60,7 @@ pub(crate) fn skip_raw<'t>(kind: Kind, hashes: &str, text: &'t str) -> &'t str {
 }
 
 /// The flaw at a character that a raw string of the kind can't hold.
-pub(crate) fn held_flaw(kind: Kind, c: char) -> FlawKind {
+pub fn held_flaw(kind: Kind, c: char) -> FlawKind {
     match c {
         '\r' => FlawKind::CarriageReturn,
         _ => spoiled_flaw(kind),
@@ -68,7 +68,7 @@ pub(crate) fn held_flaw(kind: Kind, c: char) -> FlawKind {
 }
 
 /// The text after the hashes at its front, but not after more than 255.
-pub(crate) fn skip_few_hashes(text: &str) -> &str {
+pub fn skip_few_hashes(text: &str) -> &str {
     let mut rest = text;
     let mut count = 0_u32;
     while count < 255 {

@@ -10,7 +10,7 @@ use crate::rl_reading::digit_rows::begins_digit;
 use crate::rl_reading::quoted_forms::{QuotedForm, split_opener};
 use crate::rl_reading::units::is_bare_character;
 use crate::rl_reading::{Body, truth_of};
-use crate::rl_text::text::strip_byte;
+use crate::rl_text::text::{split_ascii, strip_byte};
 
 /// What a token reads as. Places are bytes of its text.
 #[derive(Clone, Copy)]
@@ -59,25 +59,20 @@ fn bare_of(text: &str) -> Option<u8> {
 /// How the text begins.
 #[inline(always)]
 pub fn front_of(text: &str) -> Front<'_> {
-    if let Some(inside) = strip_byte(text, b'"') {
-        return Front::Quote(inside);
-    }
-    if let Some(c) = bare_of(text) {
-        return Front::Bare(c);
-    }
-    if let Some(inside) = strip_byte(text, b'\'') {
-        return Front::Apostrophe(inside);
-    }
-    if begins_digit(text) {
-        Front::Digit
-    } else {
-        Front::Other
+    match split_ascii(text) {
+        Some((b'"', inside)) => Front::Quote(inside),
+        Some((b'\'', inside)) => match bare_of(text) {
+            Some(c) => Front::Bare(c),
+            None => Front::Apostrophe(inside),
+        },
+        Some((b'0'..=b'9', _)) => Front::Digit,
+        _ => Front::Other,
     }
 }
 
 /// The number, by the place of its suffix in the text that ends with it.
 #[inline(always)]
-pub(crate) fn placed(text: &str, number: Number<'_>) -> Reading {
+pub fn placed(text: &str, number: Number<'_>) -> Reading {
     match number {
         Number::Integer(magnitude, suffix) => {
             Reading::Integer(magnitude, text.len() - suffix.len())

@@ -3,7 +3,8 @@
 
 use crate::rattle_std::prelude::{String};
 use crate::rl_lines::line::{push_kind, push_text, push_verbatim};
-use crate::rl_grammar::{Found, bytes_of_body, digits_of_found, str_of_body};
+use crate::rl_fronts::{bytes_of_body, digits_of_found, str_of_body};
+use crate::rl_reading::Found;
 use crate::rl_tokens::{CString, Error, Kind, Literal};
 use crate::rattle_std::alloc::{AllocError, Allocator};
 

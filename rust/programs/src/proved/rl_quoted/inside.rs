@@ -3,7 +3,7 @@
 
 use crate::rattle_std::prelude::{Drop, String};
 use crate::rl_quoted::lit_str::LitStr;
-use crate::rl_grammar::spans_of;
+use crate::rl_fronts::spans_of;
 use crate::rl_tokens::{
     ByParse, Error, ErrorKind, Parse, ParseBuffer, Parser, Span, TokenStream, trees_of_text,
 };

@@ -2,7 +2,8 @@
 //! Byte literals.
 
 use crate::rl_quoted::quoted::{Quoted, QuotedKind};
-use crate::rl_grammar::{Kind, byte_of_body};
+use crate::rl_forms::Kind;
+use crate::rl_reading::byte_of_body;
 use crate::rl_tokens::{Error, Literal, Span};
 use crate::rattle_std::alloc::{Allocator, Global};
 

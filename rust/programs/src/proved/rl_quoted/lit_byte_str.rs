@@ -3,7 +3,8 @@
 
 use crate::rattle_std::prelude::{Vec};
 use crate::rl_quoted::quoted::{Quoted, QuotedKind};
-use crate::rl_grammar::{Kind, bytes_of_body};
+use crate::rl_forms::Kind;
+use crate::rl_fronts::bytes_of_body;
 use crate::rl_tokens::{Error, Literal, Span};
 use crate::rattle_std::alloc::{Allocator, Global};
 

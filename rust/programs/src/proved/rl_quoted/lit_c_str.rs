@@ -2,7 +2,8 @@
 //! C string literals.
 
 use crate::rl_quoted::quoted::{Quoted, QuotedKind};
-use crate::rl_grammar::{Kind, bytes_of_body};
+use crate::rl_forms::Kind;
+use crate::rl_fronts::bytes_of_body;
 use crate::rl_tokens::{CString, Error, Literal, Span};
 use crate::rattle_std::alloc::{Allocator, Global};
 

@@ -2,7 +2,8 @@
 //! Character literals.
 
 use crate::rl_quoted::quoted::{Quoted, QuotedKind};
-use crate::rl_grammar::{Kind, char_of_body};
+use crate::rl_forms::Kind;
+use crate::rl_reading::char_of_body;
 use crate::rl_tokens::{Error, Literal, Span};
 use crate::rattle_std::alloc::{Allocator, Global};
 

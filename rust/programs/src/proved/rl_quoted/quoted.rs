@@ -2,9 +2,9 @@
 //! What the five have in common: a token, its kind, and the places of its parts.
 
 use crate::rl_quoted::written::written_body;
-use crate::rl_grammar::{
-    Body, Found, Kind, Segments, byte_of_body, char_of_body, find, next_is, take_kind,
-};
+use crate::rl_forms::Kind;
+use crate::rl_fronts::{next_is, take_kind};
+use crate::rl_reading::{Body, Found, Segments, byte_of_body, char_of_body, find};
 use crate::rl_tokens::{
     Error, Literal, Parse, ParseBuffer, Span, ToTokens, Token, TokenStream, append_literal,
 };

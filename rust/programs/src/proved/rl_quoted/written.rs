@@ -1,7 +1,8 @@
 // Rendered from crates/rl_quoted/src/written.rt by tools/render, which erases contracts: change that file, and render anew.
 //! Where the parts stand of a literal that the writer wrote.
 
-use crate::rl_grammar::{Body, Kind};
+use crate::rl_forms::Kind;
+use crate::rl_reading::Body;
 
 /// Whether the body of a string is all of the value.
 fn is_whole(kind: Kind, body: &[u8], value: &[u8]) -> bool {

@@ -2,7 +2,9 @@
 //! Where a text stands in what a literal stands for.
 
 use crate::rattle_std::prelude::{String, Vec};
-use crate::rl_grammar::{Found, Kind, bytes_of_body, str_of_body};
+use crate::rl_forms::Kind;
+use crate::rl_fronts::{bytes_of_body, str_of_body};
+use crate::rl_reading::Found;
 use crate::rattle_std::alloc::{AllocError, Allocator};
 
 /// Where bytes that are looked for stand first among others.

@@ -2,7 +2,8 @@
 //! The flaw of a literal of a source, as rustc finds it.
 
 use crate::rl_sources::options::{Options, Shown};
-use crate::rl_grammar::{Flaw, explain_value_in_file};
+use crate::rl_file_reasons::explain_value_in_file;
+use crate::rl_reasons::Flaw;
 
 /// Whether flaws are looked for.
 fn looks_for_flaws(options: &Options<'_>) -> bool {

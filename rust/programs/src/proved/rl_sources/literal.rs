@@ -1,7 +1,9 @@
 // Rendered from crates/rl_sources/src/literal.rt by tools/render, which erases contracts: change that file, and render anew.
 //! A literal of a source.
 
-use crate::rl_grammar::{Flaw, Found, Kind};
+use crate::rl_forms::Kind;
+use crate::rl_reading::Found;
+use crate::rl_reasons::Flaw;
 use crate::rl_tokens::SourceToken;
 
 /// A literal of a source.

@@ -8,7 +8,7 @@ use crate::rl_sources::literal::Literal;
 use crate::rl_sources::options::{Form, Options};
 use crate::rl_sources::place::{Place, Places, place_inside, push_front};
 use crate::rl_files::push_visible;
-use crate::rl_grammar::{Flaw, FlawKind};
+use crate::rl_reasons::{Flaw, FlawKind};
 use crate::rl_tokens::LexKind;
 use crate::rattle_std::alloc::{AllocError, Allocator};
 

@@ -4,7 +4,7 @@
 use crate::rattle_std::prelude::{Vec};
 use crate::rust_literals::lit::Lit;
 use crate::rust_literals::lit_bool::LitBool;
-use crate::rl_grammar::{find_negative, truth_of};
+use crate::rl_reading::{find_negative, truth_of};
 use crate::rl_tokens::{Form, Literal, Span, Tokens};
 use crate::rattle_std::alloc::{AllocError, Allocator, Global};
 

@@ -3,7 +3,8 @@
 
 mod copies;
 
-use crate::rl_grammar::{Front, Kind, next_is};
+use crate::rl_forms::Kind;
+use crate::rl_fronts::{Front, next_is};
 use crate::rl_tokens::{Error, Ident, Parse, ParseBuffer, Span, Token};
 use crate::rattle_std::alloc::Allocator;
 

@@ -2,7 +2,8 @@
 //! Float literals.
 
 use crate::rust_literals::number::{Number, NumberKind};
-use crate::rl_grammar::{Found, Kind, find_float};
+use crate::rl_forms::Kind;
+use crate::rl_reading::{Found, find_float};
 use crate::rl_tokens::ErrorKind;
 use crate::rattle_std::alloc::{Allocator, Global};
 

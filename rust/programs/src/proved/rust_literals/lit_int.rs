@@ -2,7 +2,8 @@
 //! Integer literals.
 
 use crate::rust_literals::number::{Number, NumberKind};
-use crate::rl_grammar::{Found, Kind, find_int};
+use crate::rl_forms::Kind;
+use crate::rl_reading::{Found, find_int};
 use crate::rl_tokens::ErrorKind;
 use crate::rattle_std::alloc::{Allocator, Global};
 

@@ -5,7 +5,9 @@ use crate::rattle_std::prelude::{String};
 mod base10;
 mod copies;
 
-use crate::rl_grammar::{Found, Kind, digits_of_found, next_is, take_kind};
+use crate::rl_forms::Kind;
+use crate::rl_fronts::{digits_of_found, next_is, take_kind};
+use crate::rl_reading::Found;
 use crate::rl_tokens::{Error, ErrorKind, Kept, Literal, Parse, ParseBuffer, Span, Token};
 use crate::rattle_std::alloc::{Allocator, Global};
 use crate::rattle_std::fmt;

@@ -4,7 +4,7 @@
 use crate::rattle_std::prelude::{Vec};
 use crate::rust_literals::flat::read_flat;
 use crate::rust_literals::lit::Lit;
-use crate::rl_grammar::Front;
+use crate::rl_fronts::Front;
 use crate::rl_tokens::{Error, ParseBuffer, Span, trees_of_text};
 use crate::rattle_std::alloc::{Allocator, Global};
 

@@ -2,7 +2,7 @@
 //! Copies of literals, their equality and hash, and how they are printed.
 
 use crate::rust_literals::lit::Lit;
-use crate::rl_grammar::Kind;
+use crate::rl_forms::Kind;
 use crate::rl_tokens::{Error, Kept, Literal, Span, ToTokens, TokenStream, TokenTree};
 use crate::rattle_std::alloc::Allocator;
 use crate::rattle_std::fmt;
