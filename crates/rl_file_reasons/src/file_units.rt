@@ -12,9 +12,9 @@ ghost use Rattle.rl_file_reasons.specs.FileTexts.{is_dropped, lf_text};
 ghost use Rattle.rl_file_reasons.specs.FileWalks.{IsFileRest};
 ghost use Rattle.rl_reasons.specs.Mirrors.StrictFlawAt.{raw_stop};
 
-use rl_reasons::strict_quoted_flaws::halts;
 use rl_forms::Kind;
 use rl_reading::units::{escape, split_plain};
+use rl_reasons::strict_quoted_flaws::halts;
 use rl_strict::strict::skip_inside;
 use rl_text::classes::{CharClass, skip_class};
 use rl_text::text::{split_char, strip_byte};

@@ -14,6 +14,10 @@ ghost use Rattle.rl_file_reasons.specs.FileWalks.{IsFileFlaw, IsFileStop, IsPast
 ghost use Rattle.rl_reasons.specs.StrictNumbersRead.{IsNumberRead, suffix_of};
 
 use crate::file_units::{skip_raw, skip_units, split_read};
+use rl_forms::Kind;
+use rl_reading::digit_rows::begins_digit;
+use rl_reading::quoted_forms::{QuotedForm, after_quote, split_opener};
+use rl_reading::truth_of;
 use rl_reasons::flaws::{FlawAt, FlawKind, end_flaw, first_flaw, make_flaw};
 use rl_reasons::limits::past_at;
 use rl_reasons::read_numbers::{Number, Stop, read_digits};
@@ -21,10 +25,6 @@ use rl_reasons::read_quoted::{split_unit, suffix_flaw};
 use rl_reasons::strict_flaws::begins_minus;
 use rl_reasons::strict_quoted_flaws::{held_flaw, skip_few_hashes, unit_flaw};
 use rl_reasons::strict_reading::placed;
-use rl_forms::Kind;
-use rl_reading::digit_rows::begins_digit;
-use rl_reading::quoted_forms::{QuotedForm, after_quote, split_opener};
-use rl_reading::truth_of;
 use rl_strict::strict::after_closer;
 use rl_text::text::{before, split_char};
 

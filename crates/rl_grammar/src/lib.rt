@@ -5,10 +5,11 @@
 pub mod laws;
 pub mod strict;
 
+pub use rl_file_reasons::{explain_in_file, explain_signed_value_in_file, explain_value_in_file};
 pub use rl_forms::Kind;
 pub use rl_fronts::{
-    Front, Negative, bytes_of, bytes_of_body, digits_of, digits_of_found, next_is, spans_of, str_of,
-    str_of_body, take_kind,
+    Front, Negative, bytes_of, bytes_of_body, digits_of, digits_of_found, next_is, spans_of,
+    str_of, str_of_body, take_kind,
 };
 pub use rl_reading::{
     Body, Found, ListStep, NextLiteral, Parts, Rejection, RejectionKind, Segment, SegmentValue,
@@ -16,5 +17,4 @@ pub use rl_reading::{
     find_float, find_int, find_negative, float_shape, int_shape, is_plain, list_step, next_literal,
     numeral_into, place_of, shape, shape_negative, source_step, str_into, truth_of,
 };
-pub use rl_file_reasons::{explain_in_file, explain_signed_value_in_file, explain_value_in_file};
 pub use rl_reasons::{Flaw, FlawKind, explain, explain_limit, explain_signed, explain_value};

@@ -70,11 +70,7 @@ fn some_suffix_flaw<'t>(form: QuotedForm, closing: &'t str, suffix: &'t str) -> 
 /// The flaw after the closer, where no suffix stands alone. Most literals have none, which is seen here.
 #[inline(always)]
 #[tactic(auto, using(rl_reading::proofs::CutLemmas::some_text), unfolding(crate::specs::Mirrors::SuffixRead::suffix_read_at, crate::specs::Mirrors::StrictFlawAt::suffix_rest))]
-pub fn suffix_flaw<'t>(
-    form: QuotedForm,
-    closing: &'t str,
-    suffix: &'t str,
-) -> Option<FlawAt<'t>>
+pub fn suffix_flaw<'t>(form: QuotedForm, closing: &'t str, suffix: &'t str) -> Option<FlawAt<'t>>
     ensures flaw { option_map (λ f. found_flaw f.kind (chars f.rest.now)) result ≡ suffix_read_at form (chars suffix.now) }
     ensures piece { IfSome result (λ f. chars f.piece.now ≡ suffix_piece f.kind (chars closing.now) (chars suffix.now)) }
 {

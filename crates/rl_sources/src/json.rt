@@ -18,9 +18,9 @@ use crate::json_string::push_json_string;
 use crate::options::Form;
 use rl_forms::Kind;
 use rl_fronts::{digits_of_found, str_of_body};
+use rl_lines::label_of;
 use rl_reading::Found;
 use rl_reasons::FlawKind;
-use rl_lines::label_of;
 use rl_tokens::LexKind;
 use std::alloc::{AllocError, Allocator};
 

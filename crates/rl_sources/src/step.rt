@@ -21,8 +21,8 @@ use crate::options::{Form, Options, Shown, Spelling};
 use crate::place::{Place, Places, place_inside, place_of, push_front};
 use crate::reason::push_flaw;
 use rl_files::{make_visible, push_visible};
-use rl_reading::{Found, find};
 use rl_lines::{bare_value, label_of, push_bare, push_found};
+use rl_reading::{Found, find};
 use rl_tokens::{LexError, LexKind, SourceForm, SourceToken, Sources};
 use std::alloc::{AllocError, Allocator};
 

@@ -19,9 +19,9 @@ use crate::lit_int::LitInt;
 use crate::number::{Number, NumberKind};
 use rl_forms::Kind;
 use rl_fronts::Front;
+use rl_quoted::{LitByte, LitByteStr, LitCStr, LitChar, LitStr, Quoted, QuotedKind};
 use rl_reading::{Found, find};
 use rl_reasons::{Flaw, explain_value};
-use rl_quoted::{LitByte, LitByteStr, LitCStr, LitChar, LitStr, Quoted, QuotedKind};
 use rl_tokens::{Error, Kept, Literal, Parse, ParseBuffer, Span, Token};
 use std::alloc::{Allocator, Global};
 

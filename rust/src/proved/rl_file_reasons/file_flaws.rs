@@ -3,11 +3,11 @@
 
 use crate::rl_file_reasons::file_units::split_read;
 use crate::rl_file_reasons::file_walk::{file_number, walk};
+use crate::rl_reading::digit_rows::begins_digit;
 use crate::rl_reasons::flaws::{Flaw, FlawAt, FlawKind, end_flaw};
 use crate::rl_reasons::limits::{limit_flaw, limit_of};
 use crate::rl_reasons::read_numbers::{Number, Stop};
 use crate::rl_reasons::strict_reading::placed;
-use crate::rl_reading::digit_rows::begins_digit;
 use crate::rl_text::text::strip_byte;
 
 /// The text after its first character as rustc reads it.

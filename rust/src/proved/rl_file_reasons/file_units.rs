@@ -1,9 +1,9 @@
 // Rendered from crates/rl_file_reasons/src/file_units.rt by tools/render, which erases contracts: change that file, and render anew.
 //! Inside quoted literals of a file, where CR LF is LF: what follows the units, or what a raw string holds.
 
-use crate::rl_reasons::strict_quoted_flaws::halts;
 use crate::rl_forms::Kind;
 use crate::rl_reading::units::{escape, split_plain};
+use crate::rl_reasons::strict_quoted_flaws::halts;
 use crate::rl_strict::strict::skip_inside;
 use crate::rl_text::classes::{CharClass, skip_class};
 use crate::rl_text::text::{split_char, strip_byte};

@@ -2,6 +2,10 @@
 //! Literals of a file, where CR LF is LF, in one walk: where and why the text stops being the front of a token.
 
 use crate::rl_file_reasons::file_units::{skip_raw, skip_units, split_read};
+use crate::rl_forms::Kind;
+use crate::rl_reading::digit_rows::begins_digit;
+use crate::rl_reading::quoted_forms::{QuotedForm, after_quote, split_opener};
+use crate::rl_reading::truth_of;
 use crate::rl_reasons::flaws::{FlawAt, FlawKind, end_flaw, first_flaw, make_flaw};
 use crate::rl_reasons::limits::past_at;
 use crate::rl_reasons::read_numbers::{Number, Stop, read_digits};
@@ -9,10 +13,6 @@ use crate::rl_reasons::read_quoted::{split_unit, suffix_flaw};
 use crate::rl_reasons::strict_flaws::begins_minus;
 use crate::rl_reasons::strict_quoted_flaws::{held_flaw, skip_few_hashes, unit_flaw};
 use crate::rl_reasons::strict_reading::placed;
-use crate::rl_forms::Kind;
-use crate::rl_reading::digit_rows::begins_digit;
-use crate::rl_reading::quoted_forms::{QuotedForm, after_quote, split_opener};
-use crate::rl_reading::truth_of;
 use crate::rl_strict::strict::after_closer;
 use crate::rl_text::text::{before, split_char};
 

@@ -47,11 +47,7 @@ fn some_suffix_flaw<'t>(form: QuotedForm, closing: &'t str, suffix: &'t str) -> 
 
 /// The flaw after the closer, where no suffix stands alone. Most literals have none, which is seen here.
 #[inline(always)]
-pub fn suffix_flaw<'t>(
-    form: QuotedForm,
-    closing: &'t str,
-    suffix: &'t str,
-) -> Option<FlawAt<'t>> {
+pub fn suffix_flaw<'t>(form: QuotedForm, closing: &'t str, suffix: &'t str) -> Option<FlawAt<'t>> {
     if suffix.is_empty() {
         return None;
     }

@@ -7,9 +7,9 @@ use crate::rl_sources::json_string::push_json_string;
 use crate::rl_sources::options::Form;
 use crate::rl_forms::Kind;
 use crate::rl_fronts::{digits_of_found, str_of_body};
+use crate::rl_lines::label_of;
 use crate::rl_reading::Found;
 use crate::rl_reasons::FlawKind;
-use crate::rl_lines::label_of;
 use crate::rl_tokens::LexKind;
 use crate::rattle_std::alloc::{AllocError, Allocator};
 

@@ -11,8 +11,8 @@ use crate::rl_sources::options::{Form, Options, Shown, Spelling};
 use crate::rl_sources::place::{Place, Places, place_inside, place_of, push_front};
 use crate::rl_sources::reason::push_flaw;
 use crate::rl_files::{make_visible, push_visible};
-use crate::rl_reading::{Found, find};
 use crate::rl_lines::{bare_value, label_of, push_bare, push_found};
+use crate::rl_reading::{Found, find};
 use crate::rl_tokens::{LexError, LexKind, SourceForm, SourceToken, Sources};
 use crate::rattle_std::alloc::{AllocError, Allocator};
 

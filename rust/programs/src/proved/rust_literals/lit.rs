@@ -9,9 +9,9 @@ use crate::rust_literals::lit_int::LitInt;
 use crate::rust_literals::number::{Number, NumberKind};
 use crate::rl_forms::Kind;
 use crate::rl_fronts::Front;
+use crate::rl_quoted::{LitByte, LitByteStr, LitCStr, LitChar, LitStr, Quoted, QuotedKind};
 use crate::rl_reading::{Found, find};
 use crate::rl_reasons::{Flaw, explain_value};
-use crate::rl_quoted::{LitByte, LitByteStr, LitCStr, LitChar, LitStr, Quoted, QuotedKind};
 use crate::rl_tokens::{Error, Kept, Literal, Parse, ParseBuffer, Span, Token};
 use crate::rattle_std::alloc::{Allocator, Global};
 

@@ -18,5 +18,5 @@ pub use crate::rust_literals::lit_int::{IntKind, LitInt};
 pub use crate::rust_literals::literals::Literals;
 pub use crate::rust_literals::number::{Number, NumberKind};
 pub use crate::rust_literals::read::read_all;
-pub use crate::rl_reasons::{Flaw, FlawKind};
 pub use crate::rl_quoted::{LitByte, LitByteStr, LitCStr, LitChar, LitStr};
+pub use crate::rl_reasons::{Flaw, FlawKind};
