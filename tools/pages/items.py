@@ -152,13 +152,18 @@ def core():
     return re.findall(r'(?m)^(\w+)', part[1])
 
 
+def inner():
+    """The crates that callers don't name, since the libraries give out what they have: the core, and rl_fronts."""
+    return [*core(), 'rl_fronts']
+
+
 def given_by(crate, file):
     """What a file gives out: names by crate and module, None for all of a module."""
     text = read(file)
     given = {(crate, it): None for it in re.findall(r'(?m)^pub mod (\w+);', text)}
     for owner, path, several, one in re.findall(r'pub use (\w+)((?:::\w+)*)::(?:\{([^}]*)\}|(\w+));', text):
         owner = crate if owner == 'crate' else owner
-        for name in re.findall(r'\w+', several or one) if owner in [crate, *core()] else []:
+        for name in re.findall(r'\w+', several or one) if owner in [crate, *inner()] else []:
             is_module = not path and os.path.isfile(os.path.join(TOP, f'crates/{owner}/src/{name}.rt'))
             at = (owner, path[2:]) if path else (owner, name) if is_module else module_of(owner, name)
             if given.setdefault(at, None if is_module else set()) is not None:
@@ -189,10 +194,10 @@ def is_given(item, names):
 
 
 def public_items(crate):
-    """The items that the library gives out, each with its file; those of the core that a library before it gives out aren't."""
+    """The items that the library gives out, each with its file; those of inner crates that a library before it gives out aren't."""
     given = modules(crate)
     before = {at for it in LIBRARIES[:LIBRARIES.index(crate)] for at in modules(it)} if crate in LIBRARIES else set()
-    owners = [crate, *(it for it in core() if any(owner == it for owner, _ in given))]
+    owners = [crate, *(it for it in inner() if any(owner == it for owner, _ in given))]
     found = []
     for path in (path for owner in owners for path in code_files(owner)):
         owner, _, file = path.split('/')[1:4]
