@@ -23,7 +23,7 @@ use rl_reading::digit_rows::begins_digit;
 use rl_reading::quoted_forms::{QuotedForm, split_opener};
 use rl_reading::units::is_bare_character;
 use rl_reading::{Body, truth_of};
-use rl_text::text::{split_ascii, strip_byte};
+use rl_text::text::{ascii_at, strip_byte};
 
 /// What a token reads as. Places are bytes of its text.
 #[derive(Clone, Copy)]
@@ -77,11 +77,11 @@ fn bare_of(text: &str) -> Option<u8>
 pub fn front_of(text: &str) -> Front<'_>
     ensures { BeginsAs text.now result }
 {
-    match split_ascii(text) {
-        Some((b'"', inside)) => Front::Quote(inside),
-        Some((b'\'', inside)) => match bare_of(text) {
+    match ascii_at(text, 0) {
+        Some((b'"', at)) => Front::Quote(&text[at..]),
+        Some((b'\'', at)) => match bare_of(text) {
             Some(c) => Front::Bare(c),
-            None => Front::Apostrophe(inside),
+            None => Front::Apostrophe(&text[at..]),
         },
         Some((b'0'..=b'9', _)) => Front::Digit,
         _ => Front::Other,

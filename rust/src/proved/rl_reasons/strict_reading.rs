@@ -10,7 +10,7 @@ use crate::rl_reading::digit_rows::begins_digit;
 use crate::rl_reading::quoted_forms::{QuotedForm, split_opener};
 use crate::rl_reading::units::is_bare_character;
 use crate::rl_reading::{Body, truth_of};
-use crate::rl_text::text::{split_ascii, strip_byte};
+use crate::rl_text::text::{ascii_at, strip_byte};
 
 /// What a token reads as. Places are bytes of its text.
 #[derive(Clone, Copy)]
@@ -59,11 +59,11 @@ fn bare_of(text: &str) -> Option<u8> {
 /// How the text begins.
 #[inline(always)]
 pub fn front_of(text: &str) -> Front<'_> {
-    match split_ascii(text) {
-        Some((b'"', inside)) => Front::Quote(inside),
-        Some((b'\'', inside)) => match bare_of(text) {
+    match ascii_at(text, 0) {
+        Some((b'"', at)) => Front::Quote(&text[at..]),
+        Some((b'\'', at)) => match bare_of(text) {
             Some(c) => Front::Bare(c),
-            None => Front::Apostrophe(inside),
+            None => Front::Apostrophe(&text[at..]),
         },
         Some((b'0'..=b'9', _)) => Front::Digit,
         _ => Front::Other,
