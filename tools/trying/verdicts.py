@@ -38,7 +38,11 @@ class Verdicts:
     def is_refused(self, name):
         """Whether the function is refused by itself, and not only since it calls one that is."""
         verdict = self.of[name]
-        return not verdict.startswith(WELL) and ('it calls' not in verdict or 'did not prove' in verdict)
+        if verdict.startswith(WELL):
+            return False
+        # (a hole is called too, and isn't why)
+        called = [it for it in re.findall('`([^`]+)`', verdict.partition('it calls')[2]) if it in self.of]
+        return 'did not prove' in verdict or all(self.of[it].startswith(WELL) for it in called)
 
     def goals(self, function):
         """The function's goals that weren't proved, except those whose answer names what is gone. Of a function that calls one that isn't
