@@ -99,11 +99,10 @@ WRONG = [Wrong(*row) for row in [
     ('common.rs', "f.pad(&self.text)", "f.write_str(&self.text)",
      'a literal of a kind is printed without width and fill'),
     # contents.rs
-    ('contents.rs', "Piece::Nothing => {}", "Piece::Nothing => out.push('\\n'),",
+    ('contents.rs', "SegmentValue::Nothing => {}", "SegmentValue::Nothing => out.push('\\n'),",
      'a line end after a backslash stays in the string'),
-    ('contents.rs', "Piece::Byte(byte) if byte.is_ascii() => out.push(char::from(byte)),",
-     "Piece::Byte(byte) if byte.is_ascii() => out.push(char::from(byte & 0x6F)),",
-     'an escape of a string gives another byte'),
+    ('contents.rs', "SegmentValue::Char(c) => out.push(c),", "SegmentValue::Char(c) => out.push(c.to_ascii_lowercase()),",
+     'an escape of a string gives another character'),
     ('contents.rs', "String::from_utf8(written(front, rest, numeral_into))", "String::from_utf8(written(\"\", rest, numeral_into))",
      'a float with an underscore loses the digits before it'),
     # parse_error.rs

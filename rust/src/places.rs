@@ -22,9 +22,9 @@ use core::ops::Range;
 pub enum SegmentValue<'t> {
     /// Characters that stand for themselves, as many as stand side by side.
     Text(&'t str),
-    /// The character of an escape, or the LF of a CR LF.
+    /// The character of an escape, or the LF of a CR LF. Where the literal holds bytes, the character of `\u{..}` alone.
     Char(char),
-    /// The byte of an escape, where the literal holds bytes.
+    /// The byte of any other escape, or that LF, where the literal holds bytes.
     Byte(u8),
     /// Nothing: a backslash, a line end and the blanks after it.
     Nothing,

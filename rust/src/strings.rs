@@ -177,7 +177,7 @@ impl<'t> LitStr<'t> {
         if self.is_plain {
             Cow::Borrowed(self.body())
         } else {
-            Cow::Owned(text_of(self.body()))
+            Cow::Owned(text_of(&self.text, self.parts()))
         }
     }
 
@@ -201,7 +201,7 @@ impl<'t> LitStr<'t> {
         if self.is_plain {
             part(self.text, self.lo, self.hi)
         } else {
-            Cow::Owned(text_of(self.body()))
+            Cow::Owned(text_of(&self.text, self.parts()))
         }
     }
 }

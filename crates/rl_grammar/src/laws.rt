@@ -2,6 +2,7 @@
 
 pub use rl_reading::laws::{
     bytes_are_strict, places_keep_the_order, places_stand_in_the_body, segments_make_the_literal,
+    units_are_one_segment,
 };
 pub use rl_reasons::laws::{a_text_has_one_flaw, a_token_reads_or_is_past};
 pub use rl_strict::laws::dec_spells_the_number;

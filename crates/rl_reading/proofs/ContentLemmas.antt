@@ -149,7 +149,7 @@ ascii_scalar n h =
     let low : ltb n 55296 ≡ true = lt-ltb n 55296 (omega arith) in
     rw low refl
 
-one_scalar : (n : ℕ) → scalar n ≡ true → scalars (n ∷ []) ≡ true
+pub one_scalar : (n : ℕ) → scalar n ≡ true → scalars (n ∷ []) ≡ true
 one_scalar n h = and_from (scalar n) true h refl
 
 letter_scalar : (l : Letter) → scalar (letter_value l) ≡ true

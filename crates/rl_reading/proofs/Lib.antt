@@ -39,6 +39,7 @@ pub mod FoundContents
 pub mod RoomLemmas
 pub mod NextLiteralLemmas
 pub mod SourceLiteralLemmas
+pub mod SegmentValues
 pub mod SegmentLemmas
 pub mod SegmentStarts
 pub mod SegmentLawLemmas

@@ -12,10 +12,12 @@ use Rattle.rl_reading.specs.declared.segments.Segment.{Segment}
 use Rattle.rl_reading.specs.declared.segments.SegmentValue.{SegmentValue}
 use Rattle.rl_reading.specs.declared.segments.SegmentValue.TheVariants.{Text, Char, Byte, Nothing}
 use Rattle.rl_reading.specs.declared.units.Piece.{Piece}
-use Rattle.rl_reading.specs.Decoded.{in_bytes, piece_bytes}
-use Rattle.rl_reading.specs.Mirrors.UnitAt.{found, piece_value, IsHeldBy, unit_at}
-use Rattle.rl_reading.specs.Segments.{unit_bytes, units_bytes, is_itself, begins_in, ends_in, unit_place, span_from, segment_end, segment_place, value_end, GivesByte, IsUnitRow, AreUnitsIn, AreUnitsFor, AreLeft, IsLeftAt, IsLongest, IsNoText, IsPastLeft, IsSegmentOf, IsFirstSegment, IsSpanTable, IsSegmentsState, SegmentsState, TakesSegment, value_bytes, value_place}
+use Rattle.rl_reading.specs.Decoded.{in_bytes}
+use Rattle.rl_reading.specs.Mirrors.SegmentAt.{piece_segment}
+use Rattle.rl_reading.specs.Mirrors.UnitAt.{found, is_character, is_character_at, piece_value, IsHeldBy, unit_at}
+use Rattle.rl_reading.specs.Segments.{unit_bytes, units_bytes, is_itself, begins_in, ends_in, unit_place, unit_segment, span_from, segment_end, segment_place, value_end, GivesByte, IsUnitRow, AreUnitsIn, AreUnitsFor, AreLeft, IsLeftAt, IsLongest, IsNoText, IsOtherUnit, IsPastLeft, IsSegmentOf, IsFirstSegment, IsSpanTable, IsSegmentsState, SegmentsState, TakesSegment, value_bytes, value_place}
 use Rattle.rl_reading.proofs.ContentLemmas.{held_in_bytes, piece_in_bytes}
+use Rattle.rl_reading.proofs.SegmentValues.{piece_in_front, segment_bytes}
 use Rattle.rl_reading.proofs.UnitLemmas.{some_pair, plain_complete, unit_complete, unit_nil}
 use Rattle.rl_reading.proofs.FrontLenLemmas.{byte_len_append}
 
@@ -136,31 +138,34 @@ not_itself kind (Hex high low) t b allowed e stops = refl
 not_itself kind (Unicode first more) t b allowed e stops = refl
 not_itself kind (Continuation c run) t b allowed e stops = refl
 
-one_unit : (v : SegmentValue) (u : QuotedUnit) → IsNoText v → is_itself u ≡ false → AreUnitsFor v (u ∷ [])
-one_unit (Text run) u none other = absurd none
-one_unit (Char c) u none other = (u, refl, other)
-one_unit (Byte b) u none other = (u, refl, other)
-one_unit Nothing u none other = (u, refl, other)
+one_unit : (kind : Kind) (v : SegmentValue) (u : QuotedUnit) → IsNoText v → is_itself u ≡ false
+    → v ≡ unit_segment kind u → AreUnitsFor kind v (u ∷ [])
+one_unit kind (Text run) u none other is = absurd none
+one_unit kind (Char c) u none other is = record { unit = u; are = refl; other = other; value_is = is }
+one_unit kind (Byte b) u none other is = record { unit = u; are = refl; other = other; value_is = is }
+one_unit kind Nothing u none other is = record { unit = u; are = refl; other = other; value_is = is }
 
 pub unit_front : (kind : Kind) (plain : Bool) (t b : List ℕ) (piece : Piece) (v : SegmentValue) → plain ≡ false
     → first_passes (is_plain kind) t ≡ false → unit_at kind t ≡ Some (piece_value kind piece, b) → IsHeldBy kind piece
-    → value_bytes v ≡ piece_bytes piece → IsNoText v → (us : List QuotedUnit) × AreUnitsIn kind plain t us
-    → IsFirstSegment kind plain t v b
-unit_front kind false t b piece v is stops unit fits bytes none has =
+    → is_character piece ≡ is_character_at kind t → v ≡ piece_segment kind piece → IsNoText v → (us : List QuotedUnit)
+    × AreUnitsIn kind plain t us → IsFirstSegment kind plain t v b
+unit_front kind false t b piece v is stops unit fits named value none has =
     let f = row_front kind t has.0 (piece_value kind piece, b) has.1 unit in
     let u = f.unit in
+    let other = not_itself kind u t b f.allowed f.text_is stops in
+    let as_unit = piece_in_front kind piece u t b fits f.allowed other f.text_is f.value_is named in
     record {
       units = u ∷ [];
       is_segment = record {
-        are = one_unit v u none (not_itself kind u t b f.allowed f.text_is stops);
-        bytes_are = bytes ∙ sym (piece_in_bytes kind piece fits) ∙ ap (in_bytes kind) f.value_is
-            ∙ sym (append-nil (unit_bytes kind u));
+        are = one_unit kind v u none other (value ∙ as_unit);
+        bytes_are = ap value_bytes value ∙ segment_bytes kind piece fits ∙ sym (piece_in_bytes kind piece fits)
+            ∙ ap (in_bytes kind) f.value_is ∙ sym (append-nil (unit_bytes kind u));
       };
       text_is = f.text_is ∙ ap (λ z. z ++ b) (sym (append-nil (unit_text u)));
       left = (f.others, f.row);
       goes_on = λ others h. unit_joined kind t b u others f.allowed f.ends f.text_is h;
     }
-unit_front kind true t b piece v is stops unit fits bytes none has = absurd (cc)
+unit_front kind true t b piece v is stops unit fits named value none has = absurd (cc)
 
 -- the cut in bytes
 pub cut_bytes : (t a b : List ℕ) → IsUtf8 t → IsUtf8 a → IsUtf8 b → chars t ≡ chars a ++ chars b → t ≡ a ++ b
@@ -195,9 +200,9 @@ StateOf kind plain end rest = record { kind = kind; plain = plain; at = end - le
 
 pub takes_segment : (kind : Kind) (plain : Bool) (end : ℕ) (rest after : List ℕ) (v : SegmentValue)
     → IsSegmentsState kind plain end rest → IsUtf8 after → IsFirstSegment kind plain (chars rest) v (chars after)
-    → IsLongest kind v (chars after) → TakesSegment (StateOf kind plain end rest)
+    → IsLongest kind v (chars after) → (plain ≡ true → after ≡ []) → TakesSegment (StateOf kind plain end rest)
     (record { lo = end - length rest; hi = end - length after; value = v }) (StateOf kind plain end after)
-takes_segment kind plain end rest after v s u f longest =
+takes_segment kind plain end rest after v s u f longest whole_body =
     let whole : rest ≡ encode_utf8_all (texts f.units) ++ after = sym (encodes-chars rest s.is_text)
     ∙ ap encode_utf8_all f.text_is ∙ encodes-append (texts f.units) (chars after)
     ∙ ap (λ z. encode_utf8_all (texts f.units) ++ z) (encodes-chars after u) in
@@ -207,6 +212,7 @@ takes_segment kind plain end rest after v s u f longest =
       units = f.units;
       is_segment = f.is_segment;
       longest = longest;
+      whole = whole_body;
       lo_is = refl;
       hi_is = refl;
       long = omega (arith, long, s.room);
@@ -288,18 +294,18 @@ pub record IsOneUnit (inside : QuotedUnit → ℕ → ℕ) (kind : Kind) (units 
   pub other : is_itself unit ≡ false
   pub place : unit_place inside kind (units ++ us) at ≡ inside unit at
 
-one_place_in : (inside : QuotedUnit → ℕ → ℕ) (kind : Kind) (units us : List QuotedUnit) (at : ℕ) (bytes : List ℕ)
-    → (u : QuotedUnit) × (units ≡ u ∷ []) × (is_itself u ≡ false) → bytes ≡ units_bytes kind units → at < length bytes
+one_place_in : (inside : QuotedUnit → ℕ → ℕ) (kind : Kind) (v : SegmentValue) (units us : List QuotedUnit) (at : ℕ)
+    → IsOtherUnit kind v units → value_bytes v ≡ units_bytes kind units → at < length (value_bytes v)
     → IsOneUnit inside kind units us at
-one_place_in inside kind units us at bytes one e small =
-    let u = one.0 in
-    let long : length bytes ≡ length (unit_bytes kind u) = ap length
-    (e ∙ ap (units_bytes kind) one.1 ∙ append-nil (unit_bytes kind u)) in
+one_place_in inside kind v units us at one e small =
+    let u = one.unit in
+    let long : length (value_bytes v) ≡ length (unit_bytes kind u) = ap length
+    (e ∙ ap (units_bytes kind) one.are ∙ append-nil (unit_bytes kind u)) in
     record {
       unit = u;
-      are = one.1;
-      other = one.2;
-      place = ap (λ z. unit_place inside kind (z ++ us) at) one.1
+      are = one.are;
+      other = one.other;
+      place = ap (λ z. unit_place inside kind (z ++ us) at) one.are
           ∙ place_in_unit inside kind u us at (omega (arith, long, small));
     }
 
@@ -322,9 +328,9 @@ begins_in_segment kind (Text run) units us at s small =
     ap (λ z. unit_place begins_in kind (z ++ us) at) s.are ∙ place_in_run begins_in 0 kind (chars run.now) us at
     begins_plain (omega (arith, bytes, small)) ∙ omega arith
 begins_in_segment kind (Char c) units us at s small = one_begins kind units us at
-    (one_place_in begins_in kind units us at (encode_utf8 c) s.are s.bytes_are small)
+    (one_place_in begins_in kind (Char c) units us at s.are s.bytes_are small)
 begins_in_segment kind (Byte b) units us at s small = one_begins kind units us at
-    (one_place_in begins_in kind units us at (b ∷ []) s.are s.bytes_are small)
+    (one_place_in begins_in kind (Byte b) units us at s.are s.bytes_are small)
 begins_in_segment kind Nothing units us at s small = absurd (omega (arith, small))
 
 pub ends_in_segment : (kind : Kind) (v : SegmentValue) (units us : List QuotedUnit) (lo hi at : ℕ)
@@ -339,11 +345,11 @@ ends_in_segment kind (Text run) units us lo hi at s long small =
 ends_in_segment kind (Char c) units us lo hi at s long small = omega (
   arith,
   long,
-  one_ends kind units us at (one_place_in ends_in kind units us at (encode_utf8 c) s.are s.bytes_are
+  one_ends kind units us at (one_place_in ends_in kind (Char c) units us at s.are s.bytes_are
       small),
 )
 ends_in_segment kind (Byte b) units us lo hi at s long small = omega
-    (arith, long, one_ends kind units us at (one_place_in ends_in kind units us at (b ∷ []) s.are s.bytes_are small))
+    (arith, long, one_ends kind units us at (one_place_in ends_in kind (Byte b) units us at s.are s.bytes_are small))
 ends_in_segment kind Nothing units us lo hi at s long small = absurd (omega (arith, small))
 
 -- a text is as long as what it stands for

@@ -10,7 +10,20 @@ use Rattle.rl_reading.specs.Decoded.{in_bytes}
 use Rattle.rl_reading.specs.declared.found.Body.{Body}
 use Rattle.rl_reading.specs.Founds.{body_in}
 use Rattle.rl_reading.specs.declared.segments.Segment.{Segment}
-use Rattle.rl_reading.specs.Segments.{AreUnitsOf, IsByteEnd, IsBytePlace, IsSegmentsOf, SegmentsState, TakesSegment, value_bytes}
+use Rattle.rl_reading.specs.declared.segments.SegmentValue.{SegmentValue}
+use Rattle.rl_reading.specs.declared.segments.SegmentValue.TheVariants.{Text}
+use Rattle.rl_reading.specs.Segments.{AreUnitsOf, IsByteEnd, IsBytePlace, IsSegmentOf, IsSegmentsOf, SegmentsState, TakesSegment, value_bytes}
+
+-- they are the same: of texts, the same bytes
+abbrev pub IsSameValue : SegmentValue → SegmentValue → Type 0
+IsSameValue (Text run) (Text other) = run.now ≡ other.now
+IsSameValue value other = value ≡ other
+
+-- units of a literal of the kind are one segment at most
+abbrev pub AreOneSegment : Kind → List QuotedUnit → Type 0
+AreOneSegment kind units =
+    (value other : SegmentValue) → IsSegmentOf kind value units → IsSegmentOf kind other units
+    → IsSameValue value other
 
 -- the cursor gives these segments, from the one state to the other
 abbrev pub Passes : SegmentsState → List Segment → SegmentsState → Type 0

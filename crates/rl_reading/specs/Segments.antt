@@ -6,8 +6,9 @@ use Rattle.rl_forms.specs.declared.kind.Kind.{Kind}
 use Rattle.rl_text.specs.declared.span.Span.{Span}
 use Rattle.rl_text.specs.Spans.{nowhere}
 use Rattle.rl_text.specs.Texts.{byte_len, first_passes}
-use Rattle.rl_forms.specs.Quoted.{QuotedUnit, is_plain, is_string, Plain, Cooked, Raw, Single, IsUnit, ContinuationsEnd, opener, raw_opener, texts, unit_text, unit_value}
+use Rattle.rl_forms.specs.Quoted.{QuotedUnit, is_plain, is_string, holds_characters, Plain, CrLf, Named, Hex, Unicode, Continuation, Cooked, Raw, Single, IsUnit, ContinuationsEnd, opener, raw_opener, texts, letter_value, hex_value, unicode_value, unit_text, unit_value}
 use Rattle.rl_reading.specs.Decoded.{in_bytes}
+use Prim.Native.Char.{code}
 use Rattle.rl_reading.specs.declared.segments.Segment.{Segment}
 use Rattle.rl_reading.specs.declared.segments.SegmentValue.{SegmentValue}
 use Rattle.rl_reading.specs.declared.segments.SegmentValue.TheVariants.{Text, Char, Byte, Nothing}
@@ -116,20 +117,40 @@ value_end value lo hi at = hi
 abbrev pub segment_end : Segment → ℕ → ℕ
 segment_end s at = value_end s.value s.lo s.hi at
 
+-- a number that a unit stands for: where the kind holds characters, a character, else a byte
+abbrev pub number_segment : Kind → ℕ → SegmentValue
+number_segment kind n = if holds_characters kind then Char n else Byte n
+
+-- What a unit that doesn't stand for itself is as a segment: the LF of a CR LF, and what an escape
+-- stands for. `\u{..}` is a character whatever the kind holds.
+abbrev pub unit_segment : Kind → QuotedUnit → SegmentValue
+unit_segment kind (Plain c) = Char c
+unit_segment kind CrLf = number_segment kind (code "\n")
+unit_segment kind (Named letter) = number_segment kind (letter_value letter)
+unit_segment kind (Hex high low) = number_segment kind (hex_value high low)
+unit_segment kind (Unicode first more) = Char (unicode_value first more)
+unit_segment kind (Continuation line_end run) = Nothing
+
+-- The units are one that doesn't stand for itself, and the value is what it is.
+pub record IsOtherUnit (kind : Kind) (value : SegmentValue) (units : List QuotedUnit) : Type 0 where
+  pub unit : QuotedUnit
+  pub are : units ≡ unit ∷ []
+  pub other : IsFalse (is_itself unit)
+  pub value_is : value ≡ unit_segment kind unit
+
 -- it is no run of characters that stand for themselves
 abbrev pub IsNoText : SegmentValue → Type 0
 IsNoText (Text run) = ⊥
 IsNoText _ = ⊤
 
 -- a text is its characters, which stand for themselves; what else there is, one unit that doesn't
-abbrev pub AreUnitsFor : SegmentValue → List QuotedUnit → Type 0
-AreUnitsFor (Text run) units = units ≡ map Plain (chars run.now)
-AreUnitsFor _ units =
-    (unit : QuotedUnit) × (units ≡ unit ∷ []) × IsFalse (is_itself unit)
+abbrev pub AreUnitsFor : Kind → SegmentValue → List QuotedUnit → Type 0
+AreUnitsFor kind (Text run) units = units ≡ map Plain (chars run.now)
+AreUnitsFor kind value units = IsOtherUnit kind value units
 
 -- The segment is these units.
 pub record IsSegmentOf (kind : Kind) (value : SegmentValue) (units : List QuotedUnit) : Type 0 where
-  pub are : AreUnitsFor value units
+  pub are : AreUnitsFor kind value units
   pub bytes_are : value_bytes value ≡ units_bytes kind units
 
 -- In front of the text stands the segment, and the rest is left.
@@ -147,12 +168,13 @@ abbrev pub IsLongest : Kind → SegmentValue → List ℕ → Type 0
 IsLongest kind (Text run) rest = IsTrue (is_string kind) → IsFalse (first_passes (is_plain kind) rest)
 IsLongest kind _ rest = ⊤
 
--- The segment is the units in front of what was left, and stands where they do; it has gone on to
--- the others, and the closing quote is where it was.
+-- The segment is the units in front of what was left, of a plain body all of it, and stands where they
+-- do; it has gone on to the others, and the closing quote is where it was.
 pub record TakesSegment (old : SegmentsState) (s : Segment) (new : SegmentsState) : Type 0 where
   pub units : List QuotedUnit
   pub is_segment : IsSegmentOf old.kind s.value units
   pub longest : IsLongest old.kind s.value (chars new.rest)
+  pub whole : IsTrue old.plain → new.rest ≡ []
   pub lo_is : s.lo ≡ old.at
   pub hi_is : s.hi ≡ new.at
   pub long : s.hi ≡ s.lo + byte_len (texts units)

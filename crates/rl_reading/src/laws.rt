@@ -2,8 +2,9 @@
 
 ghost use Rattle.std.specs.Prelude.{List, ℕ};
 ghost use Rattle.rl_reading.specs.StrictBytes.{KeepsBytesStrict};
-ghost use Rattle.rl_reading.specs.SegmentLaws.{AllMakeTheLiteral, PlacesKeepTheOrder, PlacesStandIn};
+ghost use Rattle.rl_reading.specs.SegmentLaws.{AllMakeTheLiteral, AreOneSegment, PlacesKeepTheOrder, PlacesStandIn};
 ghost use Rattle.rl_forms.specs.declared.kind.Kind.{Kind};
+ghost use Rattle.rl_forms.specs.Quoted.{QuotedUnit};
 ghost use Rattle.std.specs.Str.{IsUtf8};
 ghost use Rattle.rl_reading.specs.declared.found.Body.{Body};
 ghost use Rattle.rl_reading.specs.Founds.{IsQuotedAt};
@@ -19,6 +20,12 @@ pub fn bytes_are_strict()
 /// literal's contents.
 pub fn segments_make_the_literal()
     ensures { (kind : Kind) (text : List ℕ) → AllMakeTheLiteral kind text }
+{}
+
+/// Units of a literal are one segment at most: those that stand for themselves are text, and each other one is a character,
+/// a byte or nothing, as the kind and the unit say.
+pub fn units_are_one_segment()
+    ensures { (kind : Kind) (units : List QuotedUnit) → AreOneSegment kind units }
 {}
 
 /// Later bytes of a literal's contents come from later places of its text, or from the same one, and so do their ends: so

@@ -5,12 +5,11 @@ ghost use Rattle.std.specs.List.{list_all};
 ghost use Rattle.std.specs.Str.{chars};
 ghost use Rattle.rl_text.specs.Texts.{first_passes, IsTail};
 ghost use Rattle.rl_forms.specs.Quoted.{QuotedUnit, is_plain, is_string};
-ghost use Rattle.rl_reading.specs.Decoded.{piece_bytes};
-ghost use Rattle.rl_reading.specs.Mirrors.UnitAt.{IsHeldBy};
+ghost use Rattle.rl_reading.specs.Mirrors.SegmentAt.{piece_segment};
 ghost use Rattle.rl_reading.specs.Founds.{is_quoted};
 ghost use Rattle.rl_reading.specs.Shapes.{HasNoQuoted};
 ghost use Rattle.rl_forms.specs.declared.kind.Kind.{Kind as AnyKind};
-ghost use Rattle.rl_reading.specs.Segments.{AreUnitsIn, IsFirstSegment, IsLongest, IsNoText, IsBytePlace, IsSegmentsOf, value_bytes};
+ghost use Rattle.rl_reading.specs.Segments.{AreUnitsIn, IsFirstSegment, IsLongest, IsNoText, IsBytePlace, IsSegmentsOf};
 
 use crate::found::{Body, find};
 use crate::units::{Piece, is_plain, split_plain, unit};
@@ -23,9 +22,10 @@ use std::marker::Model;
 pub enum SegmentValue<'t> {
     /// Characters that stand for themselves, as many as stand side by side.
     Text(&'t str),
-    /// The character of an escape, or the LF of a line end of two characters.
+    /// The character of an escape, or the LF of a line end of two characters. Where the literal holds bytes, the character of
+    /// `\u{..}` alone.
     Char(char),
-    /// The byte of an escape, where the literal holds bytes.
+    /// The byte of any other escape, or that LF, where the literal holds bytes.
     Byte(u8),
     /// No byte: a backslash, a line end and the blanks after it.
     Nothing,
@@ -147,8 +147,7 @@ fn split_run(kind: Kind, text: &str) -> (&str, &str)
 /// What a piece is as a segment: where a kind holds characters, a byte is one.
 #[inline(always)]
 fn value_of<'t>(kind: Kind, piece: Piece) -> SegmentValue<'t>
-    requires { IsHeldBy kind piece }
-    ensures bytes { value_bytes result ≡ piece_bytes piece }
+    ensures value { result ≡ piece_segment kind piece }
     ensures other { IsNoText result }
 {
     match piece {
@@ -166,6 +165,7 @@ fn split_segment(kind: Kind, plain: bool, text: &str) -> (SegmentValue<'_>, &str
     requires some { text.now ≢ [] }
     ensures front { IsFirstSegment kind plain (chars text.now) result.0 (chars result.1.now) }
     ensures longest { IsLongest kind result.0 (chars result.1.now) }
+    ensures whole { IsTrue plain → result.1.now ≡ [] }
     ensures following { IsTail text.now result.1.now }
     ensures shorter { length result.1.now < length text.now }
 {

@@ -6,7 +6,7 @@ ghost use Rattle.rl_text.specs.Texts.{begins_char, first_passes, IsTail, code};
 ghost use Rattle.rl_forms.specs.Quoted.{holds_characters, is_plain, is_single, allows_code, may_be_hex, has_unicode, is_string};
 ghost use Rattle.rl_forms.specs.Strict.{is_bare_character};
 ghost use Rattle.rl_reading.specs.Bodies.{IsUnitValue};
-ghost use Rattle.rl_reading.specs.Mirrors.UnitAt.{piece_value, IsHeldBy, named_in, digit_at, hex_at, code_digits, code_digits_at, first_code_digits_at, closed_at, unicode_at, after_blanks, escape_at, unit_at};
+ghost use Rattle.rl_reading.specs.Mirrors.UnitAt.{piece_value, is_character, is_character_at, IsHeldBy, named_in, digit_at, hex_at, code_digits, code_digits_at, first_code_digits_at, closed_at, unicode_at, after_blanks, escape_at, unit_at};
 ghost use Rattle.std.specs.Char.{is_ascii};
 ghost use Rattle.std.specs.List.{list_all, prefix_len};
 ghost use Rattle.rl_text.specs.Scanning.{is_ascii_other};
@@ -272,6 +272,7 @@ pub fn escape(kind: Kind, text: &str, at: usize) -> Option<(Piece, &str)>
     ensures value { option_map (λ p. (piece_value kind p.0, chars p.1.now)) result
         ≡ escape_at kind (chars (drop at text.now)) }
     ensures piece { IfSome result (λ p. IsHeldBy kind p.0) }
+    ensures character { IfSome result (λ p. is_character p.0 ≡ begins_char (code "u") (chars (drop at text.now))) }
     ensures shorter { IfSome result (λ p. length p.1.now + at < length text.now) }
 {
     let (letter, after) = ascii_at(text, at)?;
@@ -306,6 +307,7 @@ fn character(kind: Kind, text: &str) -> Option<(Piece, &str)>
     ensures value { option_map (λ p. (piece_value kind p.0, chars p.1.now)) result
         ≡ unit_at kind (chars text.now) }
     ensures piece { IfSome result (λ p. IsHeldBy kind p.0) }
+    ensures character { IfSome result (λ p. is_character p.0 ≡ is_character_at kind (chars text.now)) }
     ensures shorter { IfSome result (λ p. length p.1.now < length text.now) }
 {
     match split_char(text) {
@@ -325,6 +327,7 @@ pub fn unit(kind: Kind, text: &str) -> Option<(Piece, &str)>
     ensures value { option_map (λ p. (piece_value kind p.0, chars p.1.now)) result
         ≡ unit_at kind (chars text.now) }
     ensures piece { IfSome result (λ p. IsHeldBy kind p.0) }
+    ensures character { IfSome result (λ p. is_character p.0 ≡ is_character_at kind (chars text.now)) }
     ensures shorter { IfSome result (λ p. length p.1.now < length text.now) }
 {
     match ascii_at(text, 0) {

@@ -1,12 +1,12 @@
 -- A mirror of the code, for proofs alone: the unit at the front of a text between quotes, as a
 -- program on characters.
-use Rattle.std.specs.Prelude.{ℕ, ◌+◌, ◌*◌, ◌==◌, ◌||◌, ◌&&◌, Bool, not, List, [], ◌∷◌, Option, Some, None, option_and_then, nat_lt, if◌then◌else◌, IsTrue, ⊤}
-use Rattle.std.specs.Char.{digit_value}
+use Rattle.std.specs.Prelude.{ℕ, ◌+◌, ◌*◌, ◌==◌, ◌||◌, ◌&&◌, Bool, not, List, [], ◌∷◌, Option, Some, None, option_and_then, nat_lt, if◌then◌else◌, IsTrue, ⊤, true, false}
+use Rattle.std.specs.Char.{IsScalar, digit_value}
 use Rattle.std.proofs.Math.Utf8.{scalar}
 use Prim.Native.Char.{code}
 use Rattle.rl_forms.specs.declared.kind.Kind.{Kind}
 use Rattle.rl_forms.specs.Quoted.{content_of, holds_characters, is_line_end, is_string, is_plain, allows_code, may_be_hex, has_unicode}
-use Rattle.rl_text.specs.Texts.{is_blank}
+use Rattle.rl_text.specs.Texts.{begins_char, is_blank}
 use Rattle.rl_reading.specs.declared.units.Piece.{Piece}
 use Rattle.rl_reading.specs.declared.units.Piece.TheVariants.{Character, Byte, Nothing}
 
@@ -16,10 +16,22 @@ piece_value kind (Character c) = content_of kind (c ∷ [])
 piece_value kind (Byte b) = b ∷ []
 piece_value kind Nothing = []
 
--- where characters are held, a byte is one of ASCII
+-- a character is one of Unicode's; where characters are held, a byte is one of ASCII
 abbrev pub IsHeldBy : Kind → Piece → Type 0
+IsHeldBy kind (Character c) = IsScalar c
 IsHeldBy kind (Byte b) = IsTrue (not (holds_characters kind) || nat_lt b 128)
-IsHeldBy kind _ = ⊤
+IsHeldBy kind Nothing = ⊤
+
+abbrev pub is_character : Piece → Bool
+is_character (Character c) = true
+is_character _ = false
+
+-- whether the unit at the front is a character whatever the kind holds: one that stands for itself, or
+-- that of \u
+abbrev pub is_character_at : Kind → List ℕ → Bool
+is_character_at kind [] = false
+is_character_at kind (c ∷ cs) =
+    if c == code "\\" then begins_char (code "u") cs else is_plain kind c
 
 infixl 10 ◌>>=◌
 abbrev pub ◌>>=◌ : {A B : Type 0} → Option A → (A → Option B) → Option B

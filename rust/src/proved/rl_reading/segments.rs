@@ -11,9 +11,10 @@ use crate::rl_text::text::{before, split_char};
 pub enum SegmentValue<'t> {
     /// Characters that stand for themselves, as many as stand side by side.
     Text(&'t str),
-    /// The character of an escape, or the LF of a line end of two characters.
+    /// The character of an escape, or the LF of a line end of two characters. Where the literal holds bytes, the character of
+    /// `\u{..}` alone.
     Char(char),
-    /// The byte of an escape, where the literal holds bytes.
+    /// The byte of any other escape, or that LF, where the literal holds bytes.
     Byte(u8),
     /// No byte: a backslash, a line end and the blanks after it.
     Nothing,

@@ -36,7 +36,7 @@ pub returns-clause-front : goal.returns-clause-front
 returns-clause-front c =
     unit_front _ _ _ _ _ _ c.if-plain.false (c.split_run.ensures.stops
     (no_length _ _ c.is_empty.ensures c.if-not-is_empty.false)) (sym c.in-Some.ensures.value)
-    c.in-Some.ensures.piece c.value_of.ensures.bytes c.value_of.ensures.other c.requires.has
+    c.in-Some.ensures.piece c.in-Some.ensures.character c.value_of.ensures.value c.value_of.ensures.other c.requires.has
 
 pub returns-clause-following : goal.returns-clause-following
 returns-clause-following c =

@@ -1,0 +1,12 @@
+-- A mirror of the code, for proofs alone: what a piece is as a segment.
+use Rattle.rl_forms.specs.declared.kind.Kind.{Kind}
+use Rattle.rl_reading.specs.declared.segments.SegmentValue.{SegmentValue}
+use Rattle.rl_reading.specs.declared.segments.SegmentValue.TheVariants.{Char, Nothing}
+use Rattle.rl_reading.specs.declared.units.Piece.{Piece}
+use Rattle.rl_reading.specs.declared.units.Piece.TheVariants.{Character, Byte as BytePiece, Nothing as NothingPiece}
+use Rattle.rl_reading.specs.Segments.{number_segment}
+
+abbrev pub piece_segment : Kind → Piece → SegmentValue
+piece_segment kind (Character c) = Char c
+piece_segment kind (BytePiece b) = number_segment kind b
+piece_segment kind NothingPiece = Nothing
