@@ -1,19 +1,18 @@
 """What the two sides answer, and which entry of docs/DIFFERENCES.md a difference belongs to."""
+import functools
 import re
 import struct
 import subprocess
 import sys
 import unicodedata
 
+import hiding
 import lexing
 
 LIMIT = 2**128 - 1
 BYTE_KINDS = 'byte kinds past ASCII, or with a lone quote, TAB, LF or CR'
 # The commands whose answer is lines up to a point.
 POINTED = ('read', 'spans', 'attr', 'source')
-# What rl_scan prints as escapes.
-HIDING = re.compile('[\0-\x1f\x7f-\x9f\xad\u034f\u061c\u115f\u1160\u17b4\u17b5\u180b-\u180f\u200b-\u200f\u2028-\u202e\u2060-\u206f\u3164'
-                    '\ufeff\uffa0\ufff0-\ufffb\U0001d173-\U0001d17a\U000e0000-\U000e0fff]')
 
 
 def lines_of(command, data):
@@ -186,9 +185,15 @@ def read_entry(text, their, our):
     return None
 
 
+@functools.cache
+def escaped():
+    """What rl_scan prints as escapes: control characters, and what turns or hides text."""
+    return re.compile('[\0-\x1f\x7f-\x9f%s]' % ''.join(sorted(hiding.hiding())))
+
+
 def visible(line):
     """The line as rl_scan prints it."""
-    return HIDING.sub(lambda it: '\\u{%x}' % ord(it[0]), line.decode()).encode()
+    return escaped().sub(lambda it: '\\u{%x}' % ord(it[0]), line.decode()).encode()
 
 
 def is_long_past(text):

@@ -15,8 +15,6 @@ import source_model
 import source_texts
 
 NOT_TEXT = b'error: input is not UTF-8'
-# What rl_scan prints as an escape: control characters, separators, and what Unicode lists as ignorable by default or formats
-# without a width, but for the variation selectors from FE00 on.
 # How many bytes of sources are asked about at once.
 AT_ONCE = 4_000_000
 PLACED = re.compile(rb'(\d+)\.\.(\d+) (.*)', re.S)

@@ -8,7 +8,7 @@ use Rattle.std.specs.List.{flat_map}
 
 -- The character turns the direction of text, or has no width: what Unicode lists as ignorable by
 -- default (but for the variation selectors from FE00 to FE0F, which choose a glyph), the separators of
--- lines and paragraphs, and what else formats without a width.
+-- lines and paragraphs, and the marks of annotations, FFF9 to FFFB.
 abbrev pub is_hiding : ℕ → Bool
 is_hiding c =
     (c == 0xAD) || (c == 0x34F) || (c == 0x61C)
@@ -20,6 +20,7 @@ is_hiding c =
     || (nat_le 0x2060 c && nat_le c 0x206F)
     || (c == 0x3164) || (c == 0xFEFF) || (c == 0xFFA0)
     || (nat_le 0xFFF0 c && nat_le c 0xFFFB)
+    || (nat_le 0x1BCA0 c && nat_le c 0x1BCA3)
     || (nat_le 0x1D173 c && nat_le c 0x1D17A)
     || (nat_le 0xE0000 c && nat_le c 0xE0FFF)
 

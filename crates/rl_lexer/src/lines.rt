@@ -1,10 +1,12 @@
 //! Lines and columns of places in a text.
 
-ghost use Rattle.std.specs.Prelude.{◌≡◌, ◌≤◌, ◌<◌, ◌+◌, ◌^◌, length};
+ghost use Rattle.std.specs.Prelude.{◌≡◌, ◌≤◌, ◌<◌, ◌+◌, ◌^◌, cond, length};
 ghost use Rattle.std.specs.Str.{chars};
 ghost use Rattle.rl_text.specs.Texts.{IsTail};
 ghost use Rattle.rl_lexer.specs.Lines.{next_place, place_after, BeginsAt};
+ghost use Rattle.rl_lexer.specs.Sources.{without_mark as unmarked};
 
+use crate::source::without_mark;
 use rl_text::text::split_char;
 use std::marker::Model;
 
@@ -54,8 +56,22 @@ fn place_after(place: LineColumn, text: &str) -> LineColumn
     at
 }
 
+/// What has columns of a text that is passed: at the front of the whole, not a byte order mark.
+fn with_columns(passed: &str, is_front: bool) -> &str
+    ensures columns { chars result.now
+        ≡ cond is_front (unmarked (chars passed.now)) (chars passed.now) }
+    ensures shorter { length result.now ≤ length passed.now }
+{
+    if is_front {
+        return without_mark(passed);
+    }
+    passed
+}
+
 /// The lines and columns of places in a text, from its front to its end. A place is named by the
 /// rest of the text that begins there, so a text is gone over once. It takes no memory.
+///
+/// A byte order mark at the text's front has no column: it counts as what follows it.
 #[derive(Drop)]
 pub struct Lines<'t> {
     text: &'t str,
@@ -94,7 +110,9 @@ impl<'t> Lines<'t> {
         ensures moved { self.new ≡ record { text = self.old.text; rest = rest.now } }
     {
         let passed = &self.rest[..self.rest.len() - rest.len()];
-        self.place = place_after(self.place, passed);
+        let is_front = self.rest.len() == self.text.len();
+        let counted = with_columns(passed, is_front);
+        self.place = place_after(self.place, counted);
         self.rest = rest;
         self.place
     }

@@ -42,7 +42,10 @@ const HELD: &str = "\"\\u{61}b\" b\"ab\" c\"\\x61b\" 'a' b'a'
 /// Characters that aren't seen, in literals and out of them.
 const HIDES: &str = "\"a\\u{202e}b\" \"a\u{202e}b\"
 '\u{200b}' r\"ä\u{feff}\" b\"\u{202e}\" // \"\u{202e}\"
-\"a\tb\" 1";
+\"a\tb\" 1 \"\u{fe0f}\" \"\u{1bca3}\"";
+
+/// A byte order mark at the front, which has no column, and one that has.
+const MARKED: &str = "\u{feff}\"a\" '\\q' 1\n\u{feff}2";
 
 /// What a file of the tree holds that is a text.
 fn text_at(path: &str) -> Option<&'static str> {
@@ -59,6 +62,8 @@ fn text_at(path: &str) -> Option<&'static str> {
         "held" => Some(HELD),
         "json" => Some(JSON),
         "hides" => Some(HIDES),
+        "marked" => Some(MARKED),
+        "marks" => Some("\u{feff}\u{feff}1"),
         "./.git/x.rs" => Some("4"),
         "./target/x.rs" => Some("5"),
         _ => None,

@@ -1,6 +1,7 @@
 // Rendered from crates/rl_lexer/src/lines.rt by tools/render, which erases contracts: change that file, and render anew.
 //! Lines and columns of places in a text.
 
+use crate::rl_lexer::source::without_mark;
 use crate::rl_text::text::split_char;
 
 /// A place in a text as compilers print it: the line and the column, both from 1. A column is
@@ -39,8 +40,18 @@ fn place_after(place: LineColumn, text: &str) -> LineColumn {
     at
 }
 
+/// What has columns of a text that is passed: at the front of the whole, not a byte order mark.
+fn with_columns(passed: &str, is_front: bool) -> &str {
+    if is_front {
+        return without_mark(passed);
+    }
+    passed
+}
+
 /// The lines and columns of places in a text, from its front to its end. A place is named by the
 /// rest of the text that begins there, so a text is gone over once. It takes no memory.
+///
+/// A byte order mark at the text's front has no column: it counts as what follows it.
 pub struct Lines<'t> {
     text: &'t str,
     rest: &'t str,
@@ -61,7 +72,9 @@ impl<'t> Lines<'t> {
     /// before.
     pub fn at(&mut self, rest: &'t str) -> LineColumn {
         let passed = &self.rest[..self.rest.len() - rest.len()];
-        self.place = place_after(self.place, passed);
+        let is_front = self.rest.len() == self.text.len();
+        let counted = with_columns(passed, is_front);
+        self.place = place_after(self.place, counted);
         self.rest = rest;
         self.place
     }

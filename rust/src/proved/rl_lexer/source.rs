@@ -200,7 +200,7 @@ pub(crate) fn without_preamble(text: &str) -> &str {
 }
 
 /// The text without a byte order mark at its front.
-fn without_mark(text: &str) -> &str {
+pub(crate) fn without_mark(text: &str) -> &str {
     match split_char(text) {
         Some(('\u{feff}', following)) => following,
         _ => text,
