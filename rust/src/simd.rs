@@ -136,7 +136,7 @@ mod tests {
                     every_lane::<N>();
                     let mut numbers = Numbers(seed);
                     for _ in 0..2000 {
-                        // What stands behind the lanes isn't looked at.
+                        // What stands after the lanes isn't looked at.
                         let (x, y) = (numbers.bytes(N + 3), numbers.bytes(N));
                         compares::<N>(&x, &y);
                         for byte in [0, 5, 100, 127, 128, 255] {
