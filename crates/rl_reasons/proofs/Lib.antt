@@ -32,3 +32,6 @@ pub mod FileNumbers
 pub mod FileUnits
 pub mod FileForms
 pub mod FilePlaces
+pub mod OneSignedFlaw
+pub mod OneFileFlaw
+pub mod BadQuoteReads
