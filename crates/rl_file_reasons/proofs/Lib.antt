@@ -5,3 +5,4 @@ pub mod FileNumbers
 pub mod FileUnits
 pub mod FileForms
 pub mod FilePlaces
+pub mod OneFileFlaw

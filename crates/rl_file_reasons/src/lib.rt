@@ -5,5 +5,6 @@
 mod file_flaws;
 mod file_units;
 mod file_walk;
+pub mod laws;
 
 pub use crate::file_flaws::{explain_in_file, explain_signed_value_in_file, explain_value_in_file};

@@ -25,3 +25,5 @@ pub mod ReadNumbers
 pub mod ReadQuoted
 pub mod ReadLemmas
 pub mod FrontLemmas
+pub mod OneSignedFlaw
+pub mod BadQuoteReads

@@ -5,11 +5,11 @@ use Rattle.rl_reasons.specs.declared.flaws.FlawKind.{FlawKind}
 use Rattle.rl_reasons.specs.declared.flaws.FlawKind.TheVariants.{BadSuffix, Empty, Minus, NoLiteral, Unfinished}
 use Rattle.rl_reading.specs.declared.quoted_forms.QuotedForm.{QuotedForm}
 use Rattle.rl_reading.specs.declared.quoted_forms.QuotedForm.TheVariants.{Cooked as CookedForm, Raw as RawForm, Single as SingleForm}
-use Rattle.rl_reasons.specs.Flaws.{StopsBefore, first_len, HasKind}
+use Rattle.rl_reasons.specs.Flaws.{StopsBefore, first_len, HasKind, IsPlaced}
 use Rattle.rl_reading.specs.Forms.{form_opener, has_form}
 use Rattle.rl_reasons.specs.OneFlaw.{HasOneFlaw}
 use Rattle.rl_reasons.specs.StrictFlawKinds.{HasStrictQuotedFlaw, StrictQuotedFlaw}
-use Rattle.rl_reasons.specs.StrictFlaws.{IsStrictFlawOf}
+use Rattle.rl_reasons.specs.StrictFlaws.{ExplainsStrictly, IsStrictFlawOf}
 use Rattle.rl_reasons.specs.StrictNumberFlaws.{BeginsWord, IsStrictNumberFlaw, IsStrictWordFlaw}
 use Rattle.rl_strict.specs.StrictShapes.{IsToken}
 use Rattle.rl_reading.specs.Mirrors.OpenerAt.{found_opener, opener_at}
@@ -164,7 +164,8 @@ front_opened k t front piece rest e q none =
 
 -- ---- numbers
 
-number_once : (k l : FlawKind) (front rest : List ℕ) → IsStrictNumberFlaw k front rest → IsStrictNumberFlaw l front rest
+pub number_once : (k l : FlawKind) (front rest : List ℕ) → IsStrictNumberFlaw k front rest
+    → IsStrictNumberFlaw l front rest
     → k ≡ l
 number_once BadSuffix BadSuffix front rest p q = refl
 number_once BadSuffix l front rest p q = absurd (p.2 l q)
@@ -216,7 +217,7 @@ no_digit (c ∷ cs) f = (or_parts (c == 45) (is_ascii_digit c) f.no_number).1
 
 -- ---- the kind and the piece
 
-kinds_once : (k l : FlawKind) (t pa pb rest : List ℕ) → StopsBefore IsToken t rest → IsStrictFlawOf k t pa rest
+pub kinds_once : (k l : FlawKind) (t pa pb rest : List ℕ) → StopsBefore IsToken t rest → IsStrictFlawOf k t pa rest
     → IsStrictFlawOf l t pb rest → (k ≡ l) × (pa ≡ pb)
 kinds_once k l t pa pb rest s p q = go p q
   where
@@ -256,15 +257,44 @@ kinds_once k l t pa pb rest s p q = go p q
 
 -- ---- one flaw
 
--- one flaw explains the text
-pub one_strict_flaw : (text : List ℕ) → HasOneFlaw text
-one_strict_flaw text a b p q =
-    let same = stops_once IsToken text p.place.rest q.place.rest p.place.stops q.place.stops in
+-- what a flaw says of a text, by any such words: where the text stops, and what the kind says of the piece and the rest
+pub record Explained (takes : List ℕ → Type 0) (says : FlawKind → List ℕ → List ℕ → Type 0) (text : List ℕ)
+    (flaw : Flaw) : Type 0 where
+  pub place : IsPlaced takes text flaw.lo flaw.hi
+  pub before : List ℕ
+  pub piece : List ℕ
+  pub text_is : text ≡ before ++ piece
+  pub from_is : flaw.from ≡ byte_len before
+  pub kind : says flaw.kind piece place.rest
+
+-- where one kind and one piece at most fit the place, one flaw explains the text
+pub explained_once : (takes : List ℕ → Type 0) (says : FlawKind → List ℕ → List ℕ → Type 0) (text : List ℕ)
+    → ((k l : FlawKind) (pa pb rest : List ℕ) → StopsBefore takes text rest → says k pa rest → says l pb rest
+    → (k ≡ l) × (pa ≡ pb)) → (a b : Flaw) → Explained takes says text a → Explained takes says text b → a ≡ b
+explained_once takes says text fits a b p q =
+    let same = stops_once takes text p.place.rest q.place.rest p.place.stops q.place.stops in
     let lo = p.place.lo_is ∙ ap byte_len same.0 ∙ sym q.place.lo_is in
     let hi = p.place.hi_is ∙ ap (λ z. z + first_len p.place.rest) lo ∙ ap (λ z. b.lo + first_len z) same.1
     ∙ sym q.place.hi_is in
-    let once = kinds_once a.kind b.kind text p.piece q.piece p.place.rest p.place.stops p.kind
-    (subst (IsStrictFlawOf b.kind text q.piece) (sym same.1) q.kind) in
+    let once = fits a.kind b.kind p.piece q.piece p.place.rest p.place.stops p.kind
+    (subst (says b.kind q.piece) (sym same.1) q.kind) in
     let before = append_cancel_right p.before q.before q.piece
     (ap (λ z. p.before ++ z) (sym once.1) ∙ sym p.text_is ∙ q.text_is) in
     flaw_same a b once.0 (p.from_is ∙ ap byte_len before ∙ sym q.from_is) lo hi
+
+-- one flaw explains why the text is no token
+pub one_strict_flaw : (text : List ℕ) → HasOneFlaw text
+one_strict_flaw text a b p q =
+    explained_once IsToken (λ k piece rest. IsStrictFlawOf k text piece rest) text
+    (λ k l pa pb rest s. kinds_once k l text pa pb rest s) a b (of a p) (of b q)
+  where
+    of : (flaw : Flaw) → ExplainsStrictly text flaw
+        → Explained IsToken (λ k piece rest. IsStrictFlawOf k text piece rest) text flaw
+    of flaw x = record {
+      place = x.place;
+      before = x.before;
+      piece = x.piece;
+      text_is = x.text_is;
+      from_is = x.from_is;
+      kind = x.kind;
+    }

@@ -63,7 +63,7 @@ no_digit t flaw n same = subst (AfterMinus t) (sym same) (no_digit_flaw t n)
 -- ---- without a minus
 
 -- what begins with no minus is signed where it is a token
-unsigned : (t : List ℕ) → first_passes (λ c. c == 45) t ≡ false → IsSignedToken t → IsToken t
+pub unsigned : (t : List ℕ) → first_passes (λ c. c == 45) t ≡ false → IsSignedToken t → IsToken t
 unsigned t n (inl c) = c
 unsigned t n (inr (m, e, d, c)) = absurd (both_ways (first_passes (λ c. c == 45) t) n
     (ap (first_passes (λ c. c == 45)) e))

@@ -1,0 +1,5 @@
+use Rattle.rl_file_reasons.proofs.OneFileFlaw.{file_once}
+use Rattle.rl_file_reasons.proofs.laws.a_text_in_a_file_has_one_flaw.Goals as goal
+
+pub returns : goal.returns
+returns c = file_once
