@@ -1,5 +1,5 @@
 -- A text in a file has one flaw at most: a place as it is read is one place of the text.
-use Rattle.rl_text.proofs.Common.{◌≡◌, ℕ, ◌+◌, ◌<◌, ◌==◌, Bool, false, true, not, List, [], ◌∷◌, ◌++◌, length, refl, sym, ap, subst, ◌∙◌, inl, inr, arith}
+use Rattle.rl_text.proofs.Common.{◌≡◌, ℕ, ◌<◌, ◌==◌, Bool, false, true, not, List, [], ◌∷◌, ◌++◌, length, refl, sym, ap, subst, ◌∙◌, inl, inr, arith}
 use Rattle.std.proofs.Math.Bool.{and-false}
 use Rattle.std.proofs.lemmas.Str.{length-le-encodes}
 use Rattle.rl_reading.proofs.Names.{byte_len, first_passes}
