@@ -27,7 +27,7 @@ pub struct Source<'t> {
 /// `''`, `'ab'`, `b'hello'`, and `'1a`. It has no reading either. [`Source::following_lines`] says where to go on after an error.
 ///
 /// Two texts are judged otherwise than by rustc. In `'\n\''` a quote follows two escapes: to rustc all of it is one bad
-/// literal, here `'\n\'` is one, and the last quote isn't closed. A CR in the white space behind an escaped line end (`"a\`, LF,
+/// literal, here `'\n\'` is one, and the last quote isn't closed. A CR in the white space after an escaped line end (`"a\`, LF,
 /// CR, `b"`), which rustc takes, [`Lit::check`] rejects.
 ///
 /// ```
