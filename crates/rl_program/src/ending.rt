@@ -4,6 +4,8 @@ ghost use Rattle.std.specs.Prelude.{◌≡◌, ℕ};
 ghost use Rattle.std.specs.Process.{exit_status};
 ghost use Rattle.rl_program.specs.Endings.{ending_line, status_of};
 
+use std::alloc::AllocError;
+use std::io::ErrorKind;
 use std::process::ExitCode;
 use std::{env, fmt};
 
@@ -63,11 +65,18 @@ impl<E: fmt::Display> fmt::Display for Ending<E> {
     }
 }
 
-/// The program's arguments, its own name the first; none where they can't be had.
-pub fn arguments(rt: &HostRuntime) -> Vec<String> {
+/// The program's arguments, its own name the first; none where one isn't UTF-8.
+///
+/// # Errors
+///
+/// An allocation failure.
+pub fn arguments(rt: &HostRuntime) -> Result<Vec<String>, AllocError> {
     match env::args(rt) {
-        Ok(args) => args.collect(rt.alloc()).unwrap_or(Vec::new(rt.alloc())),
-        Err(_) => Vec::new(rt.alloc()),
+        Ok(args) => args.collect(rt.alloc()),
+        Err(error) => match error.kind() {
+            ErrorKind::OutOfMemory => Err(AllocError),
+            _ => Ok(Vec::new(rt.alloc())),
+        },
     }
 }
 

@@ -55,6 +55,11 @@ IsUnwritten Closed = ⊤
 IsUnwritten (Failed Write) = ⊤
 IsUnwritten _ = ⊥
 
+-- the call ends with the error that memory ran out
+abbrev pub EndsWithoutMemory : {B : Type 0} → Ending (CallError B) → Type 0
+EndsWithoutMemory (Failed error) = call_error_line error ≡ codes "rl_scan: out of memory"
+EndsWithoutMemory _ = ⊥
+
 -- how the writing of a text ends
 abbrev pub EndsText : {B : Type 0} → List ℕ → Option (List ℕ) → Option (List ℕ) → Ending (CallError B) → Type 0
 EndsText text old new Done = Appends old new text

@@ -3,7 +3,7 @@
 ghost use Rattle.std.specs.Prelude.{◌≡◌, List, ℕ, IfOk, IfSome, string_bytes};
 ghost use Rattle.rl_files.specs.Trees.{string_texts};
 ghost use Rattle.rl_files.specs.Walks.{Spot, given_spots};
-ghost use Rattle.rl_reports.specs.Endings.{paths_read, EndsAsScan, EndsAsked, EndsRun, EndsText, IsUnwritten};
+ghost use Rattle.rl_reports.specs.Endings.{paths_read, EndsAsScan, EndsAsked, EndsRun, EndsText, EndsWithoutMemory, IsUnwritten};
 ghost use Rattle.rl_reports.specs.Runs.{asked_status};
 ghost use Rattle.rl_reports.specs.Words.{wishes_in};
 
@@ -50,7 +50,7 @@ pub const VERSION: &str = "rl_scan 1.0.0\n";
 /// Why a call fails.
 #[derive(Drop)]
 pub enum CallError<A: Allocator = Global> {
-    /// The arguments can't be had: one isn't UTF-8, or an allocation failed.
+    /// The arguments can't be had: one isn't UTF-8.
     NoArguments,
     /// A word of the command line can't be asked for.
     Word(WordError<A>),
@@ -187,6 +187,14 @@ fn answer<A: Allocator + Copy, T: Tree, W: Write, E: Write>(
             Err(_) => Ending::Failed(CallError::Walk(WalkError::OutOfMemory)),
         },
     }
+}
+
+/// How a call ends whose arguments can't be had, since an allocation failed.
+pub fn out_of_memory<A: Allocator>() -> Ending<CallError<A>>
+    ensures { EndsWithoutMemory result }
+{
+    let error = CallError::Walk(WalkError::OutOfMemory);
+    Ending::Failed(error)
 }
 
 /// A call of the program with these arguments, its own name the first.

@@ -9,7 +9,7 @@ mod runs;
 mod words;
 
 pub use crate::command::{Command, Console, Output, PlaceForm, Wish};
-pub use crate::ending::{CallError, HELP, VERSION, call};
+pub use crate::ending::{CallError, HELP, VERSION, call, out_of_memory};
 pub use crate::report::{Report, report_of};
 pub use crate::runs::{RunStop, Tally, run};
 pub use crate::words::WordError;

@@ -4,7 +4,8 @@
 
 use rl_files::Host;
 use rl_program::{arguments, finish};
-use rl_reports::{Console, call};
+use rl_reports::{Console, call, out_of_memory};
+use std::alloc::Global;
 use std::env;
 use std::env::VarError;
 use std::io::IsTerminal;
@@ -35,7 +36,9 @@ fn console(rt: &HostRuntime) -> Console {
 }
 
 fn main(rt: HostRuntime) -> ExitCode {
-    let args = arguments(&rt);
+    let Ok(args) = arguments(&rt) else {
+        return finish(&rt, out_of_memory::<Global>());
+    };
     let ending = call(
         rt.alloc(),
         args.as_slice(),

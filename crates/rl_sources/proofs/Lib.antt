@@ -3,6 +3,7 @@ pub mod OptionLemmas
 pub mod StepLemmas
 pub mod HeldLemmas
 pub mod HeldPlaces
+pub mod SearchLemmas
 pub mod ReasonLemmas
 pub mod ColorLemmas
 pub mod HiddenLemmas

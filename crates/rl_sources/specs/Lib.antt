@@ -6,5 +6,6 @@ pub mod Scans
 pub mod Steps
 pub mod ScanErrors
 pub mod Held
+pub mod Searches
 pub mod JsonStrings
 pub mod Json

@@ -1,6 +1,6 @@
 //! Where a text stands in what a literal stands for.
 
-ghost use Rattle.std.specs.Prelude.{◌≡◌, ◌⊎◌, ◌+◌, ◌-◌, ◌≤◌, ℕ, length, IfNone, IfOk, IfSome, IsFalse, IsTrue, MatchOption, string_bytes};
+ghost use Rattle.std.specs.Prelude.{◌≡◌, ◌⊎◌, ◌+◌, ◌-◌, ◌≤◌, length, IfNone, IfOk, IfSome, IsFalse, IsTrue, MatchOption, string_bytes};
 ghost use Rattle.std.specs.Str.{chars, IsCharBoundary};
 ghost use Rattle.rl_text.specs.Texts.{byte_len};
 ghost use Rattle.rl_forms.specs.Quoted.{is_string, is_single};
@@ -8,25 +8,13 @@ ghost use Rattle.rl_forms.specs.declared.kind.Kind.TheVariants.{Str, ByteStr, CS
 ghost use Rattle.rl_forms.specs.Reading.{HasNoReading};
 ghost use Rattle.rl_reading.specs.Founds.{IsFound, is_quoted};
 ghost use Rattle.rl_reading.specs.Segments.{IsBytePlace, IsByteEnd};
-ghost use Rattle.rl_sources.specs.Held.{AreContentsOf, Holds, IsCutAt, IsHeldAt, StandsFirst, StandsFrom};
+ghost use Rattle.rl_sources.specs.Held.{AreContentsOf, Holds, IsCutAt, IsHeldAt};
 
+use crate::search::first_in;
 use rl_forms::Kind;
 use rl_fronts::{bytes_of_body, str_of_body};
 use rl_reading::Found;
 use std::alloc::{AllocError, Allocator};
-
-/// Where bytes that are looked for stand first among others.
-fn first_in(bytes: &[u8], sought: &[u8]) -> Option<usize>
-    ensures some { IfSome result (StandsFirst sought.now bytes.now) }
-    ensures none { IfNone result ((at : ℕ) → StandsFrom sought.now bytes.now at → ⊥) }
-{
-    for at in 0..=bytes.len() {
-        if bytes[at..].starts_with(sought) {
-            return Some(at);
-        }
-    }
-    None
-}
 
 /// The contents of the string that was found in the text.
 fn str_contents<A: Allocator>(alloc: A, text: &str, found: &Found) -> Result<Vec<u8, A>, AllocError>
@@ -120,7 +108,7 @@ fn range_of(text: &str, found: &Found, first: usize, last: usize) -> (usize, usi
 
 /// Which bytes of a text, in which this was found, give the text that is looked for, where the contents hold that first:
 /// `None` where they don't hold it.
-pub(crate) fn held_at<A: Allocator>(
+pub(crate) fn held_at<A: Allocator + Copy>(
     alloc: A,
     text: &str,
     found: Option<Found>,
@@ -140,7 +128,7 @@ pub(crate) fn held_at<A: Allocator>(
     let Some(contents) = contents_of(alloc, text, &found)? else {
         return Ok(None);
     };
-    let Some(at) = first_in(contents.as_slice(), sought.as_bytes()) else {
+    let Some(at) = first_in(alloc, contents.as_slice(), sought.as_bytes())? else {
         return Ok(None);
     };
     let last = at + sought.len().saturating_sub(1);

@@ -6,7 +6,7 @@ use rl_program::{arguments, finish};
 use std::process::ExitCode;
 
 fn main(rt: HostRuntime) -> ExitCode {
-    let args = arguments(&rt);
+    let args = arguments(&rt).unwrap_or(Vec::new(rt.alloc()));
     let ending = call(
         rt.alloc(),
         args.as_slice(),

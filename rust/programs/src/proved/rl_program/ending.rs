@@ -2,6 +2,8 @@
 //! How a program begins and ends.
 
 use crate::rattle_std::prelude::{Drop, Eprint, HostRuntime, String, Vec};
+use crate::rattle_std::alloc::AllocError;
+use crate::rattle_std::io::ErrorKind;
 use crate::rattle_std::process::ExitCode;
 use crate::rattle_std::{env, fmt};
 
@@ -53,11 +55,18 @@ impl<E: fmt::Display> fmt::Display for Ending<E> {
     }
 }
 
-/// The program's arguments, its own name the first; none where they can't be had.
-pub fn arguments(rt: &HostRuntime) -> Vec<String> {
+/// The program's arguments, its own name the first; none where one isn't UTF-8.
+///
+/// # Errors
+///
+/// An allocation failure.
+pub fn arguments(rt: &HostRuntime) -> Result<Vec<String>, AllocError> {
     match env::args(rt) {
-        Ok(args) => args.collect(rt.alloc()).unwrap_or(Vec::new(rt.alloc())),
-        Err(_) => Vec::new(rt.alloc()),
+        Ok(args) => args.collect(rt.alloc()),
+        Err(error) => match error.kind() {
+            ErrorKind::OutOfMemory => Err(AllocError),
+            _ => Ok(Vec::new(rt.alloc())),
+        },
     }
 }
 

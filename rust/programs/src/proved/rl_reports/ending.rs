@@ -44,7 +44,7 @@ pub const VERSION: &str = "rl_scan 1.0.0\n";
 
 /// Why a call fails.
 pub enum CallError<A: Allocator = Global> {
-    /// The arguments can't be had: one isn't UTF-8, or an allocation failed.
+    /// The arguments can't be had: one isn't UTF-8.
     NoArguments,
     /// A word of the command line can't be asked for.
     Word(WordError<A>),
@@ -150,6 +150,12 @@ fn answer<A: Allocator + Copy, T: Tree, W: Write, E: Write>(
             Err(_) => Ending::Failed(CallError::Walk(WalkError::OutOfMemory)),
         },
     }
+}
+
+/// How a call ends whose arguments can't be had, since an allocation failed.
+pub fn out_of_memory<A: Allocator>() -> Ending<CallError<A>> {
+    let error = CallError::Walk(WalkError::OutOfMemory);
+    Ending::Failed(error)
 }
 
 /// A call of the program with these arguments, its own name the first.

@@ -9,7 +9,7 @@ mod runs;
 mod words;
 
 pub use crate::rl_reports::command::{Command, Console, Output, PlaceForm, Wish};
-pub use crate::rl_reports::ending::{CallError, HELP, VERSION, call};
+pub use crate::rl_reports::ending::{CallError, HELP, VERSION, call, out_of_memory};
 pub use crate::rl_reports::report::{Report, report_of};
 pub use crate::rl_reports::runs::{RunStop, Tally, run};
 pub use crate::rl_reports::words::WordError;

@@ -5,7 +5,8 @@
 use crate::rattle_std::prelude::{HostRuntime};
 use crate::rl_files::Host;
 use crate::rl_program::{arguments, finish};
-use crate::rl_reports::{Console, call};
+use crate::rl_reports::{Console, call, out_of_memory};
+use crate::rattle_std::alloc::Global;
 use crate::rattle_std::env;
 use crate::rattle_std::env::VarError;
 use crate::rattle_std::io::IsTerminal;
@@ -36,7 +37,9 @@ fn console(rt: &HostRuntime) -> Console {
 }
 
 pub fn main(rt: HostRuntime) -> ExitCode {
-    let args = arguments(&rt);
+    let Ok(args) = arguments(&rt) else {
+        return finish(&rt, out_of_memory::<Global>());
+    };
     let ending = call(
         rt.alloc(),
         args.as_slice(),

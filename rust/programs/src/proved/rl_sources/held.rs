@@ -2,20 +2,11 @@
 //! Where a text stands in what a literal stands for.
 
 use crate::rattle_std::prelude::{String, Vec};
+use crate::rl_sources::search::first_in;
 use crate::rl_forms::Kind;
 use crate::rl_fronts::{bytes_of_body, str_of_body};
 use crate::rl_reading::Found;
 use crate::rattle_std::alloc::{AllocError, Allocator};
-
-/// Where bytes that are looked for stand first among others.
-fn first_in(bytes: &[u8], sought: &[u8]) -> Option<usize> {
-    for at in 0..=bytes.len() {
-        if bytes[at..].starts_with(sought) {
-            return Some(at);
-        }
-    }
-    None
-}
 
 /// The contents of the string that was found in the text.
 fn str_contents<A: Allocator>(alloc: A, text: &str, found: &Found) -> Result<Vec<u8, A>, AllocError> {
@@ -84,7 +75,7 @@ fn range_of(text: &str, found: &Found, first: usize, last: usize) -> (usize, usi
 
 /// Which bytes of a text, in which this was found, give the text that is looked for, where the contents hold that first:
 /// `None` where they don't hold it.
-pub(crate) fn held_at<A: Allocator>(
+pub(crate) fn held_at<A: Allocator + Copy>(
     alloc: A,
     text: &str,
     found: Option<Found>,
@@ -96,7 +87,7 @@ pub(crate) fn held_at<A: Allocator>(
     let Some(contents) = contents_of(alloc, text, &found)? else {
         return Ok(None);
     };
-    let Some(at) = first_in(contents.as_slice(), sought.as_bytes()) else {
+    let Some(at) = first_in(alloc, contents.as_slice(), sought.as_bytes())? else {
         return Ok(None);
     };
     let last = at + sought.len().saturating_sub(1);

@@ -14,6 +14,7 @@ mod place;
 mod reason;
 mod scan_error;
 mod scanner;
+mod search;
 mod step;
 
 pub use crate::rl_sources::color::{Paint, push_painted};

@@ -1,0 +1,307 @@
+-- A search by borders.
+use Rattle.std.proofs.Common.{◌≡◌, ◌≢◌, ℕ, zero, suc, ◌+◌, ◌-◌, ◌<◌, ◌≤◌, ◌==◌, true, List, [], ◌∷◌, ◌++◌, length, length-append, get_or, take, drop, refl, sym, ap, subst, ◌∙◌, arith, inl, inr, ◌⊎◌}
+use Rattle.std.proofs.lemmas.Bool.{and_parts, and_from, eqb-true, eq-eqb, cases_lt}
+use Rattle.std.proofs.lemmas.Bool.{false≢true}
+use Rattle.std.proofs.Common.{length-drop}
+use Rattle.std.proofs.lemmas.List.{get_or-drop, get_or_append_left, get_or_at}
+use lib.Pointwise.{pointwise}
+use Rattle.rl_sources.specs.Held.{StandsFirst, StandsFrom}
+use Rattle.rl_sources.specs.Searches.{Agrees, AreBorders, IsLongestBorder, IsShift}
+
+-- ---- what agrees
+
+fewer : (sought bytes : List ℕ) (at count less : ℕ) → less ≤ count → Agrees sought bytes at count
+    → Agrees sought bytes at less
+fewer sought bytes at count less h agrees i low = agrees i (omega arith)
+
+one_more : (sought bytes : List ℕ) (at count : ℕ) → Agrees sought bytes at count
+    → get_or sought count 0 ≡ get_or bytes (at + count) 0 → Agrees sought bytes at (count + 1)
+one_more sought bytes at count agrees same i low = go (cases_lt i count)
+  where
+    go : (i < count) ⊎ (count ≤ i) → get_or sought i 0 ≡ get_or bytes (at + i) 0
+    go (inl h) = agrees i h
+    go (inr h) =
+        let e : count ≡ i = omega arith in
+        subst (λ (k : ℕ). get_or sought k 0 ≡ get_or bytes (at + k) 0) e same
+
+-- a border of what agrees agrees further on
+agree_twice : (sought bytes : List ℕ) (at held by kept : ℕ) → Agrees sought bytes at held
+    → ((i : ℕ) → i < kept → by + i < held) → Agrees sought sought by kept → Agrees sought bytes (at + by) kept
+agree_twice sought bytes at held by kept agrees ends border i low =
+    border i low ∙ agrees (by + i) (ends i low)
+    ∙ ap (λ (k : ℕ). get_or bytes k 0) (let e : at + (by + i) ≡ at + by + i = omega arith in e)
+
+-- where it agrees in two places, a beginning of it stands in it
+agree_between : (sought bytes : List ℕ) (at held by more : ℕ) → Agrees sought bytes at held → by + more ≤ held
+    → Agrees sought bytes (at + by) more → Agrees sought sought by more
+agree_between sought bytes at held by more agrees within later i low =
+    later i low ∙ ap (λ (k : ℕ). get_or bytes k 0) (let e : at + by + i ≡ at + (by + i) = omega arith in e)
+    ∙ sym (agrees (by + i) (omega arith))
+
+-- ---- what stands somewhere agrees there
+
+stands_there : (sought bytes : List ℕ) → pointwise ◌==◌ sought (take (length sought) bytes) ≡ true
+    → (length sought ≤ length bytes) × ((i : ℕ) → i < length sought → get_or sought i 0 ≡ get_or bytes i 0)
+stands_there [] bytes h = (omega arith, λ i low. absurd (omega arith))
+stands_there (c ∷ cs) [] h = absurd (false≢true h)
+stands_there (c ∷ cs) (b ∷ bs) h =
+    let parts = and_parts _ _ h in
+    let rest = stands_there cs bs parts.1 in
+    (omega (arith, rest.0), go parts.0 rest.1)
+  where
+    go : (c == b) ≡ true → ((i : ℕ) → i < length cs → get_or cs i 0 ≡ get_or bs i 0) → (i : ℕ) → i < suc (length cs)
+        → get_or (c ∷ cs) i 0 ≡ get_or (b ∷ bs) i 0
+    go first rest zero low = eqb-true c b first
+    go first rest (suc i) low = rest i (omega arith)
+
+there_stands : (sought bytes : List ℕ) → length sought ≤ length bytes
+    → ((i : ℕ) → i < length sought → get_or sought i 0 ≡ get_or bytes i 0)
+    → pointwise ◌==◌ sought (take (length sought) bytes) ≡ true
+there_stands [] bytes fits same = refl
+there_stands (c ∷ cs) [] fits same = absurd (omega arith)
+there_stands (c ∷ cs) (b ∷ bs) fits same =
+    and_from _ _ (eq-eqb c b (same 0 (omega arith))) (there_stands cs bs (omega arith)
+    (λ i low. same (suc i) (omega arith)))
+
+pub stands_agrees : (sought bytes : List ℕ) (at : ℕ) → StandsFrom sought bytes at
+    → (at + length sought ≤ length bytes) × Agrees sought bytes at (length sought)
+stands_agrees sought bytes at stands =
+    let there = stands_there sought (drop at bytes) stands.1 in
+    let within : at ≤ length bytes = stands.0 in
+    (omega (arith, length-drop at bytes, there.0), λ i low. there.1 i low ∙ get_or-drop at bytes i 0)
+
+pub agrees_stands : (sought bytes : List ℕ) (at : ℕ) → at + length sought ≤ length bytes
+    → Agrees sought bytes at (length sought) → StandsFrom sought bytes at
+agrees_stands sought bytes at fits agrees = (
+  omega arith,
+  there_stands sought (drop at bytes) (omega (arith, length-drop at bytes))
+      (λ i low. agrees i low ∙ sym (get_or-drop at bytes i 0)),
+)
+
+-- ---- the longest border
+
+pub border_of_one : (bytes : List ℕ) → IsLongestBorder bytes 1 0
+border_of_one bytes = record {
+  from = 1;
+  later = omega arith;
+  ends = refl;
+  agrees = λ i low. absurd (omega arith);
+  longest = λ at more low high ends same. absurd (omega arith);
+}
+
+-- A border of the first `last` bytes: with the byte at `last` no longer one goes on.
+pub record IsTriedBorder (bytes : List ℕ) (last count : ℕ) : Type 0 where
+  pub from : ℕ
+  pub later : 0 < from
+  pub ends : from + count ≡ last
+  pub agrees : Agrees bytes bytes from count
+  pub none : (at more : ℕ) → 0 < at → at < from → at + more ≡ last → Agrees bytes bytes at more
+      → get_or bytes more 0 ≡ get_or bytes last 0 → ⊥
+
+pub first_tried : (bytes : List ℕ) (last count : ℕ) → IsLongestBorder bytes last count → IsTriedBorder bytes last count
+first_tried bytes last count border = record {
+  from = border.from;
+  later = border.later;
+  ends = border.ends;
+  agrees = border.agrees;
+  none = λ at more low high ends same goes. border.longest at more low high ends same;
+}
+
+tried_none : (bytes : List ℕ) (last count kept : ℕ) (t : IsTriedBorder bytes last count)
+    → get_or bytes count 0 ≢ get_or bytes last 0 → (b : IsLongestBorder bytes count kept) → (at more : ℕ) → 0 < at
+    → at < t.from + b.from → at + more ≡ last → Agrees bytes bytes at more → get_or bytes more 0 ≡ get_or bytes last 0
+    → ⊥
+tried_none bytes last count kept t differs b at more low high ends same goes = go (cases_lt at t.from)
+  where
+    beyond : (t.from < at) ⊎ (at ≤ t.from) → t.from ≤ at → ⊥
+    beyond (inl h) above =
+        let by : ℕ = at - t.from in
+        let at_is : t.from + by ≡ at = omega arith in
+        let by_ends : by + more ≡ count = omega (arith, t.ends, ends) in
+        b.longest by more (omega arith) (omega (arith, high)) by_ends
+        (agree_between bytes bytes t.from count by more t.agrees (omega (arith, by_ends))
+        (subst (λ (k : ℕ). Agrees bytes bytes k more) (sym at_is) same))
+    beyond (inr h) above =
+        let e : more ≡ count = omega (arith, t.ends, ends) in
+        differs (ap (λ (k : ℕ). get_or bytes k 0) (sym e) ∙ goes)
+
+    go : (at < t.from) ⊎ (t.from ≤ at) → ⊥
+    go (inl h) = t.none at more low h ends same goes
+    go (inr h) = beyond (cases_lt t.from at) h
+
+pub next_tried : (bytes : List ℕ) (last count kept : ℕ) → IsTriedBorder bytes last count
+    → get_or bytes count 0 ≢ get_or bytes last 0 → IsLongestBorder bytes count kept → IsTriedBorder bytes last kept
+next_tried bytes last count kept t differs b = record {
+  from = t.from + b.from;
+  later = omega (arith, t.later);
+  ends = omega (arith, t.ends, b.ends);
+  agrees = agree_twice bytes bytes t.from count b.from kept t.agrees (λ i low. omega (arith, b.ends)) b.agrees;
+  none = tried_none bytes last count kept t differs b;
+}
+
+-- the byte at `last` goes on with one
+pub border_goes_on : (bytes : List ℕ) (last count : ℕ) → IsTriedBorder bytes last count
+    → get_or bytes count 0 ≡ get_or bytes last 0 → IsLongestBorder bytes (last + 1) (count + 1)
+border_goes_on bytes last count t same = record {
+  from = t.from;
+  later = t.later;
+  ends = omega (arith, t.ends);
+  agrees = one_more bytes bytes t.from count t.agrees (same ∙ ap (λ (k : ℕ). get_or bytes k 0) (sym t.ends));
+  longest = none_longer t.from t.none (omega (arith, t.ends));
+}
+  where
+    none_longer : (from : ℕ) → ((at more : ℕ) → 0 < at → at < from → at + more ≡ last → Agrees bytes bytes at more
+        → get_or bytes more 0 ≡ get_or bytes last 0 → ⊥) → from ≤ last → (at more : ℕ) → 0 < at → at < from
+        → at + more ≡ last + 1 → Agrees bytes bytes at more → ⊥
+    none_longer from none within at more low high ends agrees =
+        let less : ℕ = last - at in
+        let less_ends : at + less ≡ last = omega arith in
+        let more_is : more ≡ less + 1 = omega arith in
+        none at less low high less_ends (fewer bytes bytes at more less (omega arith) agrees)
+        (agrees less (omega arith) ∙ ap (λ (k : ℕ). get_or bytes k 0) less_ends)
+
+-- it goes on with none
+pub no_border : (bytes : List ℕ) (last : ℕ) → IsTriedBorder bytes last 0 → get_or bytes 0 0 ≢ get_or bytes last 0
+    → IsLongestBorder bytes (last + 1) 0
+no_border bytes last t differs = record {
+  from = last + 1;
+  later = omega arith;
+  ends = omega arith;
+  agrees = λ i low. absurd (omega arith);
+  longest = none;
+}
+  where
+    none : (at more : ℕ) → 0 < at → at < last + 1 → at + more ≡ last + 1 → Agrees bytes bytes at more → ⊥
+    none at more low high ends agrees = go (cases_lt at last)
+      where
+        go : (at < last) ⊎ (last ≤ at) → ⊥
+        go (inl h) =
+            let less : ℕ = last - at in
+            let less_ends : at + less ≡ last = omega arith in
+            t.none at less low (omega (arith, t.ends)) less_ends (fewer bytes bytes at more less (omega arith) agrees)
+            (agrees less (omega arith) ∙ ap (λ (k : ℕ). get_or bytes k 0) less_ends)
+        go (inr h) =
+            differs (agrees 0 (omega arith) ∙ ap (λ (k : ℕ). get_or bytes k 0)
+            (let e : at + 0 ≡ last = omega arith in e))
+
+pub no_border_at : (bytes : List ℕ) (last count : ℕ) → count ≡ 0 → IsTriedBorder bytes last count
+    → get_or bytes count 0 ≢ get_or bytes last 0 → IsLongestBorder bytes (last + 1) 0
+no_border_at bytes last count none t differs =
+    no_border bytes last (subst (λ (k : ℕ). IsTriedBorder bytes last k) none t)
+    (λ same. differs (ap (λ (k : ℕ). get_or bytes k 0) none ∙ same))
+
+-- the border of so many bytes, among those that are known
+pub border_before : (bytes borders : List ℕ) (known count : ℕ) → AreBorders bytes known borders → 0 < count
+    → count ≤ known → IsLongestBorder bytes count (get_or borders (count - 1) 0)
+border_before bytes borders known count are some within =
+    let e : count - 1 + 1 ≡ count = omega arith in
+    subst (λ (n : ℕ). IsLongestBorder bytes n (get_or borders (count - 1) 0)) e (are.1 (count - 1) (omega arith))
+
+-- one more is known
+pub borders_more : (bytes borders : List ℕ) (count border : ℕ) → AreBorders bytes count borders
+    → IsLongestBorder bytes (count + 1) border → AreBorders bytes (count + 1) (borders ++ border ∷ [])
+borders_more bytes borders count border (long, are) is = (omega (arith, length-append borders (border ∷ []), long), at)
+  where
+    at : (k : ℕ) → k < count + 1 → IsLongestBorder bytes (k + 1) (get_or (borders ++ border ∷ []) k 0)
+    at k low = go (cases_lt k count)
+      where
+        go : (k < count) ⊎ (count ≤ k) → IsLongestBorder bytes (k + 1) (get_or (borders ++ border ∷ []) k 0)
+        go (inl h) = rw (get_or_append_left borders (border ∷ []) 0 k (omega (arith, long))) (are k h)
+        go (inr h) =
+            let same : k ≡ count = omega arith in
+            let long_is : length borders ≡ k = omega (arith, long) in
+            rw (get_or_at borders border [] 0 k long_is) (subst (λ (n : ℕ). IsLongestBorder bytes (n + 1) border)
+            (sym same) is)
+
+-- ---- how far to go on
+
+pub shift_of_none : (sought : List ℕ) → IsShift sought 0 1 0
+shift_of_none sought = record {
+  moves = omega arith;
+  within = omega arith;
+  ends = λ i low. absurd (omega arith);
+  agrees = λ i low. absurd (omega arith);
+  none = λ at more low high ends same. absurd (omega arith);
+}
+
+pub shift_by_border : (sought : List ℕ) (held kept : ℕ) → IsLongestBorder sought held kept
+    → IsShift sought held (held - kept) kept
+shift_by_border sought held kept b =
+    let by_is : held - kept ≡ b.from = omega (arith, b.ends) in
+    subst (λ (by : ℕ). IsShift sought held by kept) (sym by_is) (record {
+      moves = b.later;
+      within = omega (arith, b.ends);
+      ends = λ i low. omega (arith, b.ends);
+      agrees = b.agrees;
+      none = b.longest;
+    })
+
+-- ---- the search
+
+-- What is looked for stands at no place before this one, where so many of its bytes agree.
+pub record IsSearchedTo (sought bytes : List ℕ) (at held : ℕ) : Type 0 where
+  pub within : at ≤ length bytes
+  pub held_within : held ≤ length sought
+  pub agrees : Agrees sought bytes at held
+  pub none : (other : ℕ) → other < at → StandsFrom sought bytes other → ⊥
+
+pub search_begins : (sought bytes : List ℕ) → IsSearchedTo sought bytes 0 0
+search_begins sought bytes = record {
+  within = omega arith;
+  held_within = omega arith;
+  agrees = λ i low. absurd (omega arith);
+  none = λ other low. absurd (omega arith);
+}
+
+pub search_goes_on : (sought bytes : List ℕ) (at held count by kept : ℕ) → IsSearchedTo sought bytes at held
+    → at + length sought ≤ length bytes → count < length sought → Agrees sought bytes at count
+    → get_or sought count 0 ≢ get_or bytes (at + count) 0 → IsShift sought count by kept
+    → IsSearchedTo sought bytes (at + by) kept
+search_goes_on sought bytes at held count by kept before fits short agrees differs shift = record {
+  within = omega (arith, shift.within);
+  held_within = kept_within (cases_lt 0 kept);
+  agrees = agree_twice sought bytes at count by kept agrees shift.ends shift.agrees;
+  none = none;
+}
+  where
+    kept_within : (0 < kept) ⊎ (kept ≤ 0) → kept ≤ length sought
+    kept_within (inl h) = omega (arith, shift.ends (kept - 1) (omega arith))
+    kept_within (inr h) = omega arith
+
+    none : (other : ℕ) → other < at + by → StandsFrom sought bytes other → ⊥
+    none other low stands = go (cases_lt other at)
+      where
+        go : (other < at) ⊎ (at ≤ other) → ⊥
+        go (inl h) = before.none other h stands
+        go (inr h) = further (cases_lt at other) (stands_agrees sought bytes other stands).1
+          where
+            further : (at < other) ⊎ (other ≤ at) → Agrees sought bytes other (length sought) → ⊥
+            further (inr same) all =
+                let e : other ≡ at = omega arith in
+                differs (all count short ∙ ap (λ (k : ℕ). get_or bytes (k + count) 0) e)
+            further (inl later) all =
+                let on : ℕ = other - at in
+                let more : ℕ = count - on in
+                let other_is : at + on ≡ other = omega arith in
+                let on_within : on ≤ count = omega (arith, shift.within) in
+                let ends : on + more ≡ count = omega arith in
+                shift.none on more (omega arith) (omega arith) ends
+                (agree_between sought bytes at count on more agrees (omega (arith, ends))
+                (subst (λ (k : ℕ). Agrees sought bytes k more) (sym other_is)
+                (fewer sought bytes other (length sought) more (omega arith) all)))
+
+pub search_finds : (sought bytes : List ℕ) (at held : ℕ) → IsSearchedTo sought bytes at held
+    → at + length sought ≤ length bytes → Agrees sought bytes at (length sought) → StandsFirst sought bytes at
+search_finds sought bytes at held before fits agrees = (agrees_stands sought bytes at fits agrees, before.none)
+
+pub search_ends : (sought bytes : List ℕ) (at held : ℕ) → IsSearchedTo sought bytes at held
+    → length bytes < at + length sought → (other : ℕ) → StandsFrom sought bytes other → ⊥
+search_ends sought bytes at held before past other stands = go (cases_lt other at)
+  where
+    go : (other < at) ⊎ (at ≤ other) → ⊥
+    go (inl h) = before.none other h stands
+    go (inr h) = absurd (omega (arith, (stands_agrees sought bytes other stands).0))
+
+pub longer_stands_nowhere : (sought bytes : List ℕ) → length bytes < length sought → (at : ℕ)
+    → StandsFrom sought bytes at → ⊥
+longer_stands_nowhere sought bytes longer at stands = absurd (omega (arith, (stands_agrees sought bytes at stands).0))
