@@ -182,7 +182,7 @@ pub fn make_flaw(kind: FlawKind, rest: &str) -> FlawAt<'_>
 
 impl<'t> FlawAt<'t> {
     /// This flaw, where it spoils this piece.
-    pub(crate) fn in_piece(self, piece: &'t str) -> FlawAt<'t>
+    pub fn in_piece(self, piece: &'t str) -> FlawAt<'t>
         ensures { (result.kind ≡ self.entry.kind) × (result.rest.now ≡ self.entry.rest.now)
             × (result.piece.now ≡ piece.now) }
     {

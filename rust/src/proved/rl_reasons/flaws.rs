@@ -154,7 +154,7 @@ pub fn make_flaw(kind: FlawKind, rest: &str) -> FlawAt<'_> {
 
 impl<'t> FlawAt<'t> {
     /// This flaw, where it spoils this piece.
-    pub(crate) fn in_piece(self, piece: &'t str) -> FlawAt<'t> {
+    pub fn in_piece(self, piece: &'t str) -> FlawAt<'t> {
         FlawAt {
             kind: self.kind,
             piece,
