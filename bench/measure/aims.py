@@ -12,7 +12,7 @@ AIMS = (
     Aim('value', 'litrs', 1.5, {'characters': None}),
     Aim('literal', 'syn', 1 / 3,
         {'floats': 0.5, 'strings of escapes': 0.5, 'characters': None}),
-    Aim('package', 'litrs', 1.1, {}),
+    Aim('package', 'litrs', 1.0, {}),
     Aim('lex', 'proc-macro2', 0.5, {}),
     Aim('read', 'proc-macro2 and syn', 1 / 3, {}),
     Aim('rl_scan', 'proc-macro2', 1 / 3, {}),
