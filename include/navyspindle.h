@@ -148,7 +148,8 @@ void rl_probe(RlNext *next, RlExplanation *explanation);
 bool rl_find(const uint8_t *text, size_t len, RlReading *reading);
 
 /* Whether the text has no value: it is neither a literal token of Rust nor a minus and a number, or it is an integer past
- * 128 bits. Why, and where, goes into `explanation`, which stays else. */
+ * 128 bits. Why, and where, goes into `explanation`, which stays else. A decimal integer with the suffix `f32` or `f64` is a
+ * float to Rust, of any magnitude, and has a value. */
 bool rl_explain(const uint8_t *text, size_t len, RlExplanation *explanation);
 
 /* Whether the text is neither a literal token of Rust nor a minus and a number, of any size; why, and where, goes into

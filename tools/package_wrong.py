@@ -21,7 +21,7 @@ WRONG = [Wrong(*row) for row in [
      'a byte is called a character'),
     ('lit.rs', "match explain_signed_value_in_file(self.text()) {", "match crate::rl_reasons::explain_value(self.text()) {",
      '`check` takes no CR LF in a string'),
-    ('lit.rs', "match explain_signed_value_in_file(self.text()) {", "match crate::rl_reasons::explain_value_in_file(self.text()) {",
+    ('lit.rs', "match explain_signed_value_in_file(self.text()) {", "match crate::rl_file_reasons::explain_value_in_file(self.text()) {",
      '`check` takes no minus'),
     ('lit.rs', "        let reading = read_signed(&text).map_err(ParseError::of_flaw)?;\n        Lit::read(Cow::Owned(text), reading)",
      "        Ok(Lit::new(text))",
@@ -34,6 +34,8 @@ WRONG = [Wrong(*row) for row in [
      'each integer stands as its digits'),
     ('lit.rs', "return Err(ParseError::of_flaw(limit_flaw(&text, suffix_at)));", "return Ok(Lit::Int(LitInt::of(text, suffix_at, u128::MAX, false)));",
      'an integer past 128 bits is the largest of them'),
+    ('lit.rs', "if is_float_by_suffix(&text) {", "if false {",
+     'a float by its suffix is an integer past 128 bits'),
     ('lit.rs', "rl_forms::Kind::ByteStr => Lit::ByteStr(LitByteStr::of(text, body)),\n            rl_forms::Kind::CStr => Lit::CStr(LitCStr::of(text, body)),",
      "rl_forms::Kind::ByteStr => Lit::ByteStr(LitByteStr::of(text, body)),",
      'a C string is a string'),
@@ -108,7 +110,7 @@ WRONG = [Wrong(*row) for row in [
     # parse_error.rs
     ('parse_error.rs', "self.from..self.hi", "self.lo..self.hi",
      'the piece of an error is its last character'),
-    ('parse_error.rs', "explain_value(text).expect", "crate::rl_reasons::explain(text).or_else(|| explain_value(text)).expect",
+    ('parse_error.rs', "Err(flaw) => flaw,", "Err(flaw) => crate::rl_reasons::explain(text).unwrap_or(flaw),",
      'a minus before a number is what is wrong with it'),
     # places.rs
     ('places.rs', "let byte = range.start + (at - begin);", "let byte = range.start + (at - begin).min(63);",

@@ -297,12 +297,14 @@ INTEGER = re.compile('(-?(?:0x([0-9A-Fa-f_]*+)|0o([0-7_]*+)|0b([01_]*+)|(?!0[xob
 
 
 def limit(text):
-    """The flaw of a token, or of a minus and one, that is an integer past 128 bits, else None."""
+    """The flaw of a token, or of a minus and one, that is an integer past 128 bits, else None. In base ten `f32` or `f64` makes a float."""
     integer = INTEGER.fullmatch(sketch(text))
     if not integer:
         return None
     digits, base = next((it, base) for it, base in zip(integer.groups()[1:], (16, 8, 2, 10)) if it is not None)
     end = integer.end(1)
+    if base == 10 and text[end:] in ('f32', 'f64'):
+        return None
     return ('TooLarge', 0, end, len(text[:end + 1].encode())) if int(digits.replace('_', ''), base) >= 2**128 else None
 
 

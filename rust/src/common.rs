@@ -189,6 +189,7 @@ macro_rules! literal_type {
             fn try_from(text: &'t str) -> Result<Self, $crate::ParseError> {
                 match $crate::Lit::try_from(text)? {
                     $crate::Lit::$variant(literal) => Ok(literal),
+                    $crate::Lit::Verbatim(literal) => Err(literal.explain()),
                     other => Err($crate::ParseError::of_kind(text, $crate::Kind::$variant, other.kind())),
                 }
             }
@@ -201,6 +202,7 @@ macro_rules! literal_type {
             fn try_from(text: alloc::string::String) -> Result<Self, $crate::ParseError> {
                 match $crate::Lit::try_from(text)? {
                     $crate::Lit::$variant(literal) => Ok(literal),
+                    $crate::Lit::Verbatim(literal) => Err(literal.explain()),
                     other => Err($crate::ParseError::of_kind(other.text(), $crate::Kind::$variant, other.kind())),
                 }
             }

@@ -6,10 +6,10 @@ use crate::places::{Places, Segments};
 use crate::rl_file_reasons::explain_signed_value_in_file;
 use crate::rl_forms;
 use crate::rl_reading::{find, is_plain_integer, Body, Found};
-use crate::rl_reasons::limit_flaw;
 use crate::rl_reasons::strict_reading::{
     front_of, read_character, read_digits, read_other, read_signed, read_string, Front, Reading,
 };
+use crate::rl_reasons::{is_float_by_suffix, limit_flaw};
 use crate::{
     LitBool, LitByte, LitByteStr, LitCStr, LitChar, LitFloat, LitInt, LitStr, LitVerbatim,
 };
@@ -51,7 +51,7 @@ pub enum Lit<'t> {
     Float(LitFloat<'t>),
     /// A truth value.
     Bool(LitBool<'t>),
-    /// A text that has no reading. [`Lit::parse`] returns none.
+    /// A text that has no reading. [`Lit::parse`] returns it for a decimal integer past 128 bits with the suffix of a float alone.
     Verbatim(LitVerbatim<'t>),
 }
 
@@ -99,9 +99,12 @@ impl<'t> Lit<'t> {
     /// [`suffix`](Lit::suffix). The text is taken as it is: no white space stands around it, and a CR LF is none of a string of Rust's,
     /// though it may stand in a file ([`Lit::check`]).
     ///
+    /// An integer past 128 bits has no reading. In base ten with the suffix `f32` or `f64` it is a float to Rust, of any magnitude:
+    /// it comes as [`Lit::Verbatim`].
+    ///
     /// # Errors
     ///
-    /// The text is none, or an integer past 128 bits: why, and where.
+    /// The text is none, or another integer past 128 bits: why, and where.
     ///
     /// ```
     /// use navyspindle::{FlawKind, Lit};
@@ -208,7 +211,7 @@ impl<'t> Lit<'t> {
     ///
     /// # Errors
     ///
-    /// It is an integer past 128 bits.
+    /// It is an integer past 128 bits, and no float by its suffix.
     #[inline(always)]
     fn read(text: Cow<'t, str>, reading: Reading) -> Result<Lit<'t>, ParseError> {
         Ok(match reading {
@@ -219,6 +222,9 @@ impl<'t> Lit<'t> {
                 Lit::Int(LitInt::of(text, suffix_at, magnitude, is_plain))
             }
             Reading::Integer(None, suffix_at) => {
+                if is_float_by_suffix(&text) {
+                    return Ok(Lit::Verbatim(LitVerbatim::of(text)));
+                }
                 return Err(ParseError::of_flaw(limit_flaw(&text, suffix_at)));
             }
             Reading::Float(suffix_at) => Lit::Float(LitFloat::of(text, suffix_at)),
@@ -513,7 +519,7 @@ mod tests {
                 "0xFFFFFFFFFFFFFFFFFFFFFFFFFFFFFFFF",
                 "-34028236692093846346337460743176821145",
             ],
-            "0_ef6",
+            "0_ef64",
             3,
         );
         each(

@@ -2,7 +2,7 @@
 
 use crate::kind::Kind;
 pub use crate::rl_reasons::FlawKind;
-use crate::rl_reasons::{explain_value, Flaw};
+use crate::rl_reasons::{limit_flaw, read_signed, Flaw, Reading};
 use core::fmt;
 use core::ops::Range;
 
@@ -69,10 +69,14 @@ pub struct ParseError {
 }
 
 impl ParseError {
-    /// Why a text has no value in Rust, which it hasn't.
+    /// Why a text has no reading, which it hasn't.
     #[cold]
     pub(crate) fn of(text: &str) -> ParseError {
-        ParseError::of_flaw(explain_value(text).expect("the text has no value"))
+        ParseError::of_flaw(match read_signed(text) {
+            Err(flaw) => flaw,
+            Ok(Reading::Integer(None, suffix_at)) => limit_flaw(text, suffix_at),
+            Ok(_) => unreachable!("the text has no reading"),
+        })
     }
 
     /// The flaw as an error.

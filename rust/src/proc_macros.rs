@@ -131,7 +131,7 @@ fn parsed(text: String, span: Span) -> Result<Lit<'static>, MacroError> {
 ///
 /// # Errors
 ///
-/// No literal stands next, or an integer past 128 bits. Tokens may be taken then.
+/// No literal stands next, or an integer past 128 bits, which is no float by its suffix ([`Lit::parse`]). Tokens may be taken then.
 ///
 /// ```no_run
 /// extern crate proc_macro;
@@ -166,7 +166,7 @@ fn negative(tree: Option<TokenTree>, minus: Span) -> Result<(Lit<'static>, Span)
     let tree = tree.ok_or_else(|| MacroError::new("expected literal", minus))?;
     let (number, span) = literal_of(&tree)?;
     match number {
-        Lit::Int(_) | Lit::Float(_) if !number.text().starts_with('-') => {
+        Lit::Int(_) | Lit::Float(_) | Lit::Verbatim(_) if !number.text().starts_with('-') => {
             Ok((parsed(format!("-{number}"), span)?, span))
         }
         _ => Err(MacroError::new("expected a number after the minus", span)),
@@ -234,6 +234,7 @@ macro_rules! of_trees {
             fn try_from(tree: &$tree) -> Result<Self, MacroError> {
                 match Lit::try_from(tree)? {
                     Lit::$variant(literal) => Ok(literal),
+                    Lit::Verbatim(literal) => Err(MacroError::new(literal.explain().kind(), tree.span())),
                     other => Err(MacroError::expected(Kind::$variant, other.kind(), tree.span())),
                 }
             }

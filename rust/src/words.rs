@@ -127,7 +127,8 @@ impl<'t> LitVerbatim<'t> {
         }
     }
 
-    /// Why it is no literal of Rust with a value, and where.
+    /// Why it is no literal of Rust with a value, and where. Of a float by its suffix ([`Lit::parse`](crate::Lit::parse)) it is that
+    /// its digits are past 128 bits.
     ///
     /// ```
     /// use navyspindle::{literals, FlawKind, Lit};

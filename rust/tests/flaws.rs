@@ -1,7 +1,9 @@
 //! Why texts are no literals, and where: for each kind of flaw the byte where the piece begins that it spoils, and the
 //! bytes of the character that no literal goes on with.
 
-use navyspindle::{literals, source, FlawKind, Lit, ParseError, ParseErrorKind};
+use navyspindle::{
+    literals, source, FlawKind, Kind, Lit, LitFloat, LitInt, ParseError, ParseErrorKind,
+};
 use std::collections::HashSet;
 
 /// The least integer past 128 bits.
@@ -177,6 +179,47 @@ fn of_lists_and_sources() {
         flaws(in_source.map(|(bytes, it)| (bytes.start, it))),
         expected
     );
+}
+
+/// To Rust a decimal integer with the suffix `f32` or `f64` is a float, of any magnitude; it has no reading here.
+#[test]
+fn floats_by_suffix() {
+    let taken = ["f64", "f32", "_f32", "__f64", "000_f64"].map(|end| format!("{PAST}{end}"));
+    for text in &taken {
+        for text in [text.clone(), format!("-{text}")] {
+            let literal = Lit::parse(&text).unwrap();
+            assert_eq!(literal, Lit::new(text.as_str()));
+            assert_eq!(
+                (literal.kind(), literal.text()),
+                (Kind::Verbatim, text.as_str())
+            );
+            assert_eq!(text.parse::<Lit>().as_ref(), Ok(&literal));
+            assert_eq!(Lit::try_from(text.clone()).as_ref(), Ok(&literal));
+            assert_eq!(literal.check(), Ok(()));
+            let digits = text.len() - 3;
+            for error in [
+                LitInt::parse(&text).unwrap_err(),
+                LitFloat::parse(&text).unwrap_err(),
+                text.parse::<LitFloat>().unwrap_err(),
+                LitInt::try_from(text.clone()).unwrap_err(),
+            ] {
+                assert_eq!(error.kind(), FlawKind::TooLarge, "{text}");
+                assert_eq!(error.range(), digits..digits + 1, "{text}");
+            }
+        }
+    }
+    for end in ["", "f16", "f128", "f6", "f644", "F64", "u8", "_"] {
+        let text = format!("{PAST}{end}");
+        let error = Lit::parse(&text).unwrap_err();
+        assert_eq!(error.kind(), FlawKind::TooLarge, "{text}");
+        assert_eq!(Lit::new(text.as_str()).check(), Err(error), "{text}");
+    }
+    let hexadecimal = format!("0x{PAST}f64");
+    let error = Lit::parse(&hexadecimal).unwrap_err();
+    assert_eq!(error.kind(), FlawKind::TooLarge);
+    assert_eq!(error.range(), 44..44);
+    let octal = format!("0o7{}f64", "7".repeat(43));
+    assert_eq!(Lit::parse(&octal).unwrap_err().kind(), FlawKind::TooLarge);
 }
 
 /// In a file CR LF is an LF: what `check` says is the flaw that is left, at its place in the text as it is.

@@ -1,8 +1,9 @@
 //! Why a text has no value, for callers in other languages.
 
-ghost use Rattle.std.specs.Prelude.{◌≡◌, IsTrue, IsFalse};
+ghost use Rattle.std.specs.Prelude.{◌≡◌, ◌⊎◌, IsTrue, IsFalse};
 ghost use Rattle.std.specs.Str.{chars, IsUtf8};
 ghost use Rattle.rl_forms.specs.Reading.{HasReading};
+ghost use Rattle.rl_reasons.specs.Limits.{IsFloatBySuffix};
 ghost use Rattle.rl_reasons.specs.SignedFlaws.{IsSignedToken};
 ghost use Rattle.rl_c.specs.Explanations.{ReportsFlaw, ReportsSignedFlaw, flaw_number};
 
@@ -82,13 +83,14 @@ fn explanation_of(flaw: Flaw) -> Explanation
 }
 
 /// Whether the text has no value: it is neither a literal token of Rust nor a minus and a number, or it is an integer past
-/// 128 bits. Why, and where, goes into `explanation`, which stays else.
+/// 128 bits. Why, and where, goes into `explanation`, which stays else. A decimal integer with the suffix `f32` or `f64` is a
+/// float to Rust, of any magnitude, and has a value.
 #[unsafe(no_mangle)]
 pub extern "C" fn rl_explain(text: &[u8], explanation: &mut Explanation) -> bool
     requires utf8 { IsUtf8 text.now }
     ensures flaw { IsTrue result → ReportsFlaw text.now explanation.new }
     ensures token { IsFalse result → IsSignedToken (chars text.now) }
-    ensures none { IsFalse result → HasReading (chars text.now) }
+    ensures none { IsFalse result → HasReading (chars text.now) ⊎ IsFloatBySuffix (chars text.now) }
     ensures stays { IsFalse result → explanation.new ≡ explanation.old }
 {
     // SAFETY: the bytes are UTF-8, as the export requires.

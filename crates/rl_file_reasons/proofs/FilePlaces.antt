@@ -1,5 +1,5 @@
 -- Places of flaws in a file, and what has a value there.
-use Rattle.rl_text.proofs.Common.{◌≡◌, ℕ, ◌+◌, ◌≤◌, ◌==◌, false, true, List, [], ◌∷◌, ◌++◌, length, Option, Some, None, IfNone, IfSome, refl, sym, ap, subst, ◌∙◌, inl, inr, arith, append-nil, append_assoc, append_cancel_right, drop, encode_utf8, is_ascii_digit, IsUtf8}
+use Rattle.rl_text.proofs.Common.{◌≡◌, ℕ, ◌+◌, ◌≤◌, ◌⊎◌, ◌==◌, false, true, List, [], ◌∷◌, ◌++◌, length, Option, Some, None, IfNone, IfSome, refl, sym, ap, subst, ◌∙◌, inl, inr, arith, append-nil, append_assoc, append_cancel_right, drop, encode_utf8, is_ascii_digit, IsUtf8}
 use Rattle.rl_reading.proofs.Names.{byte_len, first_passes, HasReading, IsPast}
 use Rattle.std.specs.Str.{chars}
 use Rattle.rl_lexer.proofs.CutLemmas.{byte_len-append}
@@ -14,13 +14,13 @@ use Rattle.rl_reasons.specs.Mirrors.UnitFlawAt.{FoundFlaw, found_flaw}
 use Rattle.rl_reasons.specs.Mirrors.WordFlawAt.{end_flaw_at}
 use Rattle.rl_reasons.proofs.ReadLemmas.{minus_alone, minus_number}
 use Rattle.rl_file_reasons.specs.FileWalks.{IsFileFlaw, IsFileStop, IsFileRest, IsMinusFileStop, IsPastAt, IsPlaceAfter, IsRestPlace}
-use Rattle.rl_reasons.specs.Limits.{IsLimitFlaw, past_at}
+use Rattle.rl_reasons.specs.Limits.{IsFloatBySuffix, IsLimitFlaw, past_at}
 use Rattle.rl_reasons.specs.SignedFlaws.{IsSignedToken}
 use Rattle.rl_reasons.specs.StrictRead.{IsSignedRead}
 use Rattle.rl_file_reasons.proofs.FileTextLemmas.{lacks_cr, rest_self, rest_text, same_text, token_free, token_same}
 use Rattle.rl_file_reasons.proofs.FileSuffixes.{end_flaw_read, first_read, lf_flaw}
 use Rattle.rl_file_reasons.proofs.FileForms.{end_place, quote_read}
-use Rattle.rl_reasons.proofs.LimitLemmas.{either, signed_past, signed_within}
+use Rattle.rl_reasons.proofs.LimitLemmas.{either, reads_or_float, signed_past, signed_within}
 use Rattle.rl_reasons.proofs.SignedFlaws.{unsigned_explains}
 use Rattle.rl_reasons.proofs.StrictExplainLemmas.{cut_bytes, piece_front}
 use Rattle.rl_reasons.proofs.StrictTokens.{token_reads}
@@ -158,6 +158,11 @@ reads_in_file t y none = subst HasReading (sym (signed_same t y)) (elim (either 
   | inr p ↦ absurd (none p)
 ])
 
+-- or it is a float by its suffix
+has_value_in_file : (t : List ℕ) → IsSignedToken t → (IsPast t → IsFloatBySuffix t)
+    → HasReading (lf_text t) ⊎ IsFloatBySuffix (lf_text t)
+has_value_in_file t y none = subst (λ z. HasReading z ⊎ IsFloatBySuffix z) (sym (signed_same t y)) (reads_or_float t y none)
+
 -- of a number by the place of its suffix
 pub past_in_file : (t : List ℕ) (r : Reading) (o : Option ℕ) → o ≡ past_at r → IsSignedRead t r → IsSignedToken (chars t)
     → IfSome o (IsPastAt t)
@@ -186,14 +191,31 @@ minus_token t number None e digit y =
 minus_token t number (Some flaw) e digit y = tt
 
 pub minus_reads : (t number : List ℕ) (o : Option Flaw) → t ≡ 45 ∷ number → first_passes is_ascii_digit number ≡ true
-    → IsToken number → IfNone o (IsPast t → ⊥) → IfNone o (HasReading (lf_text t))
-minus_reads t number None e digit y none = reads_in_file t (minus_signed t number e digit y) none
+    → IsToken number → IfNone o (IsPast t → IsFloatBySuffix t)
+    → IfNone o (HasReading (lf_text t) ⊎ IsFloatBySuffix (lf_text t))
+minus_reads t number None e digit y none = has_value_in_file t (minus_signed t number e digit y) none
 minus_reads t number (Some flaw) e digit y none = tt
 
 pub minus_past : (t number : List ℕ) (o : Option Flaw) → t ≡ 45 ∷ number → first_passes is_ascii_digit number ≡ true
-    → IsToken number → IfSome o (IsLimitFlaw t) → IfSome o (ExplainsSignedValueInFile t)
+    → IsToken number → IfSome o (λ flaw. IsLimitFlaw t flaw × (IsFloatBySuffix t → ⊥))
+    → IfSome o (ExplainsSignedValueInFile t)
 minus_past t number None e digit y past = tt
-minus_past t number (Some flaw) e digit y past = inr (minus_signed t number e digit y, past)
+minus_past t number (Some flaw) e digit y past = inr (minus_signed t number e digit y, past.0, past.1)
+
+pub past_signed : (t : List ℕ) (o : Option ℕ) (at : ℕ) → o ≡ Some at → IfSome o (IsPastAt t) → IsSignedToken (chars t)
+past_signed t None at e past = absurd (cc)
+past_signed t (Some n) at e past = past.0
+
+-- of a token that is past the limit
+pub past_value : (t : List ℕ) (o : Option Flaw) → IsSignedToken t → IfNone o (IsFloatBySuffix t)
+    → IfNone o (HasReading (lf_text t) ⊎ IsFloatBySuffix (lf_text t))
+past_value t None y none = has_value_in_file t y (λ p. none)
+past_value t (Some flaw) y none = tt
+
+pub past_explains : (t : List ℕ) (o : Option Flaw) → IsSignedToken t
+    → IfSome o (λ flaw. IsLimitFlaw t flaw × (IsFloatBySuffix t → ⊥)) → IfSome o (ExplainsValueInFile t)
+past_explains t None y past = tt
+past_explains t (Some flaw) y past = inr (y, past.0, past.1)
 
 -- ---- where a minus and what follows it stop
 

@@ -1,6 +1,6 @@
 //! Why the text of a literal in a file is no literal token, or has no value, and where.
 
-ghost use Rattle.std.specs.Prelude.{◌≡◌, ◌≤◌, ◌∷◌, IfErr, IfNone, IfOk, IfSome, IsTrue, drop, length};
+ghost use Rattle.std.specs.Prelude.{◌≡◌, ◌⊎◌, ◌≤◌, ◌∷◌, IfErr, IfNone, IfOk, IfSome, IsTrue, drop, length};
 ghost use Rattle.std.specs.Char.{is_ascii_digit};
 ghost use Rattle.std.specs.Str.{chars};
 ghost use Rattle.rl_forms.specs.Reading.{HasReading};
@@ -8,6 +8,7 @@ ghost use Rattle.rl_strict.specs.StrictShapes.{IsToken};
 ghost use Rattle.rl_text.specs.Texts.{IsTail, code, first_passes};
 ghost use Rattle.rl_file_reasons.specs.FileTexts.{lf_text, ExplainsInFile, ExplainsSignedInFile, ExplainsSignedValueInFile, ExplainsValueInFile};
 ghost use Rattle.rl_file_reasons.specs.FileWalks.{IsFileFlaw, IsFileRest, IsMinusFileStop, IsPlaceAfter, IsRestPlace};
+ghost use Rattle.rl_reasons.specs.Limits.{IsFloatBySuffix};
 ghost use Rattle.rl_reasons.specs.SignedFlaws.{IsSignedToken};
 ghost use Rattle.rl_reasons.specs.StrictNumbersRead.{IsNumberRead, suffix_of};
 
@@ -15,7 +16,7 @@ use crate::file_units::split_read;
 use crate::file_walk::{file_number, walk};
 use rl_reading::digit_rows::begins_digit;
 use rl_reasons::flaws::{Flaw, FlawAt, FlawKind, end_flaw};
-use rl_reasons::limits::{limit_flaw, limit_of};
+use rl_reasons::limits::{limit_at, limit_of};
 use rl_reasons::read_numbers::{Number, Stop};
 use rl_reasons::strict_reading::placed;
 use rl_text::text::strip_byte;
@@ -88,15 +89,15 @@ pub fn explain_in_file(text: &str) -> Option<Flaw>
 }
 
 /// Why the text of a literal in a file has no value: it is no literal token, as [`explain_in_file`] says, or an integer past
-/// 128 bits, as [`explain_limit`](rl_reasons::explain_limit) says. `None` exactly where it is a token and has a reading. No memory is
-/// taken.
+/// 128 bits, as [`explain_limit`](rl_reasons::explain_limit) says. `None` exactly where it is a token and has a reading, or is a float
+/// by its suffix. No memory is taken.
 pub fn explain_value_in_file(text: &str) -> Option<Flaw>
     ensures token { IfNone result (IsToken (lf_text (chars text.now))) }
-    ensures none { IfNone result (HasReading (lf_text (chars text.now))) }
+    ensures none { IfNone result (HasReading (lf_text (chars text.now)) ⊎ IsFloatBySuffix (lf_text (chars text.now))) }
     ensures some { IfSome result (ExplainsValueInFile (chars text.now)) }
 {
     match walk(text) {
-        Ok(Some(suffix_at)) => Some(limit_flaw(text, suffix_at)),
+        Ok(Some(suffix_at)) => limit_at(text, suffix_at),
         Ok(None) => None,
         Err(found) => Some(explained(found, text)),
     }
@@ -143,7 +144,7 @@ fn minus_flaw(text: &str, number: &str) -> Option<Flaw>
     requires text { chars text.now ≡ code "-" ∷ chars number.now }
     requires following { IsTail text.now number.now }
     ensures token { IfNone result (IsSignedToken (lf_text (chars text.now))) }
-    ensures none { IfNone result (HasReading (lf_text (chars text.now))) }
+    ensures none { IfNone result (HasReading (lf_text (chars text.now)) ⊎ IsFloatBySuffix (lf_text (chars text.now))) }
     ensures some { IfSome result (ExplainsSignedValueInFile (chars text.now)) }
 {
     match minus_number(number) {
@@ -154,11 +155,11 @@ fn minus_flaw(text: &str, number: &str) -> Option<Flaw>
 
 /// As [`explain_value_in_file`], but a minus may stand before a number: `-1.5`. No memory is taken.
 ///
-/// `None` exactly where the text, as rustc reads it, is a literal token or a minus and a number, and has a reading. Nothing may
-/// stand between the minus and the number.
+/// `None` exactly where the text, as rustc reads it, is a literal token or a minus and a number, and has a reading or is a float by
+/// its suffix. Nothing may stand between the minus and the number.
 pub fn explain_signed_value_in_file(text: &str) -> Option<Flaw>
     ensures token { IfNone result (IsSignedToken (lf_text (chars text.now))) }
-    ensures none { IfNone result (HasReading (lf_text (chars text.now))) }
+    ensures none { IfNone result (HasReading (lf_text (chars text.now)) ⊎ IsFloatBySuffix (lf_text (chars text.now))) }
     ensures some { IfSome result (ExplainsSignedValueInFile (chars text.now)) }
 {
     match strip_byte(text, b'-') {

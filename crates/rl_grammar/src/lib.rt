@@ -17,4 +17,6 @@ pub use rl_reading::{
     find_float, find_int, find_negative, float_shape, int_shape, is_plain, list_step, next_literal,
     numeral_into, place_of, shape, shape_negative, source_step, str_into, truth_of,
 };
-pub use rl_reasons::{Flaw, FlawKind, explain, explain_limit, explain_signed, explain_value};
+pub use rl_reasons::{
+    Flaw, FlawKind, explain, explain_limit, explain_signed, explain_value, is_float_by_suffix,
+};

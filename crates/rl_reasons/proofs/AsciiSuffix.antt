@@ -1,5 +1,5 @@
 -- A suffix of ASCII, by the bytes of its text.
-use Rattle.rl_text.proofs.Common.{◌≡◌, ◌<◌, ◌||◌, ◌==◌, ℕ, suc, zero, Bool, true, cond, List, [], ◌∷◌, get_or, refl, ap, subst, ◌∙◌, arith, nat_tests, and_parts, or_right, list_all, is_ascii_alphabetic, is_ascii_alphanumeric, IsAscii, chars}
+use Rattle.rl_text.proofs.Common.{◌≡◌, ◌<◌, ◌||◌, ◌==◌, ℕ, suc, zero, true, cond, List, [], ◌∷◌, get_or, refl, ap, subst, ◌∙◌, arith, nat_tests, and_parts, or_right, list_all, is_ascii_alphabetic, IsAscii, chars}
 use Rattle.rl_reading.proofs.Names.{after_run}
 use Rattle.std.proofs.lemmas.Str.{chars-IsAscii}
 use Rattle.rl_text.specs.Texts.{is_continue, is_start}

@@ -20,6 +20,7 @@ pub mod SignedFlaws
 pub mod OneUnitFlaw
 pub mod CodeDigitFlaws
 pub mod LimitLemmas
+pub mod FloatSuffixes
 pub mod AsciiSuffix
 pub mod ReadNumbers
 pub mod ReadQuoted

@@ -1,5 +1,5 @@
 -- Integers past the limit: their place, and that a token which is none has a reading.
-use Rattle.rl_text.proofs.Common.{◌≡◌, ℕ, ◌+◌, ◌-◌, ◌<◌, ◌≤◌, ◌⊎◌, ◌||◌, ◌==◌, Bool, true, false, cond, List, [], ◌∷◌, ◌++◌, length, take, IfNone, Option, Some, None, refl, sym, ap, subst, ◌∙◌, inl, inr, cases_Bool, cases_lt, is_ascii_digit, IsUtf8, IsUtf8-take, chars}
+use Rattle.rl_text.proofs.Common.{◌≡◌, ℕ, ◌+◌, ◌-◌, ◌<◌, ◌≤◌, ◌⊎◌, ◌||◌, ◌==◌, Bool, true, false, cond, List, [], ◌∷◌, ◌++◌, length, take, IfNone, IfSome, Option, Some, None, refl, sym, ap, subst, ◌∙◌, inl, inr, cases_Bool, cases_lt, is_ascii_digit, IsUtf8, IsUtf8-take, chars}
 use Rattle.rl_reading.proofs.Names.{Int, Float, Contents, Digits, Minus, NoSign, Sign, first_passes, limit, HasNoReading, HasReading, IsPast, byte_len}
 use Rattle.std.specs.Prelude.{drop}
 use Rattle.std.specs.Str.{IsCharBoundary}
@@ -18,7 +18,7 @@ use Rattle.rl_strict.proofs.StrictLemmas.{truth_token}
 use Rattle.rl_reasons.specs.declared.flaws.Flaw.{Flaw}
 use Rattle.rl_reasons.specs.declared.strict_reading.Reading.{Reading}
 use Rattle.rl_reasons.specs.declared.strict_reading.Reading.TheVariants.{Text, Unit, Integer, Float as AFloat, Truth}
-use Rattle.rl_reasons.specs.Limits.{past_at}
+use Rattle.rl_reasons.specs.Limits.{ExplainsLimit, ExplainsValue, IsFloatBySuffix, IsLimitFlaw, past_at}
 use Rattle.rl_reasons.specs.SignedFlaws.{IsSignedToken}
 use Rattle.rl_reasons.specs.StrictNumbersRead.{in_128_bits}
 use Rattle.rl_reasons.specs.StrictRead.{IsSignedRead}
@@ -97,12 +97,27 @@ unread_past t none y = elim (either t y) [
   | inr p ↦ p
 ]
 
-pub value_reads : (t : List ℕ) (o : Option Flaw) → IsSignedToken t → IfNone o (IsPast t → ⊥) → IfNone o (HasReading t)
-value_reads t None y none = elim (either t y) [
-  | inl r ↦ r
-  | inr p ↦ absurd (none p)
+-- what is past the limit only as a float by its suffix reads, or is one
+pub reads_or_float : (t : List ℕ) → IsSignedToken t → (IsPast t → IsFloatBySuffix t) → HasReading t ⊎ IsFloatBySuffix t
+reads_or_float t y none = elim (either t y) [
+  | inl r ↦ inl r
+  | inr p ↦ inr (none p)
 ]
+
+pub value_reads : (t : List ℕ) (o : Option Flaw) → IsSignedToken t → IfNone o (IsPast t → IsFloatBySuffix t)
+    → IfNone o (HasReading t ⊎ IsFloatBySuffix t)
+value_reads t None y none = reads_or_float t y none
 value_reads t (Some f) y none = tt
+
+pub limit_explains : (t : List ℕ) (o : Option Flaw) → IsSignedToken t
+    → IfSome o (λ flaw. IsLimitFlaw t flaw × (IsFloatBySuffix t → ⊥)) → IfSome o (ExplainsLimit t)
+limit_explains t None y some = tt
+limit_explains t (Some flaw) y some = (y, some.0, some.1)
+
+pub value_explains : (t : List ℕ) (o : Option Flaw) → IsSignedToken t
+    → IfSome o (λ flaw. IsLimitFlaw t flaw × (IsFloatBySuffix t → ⊥)) → IfSome o (ExplainsValue t)
+value_explains t None y some = tt
+value_explains t (Some flaw) y some = inr (y, some.0, some.1)
 
 -- ---- what the reading tells
 

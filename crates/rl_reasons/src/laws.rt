@@ -28,7 +28,8 @@ pub fn a_text_has_one_value_flaw()
 {}
 
 /// A literal token, or a minus and a number, has a reading or is an integer past 128 bits. So a text without a reading has
-/// a flaw or is past the limit, and [`explain_value`](crate::explain_value) returns a reason.
+/// a flaw or is past the limit, and [`explain_value`](crate::explain_value) returns a reason, unless it is a float by its suffix
+/// ([`is_float_by_suffix`](crate::is_float_by_suffix)).
 pub fn a_token_reads_or_is_past()
     ensures either { (text : List ℕ) → IsSignedToken text → HasReading text ⊎ IsPast text }
     ensures unread { (text : List ℕ) → HasNoReading text → IsSignedToken text → IsPast text }

@@ -13,7 +13,7 @@ pub mod strict_quoted_flaws;
 pub mod strict_reading;
 
 pub use crate::flaws::{Flaw, FlawKind};
-pub use crate::limits::{explain_limit, explain_value, limit_flaw};
+pub use crate::limits::{explain_limit, explain_value, is_float_by_suffix, limit_flaw};
 pub use crate::read_numbers::Number;
 pub use crate::signed_flaws::explain_signed;
 pub use crate::strict_flaws::explain;

@@ -47,6 +47,12 @@ const HIDES: &str = "\"a\\u{202e}b\" \"a\u{202e}b\"
 /// A byte order mark at the front, which has no column, and one that has.
 const MARKED: &str = "\u{feff}\"a\" '\\q' 1\n\u{feff}2";
 
+/// Integers past 128 bits; two are floats by their suffix.
+const LARGE: &str = "340282366920938463463374607431768211456f64
+-340282366920938463463374607431768211456_f32
+340282366920938463463374607431768211456f16
+0x340282366920938463463374607431768211456f64";
+
 /// What a file of the tree holds that is a text.
 fn text_at(path: &str) -> Option<&'static str> {
     match path {
@@ -61,6 +67,7 @@ fn text_at(path: &str) -> Option<&'static str> {
         "crlf.rs" => Some("\"a\r\nb\" \"a\r\n\\q\" \"c\r\nd\re\" \"\\\r\n x\""),
         "held" => Some(HELD),
         "json" => Some(JSON),
+        "large" => Some(LARGE),
         "hides" => Some(HIDES),
         "marked" => Some(MARKED),
         "marks" => Some("\u{feff}\u{feff}1"),

@@ -33,6 +33,7 @@ use Rattle.rl_sources.specs.Held.{Holds, IsHeldAt}
 use Rattle.rl_sources.specs.Hidden.{HoldsHidden, IsHiddenAt}
 use Rattle.rl_sources.specs.Scans.{FindsFlaw, FindsNoFlaw, IsAskedLine, IsBad, IsPicked, IsPlacedLine, IsFlawLine, IsHeldLine, IsHiddenLine, IsLineAt, IsLineEnd, IsLineIn, IsPickedLine, IsPrintedAs, IsShownLiteral}
 use Rattle.rl_sources.specs.Steps.{LooksForFlaws}
+use Rattle.rl_reasons.specs.Limits.{IsFloatBySuffix}
 use Rattle.rl_file_reasons.proofs.FilePlaces.{signed_same}
 use Rattle.rl_reasons.proofs.LimitLemmas.{read_within}
 
@@ -212,8 +213,10 @@ passes_unasked options text None none asked is = none (inl is)
 -- a text without a flaw isn't bad
 not_bad : (text : List ℕ) (flaw : Flaw) → FindsNoFlaw text → FindsFlaw text flaw → ⊥
 not_bad text flaw (token, reads) (inl e) = e.explains.no_token token
-not_bad text flaw (token, reads) (inr (signed, e)) = read_within text (subst HasReading (signed_same text signed) reads)
-    e.past
+not_bad text flaw (token, reads) (inr (signed, e, no_float)) = elim reads [
+  | inl r ↦ read_within text (subst HasReading (signed_same text signed) r) e.past
+  | inr f ↦ no_float (subst IsFloatBySuffix (signed_same text signed) f)
+]
 
 -- what was looked for says whether a literal is picked
 pub picks_found : (options : Options) (text label : List ℕ) (flaw : Option Flaw) (r h b : Bool) → r ≡ is_some flaw

@@ -13,7 +13,7 @@ use Rattle.rl_lexer.specs.Sources.{source_text, SourceKind, PlainKind, StrayKind
 use Rattle.rl_lexer.specs.declared.lex_error.LexKind.{LexKind}
 use Rattle.rl_lexer.specs.declared.lex_error.LexKind.TheVariants.{StrayCharacter}
 use Rattle.rl_reasons.specs.declared.flaws.Flaw.{Flaw}
-use Rattle.rl_reasons.specs.Limits.{ExplainsLimit}
+use Rattle.rl_reasons.specs.Limits.{ExplainsLimit, IsFloatBySuffix}
 use Rattle.rl_reasons.specs.FlawWords.{flaw_message}
 use Rattle.rl_strict.specs.StrictShapes.{IsToken}
 use Rattle.rl_file_reasons.specs.FileTexts.{lf_text, ExplainsInFile}
@@ -39,13 +39,13 @@ use Rattle.rl_sources.specs.Json.{is_json, IsJsonLiteral, flaw_members, error_me
 use Rattle.rl_sources.specs.Options.{Picks}
 use Rattle.rl_sources.specs.Places.{line_front, IsPlaceIn}
 
--- the flaw of the text of a literal: as rustc reads it, it is no token; or it is an integer past 128 bits
+-- the flaw of the text of a literal: as rustc reads it, it is no token; or it is an integer past 128 bits, and no float
 abbrev pub FindsFlaw : List ℕ → Flaw → Type 0
 FindsFlaw text flaw = ExplainsInFile text flaw ⊎ ExplainsLimit text flaw
 
--- as rustc reads it, the text is a token and has a reading
+-- as rustc reads it, the text is a token, and has a reading or is a float by its suffix
 abbrev pub FindsNoFlaw : List ℕ → Type 0
-FindsNoFlaw text = IsToken (lf_text text) × HasReading (lf_text text)
+FindsNoFlaw text = IsToken (lf_text text) × (HasReading (lf_text text) ⊎ IsFloatBySuffix (lf_text text))
 
 -- the text has a flaw
 abbrev pub IsBad : List ℕ → Type 0

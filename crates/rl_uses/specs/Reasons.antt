@@ -4,7 +4,7 @@ use Rattle.std.specs.Str.{chars}
 use Rattle.rl_forms.specs.Reading.{HasReading}
 use Rattle.rl_reasons.specs.declared.flaws.Flaw.{Flaw}
 use Rattle.rl_reasons.specs.Flaws.{place_in}
-use Rattle.rl_reasons.specs.Limits.{ExplainsValue}
+use Rattle.rl_reasons.specs.Limits.{ExplainsValue, IsFloatBySuffix}
 use Rattle.rl_reasons.specs.SignedFlaws.{IsSignedToken}
 use Rattle.rust_literals.specs.declared.lit.Lit.{Lit}
 use Rattle.rust_literals.specs.Literals.{token_of}
@@ -22,10 +22,11 @@ IsReasonOf literal reason =
       hi = place_in (lit_span literal) flaw.hi;
     })
 
--- The literal is one of Rust, perhaps a negative number, and has a reading.
+-- The literal is one of Rust, perhaps a negative number, and has a reading or is a float by its suffix.
 abbrev pub HasValue : {A : Type 0} → Lit A → Type 0
 HasValue literal =
-    IsSignedToken (chars (token_of literal).text) × HasReading (chars (token_of literal).text)
+    IsSignedToken (chars (token_of literal).text)
+    × (HasReading (chars (token_of literal).text) ⊎ IsFloatBySuffix (chars (token_of literal).text))
 
 -- The reasons are those of the literals that have no value, in order.
 abbrev pub AreReasons : {A : Type 0} → List (Lit A) → List Reason → Type 0

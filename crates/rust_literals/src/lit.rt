@@ -1,10 +1,10 @@
 //! `Lit`, and what its nine variants have in common.
 
-ghost use Rattle.std.specs.Prelude.{◌≡◌, IfOk, IfErr, IfSome, IfNone, Some};
+ghost use Rattle.std.specs.Prelude.{◌≡◌, ◌⊎◌, IfOk, IfErr, IfSome, IfNone, Some};
 ghost use Rattle.std.specs.Str.{chars};
 ghost use Rattle.rl_tokens.specs.Errors.{memory_at};
 ghost use Rattle.rl_forms.specs.Reading.{HasNoReading, HasReading, HasSuffix};
-ghost use Rattle.rl_reasons.specs.Limits.{ExplainsValue};
+ghost use Rattle.rl_reasons.specs.Limits.{ExplainsValue, IsFloatBySuffix};
 ghost use Rattle.rl_reasons.specs.SignedFlaws.{IsSignedToken};
 ghost use Rattle.rl_reading.specs.Founds.{IsFound};
 ghost use Rattle.rl_fronts.specs.FrontTokens.{front_token};
@@ -242,13 +242,17 @@ impl<A: Allocator> Lit<A> {
     }
 
     /// Why the literal's text has no value in Rust, and where, in bytes of the text; `None` exactly where it is a literal
-    /// token, or a minus and a number, and has a reading. So it is the reason of `Verbatim`, and of a literal that `syn`
-    /// reads and rustc rejects. [`Flaw::in_span`] gives the place in the file. No memory is taken.
+    /// token, or a minus and a number, and has a reading, or is a float by its suffix ([`is_float_by_suffix`]). So it is the
+    /// reason of `Verbatim`, and of a literal that `syn` reads and rustc rejects. [`Flaw::in_span`] gives the place in the
+    /// file. No memory is taken.
+    ///
+    /// [`is_float_by_suffix`]: rl_grammar::is_float_by_suffix
     ///
     /// See the example of [`read_all`].
     pub fn explain(&self) -> Option<Flaw>
         ensures token { IfNone result (IsSignedToken (chars (token_of self.now).text)) }
-        ensures none { IfNone result (HasReading (chars (token_of self.now).text)) }
+        ensures none { IfNone result (HasReading (chars (token_of self.now).text)
+            ⊎ IsFloatBySuffix (chars (token_of self.now).text)) }
         ensures some { IfSome result (ExplainsValue (chars (token_of self.now).text)) }
     {
         explain_value(self.text())

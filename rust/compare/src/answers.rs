@@ -122,6 +122,18 @@ fn push_flaw(out: &mut String, kind: &str, from: usize, lo: usize, hi: usize) {
     let _ = writeln!(out, "{kind} {from} {lo} {hi}");
 }
 
+/// Whether the text is a decimal integer with the suffix of a float, which Rust takes at any magnitude.
+fn is_float_by_suffix(text: &str) -> bool {
+    let number = text.strip_prefix('-').unwrap_or(text);
+    let row = number
+        .strip_suffix("f32")
+        .or_else(|| number.strip_suffix("f64"));
+    row.is_some_and(|row| {
+        row.starts_with(|first: char| first.is_ascii_digit())
+            && row.bytes().all(|byte| matches!(byte, b'0'..=b'9' | b'_'))
+    })
+}
+
 pub mod library {
     //! By the static library.
 
@@ -199,13 +211,16 @@ pub mod library {
             Some(reading) => literal(out, text, reading),
             None => {
                 push_literal(out, "Verbatim", text, None, "", &Value::None);
-                flaw(out, why.as_ref().unwrap());
+                if let Some(why) = &why {
+                    flaw(out, why);
+                }
             }
         }
-        let is_number = reading.is_some_and(|it| matches!(it.kind, 6 | 7));
+        let is_float = is_float_by_suffix(text);
+        let is_number = is_float || reading.is_some_and(|it| matches!(it.kind, 6 | 7));
         let unsigned = text.strip_prefix('-').filter(|_| is_number).unwrap_or(text);
         assert_eq!(
-            reading.is_some() && library::is_token(unsigned),
+            (is_float || reading.is_some()) && library::is_token(unsigned),
             why.is_none()
         );
         let signed = library::explain_signed(text);
@@ -433,7 +448,12 @@ pub mod package {
             LitBool::parse(text).map(Lit::from),
         ];
         let fitting = kinds.iter().filter(|kind| *kind == parsed).count();
-        assert_eq!(fitting, if parsed.is_ok() { 1 } else { kinds.len() });
+        let expected = match parsed {
+            Ok(Lit::Verbatim(_)) => 0,
+            Ok(_) => 1,
+            Err(_) => kinds.len(),
+        };
+        assert_eq!(fitting, expected);
     }
 
     /// A place by each way to it.
@@ -475,11 +495,13 @@ pub mod package {
         let read = Lit::new(text);
         literal(out, &read);
         check_values(&read);
-        if let Lit::Verbatim(verbatim) = &read {
-            flaw(out, verbatim.explain());
-            assert!(Lit::parse(text).is_err());
-        }
         let parsed = Lit::parse(text);
+        if let Lit::Verbatim(verbatim) = &read {
+            assert_eq!(parsed.is_ok(), is_float_by_suffix(text));
+            if parsed.is_err() {
+                flaw(out, verbatim.explain());
+            }
+        }
         check_parsers(text, &parsed);
         match parsed {
             Ok(parsed) => {

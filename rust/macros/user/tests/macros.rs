@@ -37,6 +37,27 @@ fn with_a_minus() {
     assert_eq!(found.map(|it| it.2), ["-1", "-2.5f32", "-0xFF_u8"]);
 }
 
+/// Floats by their suffix, past 128 bits.
+#[test]
+fn large_floats() {
+    let found = literals!(
+        340282366920938463463374607431768211456f64,
+        -340282366920938463463374607431768211456_f32
+    );
+    assert_eq!(
+        found.map(|it| it.2),
+        [
+            "340282366920938463463374607431768211456f64",
+            "-340282366920938463463374607431768211456_f32"
+        ]
+    );
+    assert_eq!(found[0].0, "text without a reading");
+    assert_eq!(
+        again!(-340282366920938463463374607431768211456f64),
+        -340282366920938463463374607431768211456f64
+    );
+}
+
 #[test]
 fn passed_on() {
     let found = passed!(literals: "a", -1, true, 'x');

@@ -5,7 +5,7 @@ use crate::rl_file_reasons::file_units::split_read;
 use crate::rl_file_reasons::file_walk::{file_number, walk};
 use crate::rl_reading::digit_rows::begins_digit;
 use crate::rl_reasons::flaws::{Flaw, FlawAt, FlawKind, end_flaw};
-use crate::rl_reasons::limits::{limit_flaw, limit_of};
+use crate::rl_reasons::limits::{limit_at, limit_of};
 use crate::rl_reasons::read_numbers::{Number, Stop};
 use crate::rl_reasons::strict_reading::placed;
 use crate::rl_text::text::strip_byte;
@@ -48,11 +48,11 @@ pub fn explain_in_file(text: &str) -> Option<Flaw> {
 }
 
 /// Why the text of a literal in a file has no value: it is no literal token, as [`explain_in_file`] says, or an integer past
-/// 128 bits, as [`explain_limit`](crate::rl_reasons::explain_limit) says. `None` exactly where it is a token and has a reading. No memory is
-/// taken.
+/// 128 bits, as [`explain_limit`](crate::rl_reasons::explain_limit) says. `None` exactly where it is a token and has a reading, or is a float
+/// by its suffix. No memory is taken.
 pub fn explain_value_in_file(text: &str) -> Option<Flaw> {
     match walk(text) {
-        Ok(Some(suffix_at)) => Some(limit_flaw(text, suffix_at)),
+        Ok(Some(suffix_at)) => limit_at(text, suffix_at),
         Ok(None) => None,
         Err(found) => Some(explained(found, text)),
     }
@@ -94,8 +94,8 @@ fn minus_flaw(text: &str, number: &str) -> Option<Flaw> {
 
 /// As [`explain_value_in_file`], but a minus may stand before a number: `-1.5`. No memory is taken.
 ///
-/// `None` exactly where the text, as rustc reads it, is a literal token or a minus and a number, and has a reading. Nothing may
-/// stand between the minus and the number.
+/// `None` exactly where the text, as rustc reads it, is a literal token or a minus and a number, and has a reading or is a float by
+/// its suffix. Nothing may stand between the minus and the number.
 pub fn explain_signed_value_in_file(text: &str) -> Option<Flaw> {
     match strip_byte(text, b'-') {
         Some(number) => minus_flaw(text, number),

@@ -12,7 +12,7 @@ pub mod strict_quoted_flaws;
 pub mod strict_reading;
 
 pub use crate::rl_reasons::flaws::{Flaw, FlawKind};
-pub use crate::rl_reasons::limits::{explain_limit, explain_value, limit_flaw};
+pub use crate::rl_reasons::limits::{explain_limit, explain_value, is_float_by_suffix, limit_flaw};
 pub use crate::rl_reasons::read_numbers::Number;
 pub use crate::rl_reasons::signed_flaws::explain_signed;
 pub use crate::rl_reasons::strict_flaws::explain;

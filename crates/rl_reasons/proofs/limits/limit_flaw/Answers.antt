@@ -1,7 +1,6 @@
 use Rattle.rl_text.proofs.Common.{arith, ap, length, sym, ◌++◌, ◌∙◌, ◌+◌}
 use Rattle.std.specs.Str.{chars}
 use Rattle.rl_text.proofs.Rests.{tail_drop, tail_length}
-use Rattle.rl_text.specs.Texts.{IsTail}
 use Rattle.rl_reasons.specs.Flaws.{first_len}
 use Rattle.rl_reasons.proofs.LimitLemmas.{front_of}
 use Rattle.rl_reasons.proofs.limits.limit_flaw.Goals as goal

@@ -6,7 +6,8 @@ use navyspindle::{
     ParseError, ParseErrorKind,
 };
 use navyspindle_programs::rl_grammar::{
-    explain, explain_in_file, explain_limit, explain_signed, explain_value_in_file, strict, Flaw,
+    explain, explain_in_file, explain_limit, explain_signed, explain_value_in_file,
+    is_float_by_suffix, strict, Flaw, FlawKind,
 };
 
 /// Why Rust doesn't take the text: it is no token after an optional minus, or an integer past 128 bits.
@@ -50,12 +51,26 @@ fn check_flaw(text: &str, error: ParseError, flaw: Flaw) {
     assert_eq!(error.to_string(), line, "{text:?}");
 }
 
+/// Why a float by its suffix, which Rust takes, has no reading: its digits are past 128 bits.
+fn large_flaw(text: &str) -> Flaw {
+    assert!(is_float_by_suffix(text), "{text:?}");
+    let suffix_at = text.len() - "f64".len();
+    Flaw {
+        kind: FlawKind::TooLarge,
+        from: 0,
+        lo: suffix_at,
+        hi: suffix_at + 1,
+    }
+}
+
 /// Why a text has no reading.
 pub fn check_verbatim(ours: &Lit, proved: &Proved) {
     let Lit::Verbatim(literal) = ours else {
         panic!()
     };
-    check_flaw(ours.text(), literal.explain(), proved.explain().unwrap());
+    let text = ours.text();
+    let flaw = proved.explain().unwrap_or_else(|| large_flaw(text));
+    check_flaw(text, literal.explain(), flaw);
 }
 
 /// What `Lit::parse` takes, and why it doesn't take others.
@@ -121,7 +136,11 @@ fn check_kind(text: &str, proved: &Proved, expected: Kind, read: [Result<Lit, Pa
             }
             (Err(error), Some(flaw)) => check_flaw(text, error, flaw),
             (Err(error), None) => {
-                let found = proved.kind().unwrap().word();
+                let Some(found) = proved.kind() else {
+                    check_flaw(text, error, large_flaw(text));
+                    continue;
+                };
+                let found = found.word();
                 let words = format!("expected {expected}, found {found}");
                 assert_eq!(error.kind().to_string(), words, "{text:?}");
                 assert_ne!(expected.to_string(), found, "{text:?}");

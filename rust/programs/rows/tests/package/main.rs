@@ -136,6 +136,8 @@ fn numbers_with_suffixes() {
         "123456789.5E1",
         "79228162514264337593543950336",
         "0xFFFF_FFFF_FFFF_FFFF_FFFF_FFFF_FFFF_FFFF",
+        "340282366920938463463374607431768211456",
+        "0x1_0000_0000_0000_0000_0000_0000_0000_0000",
     ] {
         for suffix in suffixes.split(' ').chain([""]) {
             for sign in ["", "-", "--", "- "] {

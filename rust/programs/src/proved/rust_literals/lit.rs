@@ -161,8 +161,11 @@ impl<A: Allocator> Lit<A> {
     }
 
     /// Why the literal's text has no value in Rust, and where, in bytes of the text; `None` exactly where it is a literal
-    /// token, or a minus and a number, and has a reading. So it is the reason of `Verbatim`, and of a literal that `syn`
-    /// reads and rustc rejects. [`Flaw::in_span`] gives the place in the file. No memory is taken.
+    /// token, or a minus and a number, and has a reading, or is a float by its suffix ([`is_float_by_suffix`]). So it is the
+    /// reason of `Verbatim`, and of a literal that `syn` reads and rustc rejects. [`Flaw::in_span`] gives the place in the
+    /// file. No memory is taken.
+    ///
+    /// [`is_float_by_suffix`]: crate::rl_grammar::is_float_by_suffix
     pub fn explain(&self) -> Option<Flaw> {
         explain_value(self.text())
     }
