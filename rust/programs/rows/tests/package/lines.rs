@@ -4,17 +4,17 @@ use navyspindle::{LineColumn, LineIndex};
 use navyspindle_programs::rl_tokens::Lines;
 
 /// The place of each character and of the end, in characters as the proved code has it, and in bytes of the line. A byte order mark
-/// at the front has no column: the text after it is asked.
+/// at the front has no column.
 pub fn check(text: &str) {
     let index = LineIndex::new(text);
     let read = text.strip_prefix('\u{feff}').unwrap_or(text);
     let front = text.len() - read.len();
-    let mut lines = Lines::new(read);
+    let mut lines = Lines::new(text);
     let mut line_start = 0;
     assert_eq!(index.lines(), read.matches('\n').count() + 1, "{text:?}");
     let places = read.char_indices().map(|(at, c)| (at, Some(c)));
     for (at, c) in places.chain([(read.len(), None)]) {
-        let place = lines.at(&read[at..]);
+        let place = lines.at(&text[front + at..]);
         let (line, column) = (place.line, place.column);
         let place = LineColumn { line, column };
         let column = at - line_start + 1;
