@@ -18,9 +18,8 @@ class Verdicts:
     def is_whole(self):
         """Whether the check came to its end: another may have said nothing of some functions."""
         last = self.said.rstrip('\n').rpartition('\n')[2]
-        # (the first of a whole crate)
-        wanted = {0: ('holes=', 'only='), 1: ('holes=', 'only=')}.get(self.status)
-        return bool(self.of and wanted and last.startswith(wanted))
+        # (the first of a whole crate, the second of some functions, and those that they call)
+        return bool(self.of and self.status in (0, 1) and last.startswith(('holes=', 'only=')))
 
     def why(self):
         """What a check that came to no end said."""
