@@ -69,13 +69,13 @@ mod write;
 #[doc(hidden)]
 pub mod rendered {
     pub use crate::proved::{
-        rl_file_reasons, rl_forms, rl_lexer, rl_reading, rl_reasons, rl_settings, rl_strict,
+        rl_file_reasons, rl_forms, rl_lexer, rl_parts, rl_reading, rl_reasons, rl_settings, rl_strict,
         rl_text,
     };
 }
 
 use proved::{
-    rl_file_reasons, rl_forms, rl_lexer, rl_reading, rl_reasons, rl_settings, rl_strict, rl_text,
+    rl_file_reasons, rl_forms, rl_lexer, rl_parts, rl_reading, rl_reasons, rl_settings, rl_strict, rl_text,
 };
 
 pub use characters::{LitByte, LitChar};

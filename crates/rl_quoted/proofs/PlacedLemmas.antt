@@ -9,7 +9,7 @@ use Rattle.rl_reading.specs.Segments.{IsByteEnd, IsBytePlace, IsSegmentsOf, IsSp
 use Rattle.rl_reading.proofs.SegmentLemmas.{place_at_end, unit_span}
 use Rattle.rl_reading.proofs.SegmentLawLemmas.{end_in_text, place_in_text}
 use Rattle.rl_reading.proofs.SegmentStarts.{given_in_whole}
-use Rattle.rl_quoted.specs.Places.{IsRangeOf}
+use Rattle.rl_parts.specs.Ranges.{IsRangeOf}
 use Rattle.rl_quoted.specs.declared.inside.Placing.{Placing}
 use Rattle.rl_quoted.specs.declared.inside.Placing.TheVariants.{AtLiteral, InFile}
 use Rattle.rl_quoted.specs.Inside.{AreMoved, AreMovedInside, IsMoved, IsReportedAt}

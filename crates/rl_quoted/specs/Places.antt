@@ -1,5 +1,5 @@
 -- What the quoted structs hold beside their token, the places of its parts; and where contents stand in the file.
-use Rattle.std.specs.Prelude.{◌≡◌, ◌≢◌, ◌+◌, ◌-◌, ◌<◌, ◌≤◌, ◌↔◌, ℕ, List, length, IsTrue}
+use Rattle.std.specs.Prelude.{◌≡◌, ◌≢◌, ◌+◌, ◌↔◌, ℕ, List, length, IsTrue}
 use Rattle.std.specs.Str.{chars}
 use Rattle.rl_forms.specs.declared.kind.Kind.{Kind}
 use Rattle.rl_forms.specs.Reading.{HasSuffix}
@@ -7,7 +7,8 @@ use Rattle.rl_forms.specs.Written.{IsWrittenForm}
 use Rattle.rl_reading.specs.declared.found.Body.{Body}
 use Rattle.rl_reading.specs.Decoded.{in_bytes}
 use Rattle.rl_reading.specs.Founds.{IsQuotedAt, StandsIn, is_quoted, suffix_in}
-use Rattle.rl_reading.specs.Segments.{IsByteEnd, IsBytePlace, span_from}
+use Rattle.rl_parts.specs.Ranges.{IsRangeOf}
+use Rattle.rl_reading.specs.Segments.{span_from}
 use Rattle.rl_reading.specs.WholeShapes.{IsPlain}
 use Rattle.rl_text.specs.declared.span.Span.{Span}
 use Rattle.rl_text.specs.Texts.{SpannedText}
@@ -25,14 +26,6 @@ pub record IsWrittenAs (kind : Kind) (bytes text : List ℕ) : Type 0 where
   pub value : List ℕ
   pub written : IsWrittenForm kind value text
   pub bytes_are : bytes ≡ in_bytes kind value
-
--- The bytes of the contents from `lo` up to `hi` come from the bytes of the text from `first` up to
--- `last`: from where what gives the first begins to where what gives the last ends. Of no bytes, both
--- are where what gives the next begins.
-pub record IsRangeOf (kind : Kind) (text : List ℕ) (lo hi first last : ℕ) : Type 0 where
-  pub begins : IsBytePlace kind text lo first
-  pub some : lo < hi → IsByteEnd kind text (hi - 1) last
-  pub none : hi ≤ lo → last ≡ first
 
 -- The span is that of the bytes of the contents from `lo` up to `hi`: where the literal's span is as
 -- long as its text, the bytes of the file that they come from; else the literal's span.

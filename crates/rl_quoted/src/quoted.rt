@@ -18,13 +18,14 @@ ghost use Rattle.rl_reading.specs.Bodies.{HasBody, HasSingleBody};
 ghost use Rattle.rl_reading.specs.Founds.{IsFound, is_quoted};
 ghost use Rattle.rl_reading.specs.Segments.{IsByteEnd, IsBytePlace, IsSegmentsOf};
 ghost use Rattle.rl_reading.specs.WholeShapes.{IsPlain};
-ghost use Rattle.rl_quoted.specs.Places.{IsRangeOf, IsSpanOf, IsWrittenAs, StandsAt};
+ghost use Rattle.rl_quoted.specs.Places.{IsSpanOf, IsWrittenAs, StandsAt};
 ghost use Rattle.rl_quoted.specs.Suffixes.{HasSomeSuffix};
 ghost use Rattle.rl_forms.specs.Words.{kind_name};
 
 use crate::written::written_body;
 use rl_forms::Kind;
 use rl_fronts::{next_is, take_kind};
+use rl_parts::range_of;
 use rl_reading::{Body, Found, Segments, byte_of_body, char_of_body, find};
 use rl_tokens::{
     Error, Literal, Parse, ParseBuffer, Span, ToTokens, Token, TokenStream, append_literal,
@@ -203,19 +204,6 @@ impl<K: QuotedKind, A: Allocator> Quoted<K, A> {
         self.segments().end_of(at)
     }
 
-    /// The bytes of the token's text that the bytes of the contents from `lo` up to `hi` come from.
-    fn range_of(&self, lo: usize, hi: usize) -> (usize, usize)
-        requires { IsTrue (is_quoted K.KIND) }
-        ensures { IsRangeOf K.KIND (chars self.now.text) lo hi result.0 result.1 }
-    {
-        let first = self.place_of(lo);
-        if lo < hi {
-            (first, self.end_of(hi - 1))
-        } else {
-            (first, first)
-        }
-    }
-
     /// Where in its file the bytes of the contents from `lo` up to `hi` come from: from where what gives the first begins
     /// ([`place_of`](Quoted::place_of)) to where what gives the last ends ([`end_of`](Quoted::end_of)). Of no bytes, no
     /// bytes where the next begins. Where the literal's span isn't as long as its text, which then stands elsewhere, the
@@ -230,7 +218,7 @@ impl<K: QuotedKind, A: Allocator> Quoted<K, A> {
         if !self.spans_text() {
             return span;
         }
-        let (first, last) = self.range_of(lo, hi);
+        let (first, last) = range_of(K::KIND, self.token.text(), &self.body, lo, hi);
         Span {
             file: span.file,
             lo: span.lo + first,

@@ -5,8 +5,8 @@ use rl_tokens::Span;
 use rl_uses::examples::attributes::{host_of, missing_at, string_setting};
 use rl_uses::examples::buffers::{first_in_group, mark_after_name, port, trees_left, trees_of};
 use rl_uses::examples::grammar::{
-    contents, first_escape, integer_of, is_plain_string, is_rust, is_too_large, is_value,
-    place_after_escape, reason, reason_in_file, suffix_of, why_no_value,
+    contents, digits_of_hex, exponent_of, first_escape, integer_of, is_plain_string, is_rust,
+    is_too_large, is_value, place_after_escape, reason, reason_in_file, suffix_of, why_no_value,
 };
 use rl_uses::examples::literals::{
     after_literal, code_of, digits_or_text, first_flaw, second_string,
@@ -77,6 +77,10 @@ fn of_grammar(alloc: Global, out: &mut Page) {
     shown!(out, integer_of("0x1F_u8"));
     shown!(out, integer_of("1.5"));
     shown!(out, suffix_of("0xFF_u8"));
+    shown!(out, digits_of_hex("-0xF_F_u8"));
+    shown!(out, digits_of_hex("255"));
+    shown!(out, exponent_of("1_0.5E+3f64"));
+    shown!(out, exponent_of("1.5"));
     shown!(out, reason("\"a\\q\""));
     shown!(out, reason("0b102"));
     shown!(out, reason("0b101"));

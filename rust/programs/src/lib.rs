@@ -12,7 +12,7 @@ mod proved;
 pub mod rattle_std;
 
 use navyspindle::rendered::{
-    rl_file_reasons, rl_forms, rl_lexer, rl_reading, rl_reasons, rl_settings, rl_text,
+    rl_file_reasons, rl_forms, rl_lexer, rl_parts, rl_reading, rl_reasons, rl_settings, rl_text,
 };
 #[cfg(not(feature = "rendered"))]
 use proved::{

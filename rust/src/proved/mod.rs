@@ -3,6 +3,7 @@
 pub mod rl_file_reasons;
 pub mod rl_forms;
 pub mod rl_lexer;
+pub mod rl_parts;
 pub mod rl_reading;
 pub mod rl_reasons;
 pub mod rl_settings;

@@ -3,7 +3,7 @@
 use rl_grammar::strict::{Reading, is_token, read};
 use rl_grammar::{
     Kind, SegmentValue, Segments, explain, explain_in_file, explain_limit, explain_signed,
-    explain_value, is_plain, place_of, shape, str_of,
+    explain_value, float_parts, integer_parts, is_plain, place_of, shape, str_of,
 };
 use std::alloc::Global;
 
@@ -23,6 +23,17 @@ pub fn integer_of(text: &str) -> Option<u128> {
 /// The suffix of the literal that a text is.
 pub fn suffix_of(text: &str) -> Option<&str> {
     Some(shape(text)?.suffix)
+}
+
+/// The digits of the integer of base sixteen that a text is.
+pub fn digits_of_hex(text: &str) -> Option<&str> {
+    let parts = integer_parts(text)?;
+    (parts.radix == 16).then_some(parts.digits)
+}
+
+/// What stands after the letter of a float's exponent.
+pub fn exponent_of(text: &str) -> Option<&str> {
+    float_parts(text)?.exponent
 }
 
 /// Why a text is no literal.

@@ -10,6 +10,7 @@ pub use crate::rl_fronts::{
     Front, Negative, bytes_of, bytes_of_body, digits_of, digits_of_found, next_is, spans_of,
     str_of, str_of_body, take_kind,
 };
+pub use crate::rl_parts::{FloatParts, IntegerParts, float_parts, integer_parts, range_of};
 pub use crate::rl_reading::{
     Body, Found, ListStep, NextLiteral, Parts, Rejection, RejectionKind, Segment, SegmentValue,
     Segments, SourceStep, byte_of, byte_of_body, bytes_into, char_of, char_of_body, find,

@@ -4,6 +4,7 @@
 use crate::rl_quoted::written::written_body;
 use crate::rl_forms::Kind;
 use crate::rl_fronts::{next_is, take_kind};
+use crate::rl_parts::range_of;
 use crate::rl_reading::{Body, Found, Segments, byte_of_body, char_of_body, find};
 use crate::rl_tokens::{
     Error, Literal, Parse, ParseBuffer, Span, ToTokens, Token, TokenStream, append_literal,
@@ -113,16 +114,6 @@ impl<K: QuotedKind, A: Allocator> Quoted<K, A> {
         self.segments().end_of(at)
     }
 
-    /// The bytes of the token's text that the bytes of the contents from `lo` up to `hi` come from.
-    fn range_of(&self, lo: usize, hi: usize) -> (usize, usize) {
-        let first = self.place_of(lo);
-        if lo < hi {
-            (first, self.end_of(hi - 1))
-        } else {
-            (first, first)
-        }
-    }
-
     /// Where in its file the bytes of the contents from `lo` up to `hi` come from: from where what gives the first begins
     /// ([`place_of`](Quoted::place_of)) to where what gives the last ends ([`end_of`](Quoted::end_of)). Of no bytes, no
     /// bytes where the next begins. Where the literal's span isn't as long as its text, which then stands elsewhere, the
@@ -132,7 +123,7 @@ impl<K: QuotedKind, A: Allocator> Quoted<K, A> {
         if !self.spans_text() {
             return span;
         }
-        let (first, last) = self.range_of(lo, hi);
+        let (first, last) = range_of(K::KIND, self.token.text(), &self.body, lo, hi);
         Span {
             file: span.file,
             lo: span.lo + first,

@@ -1,0 +1,3 @@
+pub mod Mirrors
+pub mod NumberParts
+pub mod Ranges

@@ -1,0 +1,129 @@
+//! The parts of numbers.
+
+ghost use Rattle.std.specs.Prelude.{◌≡◌, IfNone, IfSome, option_map};
+ghost use Rattle.std.specs.Str.{chars};
+ghost use Rattle.rl_forms.specs.declared.kind.Kind.TheVariants.{Int, Float};
+ghost use Rattle.rl_forms.specs.Reading.{ReadsAs};
+ghost use Rattle.rl_reading.specs.Mirrors.NumberAt.{after_digits, digit_row_at};
+ghost use Rattle.rl_parts.specs.Mirrors.PartsAt.{fraction_at, after_letter};
+ghost use Rattle.rl_parts.specs.NumberParts.{IsFloatOf, IsIntegerOf};
+
+use rl_forms::Kind;
+use rl_reading::digit_rows::{after_minus, read_row, skip_row};
+use rl_reading::find;
+use rl_reading::number_forms::split_radix;
+use rl_text::text::{before, split_char, strip_byte};
+
+/// The parts of an integer, beside its sign and its suffix.
+#[derive(Clone, Copy)]
+pub struct IntegerParts<'t> {
+    /// The base: 2, 8, 10 or 16.
+    pub radix: u32,
+    /// The digits and underscores after sign and prefix, as they stand.
+    pub digits: &'t str,
+}
+
+/// The parts of a float, beside its sign and its suffix, as they stand.
+#[derive(Clone, Copy)]
+pub struct FloatParts<'t> {
+    /// The digits before the dot, the exponent or the suffix.
+    pub integer: &'t str,
+    /// The digits after the dot, perhaps none; `None` where there is no dot.
+    pub fraction: Option<&'t str>,
+    /// What stands after the letter of the exponent, its sign too; `None` where there is no exponent.
+    pub exponent: Option<&'t str>,
+}
+
+/// The base and the digits of the integer that the text is; `None` where it reads as none.
+///
+/// # Example
+///
+/// ```
+/// use rl_grammar::integer_parts;
+///
+/// pub fn digits_of_hex(text: &str) -> Option<&str> {
+///     let parts = integer_parts(text)?;
+///     (parts.radix == 16).then_some(parts.digits)
+/// }
+/// // digits_of_hex("-0xF_F_u8") == Some("F_F_")
+/// // digits_of_hex("255") == None
+/// ```
+pub fn integer_parts(text: &str) -> Option<IntegerParts<'_>>
+    ensures parts { IfSome result (λ p. IsIntegerOf (chars text.now) p.radix (chars p.digits.now)) }
+    ensures reads { IfSome result (λ p. ReadsAs Int (chars text.now)) }
+    ensures none { IfNone result (ReadsAs Int (chars text.now) → ⊥) }
+{
+    let found = find(text)?;
+    if !matches!(found.kind, Kind::Int) {
+        return None;
+    }
+    let (radix, row) = split_radix(after_minus(text));
+    let digits = before(row, read_row(row, radix).rest);
+    Some(IntegerParts { radix, digits })
+}
+
+/// The digits and underscores at the front, and the text after them.
+fn split_row(text: &str) -> (&str, &str)
+    ensures row { chars result.0.now ≡ digit_row_at 10 (chars text.now) }
+    ensures rest { chars result.1.now ≡ after_digits 10 (chars text.now) }
+{
+    let rest = skip_row(text).rest;
+    (before(text, rest), rest)
+}
+
+/// The digits after the dot that the text begins with, if it does, and the text after them.
+fn split_fraction(text: &str) -> (Option<&str>, &str)
+    ensures { (option_map (λ row. chars row.now) result.0, chars result.1.now) ≡ fraction_at (chars text.now) }
+{
+    match strip_byte(text, b'.') {
+        Some(digits) => {
+            let (row, rest) = split_row(digits);
+            (Some(row), rest)
+        }
+        None => (None, text),
+    }
+}
+
+/// What stands after the letter of an exponent; `None` where nothing is left.
+fn after_letter(text: &str) -> Option<&str>
+    ensures { option_map (λ exponent. chars exponent.now) result ≡ after_letter (chars text.now) }
+{
+    match split_char(text) {
+        Some((_, exponent)) => Some(exponent),
+        None => None,
+    }
+}
+
+/// The parts of the float that the text is; `None` where it reads as none. An integer with a suffix of floats, as `1f32`, is
+/// an integer.
+///
+/// # Example
+///
+/// ```
+/// use rl_grammar::float_parts;
+///
+/// pub fn exponent_of(text: &str) -> Option<&str> {
+///     float_parts(text)?.exponent
+/// }
+/// // exponent_of("1_0.5E+3f64") == Some("+3")
+/// // exponent_of("1.5") == None
+/// ```
+pub fn float_parts(text: &str) -> Option<FloatParts<'_>>
+    ensures parts { IfSome result (λ p. IsFloatOf (chars text.now) (chars p.integer.now)
+        (option_map (λ row. chars row.now) p.fraction) (option_map (λ row. chars row.now) p.exponent)) }
+    ensures reads { IfSome result (λ p. ReadsAs Float (chars text.now)) }
+    ensures none { IfNone result (ReadsAs Float (chars text.now) → ⊥) }
+{
+    let found = find(text)?;
+    if !matches!(found.kind, Kind::Float) {
+        return None;
+    }
+    let numeral = before(text, found.suffix_in(text));
+    let (integer, rest) = split_row(after_minus(numeral));
+    let (fraction, power) = split_fraction(rest);
+    Some(FloatParts {
+        integer,
+        fraction,
+        exponent: after_letter(power),
+    })
+}
