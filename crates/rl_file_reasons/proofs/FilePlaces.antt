@@ -144,7 +144,7 @@ unsigned t flaw n (inl x) = inl (record {
   hi = x.hi;
   ordered = x.ordered;
 })
-unsigned t flaw n (inr x) = inr x
+unsigned t flaw n (inr (token, limit)) = inr limit
 
 -- ---- values
 
@@ -212,10 +212,10 @@ pub past_value : (t : List ℕ) (o : Option Flaw) → IsSignedToken t → IfNone
 past_value t None y none = has_value_in_file t y (λ p. none)
 past_value t (Some flaw) y none = tt
 
-pub past_explains : (t : List ℕ) (o : Option Flaw) → IsSignedToken t
+pub past_explains : (t : List ℕ) (o : Option Flaw) → IsToken (lf_text t) → IsSignedToken t
     → IfSome o (λ flaw. IsLimitFlaw t flaw × (IsFloatBySuffix t → ⊥)) → IfSome o (ExplainsValueInFile t)
-past_explains t None y past = tt
-past_explains t (Some flaw) y past = inr (y, past.0, past.1)
+past_explains t None token y past = tt
+past_explains t (Some flaw) token y past = inr (token, y, past.0, past.1)
 
 -- ---- where a minus and what follows it stop
 

@@ -4,17 +4,15 @@ use Rattle.std.proofs.Math.Bool.{and-false}
 use Rattle.std.proofs.lemmas.Str.{length-le-encodes}
 use Rattle.rl_reading.proofs.Names.{byte_len, first_passes}
 use Rattle.rl_lexer.proofs.CutLemmas.{byte_len-append}
-use Rattle.rl_strict.specs.StrictShapes.{IsToken}
 use Rattle.rl_reasons.specs.declared.flaws.Flaw.{Flaw}
 use Rattle.rl_file_reasons.specs.FileTexts.{ExplainsInFile, ExplainsSignedInFile, ExplainsSignedValueInFile, ExplainsValueInFile, IsPlaceInFile, is_dropped, lf_text}
 use Rattle.rl_file_reasons.specs.FileWalks.{is_seam}
 use Rattle.rl_reasons.specs.OneFlaw.{IsExplainedOnce}
 use Rattle.rl_reasons.specs.SignedFlaws.{IsSignedToken}
 use Rattle.rl_file_reasons.proofs.FilePlaces.{signed_same}
-use Rattle.rl_file_reasons.proofs.FileTextLemmas.{by_first, seam_text, token_same, when_dropped, when_kept}
+use Rattle.rl_file_reasons.proofs.FileTextLemmas.{by_first, seam_text, when_dropped, when_kept}
 use Rattle.rl_reasons.proofs.OneSignedFlaw.{limit_once, signed_once}
 use Rattle.rl_reasons.proofs.OneStrictFlaw.{After, Before, Meets, Same, flaw_same, meets, one_strict_flaw}
-use Rattle.rl_reasons.proofs.SignedFlaws.{unsigned}
 
 -- ---- seams
 
@@ -117,20 +115,14 @@ signed_file_once t a b p q = in_file_once t a b p.read q.read
 
 -- ---- values
 
--- what begins with no minus is past the limit only as a token
-pub value_file_once : (t : List ℕ) → first_passes (λ c. c == 45) t ≡ false → IsExplainedOnce ExplainsValueInFile t
-value_file_once t n a b p q = go p q
+pub value_file_once : (t : List ℕ) → IsExplainedOnce ExplainsValueInFile t
+value_file_once t a b p q = go p q
   where
-    neither : (flaw : Flaw) → ExplainsInFile t flaw → IsSignedToken t → ⊥
-    neither flaw x y =
-        let token = unsigned t n y in
-        x.explains.no_token (subst IsToken (sym (token_same t token)) token)
-
     go : ExplainsValueInFile t a → ExplainsValueInFile t b → a ≡ b
     go (inl x) (inl y) = file_once t a b x y
-    go (inl x) (inr y) = absurd (neither a x y.0)
-    go (inr x) (inl y) = absurd (neither b y x.0)
-    go (inr x) (inr y) = limit_once t a b x.1 y.1
+    go (inl x) (inr (token, limit)) = absurd (x.explains.no_token token)
+    go (inr (token, limit)) (inl y) = absurd (y.explains.no_token token)
+    go (inr (token, limit)) (inr (same, other)) = limit_once t a b limit.1 other.1
 
 pub signed_value_file_once : (t : List ℕ) → IsExplainedOnce ExplainsSignedValueInFile t
 signed_value_file_once t a b p q = go p q

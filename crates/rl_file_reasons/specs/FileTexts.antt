@@ -2,6 +2,7 @@
 use Rattle.std.specs.Prelude.{◌≡◌, ◌⊎◌, ℕ, ◌≤◌, ◌==◌, ◌&&◌, Bool, cond, List, [], ◌∷◌, ◌++◌}
 use Prim.Native.Char.{code}
 use Rattle.rl_text.specs.Texts.{byte_len, begins_char}
+use Rattle.rl_strict.specs.StrictShapes.{IsToken}
 use Rattle.rl_reasons.specs.declared.flaws.Flaw.{Flaw}
 use Rattle.rl_reasons.specs.Limits.{ExplainsLimit}
 use Rattle.rl_reasons.specs.SignedFlaws.{ExplainsSigned}
@@ -46,10 +47,10 @@ pub record ExplainsSignedInFile (text : List ℕ) (flaw : Flaw) : Type 0 where
   pub hi : IsPlaceInFile text read.hi flaw.hi
   pub ordered : flaw.lo ≤ flaw.hi
 
--- The text has no value where it stands in a file: as rustc reads it, it is no token, or an integer past 128 bits. Such an
--- integer holds no CR.
+-- The text has no value where it stands in a file: as rustc reads it, it is no token, or it is one, an integer past 128 bits.
+-- Such an integer holds no CR. (A minus and an integer past 128 bits is no token.)
 abbrev pub ExplainsValueInFile : List ℕ → Flaw → Type 0
-ExplainsValueInFile text flaw = ExplainsInFile text flaw ⊎ ExplainsLimit text flaw
+ExplainsValueInFile text flaw = ExplainsInFile text flaw ⊎ (IsToken (lf_text text) × ExplainsLimit text flaw)
 
 -- The same with a minus in front of numbers.
 abbrev pub ExplainsSignedValueInFile : List ℕ → Flaw → Type 0

@@ -1,7 +1,6 @@
 //! Laws of the definitions: each function does nothing, and its contract is the law.
 
-ghost use Rattle.std.specs.Prelude.{IsFalse, List, ℕ};
-ghost use Rattle.rl_text.specs.Texts.{begins_char, code};
+ghost use Rattle.std.specs.Prelude.{List, ℕ};
 ghost use Rattle.rl_reasons.specs.OneFlaw.{IsExplainedOnce};
 ghost use Rattle.rl_file_reasons.specs.FileTexts.{ExplainsInFile, ExplainsSignedInFile, ExplainsSignedValueInFile, ExplainsValueInFile};
 
@@ -16,11 +15,10 @@ pub fn a_text_in_a_file_has_one_signed_flaw()
     ensures { (text : List ℕ) → IsExplainedOnce ExplainsSignedInFile text }
 {}
 
-/// One flaw at most explains why a text in a file has no value, where no minus begins it. It is the one that
-/// [`explain_value_in_file`](crate::explain_value_in_file) returns. A minus and an integer past 128 bits is both: no token, and
-/// past the limit.
+/// One flaw at most explains why a text in a file has no value. It is the one that
+/// [`explain_value_in_file`](crate::explain_value_in_file) returns.
 pub fn a_text_in_a_file_has_one_value_flaw()
-    ensures { (text : List ℕ) → IsFalse (begins_char (code "-") text) → IsExplainedOnce ExplainsValueInFile text }
+    ensures { (text : List ℕ) → IsExplainedOnce ExplainsValueInFile text }
 {}
 
 /// One flaw at most explains why a text in a file has no value, where a minus may stand before a number. It is the one that

@@ -13,10 +13,10 @@ use Rattle.rl_lexer.specs.Sources.{source_text, SourceKind, PlainKind, StrayKind
 use Rattle.rl_lexer.specs.declared.lex_error.LexKind.{LexKind}
 use Rattle.rl_lexer.specs.declared.lex_error.LexKind.TheVariants.{StrayCharacter}
 use Rattle.rl_reasons.specs.declared.flaws.Flaw.{Flaw}
-use Rattle.rl_reasons.specs.Limits.{ExplainsLimit, IsFloatBySuffix}
+use Rattle.rl_reasons.specs.Limits.{IsFloatBySuffix}
 use Rattle.rl_reasons.specs.FlawWords.{flaw_message}
 use Rattle.rl_strict.specs.StrictShapes.{IsToken}
-use Rattle.rl_file_reasons.specs.FileTexts.{lf_text, ExplainsInFile}
+use Rattle.rl_file_reasons.specs.FileTexts.{lf_text, ExplainsValueInFile}
 use Rattle.rl_lines.specs.Lines.{IsLineOf, IsLabelOf, Joins}
 use Rattle.rl_files.specs.Visible.{visible, visible_lines}
 use Rattle.rl_program.specs.Streams.{AppendsBeginning}
@@ -41,7 +41,7 @@ use Rattle.rl_sources.specs.Places.{line_front, IsPlaceIn}
 
 -- the flaw of the text of a literal: as rustc reads it, it is no token; or it is an integer past 128 bits, and no float
 abbrev pub FindsFlaw : List ℕ → Flaw → Type 0
-FindsFlaw text flaw = ExplainsInFile text flaw ⊎ ExplainsLimit text flaw
+FindsFlaw = ExplainsValueInFile
 
 -- as rustc reads it, the text is a token, and has a reading or is a float by its suffix
 abbrev pub FindsNoFlaw : List ℕ → Type 0
