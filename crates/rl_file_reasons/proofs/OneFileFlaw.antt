@@ -2,7 +2,7 @@
 use Rattle.rl_text.proofs.Common.{◌≡◌, ℕ, ◌<◌, ◌==◌, Bool, false, true, not, List, [], ◌∷◌, ◌++◌, length, refl, sym, ap, subst, ◌∙◌, inl, inr, arith}
 use Rattle.std.proofs.Math.Bool.{and-false}
 use Rattle.std.proofs.lemmas.Str.{length-le-encodes}
-use Rattle.rl_reading.proofs.Names.{byte_len, first_passes}
+use Rattle.rl_reading.proofs.Names.{byte_len}
 use Rattle.rl_lexer.proofs.CutLemmas.{byte_len-append}
 use Rattle.rl_reasons.specs.declared.flaws.Flaw.{Flaw}
 use Rattle.rl_file_reasons.specs.FileTexts.{ExplainsInFile, ExplainsSignedInFile, ExplainsSignedValueInFile, ExplainsValueInFile, IsPlaceInFile, is_dropped, lf_text}
