@@ -23,6 +23,13 @@ reads_as_none t kind h (v, x, r) = h kind v x r
 pub reads_as_other : (t x : List ℕ) (found kind : Kind) → HasSuffix found t x → (found ≡ kind → ⊥) → ReadsAs kind t → ⊥
 reads_as_other t x found kind (v, r) other (w, y, s) = other (one_reading t found kind v w x y r s).0
 
+-- what reads as a float is one
+pub found_float : (t x : List ℕ) (kind : Kind) → kind ≡ Float → HasSuffix kind t x → (n : List ℕ) × FloatReads t n x
+found_float t x kind e h = let r = subst (λ (k : Kind). HasSuffix k t x) e h in (r.1.numeral, r.1.reads)
+
+pub reads_found : (t x : List ℕ) (found kind : Kind) → found ≡ kind → HasSuffix found t x → ReadsAs kind t
+reads_found t x found kind e h = let r = subst (λ (k : Kind). HasSuffix k t x) e h in (r.0, x, r.1)
+
 -- ---- rows of digits
 
 -- a row of digits, by what is left after it
