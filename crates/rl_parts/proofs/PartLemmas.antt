@@ -119,8 +119,7 @@ float_of t n x r whole fraction exponent s =
     (fraction_stops r.fraction e (exponent_stops r.exponent x r.is_exponent)) in
     let left : after_digits 10 s.unsigned ≡ y = ap (after_digits 10) unsigned ∙ past.1 in
     let both : ◌≡◌ {A = Option (List ℕ) × List ℕ} (fraction, s.power) (fraction_row r.fraction, e) =
-    s.fraction_is ∙ ap fraction_at left ∙ fraction_past r.fraction r.exponent x r.is_fraction r.is_exponent in
-    (
+    s.fraction_is ∙ ap fraction_at left ∙ fraction_past r.fraction r.exponent x r.is_fraction r.is_exponent in (
       s.whole_is ∙ ap (digit_row_at 10) unsigned ∙ past.0,
       ap (λ (p : Option (List ℕ) × List ℕ). p.0) both,
       s.exponent_is ∙ ap after_letter (ap (λ (p : Option (List ℕ) × List ℕ). p.1) both) ∙ letter_past r.exponent,
@@ -144,8 +143,7 @@ integer_row_is : (t : List ℕ) (base : ℕ) (digits : List ℕ) → IsIntegerOf
 integer_row_is t base digits (s, m, x, r, base_is, digits_are) =
     let at = integer_row t s m x r in
     let past = run_past (is_row_part (has_value (radix r.base))) r.digits x r.each
-    (no_part r.base x r.is_suffix r.is_suffix_of) in
-    (
+    (no_part r.base x r.is_suffix r.is_suffix_of) in (
       base_is ∙ sym (ap (λ (p : ℕ × List ℕ). p.0) at),
       digits_are ∙ sym past.0 ∙ sym (ap (λ (p : ℕ × List ℕ). run (is_row_part (has_value p.0)) p.1) at),
     )
