@@ -215,7 +215,7 @@ past_value t (Some flaw) y none = tt
 pub past_explains : (t : List ℕ) (o : Option Flaw) → IsToken (lf_text t) → IsSignedToken t
     → IfSome o (λ flaw. IsLimitFlaw t flaw × (IsFloatBySuffix t → ⊥)) → IfSome o (ExplainsValueInFile t)
 past_explains t None token y past = tt
-past_explains t (Some flaw) token y past = inr (token, y, past.0, past.1)
+past_explains t (Some flaw) token y past = inr (token, (y, past.0, past.1))
 
 -- ---- where a minus and what follows it stop
 

@@ -85,7 +85,7 @@ place_in_file text flaw e = record {
 
 pub has_place : (text : List ℕ) (flaw : Flaw) → FindsFlaw text flaw → HasPlace text flaw
 has_place text flaw (inl e) = place_in_file text flaw e
-has_place text flaw (inr (_, signed, e, no_float)) = limit_place text flaw e
+has_place text flaw (inr (_, (signed, e, no_float))) = limit_place text flaw e
 
 -- Where the token's text is cut, the rest is.
 pub record IsCutWithin (rest : List ℕ) (lo size : ℕ) : Type 0 where

@@ -213,7 +213,7 @@ passes_unasked options text None none asked is = none (inl is)
 -- a text without a flaw isn't bad
 not_bad : (text : List ℕ) (flaw : Flaw) → FindsNoFlaw text → FindsFlaw text flaw → ⊥
 not_bad text flaw (token, reads) (inl e) = e.explains.no_token token
-not_bad text flaw (token, reads) (inr (_, signed, e, no_float)) = elim reads [
+not_bad text flaw (token, reads) (inr (_, (signed, e, no_float))) = elim reads [
   | inl r ↦ read_within text (subst HasReading (signed_same text signed) r) e.past
   | inr f ↦ no_float (subst IsFloatBySuffix (signed_same text signed) f)
 ]

@@ -14,22 +14,22 @@ pub returns-then-not-matches-clause-none : goal.returns-then-not-matches-clause-
 returns-then-not-matches-clause-none c = elim c.match-matches.branch [
   | in-Float w ↦ absurd (both_ways c.match-matches.matches c.if-not-matches.true w.matches-is)
   | in_default w ↦
-    reads_as_other (chars c.args.text.now) _ c.in_ok-found.found.kind Float c.in_ok-found.ensures.found.reads
-    w.in_default.not-Float
+      reads_as_other (chars c.args.text.now) _ c.in_ok-found.found.kind Float c.in_ok-found.ensures.found.reads
+      w.in_default.not-Float
 ]
 
 pub returns-clause-parts : goal.returns-clause-parts
 returns-clause-parts c = elim c.match-matches.branch [
   | in-Float w ↦
-    float_is (chars c.args.text.now) (chars c.before-numeral.result.now) (chars c.suffix_in.result.now) _ _ _
-    (found_float (chars c.args.text.now) (chars c.suffix_in.result.now) c.in_ok-found.found.kind w.in-Float.is
-    (c.suffix_in.ensures.reads c.in_ok-found.ensures.found)) c.before-numeral.ensures.chars (record {
-      unsigned = chars c.after_minus.result.now;
-      unsigned_is = c.after_minus.ensures.value;
-      whole_is = c.split_row.ensures.row;
-      power = chars c.split_fraction.result.1.now;
-      fraction_is = c.split_fraction.ensures ∙ ap fraction_at c.split_row.ensures.rest;
-      exponent_is = c.after_letter.ensures;
-    })
+      float_is (chars c.args.text.now) (chars c.before-numeral.result.now) (chars c.suffix_in.result.now) _ _ _
+      (found_float (chars c.args.text.now) (chars c.suffix_in.result.now) c.in_ok-found.found.kind w.in-Float.is
+      (c.suffix_in.ensures.reads c.in_ok-found.ensures.found)) c.before-numeral.ensures.chars (record {
+        unsigned = chars c.after_minus.result.now;
+        unsigned_is = c.after_minus.ensures.value;
+        whole_is = c.split_row.ensures.row;
+        power = chars c.split_fraction.result.1.now;
+        fraction_is = c.split_fraction.ensures ∙ ap fraction_at c.split_row.ensures.rest;
+        exponent_is = c.after_letter.ensures;
+      })
   | in_default w ↦ absurd (both_ways c.match-matches.matches w.matches-is c.if-not-matches.false)
 ]
