@@ -19,6 +19,7 @@ ghost use Rattle.rl_reading.specs.Founds.{IsFound, is_quoted};
 ghost use Rattle.rl_reading.specs.Segments.{IsByteEnd, IsBytePlace, IsSegmentsOf};
 ghost use Rattle.rl_reading.specs.WholeShapes.{IsPlain};
 ghost use Rattle.rl_quoted.specs.Places.{IsSpanOf, IsWrittenAs, StandsAt};
+ghost use Rattle.rl_parts.specs.Ranges.{IsRangeOf};
 ghost use Rattle.rl_quoted.specs.Suffixes.{HasSomeSuffix};
 ghost use Rattle.rl_forms.specs.Words.{kind_name};
 
@@ -204,6 +205,14 @@ impl<K: QuotedKind, A: Allocator> Quoted<K, A> {
         self.segments().end_of(at)
     }
 
+    /// The bytes of the token's text that the bytes of the contents from `lo` up to `hi` come from.
+    fn range_of(&self, lo: usize, hi: usize) -> (usize, usize)
+        requires { IsTrue (is_quoted K.KIND) }
+        ensures { IsRangeOf K.KIND (chars self.now.text) lo hi result.0 result.1 }
+    {
+        range_of(K::KIND, self.token.text(), &self.body, lo, hi)
+    }
+
     /// Where in its file the bytes of the contents from `lo` up to `hi` come from: from where what gives the first begins
     /// ([`place_of`](Quoted::place_of)) to where what gives the last ends ([`end_of`](Quoted::end_of)). Of no bytes, no
     /// bytes where the next begins. Where the literal's span isn't as long as its text, which then stands elsewhere, the
@@ -218,7 +227,7 @@ impl<K: QuotedKind, A: Allocator> Quoted<K, A> {
         if !self.spans_text() {
             return span;
         }
-        let (first, last) = range_of(K::KIND, self.token.text(), &self.body, lo, hi);
+        let (first, last) = self.range_of(lo, hi);
         Span {
             file: span.file,
             lo: span.lo + first,
