@@ -50,7 +50,7 @@ mod places;
 #[cfg(feature = "proc-macro")]
 mod proc_macros;
 #[cfg_attr(feature = "rendered", allow(missing_docs))]
-#[allow(dead_code, unused_imports, unused_variables)]
+#[allow(unused_variables)]
 #[allow(clippy::style, clippy::complexity, clippy::pedantic)]
 #[rustfmt::skip]
 mod proved;

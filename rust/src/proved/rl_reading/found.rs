@@ -184,6 +184,7 @@ pub(crate) fn find_truth(text: &str) -> Option<Found> {
 }
 
 /// The reading of a text that is a literal.
+#[cfg(feature = "rendered")]
 pub fn found_in(text: &str) -> Found {
     match find(text) {
         Some(found) => found,
@@ -253,6 +254,7 @@ pub fn begins_number(text: &str) -> bool {
 ///
 /// A text without CR is a byte, or a byte string with escapes, and its suffix empty or a word,
 /// exactly where it is a strict one (`strict_bytes`).
+#[cfg(feature = "rendered")]
 pub fn shape(text: &str) -> Option<Parts<'_>> {
     let found = find(text)?;
     Some(found.parts(text))

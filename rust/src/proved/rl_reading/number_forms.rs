@@ -4,7 +4,9 @@
 use crate::rl_reading::digit_rows::{
     DigitRow, after_minus, begins_digit, is_exponent_suffix, is_suffix, read_row, skip_row,
 };
-use crate::rl_reading::found::{Parts, find_float, find_int, find_unsigned};
+use crate::rl_reading::found::{Parts, find_float, find_int};
+#[cfg(feature = "rendered")]
+use crate::rl_reading::found::find_unsigned;
 use crate::rl_text::classes::{CharClass, skip_class};
 use crate::rl_text::text::{split_ascii, split_char};
 
@@ -182,6 +184,7 @@ pub(crate) fn read_number(text: &str) -> Option<Number<'_>> {
 ///
 /// `Some` exactly where the text with a minus before it reads as a literal; it is then an integer or a float. Body and
 /// suffix are slices of the text, without the minus.
+#[cfg(feature = "rendered")]
 pub fn shape_negative(text: &str) -> Option<Parts<'_>> {
     let found = find_unsigned(text)?;
     Some(found.parts(text))
