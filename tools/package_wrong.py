@@ -48,7 +48,7 @@ WRONG = [Wrong(*row) for row in [
      'a string has one hash too many'),
     ('strings.rs', "self.lo > Self::KIND.opener().len()", "self.lo > 1",
      'a byte string is raw'),
-    ('strings.rs', "into_bytes(part(self.text, self.lo, self.hi))", "Cow::Owned(Vec::from(self.body()))",
+    ('strings.rs', "into_bytes(part(self.text, self.lo, self.hi))", "Cow::Owned(alloc::vec::Vec::from(self.body()))",
      '`into_value` copies the bytes of a string without escapes'),
     ('strings.rs', "        if self.is_plain {\n            Cow::Borrowed(self.body())",
      "        if self.is_plain && !self.is_raw() {\n            Cow::Borrowed(self.body())",

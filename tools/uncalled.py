@@ -40,7 +40,7 @@ def listed():
     entries = []
     for line in LIST.read_text().split("\n"):
         entry = ENTRY.fullmatch(line)
-        if entry:
+        if entry and not (entry[1] and re.search(r"[*{]", entry[3])):
             entries.append(Entry(entry[2], entry[3], entry[4], bool(entry[1])))
         elif line and not line.startswith("#"):
             fail(f"no entry: {line}")
@@ -154,7 +154,9 @@ class Uncalled:
         for file in self.whole:
             if name.endswith("/mod.rs") and file.startswith(folder):
                 module = file.removeprefix(folder).removesuffix(".rs")
-                text = re.sub(rf"^((?:pub )?mod {module};\n)", rf"{ATTRIBUTE}\1", text, flags=re.M)
+                text, count = re.subn(rf"^((?:pub )?mod {module};\n)", rf"{ATTRIBUTE}\1", text, flags=re.M)
+                if not count:
+                    fail(f"{name} has no module {module}")
         return text
 
     def core(self, files):
