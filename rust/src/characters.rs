@@ -20,7 +20,7 @@ macro_rules! single_type {
             value: $value,
         }
 
-        literal_type!($name, $variant { value }, $with_suffix, "_s");
+        literal_type!($name, $variant(value), $with_suffix, "_s");
         quoted_type!($name, $text, $range, $end);
 
         impl<'t> $name<'t> {

@@ -52,7 +52,7 @@ pub(crate) use example;
 
 /// What the structs of all kinds have, whose fields are `text` and these. `$text` is of examples.
 macro_rules! text_type {
-    ($name:ident { $($field:ident),* }, $text:literal) => {
+    ($name:ident($($field:ident),*), $text:literal) => {
         impl<'t> $name<'t> {
             /// The text as it was read.
             #[doc = $crate::common::example!($name, $text, "assert_eq!(literal.text(), ", stringify!($text), ");")]
@@ -122,8 +122,8 @@ pub(crate) use text_type;
 /// What the structs of Rust's literals have, whose first fields are `text` and `suffix_at` (`repr(C)`), so that they stand at one
 /// place in every variant of `Lit`. `$text` and its suffix are of examples.
 macro_rules! literal_type {
-    ($name:ident, $variant:ident { $($field:ident),* }, $text:literal, $suffix:literal) => {
-        $crate::common::text_type!($name { suffix_at, $($field),* }, $text);
+    ($name:ident, $variant:ident($($field:ident),*), $text:literal, $suffix:literal) => {
+        $crate::common::text_type!($name(suffix_at, $($field),*), $text);
 
         impl<'t> $name<'t> {
             /// The literal of this kind that the text is, all of it: as [`Lit::parse`](crate::Lit::parse), but of one kind.

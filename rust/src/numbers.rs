@@ -200,7 +200,7 @@ pub struct LitInt<'t> {
     is_plain: bool,
 }
 
-literal_type!(LitInt, Int { low, high, is_plain }, "1_000u16", "u16");
+literal_type!(LitInt, Int(low, high, is_plain), "1_000u16", "u16");
 number_type!(LitInt, "12" == 12.0, "-12");
 
 /// A float: `1.5e3`, `2.0f32`.
@@ -224,7 +224,7 @@ pub struct LitFloat<'t> {
     plain_len: usize,
 }
 
-literal_type!(LitFloat, Float { plain_len }, "1.5f32", "f32");
+literal_type!(LitFloat, Float(plain_len), "1.5f32", "f32");
 number_type!(LitFloat, "1.5" == 1.5, "-1.5");
 
 impl<'t> LitInt<'t> {

@@ -25,7 +25,7 @@ macro_rules! string_type {
             is_plain: bool,
         }
 
-        literal_type!($name, $variant { lo, hi, is_plain }, $cooked, "_s");
+        literal_type!($name, $variant(lo, hi, is_plain), $cooked, "_s");
         quoted_type!($name, $pieces, $first, $place);
 
         impl<'t> $name<'t> {

@@ -20,7 +20,7 @@ pub struct LitBool<'t> {
     value: bool,
 }
 
-literal_type!(LitBool, Bool { value }, "true", "");
+literal_type!(LitBool, Bool(value), "true", "");
 
 impl<'t> LitBool<'t> {
     /// The literal of this text, which is the value's word.
@@ -64,7 +64,7 @@ pub struct LitVerbatim<'t> {
     text: Cow<'t, str>,
 }
 
-text_type!(LitVerbatim {}, "word");
+text_type!(LitVerbatim(), "word");
 
 impl<'t> LitVerbatim<'t> {
     /// The text, which has no reading.
