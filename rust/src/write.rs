@@ -46,7 +46,9 @@ pub fn write_str(value: &str) -> String {
 /// ```
 #[must_use]
 pub fn write_byte_str(value: &[u8]) -> String {
-    written(value.len(), |out| write_bytes_into(Kind::ByteStr, value, out))
+    written(value.len(), |out| {
+        write_bytes_into(Kind::ByteStr, value, out)
+    })
 }
 
 /// The C string literal that stands for the C string.

@@ -81,7 +81,16 @@ fn parts_as_in_a_plain_model() {
     let mut tally = Tally::default();
     tally.check_each("", 4);
     for front in [
-        "1.5", "-1.5e", "1e5", "12_.3_E-", "-0x", "0xF", "0b1", "-0o7", "1_", "1.5_f32",
+        "1.5",
+        "-1.5e",
+        "1e5",
+        "12_.3_E-",
+        "-0x",
+        "0xF",
+        "0b1",
+        "-0o7",
+        "1_",
+        "1.5_f32",
         "340282366920938463463374607431768211455",
     ] {
         tally.check_each(front, 3);

@@ -57,7 +57,7 @@ impl<const N: usize> Simd<u8, N> {
     #[inline(always)]
     pub(crate) fn splat(byte: u8) -> Self {
         let eight = byte as u64 * LOWEST;
-        Simd(eights!(N, at => eight), PhantomData)
+        Simd(eights!(N, _at => eight), PhantomData)
     }
 
     /// Where the lanes of both are equal: where nothing is left of their difference, so that no carry reaches the highest bit.
