@@ -112,17 +112,30 @@ fn what_names_nothing() {
     let folder = folder_for("uncalled");
     let list = "tools/uncalled.txt";
     for (old, new, said) in [
-        ("rl_forms/kind.rs Kind::word", "rl_forms/kinds.rs Kind::word", "kinds.rs"),
+        (
+            "rl_forms/kind.rs Kind::word",
+            "rl_forms/kinds.rs Kind::word",
+            "kinds.rs",
+        ),
         ("Kind::word", "Kind::words", "Kind::words"),
         ("Kind::word", "Sort::word", "Sort::word"),
-        ("contents.rs body_unit", "contents.rs body_units", "body_units"),
-        ("- rl_reading/contents.rs str_into", "- rl_reading/contents.rs text_into", "text_into"),
+        (
+            "contents.rs body_unit",
+            "contents.rs body_units",
+            "body_units",
+        ),
+        (
+            "- rl_reading/contents.rs str_into",
+            "- rl_reading/contents.rs text_into",
+            "text_into",
+        ),
         ("rl_text/span.rs *", "rl_text/spans.rs *", "spans.rs"),
         ("LexKind::{Memory}", "LexKind::{Room}", "Room"),
         ("LexKind::{Memory}", "Lex::{Memory}", "Lex::"),
         ("Kind::word: ", "Kind::word ", "no entry"),
     ] {
-        let words = rejected(&folder, list, old, new).unwrap_or_else(|| panic!("{new} is rendered"));
+        let words =
+            rejected(&folder, list, old, new).unwrap_or_else(|| panic!("{new} is rendered"));
         assert!(words.contains(said), "{new}: {words}");
     }
     assert_eq!(rejected(&folder, list, "body_unit", "body_unit"), None);
