@@ -4,7 +4,7 @@ use crate::common::{example, literal_type};
 use crate::contents::digits_of;
 use crate::rl_reading::digit_rows::{after_minus, skip_row};
 use crate::rl_reading::number_forms::split_radix;
-use crate::rl_reading::{float_shape, int_shape};
+use crate::rl_reading::shape;
 use crate::rl_text::scan::{near_len_before, Marks};
 use crate::rl_text::text::before;
 use alloc::borrow::Cow;
@@ -174,6 +174,11 @@ macro_rules! number_type {
             pub fn base10_parse<N: FromStr>(&self) -> Result<N, N::Err> {
                 self.base10_digits().parse()
             }
+
+            /// All before the suffix, a minus too, where the proved code finds it.
+            fn numeral(&self) -> &str {
+                shape(&self.text).map_or("", |parts| parts.body)
+            }
         }
     };
 }
@@ -285,12 +290,6 @@ impl<'t> LitInt<'t> {
         format!("{sign}{}", self.magnitude())
     }
 
-    /// The radix, and the digits after its prefix, as the proved code finds them.
-    fn split_radix(&self) -> (u32, &str) {
-        let parts = int_shape(after_minus(&self.text)).flatten();
-        split_radix(parts.map_or("", |parts| parts.body))
-    }
-
     /// The base of the digits.
     ///
     /// ```
@@ -301,7 +300,7 @@ impl<'t> LitInt<'t> {
     /// ```
     #[must_use]
     pub fn base(&self) -> Base {
-        let (radix, _) = self.split_radix();
+        let (radix, _) = split_radix(after_minus(self.numeral()));
         Base::of(radix)
     }
 
@@ -315,7 +314,7 @@ impl<'t> LitInt<'t> {
     /// ```
     #[must_use]
     pub fn digits(&self) -> &str {
-        let (_, digits) = self.split_radix();
+        let (_, digits) = split_radix(after_minus(self.numeral()));
         digits
     }
 }
@@ -383,12 +382,12 @@ impl<'t> LitFloat<'t> {
     /// ```
     #[must_use]
     pub fn number_part(&self) -> &str {
-        float_shape(&self.text).map_or("", |parts| parts.body)
+        self.numeral()
     }
 
     /// The digits before the dot, and what follows them before the suffix.
     fn split_integer(&self) -> (&str, &str) {
-        split_row(after_minus(self.number_part()))
+        split_row(after_minus(self.numeral()))
     }
 
     /// The digits before the dot, as they stand, without a sign.
