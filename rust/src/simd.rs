@@ -50,7 +50,7 @@ macro_rules! lane_types {
 
 // With the feature the target decides which one is used.
 #[cfg(any(test, feature = "rendered"))]
-#[allow(dead_code)]
+#[cfg_attr(feature = "rendered", allow(dead_code))]
 mod vectors;
 #[cfg_attr(feature = "rendered", allow(dead_code))]
 mod words;
