@@ -229,6 +229,16 @@ mod tests {
     use super::*;
     use std::string::String;
 
+    /// The place by the proved cursor.
+    #[cfg(feature = "rendered")]
+    fn proved(text: &str, at: usize) -> LineColumn {
+        let place = crate::rl_lexer::Lines::new(text).at(&text[at..]);
+        LineColumn {
+            line: place.line,
+            column: place.column,
+        }
+    }
+
     /// The places in characters and in bytes, by counting from the text's front.
     fn counted(text: &str, at: usize) -> (LineColumn, LineColumn) {
         let before = &text[..at];
@@ -245,6 +255,10 @@ mod tests {
         for (at, line, column) in [(0, 1, 1), (2, 1, 1), (3, 1, 1), (4, 1, 2), (6, 2, 1)] {
             assert_eq!(index.line_column(at), LineColumn { line, column });
             assert_eq!(index.line_column_bytes(at), LineColumn { line, column });
+            #[cfg(feature = "rendered")]
+            if at == 0 || at >= 3 {
+                assert_eq!(proved("\u{feff}ab\nc", at), LineColumn { line, column });
+            }
         }
         assert_eq!(index.byte(LineColumn { line: 1, column: 1 }), Some(3));
     }
@@ -260,6 +274,8 @@ mod tests {
             for at in (0..=text.len()).filter(|&at| text.is_char_boundary(at)) {
                 let (place, in_bytes) = counted(text, at);
                 assert_eq!(index.line_column(at), place, "{text:?} {at}");
+                #[cfg(feature = "rendered")]
+                assert_eq!(proved(text, at), place, "{text:?} {at}");
                 assert_eq!(index.line_column_bytes(at), in_bytes, "{text:?} {at}");
                 assert_eq!(index.byte(place), Some(at), "{text:?} {at}");
                 assert_eq!(index.byte_of_bytes(in_bytes), Some(at), "{text:?} {at}");
