@@ -1,123 +1,83 @@
 //! Bytes and characters.
 
-use crate::common::literal_type;
+use crate::common::{example, literal_type};
 use crate::places::quoted_type;
 use crate::rl_forms::Kind;
 use crate::rl_reading::Body;
 use alloc::borrow::Cow;
 
-/// A byte: `b'a'`.
-///
-/// ```
-/// use navyspindle::LitByte;
-///
-/// assert_eq!(LitByte::parse(r"b'\xFF'")?.value(), 255);
-/// # Ok::<(), navyspindle::ParseError>(())
-/// ```
-#[derive(Clone)]
-#[repr(C)]
-pub struct LitByte<'t> {
-    text: Cow<'t, str>,
-    suffix_at: usize,
-    value: u8,
-}
-
-literal_type!(LitByte, Byte { suffix_at, value }, "\"b'a'_s\"", "\"_s\"");
-quoted_type!(LitByte, r#"r"b'\n'""#, "2..4", "4");
-
-/// A character: `'a'`.
-///
-/// ```
-/// use navyspindle::LitChar;
-///
-/// assert_eq!(LitChar::parse(r"'\u{e9}'")?.value(), 'é');
-/// # Ok::<(), navyspindle::ParseError>(())
-/// ```
-#[derive(Clone)]
-#[repr(C)]
-pub struct LitChar<'t> {
-    text: Cow<'t, str>,
-    suffix_at: usize,
-    value: char,
-}
-
-literal_type!(LitChar, Char { suffix_at, value }, "\"'a'_s\"", "\"_s\"");
-quoted_type!(LitChar, r#"r"'\n'""#, "1..3", "3");
-
-/// Where the parts of a literal of this kind stand, whose last apostrophe stands before the suffix.
-fn parts_of(kind: Kind, suffix_at: usize) -> Body {
-    Body {
-        lo: kind.opener().len(),
-        hi: suffix_at - 1,
-        suffix_at,
-        plain: false,
-    }
-}
-
-impl<'t> LitByte<'t> {
-    const KIND: Kind = Kind::Byte;
-
-    /// Where its parts stand.
-    fn parts(&self) -> Body {
-        parts_of(Self::KIND, self.suffix_at)
-    }
-
-    /// The literal of this text; the number is the byte that it stands for.
-    #[inline]
-    pub(crate) fn of(text: Cow<'t, str>, suffix_at: usize, unit: u32) -> Self {
-        let value = u8::try_from(unit).expect("the reading holds a byte");
-        LitByte {
-            text,
-            suffix_at,
-            value,
+/// The struct of a kind of literals that stand for one value. `$text`, its value, where that is written and the closing apostrophe are
+/// of examples.
+macro_rules! single_type {
+    ($(#[$doc:meta])* $name:ident, $variant:ident, $value:ident, $what:literal, $text:literal == $of_text:literal,
+        $range:literal, $end:literal, $with_suffix:literal) => {
+        $(#[$doc])*
+        #[derive(Clone)]
+        #[repr(C)]
+        pub struct $name<'t> {
+            text: Cow<'t, str>,
+            suffix_at: usize,
+            value: $value,
         }
-    }
 
-    /// The byte that the literal stands for.
+        literal_type!($name, $variant(value), $with_suffix, "_s");
+        quoted_type!($name, $text, $range, $end);
+
+        impl<'t> $name<'t> {
+            const KIND: Kind = Kind::$variant;
+
+            /// The literal of this text; the number is that of its value.
+            #[inline]
+            pub(crate) fn of(text: Cow<'t, str>, suffix_at: usize, unit: u32) -> Self {
+                let value = $value::try_from(unit).expect("the reading holds a value of the kind");
+                $name {
+                    text,
+                    suffix_at,
+                    value,
+                }
+            }
+
+            /// Where its parts stand: the last apostrophe stands before the suffix.
+            fn parts(&self) -> Body {
+                Body {
+                    lo: Self::KIND.opener().len(),
+                    hi: self.suffix_at - 1,
+                    suffix_at: self.suffix_at,
+                    plain: false,
+                }
+            }
+
+            #[doc = $what]
+            #[doc = example!($name, $text, "assert_eq!(literal.value(), ", stringify!($of_text), ");")]
+            #[inline]
+            #[must_use]
+            pub fn value(&self) -> $value {
+                self.value
+            }
+        }
+    };
+}
+
+single_type! {
+    /// A byte: `b'a'`.
     ///
     /// ```
     /// use navyspindle::LitByte;
     ///
-    /// assert_eq!(LitByte::parse(r"b'\n'")?.value(), b'\n');
+    /// assert_eq!(LitByte::parse(r"b'\xFF'")?.value(), 255);
     /// # Ok::<(), navyspindle::ParseError>(())
     /// ```
-    #[inline]
-    #[must_use]
-    pub fn value(&self) -> u8 {
-        self.value
-    }
+    LitByte, Byte, u8, "The byte that the literal stands for.", r"b'\n'" == b'\n', "2..4", "4", "b'a'_s"
 }
 
-impl<'t> LitChar<'t> {
-    const KIND: Kind = Kind::Char;
-
-    /// Where its parts stand.
-    fn parts(&self) -> Body {
-        parts_of(Self::KIND, self.suffix_at)
-    }
-
-    /// The literal of this text; the number is that of the character that it stands for.
-    #[inline]
-    pub(crate) fn of(text: Cow<'t, str>, suffix_at: usize, unit: u32) -> Self {
-        let value = char::from_u32(unit).expect("the reading holds a character's number");
-        LitChar {
-            text,
-            suffix_at,
-            value,
-        }
-    }
-
-    /// The character that the literal stands for.
+single_type! {
+    /// A character: `'a'`.
     ///
     /// ```
     /// use navyspindle::LitChar;
     ///
-    /// assert_eq!(LitChar::parse(r"'\''")?.value(), '\'');
+    /// assert_eq!(LitChar::parse(r"'\u{e9}'")?.value(), 'é');
     /// # Ok::<(), navyspindle::ParseError>(())
     /// ```
-    #[inline]
-    #[must_use]
-    pub fn value(&self) -> char {
-        self.value
-    }
+    LitChar, Char, char, "The character that the literal stands for.", r"'\n'" == '\n', "1..3", "3", "'a'_s"
 }

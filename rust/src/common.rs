@@ -32,39 +32,30 @@ pub(crate) fn suffix_of(text: &str, suffix_at: usize) -> &str {
     }
 }
 
-/// The methods and traits of a struct with the fields `text` and `suffix_at`, which are the first ones (`repr(C)`), so that they
-/// stand at one place in every variant of `Lit`. `$text` and `$suffix` are of examples.
-macro_rules! literal_type {
-    ($name:ident, $variant:ident { $($field:ident),* }, $text:literal, $suffix:literal) => {
-        impl<'t> $name<'t> {
-            /// The literal of this kind that the text is, all of it: as [`Lit::parse`](crate::Lit::parse), but of one kind.
-            ///
-            /// # Errors
-            ///
-            /// The text is none of Rust's literals, or an integer past 128 bits, or a literal of another kind: which, and
-            /// where.
-            ///
-            /// ```
-            #[doc = concat!("use navyspindle::", stringify!($name), ";")]
-            ///
-            #[doc = concat!("let text = ", $text, ";")]
-            #[doc = concat!("assert_eq!(", stringify!($name), "::parse(text)?.text(), text);")]
-            #[doc = concat!("assert!(", stringify!($name), "::parse(\"word\").is_err());")]
-            /// # Ok::<(), navyspindle::ParseError>(())
-            /// ```
-            #[inline]
-            pub fn parse(text: &'t str) -> Result<Self, $crate::ParseError> {
-                $name::try_from(text)
-            }
+/// An example: a literal of this struct is read of the text, and what is said of it follows, in parts.
+macro_rules! example {
+    (@literal LitVerbatim, $text:literal) => {
+        concat!("use navyspindle::Lit;\n\nlet Lit::Verbatim(literal) = Lit::new(", stringify!($text), ") else { panic!() };\n")
+    };
+    (@literal $name:ident, $text:literal) => {
+        concat!(
+            "use navyspindle::", stringify!($name), ";\n\nlet literal = ", stringify!($name), "::parse(", stringify!($text), ")?;\n"
+        )
+    };
+    ($name:ident, $text:literal, $($said:expr),+) => {
+        concat!(
+            "\n```\n", $crate::common::example!(@literal $name, $text), $($said),+, "\n# Ok::<(), navyspindle::ParseError>(())\n```"
+        )
+    };
+}
+pub(crate) use example;
 
+/// What the structs of all kinds have, whose fields are `text` and these. `$text` is of examples.
+macro_rules! text_type {
+    ($name:ident($($field:ident),*), $text:literal) => {
+        impl<'t> $name<'t> {
             /// The text as it was read.
-            ///
-            /// ```
-            #[doc = concat!("use navyspindle::", stringify!($name), ";")]
-            ///
-            #[doc = concat!("assert_eq!(", stringify!($name), "::parse(", $text, ")?.text(), ", $text, ");")]
-            /// # Ok::<(), navyspindle::ParseError>(())
-            /// ```
+            #[doc = $crate::common::example!($name, $text, "assert_eq!(literal.text(), ", stringify!($text), ");")]
             #[inline]
             #[must_use]
             pub fn text(&self) -> &str {
@@ -72,74 +63,22 @@ macro_rules! literal_type {
             }
 
             /// The text as it was read, in its own lifetime.
-            ///
-            /// ```
-            #[doc = concat!("use navyspindle::", stringify!($name), ";")]
-            ///
-            /// fn text_of(text: &str) -> Result<std::borrow::Cow<'_, str>, navyspindle::ParseError> {
-            #[doc = concat!("    Ok(", stringify!($name), "::parse(text)?.into_text())")]
-            /// }
-            #[doc = concat!("assert_eq!(text_of(", $text, ")?, ", $text, ");")]
-            /// # Ok::<(), navyspindle::ParseError>(())
-            /// ```
+            #[doc = $crate::common::example!(
+                $name, $text,
+                "let text: std::borrow::Cow<'static, str> = literal.into_text();\nassert_eq!(text, ", stringify!($text), ");"
+            )]
             #[inline]
             #[must_use]
             pub fn into_text(self) -> alloc::borrow::Cow<'t, str> {
                 self.text
             }
 
-            /// What stands after the literal proper; empty where nothing does.
-            ///
-            /// ```
-            #[doc = concat!("use navyspindle::", stringify!($name), ";")]
-            ///
-            #[doc = concat!("assert_eq!(", stringify!($name), "::parse(", $text, ")?.suffix(), ", $suffix, ");")]
-            /// # Ok::<(), navyspindle::ParseError>(())
-            /// ```
-            #[inline]
-            #[must_use]
-            pub fn suffix(&self) -> &str {
-                $crate::common::suffix_of(&self.text, self.suffix_at)
-            }
-
-            /// The bytes of the text where its suffix stands; none, at its end, where it has none.
-            ///
-            /// ```
-            #[doc = concat!("use navyspindle::", stringify!($name), ";")]
-            ///
-            #[doc = concat!("let literal = ", stringify!($name), "::parse(", $text, ")?;")]
-            /// assert_eq!(&literal.text()[literal.suffix_range()], literal.suffix());
-            /// # Ok::<(), navyspindle::ParseError>(())
-            /// ```
-            #[inline]
-            #[must_use]
-            pub fn suffix_range(&self) -> core::ops::Range<usize> {
-                self.suffix_at..self.text.len()
-            }
-
-            /// What stands after the literal proper, in the text's own lifetime.
-            ///
-            /// ```
-            #[doc = concat!("use navyspindle::", stringify!($name), ";")]
-            ///
-            #[doc = concat!("assert_eq!(", stringify!($name), "::parse(", $text, ")?.into_suffix(), ", $suffix, ");")]
-            /// # Ok::<(), navyspindle::ParseError>(())
-            /// ```
-            #[must_use]
-            pub fn into_suffix(self) -> alloc::borrow::Cow<'t, str> {
-                let end = self.text.len();
-                $crate::common::part(self.text, self.suffix_at, end)
-            }
-
             /// The literal with a text of its own.
-            ///
-            /// ```
-            #[doc = concat!("use navyspindle::", stringify!($name), ";")]
-            ///
-            #[doc = concat!("let owned: ", stringify!($name), "<'static> = ", stringify!($name), "::parse(", $text, ")?.into_owned();")]
-            #[doc = concat!("assert_eq!(owned.text(), ", $text, ");")]
-            /// # Ok::<(), navyspindle::ParseError>(())
-            /// ```
+            #[doc = $crate::common::example!(
+                $name, $text,
+                "let owned: navyspindle::", stringify!($name), "<'static> = literal.into_owned();\n",
+                "assert_eq!(owned.text(), ", stringify!($text), ");"
+            )]
             #[must_use]
             pub fn into_owned(self) -> $name<'static> {
                 $name {
@@ -149,10 +88,6 @@ macro_rules! literal_type {
             }
         }
 
-        literal_type!(@traits $name, $variant);
-    };
-
-    (@traits $name:ident, $variant:ident) => {
         /// The text. Width and fill are kept.
         impl core::fmt::Display for $name<'_> {
             fn fmt(&self, f: &mut core::fmt::Formatter<'_>) -> core::fmt::Result {
@@ -180,6 +115,57 @@ macro_rules! literal_type {
                 self.text.hash(state);
             }
         }
+    };
+}
+pub(crate) use text_type;
+
+/// What the structs of Rust's literals have, whose first fields are `text` and `suffix_at` (`repr(C)`), so that they stand at one
+/// place in every variant of `Lit`. `$text` and its suffix are of examples.
+macro_rules! literal_type {
+    ($name:ident, $variant:ident($($field:ident),*), $text:literal, $suffix:literal) => {
+        $crate::common::text_type!($name(suffix_at, $($field),*), $text);
+
+        impl<'t> $name<'t> {
+            /// The literal of this kind that the text is, all of it: as [`Lit::parse`](crate::Lit::parse), but of one kind.
+            ///
+            /// # Errors
+            ///
+            /// The text is none of Rust's literals, or an integer past 128 bits, or a literal of another kind: which, and
+            /// where.
+            #[doc = $crate::common::example!(
+                $name, $text,
+                "assert_eq!(literal.text(), ", stringify!($text), ");\n",
+                "assert!(", stringify!($name), "::parse(\"word\").is_err());"
+            )]
+            #[inline]
+            pub fn parse(text: &'t str) -> Result<Self, $crate::ParseError> {
+                $name::try_from(text)
+            }
+
+            /// What stands after the literal proper; empty where nothing does.
+            #[doc = $crate::common::example!($name, $text, "assert_eq!(literal.suffix(), ", stringify!($suffix), ");")]
+            #[inline]
+            #[must_use]
+            pub fn suffix(&self) -> &str {
+                $crate::common::suffix_of(&self.text, self.suffix_at)
+            }
+
+            /// The bytes of the text where its suffix stands; none, at its end, where it has none.
+            #[doc = $crate::common::example!($name, $text, "assert_eq!(&literal.text()[literal.suffix_range()], literal.suffix());")]
+            #[inline]
+            #[must_use]
+            pub fn suffix_range(&self) -> core::ops::Range<usize> {
+                self.suffix_at..self.text.len()
+            }
+
+            /// What stands after the literal proper, in the text's own lifetime.
+            #[doc = $crate::common::example!($name, $text, "assert_eq!(literal.into_suffix(), ", stringify!($suffix), ");")]
+            #[must_use]
+            pub fn into_suffix(self) -> alloc::borrow::Cow<'t, str> {
+                let end = self.text.len();
+                $crate::common::part(self.text, self.suffix_at, end)
+            }
+        }
 
         /// As `parse`.
         impl<'t> TryFrom<&'t str> for $name<'t> {
@@ -189,8 +175,7 @@ macro_rules! literal_type {
             fn try_from(text: &'t str) -> Result<Self, $crate::ParseError> {
                 match $crate::Lit::try_from(text)? {
                     $crate::Lit::$variant(literal) => Ok(literal),
-                    $crate::Lit::Verbatim(literal) => Err(literal.explain()),
-                    other => Err($crate::ParseError::of_kind(text, $crate::Kind::$variant, other.kind())),
+                    other => Err($crate::ParseError::of_kind($crate::Kind::$variant, &other)),
                 }
             }
         }
@@ -202,8 +187,7 @@ macro_rules! literal_type {
             fn try_from(text: alloc::string::String) -> Result<Self, $crate::ParseError> {
                 match $crate::Lit::try_from(text)? {
                     $crate::Lit::$variant(literal) => Ok(literal),
-                    $crate::Lit::Verbatim(literal) => Err(literal.explain()),
-                    other => Err($crate::ParseError::of_kind(other.text(), $crate::Kind::$variant, other.kind())),
+                    other => Err($crate::ParseError::of_kind($crate::Kind::$variant, &other)),
                 }
             }
         }

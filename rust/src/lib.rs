@@ -50,7 +50,8 @@ mod places;
 #[cfg(feature = "proc-macro")]
 mod proc_macros;
 #[cfg_attr(feature = "rendered", allow(missing_docs))]
-#[allow(dead_code, unused_imports, unused_variables)]
+// The sources give out names that the package reaches by other ways, and have parameters of which contracts alone speak.
+#[allow(unused_imports, unused_variables)]
 #[allow(clippy::style, clippy::complexity, clippy::pedantic)]
 #[rustfmt::skip]
 mod proved;

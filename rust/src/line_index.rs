@@ -73,10 +73,7 @@ impl<'t> LineIndex<'t> {
     /// ```
     #[must_use]
     pub fn new(text: &'t str) -> Self {
-        let front = match text.strip_prefix('\u{feff}') {
-            Some(rest) => text.len() - rest.len(),
-            None => 0,
-        };
+        let front = text.len() - text.strip_prefix('\u{feff}').unwrap_or(text).len();
         let ends = text.bytes().enumerate().filter(|&(_, byte)| byte == b'\n');
         let starts = core::iter::once(front)
             .chain(ends.map(|(at, _)| at + 1))
@@ -120,8 +117,7 @@ impl<'t> LineIndex<'t> {
     /// ```
     #[must_use]
     pub fn line_column(&self, at: usize) -> LineColumn {
-        let at = self.at_character(at);
-        let (line, start) = self.line_of(at);
+        let (line, start, at) = self.line_of(at);
         let column = self.characters_before(at) - self.characters_before(start) + 1;
         LineColumn { line, column }
     }
@@ -136,8 +132,7 @@ impl<'t> LineIndex<'t> {
     /// ```
     #[must_use]
     pub fn line_column_bytes(&self, at: usize) -> LineColumn {
-        let at = self.at_character(at);
-        let (line, start) = self.line_of(at);
+        let (line, start, at) = self.line_of(at);
         let column = at - start + 1;
         LineColumn { line, column }
     }
@@ -179,31 +174,22 @@ impl<'t> LineIndex<'t> {
         (at < end && self.text.is_char_boundary(at)).then_some(at)
     }
 
-    /// Where the character begins that the byte belongs to.
-    fn at_character(&self, at: usize) -> usize {
+    /// The line of a byte, from 1, the byte where it begins, and the one where the byte's character does.
+    fn line_of(&self, at: usize) -> (usize, usize, usize) {
         let mut at = at.clamp(self.starts[0], self.text.len());
         while !self.text.is_char_boundary(at) {
             at -= 1;
         }
-        at
-    }
-
-    /// The line of a byte, from 1, and the byte where it begins.
-    fn line_of(&self, at: usize) -> (usize, usize) {
         let line = self.starts.partition_point(|&start| start <= at);
-        (line, self.starts[line - 1])
+        (line, self.starts[line - 1], at)
     }
 
     /// The byte where a line begins, and the one up to which places of it may stand; `None` where there is no such line.
     fn bounds(&self, line: usize) -> Option<(usize, usize)> {
         let start = *self.starts.get(line.checked_sub(1)?)?;
         // The text's end is a place of the last line.
-        let end = self
-            .starts
-            .get(line)
-            .copied()
-            .unwrap_or(self.text.len() + 1);
-        Some((start, end))
+        let end = self.starts.get(line).copied();
+        Some((start, end.unwrap_or(self.text.len() + 1)))
     }
 
     /// How many characters begin before the byte.
@@ -241,19 +227,19 @@ impl<'t> LineIndex<'t> {
 #[cfg(test)]
 mod tests {
     use super::*;
-    use crate::rl_lexer::Lines;
     use std::string::String;
 
     /// The place by the proved cursor.
+    #[cfg(feature = "rendered")]
     fn proved(text: &str, at: usize) -> LineColumn {
-        let place = Lines::new(text).at(&text[at..]);
+        let place = crate::rl_lexer::Lines::new(text).at(&text[at..]);
         LineColumn {
             line: place.line,
             column: place.column,
         }
     }
 
-    /// The same by counting from the text's front.
+    /// The places in characters and in bytes, by counting from the text's front.
     fn counted(text: &str, at: usize) -> (LineColumn, LineColumn) {
         let before = &text[..at];
         let line = before.matches('\n').count() + 1;
@@ -269,6 +255,7 @@ mod tests {
         for (at, line, column) in [(0, 1, 1), (2, 1, 1), (3, 1, 1), (4, 1, 2), (6, 2, 1)] {
             assert_eq!(index.line_column(at), LineColumn { line, column });
             assert_eq!(index.line_column_bytes(at), LineColumn { line, column });
+            #[cfg(feature = "rendered")]
             if at == 0 || at >= 3 {
                 assert_eq!(proved("\u{feff}ab\nc", at), LineColumn { line, column });
             }
@@ -287,6 +274,7 @@ mod tests {
             for at in (0..=text.len()).filter(|&at| text.is_char_boundary(at)) {
                 let (place, in_bytes) = counted(text, at);
                 assert_eq!(index.line_column(at), place, "{text:?} {at}");
+                #[cfg(feature = "rendered")]
                 assert_eq!(proved(text, at), place, "{text:?} {at}");
                 assert_eq!(index.line_column_bytes(at), in_bytes, "{text:?} {at}");
                 assert_eq!(index.byte(place), Some(at), "{text:?} {at}");

@@ -5,7 +5,7 @@ use crate::parse_error::ParseError;
 use crate::places::{Places, Segments};
 use crate::rl_file_reasons::explain_signed_value_in_file;
 use crate::rl_forms;
-use crate::rl_reading::{find, is_plain_integer, Body, Found};
+use crate::rl_reading::{self, find, is_plain_integer, Body, Found};
 use crate::rl_reasons::strict_reading::{
     front_of, read_character, read_digits, read_other, read_signed, read_string, Front, Reading,
 };
@@ -176,14 +176,7 @@ impl<'t> Lit<'t> {
     /// ```
     #[must_use]
     pub fn segments(&self) -> Option<Segments<'_>> {
-        match self {
-            Lit::Str(literal) => Some(literal.segments()),
-            Lit::ByteStr(literal) => Some(literal.segments()),
-            Lit::CStr(literal) => Some(literal.segments()),
-            Lit::Byte(literal) => Some(literal.segments()),
-            Lit::Char(literal) => Some(literal.segments()),
-            _ => None,
-        }
+        self.cursor().map(Segments)
     }
 
     /// Where each byte of the value of a literal with quotes comes from; `None` of others. See
@@ -197,12 +190,17 @@ impl<'t> Lit<'t> {
     /// ```
     #[must_use]
     pub fn places(&self) -> Option<Places> {
+        self.cursor().map(Places::of)
+    }
+
+    /// The proved cursor over the segments of a literal with quotes.
+    fn cursor(&self) -> Option<rl_reading::Segments<'_>> {
         match self {
-            Lit::Str(literal) => Some(literal.places()),
-            Lit::ByteStr(literal) => Some(literal.places()),
-            Lit::CStr(literal) => Some(literal.places()),
-            Lit::Byte(literal) => Some(literal.places()),
-            Lit::Char(literal) => Some(literal.places()),
+            Lit::Str(literal) => Some(literal.cursor()),
+            Lit::ByteStr(literal) => Some(literal.cursor()),
+            Lit::CStr(literal) => Some(literal.cursor()),
+            Lit::Byte(literal) => Some(literal.cursor()),
+            Lit::Char(literal) => Some(literal.cursor()),
             _ => None,
         }
     }
@@ -431,7 +429,7 @@ impl FromStr for Lit<'static> {
 mod tests {
     use super::*;
     use crate::is_token;
-    use crate::rl_reasons::explain_value;
+    use crate::rl_reasons::limits::limit_of;
     use std::format;
 
     /// All texts of up to so many of these characters, after the front.
@@ -478,8 +476,11 @@ mod tests {
                 assert_eq!(owned.map(|it| told(&it)), Ok(told(&literal)), "{text:?}");
             }
             Err(error) => {
-                let flaw = explain_value(text).map(ParseError::of_flaw);
-                assert_eq!(flaw, Some(error), "{text:?}");
+                let flaw = match read_signed(text) {
+                    Ok(reading) => limit_of(text, reading),
+                    Err(flaw) => Some(flaw),
+                };
+                assert_eq!(flaw.map(ParseError::of_flaw), Some(error), "{text:?}");
                 assert_eq!(owned, Err(error), "{text:?}");
             }
         }

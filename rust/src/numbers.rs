@@ -1,8 +1,12 @@
 //! Integers and floats.
 
-use crate::common::literal_type;
+use crate::common::{example, literal_type};
 use crate::contents::digits_of;
+use crate::rl_reading::digit_rows::{after_minus, skip_row};
+use crate::rl_reading::number_forms::split_radix;
+use crate::rl_reading::shape;
 use crate::rl_text::scan::{near_len_before, Marks};
+use crate::rl_text::text::before;
 use alloc::borrow::Cow;
 use alloc::format;
 use alloc::string::String;
@@ -31,12 +35,12 @@ pub enum Base {
 }
 
 impl Base {
-    /// The base that a number without a sign is written in.
-    fn of(unsigned: &str) -> Base {
-        match unsigned.get(..2) {
-            Some("0b") => Base::Binary,
-            Some("0o") => Base::Octal,
-            Some("0x") => Base::Hexadecimal,
+    /// The base of this radix.
+    fn of(radix: u32) -> Base {
+        match radix {
+            2 => Base::Binary,
+            8 => Base::Octal,
+            16 => Base::Hexadecimal,
             _ => Base::Decimal,
         }
     }
@@ -141,18 +145,12 @@ impl fmt::Display for NumberType {
     }
 }
 
-/// What numbers of both kinds have.
+/// What numbers of both kinds have. `$text` is of examples; its digits are `$number`, and `$negative` is it after a minus.
 macro_rules! number_type {
-    ($name:ident, $text:literal) => {
+    ($name:ident, $text:literal == $number:literal, $negative:literal) => {
         impl $name<'_> {
             /// Whether a minus stands before it.
-            ///
-            /// ```
-            #[doc = concat!("use navyspindle::", stringify!($name), ";")]
-            ///
-            #[doc = concat!("assert!(", stringify!($name), "::parse(\"-", $text, "\")?.is_negative());")]
-            /// # Ok::<(), navyspindle::ParseError>(())
-            /// ```
+            #[doc = example!($name, $negative, "assert!(literal.is_negative());")]
             #[inline]
             #[must_use]
             pub fn is_negative(&self) -> bool {
@@ -160,13 +158,7 @@ macro_rules! number_type {
             }
 
             /// The suffix as a type of numbers; `None` where there is no suffix, and where it is another word.
-            ///
-            /// ```
-            #[doc = concat!("use navyspindle::", stringify!($name), ";")]
-            ///
-            #[doc = concat!("assert_eq!(", stringify!($name), "::parse(\"", $text, "\")?.type_suffix(), None);")]
-            /// # Ok::<(), navyspindle::ParseError>(())
-            /// ```
+            #[doc = example!($name, $text, "assert_eq!(literal.type_suffix(), None);")]
             #[must_use]
             pub fn type_suffix(&self) -> Option<NumberType> {
                 NumberType::named(self.suffix())
@@ -177,24 +169,15 @@ macro_rules! number_type {
             /// # Errors
             ///
             /// The type's own.
-            ///
-            /// ```
-            #[doc = concat!("use navyspindle::", stringify!($name), ";")]
-            ///
-            #[doc = concat!("let number: f64 = ", stringify!($name), "::parse(\"", $text, "\")?.base10_parse()?;")]
-            #[doc = concat!("assert_eq!(number, ", $text, "_f64);")]
-            /// # Ok::<(), Box<dyn std::error::Error>>(())
-            /// ```
+            #[doc = example!($name, $text, "assert_eq!(literal.base10_parse::<f64>(), Ok(", stringify!($number), "));")]
             #[inline]
             pub fn base10_parse<N: FromStr>(&self) -> Result<N, N::Err> {
                 self.base10_digits().parse()
             }
 
-            /// All before the suffix, without a sign.
-            #[inline]
-            fn unsigned(&self) -> &str {
-                let numeral = &self.text[..self.suffix_at];
-                numeral.strip_prefix('-').unwrap_or(numeral)
+            /// All before the suffix, a minus too, where the proved code finds it.
+            fn numeral(&self) -> &str {
+                shape(&self.text).map_or("", |parts| parts.body)
             }
         }
     };
@@ -222,18 +205,8 @@ pub struct LitInt<'t> {
     is_plain: bool,
 }
 
-literal_type!(
-    LitInt,
-    Int {
-        suffix_at,
-        low,
-        high,
-        is_plain
-    },
-    "\"1_000u16\"",
-    "\"u16\""
-);
-number_type!(LitInt, "12");
+literal_type!(LitInt, Int(low, high, is_plain), "1_000u16", "u16");
+number_type!(LitInt, "12" == 12.0, "-12");
 
 /// A float: `1.5e3`, `2.0f32`.
 ///
@@ -256,16 +229,8 @@ pub struct LitFloat<'t> {
     plain_len: usize,
 }
 
-literal_type!(
-    LitFloat,
-    Float {
-        suffix_at,
-        plain_len
-    },
-    "\"1.5f32\"",
-    "\"f32\""
-);
-number_type!(LitFloat, "1.5");
+literal_type!(LitFloat, Float(plain_len), "1.5f32", "f32");
+number_type!(LitFloat, "1.5" == 1.5, "-1.5");
 
 impl<'t> LitInt<'t> {
     /// The literal of this text and magnitude. It is plain where all before the suffix is its digits in base ten.
@@ -335,7 +300,8 @@ impl<'t> LitInt<'t> {
     /// ```
     #[must_use]
     pub fn base(&self) -> Base {
-        Base::of(self.unsigned())
+        let (radix, _) = split_radix(after_minus(self.numeral()));
+        Base::of(radix)
     }
 
     /// The digits as they stand, without sign, prefix and suffix.
@@ -348,8 +314,15 @@ impl<'t> LitInt<'t> {
     /// ```
     #[must_use]
     pub fn digits(&self) -> &str {
-        &self.unsigned()[self.base().prefix().len()..]
+        let (_, digits) = split_radix(after_minus(self.numeral()));
+        digits
     }
+}
+
+/// The digits and underscores at the front of a text, and what follows them.
+fn split_row(text: &str) -> (&str, &str) {
+    let rest = skip_row(text).rest;
+    (before(text, rest), rest)
 }
 
 /// The bytes of a float's numeral that its digits don't keep as they are: `numeral_into` leaves out two, and changes one.
@@ -399,15 +372,6 @@ impl<'t> LitFloat<'t> {
         }
     }
 
-    /// All before the exponent, and the exponent after its letter, without a sign and as they stand.
-    fn split_exponent(&self) -> (&str, Option<&str>) {
-        let numeral = self.unsigned();
-        match numeral.split_once(['e', 'E']) {
-            Some((front, exponent)) => (front, Some(exponent)),
-            None => (numeral, None),
-        }
-    }
-
     /// All before the suffix, as it stands, a minus too.
     ///
     /// ```
@@ -418,7 +382,12 @@ impl<'t> LitFloat<'t> {
     /// ```
     #[must_use]
     pub fn number_part(&self) -> &str {
-        &self.text[..self.suffix_at]
+        self.numeral()
+    }
+
+    /// The digits before the dot, and what follows them before the suffix.
+    fn split_integer(&self) -> (&str, &str) {
+        split_row(after_minus(self.numeral()))
     }
 
     /// The digits before the dot, as they stand, without a sign.
@@ -431,8 +400,8 @@ impl<'t> LitFloat<'t> {
     /// ```
     #[must_use]
     pub fn integer_part(&self) -> &str {
-        let (front, _) = self.split_exponent();
-        front.split_once('.').map_or(front, |(whole, _)| whole)
+        let (digits, _) = self.split_integer();
+        digits
     }
 
     /// The digits after the dot, as they stand; `None` where there is no dot.
@@ -447,8 +416,9 @@ impl<'t> LitFloat<'t> {
     /// ```
     #[must_use]
     pub fn fractional_part(&self) -> Option<&str> {
-        let (front, _) = self.split_exponent();
-        front.split_once('.').map(|(_, fraction)| fraction)
+        let (_, rest) = self.split_integer();
+        let (digits, _) = split_row(rest.strip_prefix('.')?);
+        Some(digits)
     }
 
     /// What stands after the letter of the exponent, its sign too; `None` where there is no exponent.
@@ -462,6 +432,8 @@ impl<'t> LitFloat<'t> {
     /// ```
     #[must_use]
     pub fn exponent_part(&self) -> Option<&str> {
-        self.split_exponent().1
+        let (_, rest) = self.split_integer();
+        let (_, rest) = split_row(rest.strip_prefix('.').unwrap_or(rest));
+        rest.strip_prefix(['e', 'E'])
     }
 }

@@ -1,6 +1,7 @@
 //! Why a text is no literal, and where.
 
 use crate::kind::Kind;
+use crate::lit::Lit;
 pub use crate::rl_reasons::FlawKind;
 use crate::rl_reasons::{limit_flaw, read_signed, Flaw, Reading};
 use core::fmt;
@@ -90,19 +91,18 @@ impl ParseError {
         }
     }
 
-    /// That a text of one kind was found where another was asked for.
+    /// Why a literal isn't of the kind that was asked for: it has no reading, or is of another kind.
     #[cold]
-    pub(crate) fn of_kind(text: &str, expected: Kind, found: Kind) -> ParseError {
-        ParseError::whole(text, ParseErrorKind::Kind { expected, found })
-    }
-
-    /// An error of the text as a whole.
-    fn whole(text: &str, kind: ParseErrorKind) -> ParseError {
-        ParseError {
-            kind,
-            from: 0,
-            lo: 0,
-            hi: text.len(),
+    pub(crate) fn of_kind(expected: Kind, literal: &Lit<'_>) -> ParseError {
+        let text = literal.text();
+        match literal.kind() {
+            Kind::Verbatim => ParseError::of(text),
+            found => ParseError {
+                kind: ParseErrorKind::Kind { expected, found },
+                from: 0,
+                lo: 0,
+                hi: text.len(),
+            },
         }
     }
 

@@ -1,7 +1,6 @@
 //! Where in a literal's text what it stands for is written.
 
-use crate::rl_forms;
-use crate::rl_reading::{self, Body};
+use crate::rl_reading;
 use alloc::vec::Vec;
 use core::fmt;
 use core::iter::FusedIterator;
@@ -50,13 +49,7 @@ pub struct Segment<'t> {
 
 /// The segments of a quoted literal, in order: see [`LitStr::segments`](crate::LitStr::segments).
 #[must_use = "an iterator does nothing until it is asked"]
-pub struct Segments<'t>(rl_reading::Segments<'t>);
-
-impl<'t> Segments<'t> {
-    pub(crate) fn of(kind: rl_forms::Kind, text: &'t str, body: Body) -> Self {
-        Segments(body.segments_in(kind, text))
-    }
-}
+pub struct Segments<'t>(pub(crate) rl_reading::Segments<'t>);
 
 impl<'t> Iterator for Segments<'t> {
     type Item = Segment<'t>;
@@ -160,72 +153,50 @@ impl Places {
     }
 }
 
-/// The segments and the places of a struct with the method `segments_of_it`. `$text` is of an example, of whose value the byte
-/// `$byte` comes from `$place`.
+/// The segments and the places of a struct with a `KIND` and the method `parts`. `$text` is of examples: the first byte of its value
+/// comes from `$range`, and the second one from `$place` on.
 macro_rules! quoted_type {
-    ($name:ident, $text:literal, $first:literal, $place:literal) => {
+    ($name:ident, $text:literal, $range:literal, $place:literal) => {
         impl $name<'_> {
+            /// The proved cursor over its segments.
+            pub(crate) fn cursor(&self) -> $crate::rl_reading::Segments<'_> {
+                self.parts().segments_in(Self::KIND, &self.text)
+            }
+
             /// What stands between the quotes, piece by piece, with its bytes in the literal's text: text that stands for itself, as
             /// long as it goes; an escape; or a line's end that is dropped.
-            ///
-            /// ```
-            #[doc = concat!("use navyspindle::", stringify!($name), ";")]
-            ///
-            #[doc = concat!("let literal = ", stringify!($name), "::parse(", $text, ")?;")]
-            #[doc = concat!("assert_eq!(literal.segments().next().unwrap().range, ", $first, ");")]
-            /// # Ok::<(), navyspindle::ParseError>(())
-            /// ```
+            #[doc = $crate::common::example!($name, $text, "assert_eq!(literal.segments().next().unwrap().range, ", $range, ");")]
             pub fn segments(&self) -> $crate::Segments<'_> {
-                $crate::Segments::of(Self::KIND, &self.text, self.parts())
+                $crate::Segments(self.cursor())
             }
 
             /// The byte of the literal's text where what gives this byte of the value begins: of text that stands for itself the byte
             /// itself, else the escape. At the value's end, and past it, the closing quote.
             ///
             /// It walks over the literal; [`places`](Self::places) answers many such questions.
-            ///
-            /// ```
-            #[doc = concat!("use navyspindle::", stringify!($name), ";")]
-            ///
-            #[doc = concat!("assert_eq!(", stringify!($name), "::parse(", $text, ")?.place_of(1), ", $place, ");")]
-            /// # Ok::<(), navyspindle::ParseError>(())
-            /// ```
+            #[doc = $crate::common::example!($name, $text, "assert_eq!(literal.place_of(1), ", $place, ");")]
             #[must_use]
             pub fn place_of(&self, byte: usize) -> usize {
-                let segments = self.parts().segments_in(Self::KIND, &self.text);
-                segments.place_of(byte)
+                self.cursor().place_of(byte)
             }
 
             /// The bytes of the literal's text that give these bytes of the value. Where the value's bytes are cut inside a character, so
             /// may the text's be.
-            ///
-            /// ```
-            #[doc = concat!("use navyspindle::", stringify!($name), ";")]
-            ///
-            #[doc = concat!("assert_eq!(", stringify!($name), "::parse(", $text, ")?.range_of(0..1), ", $first, ");")]
-            /// # Ok::<(), navyspindle::ParseError>(())
-            /// ```
+            #[doc = $crate::common::example!($name, $text, "assert_eq!(literal.range_of(0..1), ", $range, ");")]
             #[must_use]
             pub fn range_of(&self, bytes: core::ops::Range<usize>) -> core::ops::Range<usize> {
-                let segments = || self.parts().segments_in(Self::KIND, &self.text);
-                let lo = segments().place_of(bytes.start);
+                let lo = self.cursor().place_of(bytes.start);
                 if bytes.is_empty() {
                     return lo..lo;
                 }
-                lo..segments().end_of(bytes.end - 1)
+                lo..self.cursor().end_of(bytes.end - 1)
             }
 
             /// Where each byte of the value comes from.
-            ///
-            /// ```
-            #[doc = concat!("use navyspindle::", stringify!($name), ";")]
-            ///
-            #[doc = concat!("assert_eq!(", stringify!($name), "::parse(", $text, ")?.places().range(0..1), ", $first, ");")]
-            /// # Ok::<(), navyspindle::ParseError>(())
-            /// ```
+            #[doc = $crate::common::example!($name, $text, "assert_eq!(literal.places().range(0..1), ", $range, ");")]
             #[must_use]
             pub fn places(&self) -> $crate::Places {
-                $crate::Places::of(self.parts().segments_in(Self::KIND, &self.text))
+                $crate::Places::of(self.cursor())
             }
         }
     };

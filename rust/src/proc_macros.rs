@@ -1,9 +1,12 @@
 //! Literals of procedural macros.
 
-use crate::{Kind, Lit, LitBool, LitByte, LitByteStr, LitCStr, LitChar, LitFloat, LitInt, LitStr};
+use crate::{
+    Kind, Lit, LitBool, LitByte, LitByteStr, LitCStr, LitChar, LitFloat, LitInt, LitStr, ParseError,
+};
 use alloc::format;
 use alloc::string::{String, ToString};
 use core::fmt;
+use core::str::FromStr;
 use proc_macro::{Delimiter, Group, Ident, Literal, Punct, Spacing, Span, TokenStream, TokenTree};
 
 /// What is wrong with the input of a procedural macro, and where.
@@ -83,26 +86,11 @@ impl MacroError {
     /// ```
     #[must_use]
     pub fn to_compile_error(&self) -> TokenStream {
-        let joint = |c, spacing| TokenTree::Punct(Punct::new(c, spacing));
-        let word = |word| TokenTree::Ident(Ident::new(word, self.span));
-        let message = TokenTree::Literal(Literal::string(&self.message));
-        let trees = [
-            joint(':', Spacing::Joint),
-            joint(':', Spacing::Alone),
-            word("core"),
-            joint(':', Spacing::Joint),
-            joint(':', Spacing::Alone),
-            word("compile_error"),
-            joint('!', Spacing::Alone),
-            TokenTree::Group(Group::new(
-                Delimiter::Brace,
-                spanned(message, self.span).into(),
-            )),
-        ];
-        trees
-            .into_iter()
-            .map(|tree| spanned(tree, self.span))
-            .collect()
+        let path: TokenStream = "::core::compile_error!".parse().expect("tokens");
+        let message = TokenTree::from(Literal::string(&self.message));
+        let group = Group::new(Delimiter::Brace, spanned(message, self.span).into());
+        let trees = path.into_iter().chain([TokenTree::Group(group)]);
+        trees.map(|tree| spanned(tree, self.span)).collect()
     }
 }
 
@@ -213,33 +201,9 @@ impl TryFrom<&TokenTree> for Lit<'static> {
     }
 }
 
-/// The same of what is owned, and for the struct of each kind.
-macro_rules! of_trees {
-    ($($tree:ident)*) => {$(
-        impl TryFrom<$tree> for Lit<'static> {
-            type Error = MacroError;
-
-            fn try_from(tree: $tree) -> Result<Self, MacroError> {
-                Lit::try_from(&tree)
-            }
-        }
-
-        of_trees!(@kinds $tree: LitStr Str, LitByteStr ByteStr, LitCStr CStr, LitByte Byte, LitChar Char, LitInt Int,
-            LitFloat Float, LitBool Bool);
-    )*};
-    (@kinds $tree:ident: $($name:ident $variant:ident),*) => {$(
-        impl TryFrom<&$tree> for $name<'static> {
-            type Error = MacroError;
-
-            fn try_from(tree: &$tree) -> Result<Self, MacroError> {
-                match Lit::try_from(tree)? {
-                    Lit::$variant(literal) => Ok(literal),
-                    Lit::Verbatim(literal) => Err(MacroError::new(literal.explain().kind(), tree.span())),
-                    other => Err(MacroError::expected(Kind::$variant, other.kind(), tree.span())),
-                }
-            }
-        }
-
+/// The same of what is owned.
+macro_rules! of_owned {
+    ($tree:ident, $name:ident) => {
         impl TryFrom<$tree> for $name<'static> {
             type Error = MacroError;
 
@@ -247,14 +211,39 @@ macro_rules! of_trees {
                 $name::try_from(&tree)
             }
         }
-    )*};
+    };
 }
 
-of_trees! { Literal TokenTree }
+of_owned!(Literal, Lit);
+of_owned!(TokenTree, Lit);
 
-/// [`Lit::to_token_stream`] of the struct of each kind.
-macro_rules! to_trees {
-    ($($name:ident)*) => {$(
+/// The same for the struct of a kind.
+macro_rules! of_tree {
+    ($tree:ident, $name:ident, $variant:ident) => {
+        impl TryFrom<&$tree> for $name<'static> {
+            type Error = MacroError;
+
+            fn try_from(tree: &$tree) -> Result<Self, MacroError> {
+                match Lit::try_from(tree)? {
+                    Lit::$variant(literal) => Ok(literal),
+                    other => {
+                        let error = ParseError::of_kind(Kind::$variant, &other);
+                        Err(MacroError::new(error.kind(), tree.span()))
+                    }
+                }
+            }
+        }
+
+        of_owned!($tree, $name);
+    };
+}
+
+/// From and to the tokens of rustc, for the structs of these kinds.
+macro_rules! of_kinds {
+    ($($name:ident $variant:ident)*) => {$(
+        of_tree!(Literal, $name, $variant);
+        of_tree!(TokenTree, $name, $variant);
+
         impl $name<'_> {
             /// The literal as tokens at this place: see [`Lit::to_token_stream`].
             ///
@@ -269,13 +258,13 @@ macro_rules! to_trees {
             /// }
             /// ```
             pub fn to_token_stream(&self, span: Span) -> Result<TokenStream, MacroError> {
-                tokens_of(&self.to_string(), span)
+                tokens_of(self.text(), span)
             }
         }
     )*};
 }
 
-to_trees! { LitStr LitByteStr LitCStr LitByte LitChar LitInt LitFloat LitBool }
+of_kinds! { LitStr Str LitByteStr ByteStr LitCStr CStr LitByte Byte LitChar Char LitInt Int LitFloat Float LitBool Bool }
 
 impl Lit<'_> {
     /// The literal as tokens at this place: one token, or a minus and a number.
@@ -304,16 +293,9 @@ fn tokens_of(text: &str, span: Span) -> Result<TokenStream, MacroError> {
     if let Lit::Bool(_) = literal {
         return Ok(TokenTree::Ident(Ident::new(text, span)).into());
     }
-    let (minus, number) = match text.strip_prefix('-') {
-        Some(number) => (
-            Some(TokenTree::Punct(Punct::new('-', Spacing::Alone))),
-            number,
-        ),
-        None => (None, text),
-    };
-    let literal: Literal = number
-        .parse()
-        .map_err(|error| MacroError::new(error, span))?;
+    let number = text.strip_prefix('-').unwrap_or(text);
+    let minus = (number.len() < text.len()).then(|| Punct::new('-', Spacing::Alone).into());
+    let literal = Literal::from_str(number).map_err(|error| MacroError::new(error, span))?;
     let trees = minus.into_iter().chain([TokenTree::Literal(literal)]);
     Ok(trees.map(|tree| spanned(tree, span)).collect())
 }

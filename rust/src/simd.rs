@@ -4,9 +4,55 @@
 //! compiler makes vector instructions; but where nothing is optimized, as in procedural macros, they cost many times as much. So
 //! the programs have these, where the target has vectors, and all else has numbers.
 
-#[allow(dead_code)]
+/// The types of one of the two, over arrays of these items, and the operators that `$each` makes of theirs.
+macro_rules! lane_types {
+    ($items:ty, $each:ident) => {
+        /// N lanes of bytes, the first of these; N is 8, 16 or more by eights, up to 64.
+        #[derive(Clone, Copy)]
+        pub(crate) struct Simd<T, const N: usize>($items, PhantomData<T>);
+
+        /// Sixteen lanes.
+        #[allow(non_camel_case_types)]
+        pub(crate) type u8x16 = Simd<u8, 16>;
+
+        /// Which of N lanes are set.
+        #[derive(Clone, Copy)]
+        pub(crate) struct Mask<const N: usize>($items);
+
+        impl<const N: usize> BitOr for Simd<u8, N> {
+            type Output = Self;
+
+            #[inline(always)]
+            fn bitor(self, other: Self) -> Self {
+                Simd($each!(N, at => self.0[at] | other.0[at]), PhantomData)
+            }
+        }
+
+        impl<const N: usize> BitOr for Mask<N> {
+            type Output = Self;
+
+            #[inline(always)]
+            fn bitor(self, other: Self) -> Self {
+                Mask($each!(N, at => self.0[at] | other.0[at]))
+            }
+        }
+
+        impl<const N: usize> BitAnd for Mask<N> {
+            type Output = Self;
+
+            #[inline(always)]
+            fn bitand(self, other: Self) -> Self {
+                Mask($each!(N, at => self.0[at] & other.0[at]))
+            }
+        }
+    };
+}
+
+// With the feature the target decides which one is used.
+#[cfg(any(test, feature = "rendered"))]
+#[cfg_attr(feature = "rendered", allow(dead_code))]
 mod vectors;
-#[allow(dead_code)]
+#[cfg_attr(feature = "rendered", allow(dead_code))]
 mod words;
 
 #[cfg(all(

@@ -1,6 +1,6 @@
 //! Strings, byte strings and C strings.
 
-use crate::common::{literal_type, part};
+use crate::common::{example, literal_type, part};
 use crate::contents::{bytes_of, text_of};
 use crate::places::quoted_type;
 use crate::rl_forms::Kind;
@@ -8,13 +8,12 @@ use crate::rl_reading::Body;
 use alloc::borrow::Cow;
 use alloc::ffi::CString;
 use alloc::string::String;
-use alloc::vec::Vec;
 use core::ops::Range;
 
-/// The struct of a kind of strings, with what it says of its text.
+/// The struct of a kind of strings, with what it says of its text. `$cooked`, `$raw` and `$pieces` are of examples; the first byte of
+/// the latter's value stands at `$first`, the second one comes from `$place`.
 macro_rules! string_type {
-    ($(#[$doc:meta])* $name:ident, $variant:ident, $opener:literal, $cooked:literal, $raw:literal,
-        $places:literal, $first:literal, $place:literal) => {
+    ($(#[$doc:meta])* $name:ident, $variant:ident, $cooked:literal, $raw:literal, $pieces:literal, $first:literal, $place:literal) => {
         $(#[$doc])*
         #[derive(Clone)]
         #[repr(C)]
@@ -26,8 +25,8 @@ macro_rules! string_type {
             is_plain: bool,
         }
 
-        literal_type!($name, $variant { lo, hi, suffix_at, is_plain }, $cooked, "\"_s\"");
-        quoted_type!($name, $places, $first, $place);
+        literal_type!($name, $variant(lo, hi, is_plain), $cooked, "_s");
+        quoted_type!($name, $pieces, $first, $place);
 
         impl<'t> $name<'t> {
             /// The literal of this text, whose parts stand there.
@@ -56,13 +55,7 @@ macro_rules! string_type {
             }
 
             /// What stands between the quotes, as it is written.
-            ///
-            /// ```
-            #[doc = concat!("use navyspindle::", stringify!($name), ";")]
-            ///
-            #[doc = concat!("assert_eq!(", stringify!($name), "::parse(", $raw, ")?.body(), r\"a\\n\");")]
-            /// # Ok::<(), navyspindle::ParseError>(())
-            /// ```
+            #[doc = example!($name, $raw, r#"assert_eq!(literal.body(), r"a\n");"#)]
             #[inline]
             #[must_use]
             pub fn body(&self) -> &str {
@@ -70,15 +63,7 @@ macro_rules! string_type {
             }
 
             /// The bytes of the text between the quotes.
-            ///
-            /// ```
-            #[doc = concat!("use navyspindle::", stringify!($name), ";")]
-            ///
-            #[doc = concat!("let text = ", $raw, ";")]
-            #[doc = concat!("let literal = ", stringify!($name), "::parse(text)?;")]
-            /// assert_eq!(&text[literal.body_range()], r"a\n");
-            /// # Ok::<(), navyspindle::ParseError>(())
-            /// ```
+            #[doc = example!($name, $raw, r#"assert_eq!(&literal.text()[literal.body_range()], r"a\n");"#)]
             #[inline]
             #[must_use]
             pub fn body_range(&self) -> Range<usize> {
@@ -86,28 +71,18 @@ macro_rules! string_type {
             }
 
             /// Whether it is raw, and so has no escapes.
-            ///
-            /// ```
-            #[doc = concat!("use navyspindle::", stringify!($name), ";")]
-            ///
-            #[doc = concat!("assert!(", stringify!($name), "::parse(", $raw, ")?.is_raw());")]
-            #[doc = concat!("assert!(!", stringify!($name), "::parse(", $cooked, ")?.is_raw());")]
-            /// # Ok::<(), navyspindle::ParseError>(())
-            /// ```
+            #[doc = example!(
+                $name, $raw,
+                "assert!(literal.is_raw());\nassert!(!", stringify!($name), "::parse(", stringify!($cooked), ")?.is_raw());"
+            )]
             #[inline]
             #[must_use]
             pub fn is_raw(&self) -> bool {
-                self.lo > $opener.len()
+                self.lo > Self::KIND.opener().len()
             }
 
             /// How many `#` stand before the first quote of a raw literal; 0 of others.
-            ///
-            /// ```
-            #[doc = concat!("use navyspindle::", stringify!($name), ";")]
-            ///
-            #[doc = concat!("assert_eq!(", stringify!($name), "::parse(", $raw, ")?.hashes(), 1);")]
-            /// # Ok::<(), navyspindle::ParseError>(())
-            /// ```
+            #[doc = example!($name, $raw, "assert_eq!(literal.hashes(), 1);")]
             #[inline]
             #[must_use]
             pub fn hashes(&self) -> usize {
@@ -129,9 +104,7 @@ string_type! {
     /// assert_eq!((literal.body(), literal.suffix()), (r"a\x41\n", "q"));
     /// # Ok::<(), navyspindle::ParseError>(())
     /// ```
-    LitStr, Str, "\"", r###"r#""a"_s"#"###,
-    r####"r##"r#"a\n"#"##"####,
-    r###"r#""a\x41""#"###, "1..2", "2"
+    LitStr, Str, r#""a"_s"#, r##"r#"a\n"#"##, r#""a\x41""#, "1..2", "2"
 }
 
 string_type! {
@@ -143,9 +116,7 @@ string_type! {
     /// assert_eq!(*LitByteStr::parse(r#"b"a\xFF""#)?.value(), *b"a\xFF");
     /// # Ok::<(), navyspindle::ParseError>(())
     /// ```
-    LitByteStr, ByteStr, "b\"", r###"r#"b"a"_s"#"###,
-    r####"r##"br#"a\n"#"##"####,
-    r###"r#"b"a\x41""#"###, "2..3", "3"
+    LitByteStr, ByteStr, r#"b"a"_s"#, r##"br#"a\n"#"##, r#"b"a\x41""#, "2..3", "3"
 }
 
 string_type! {
@@ -157,9 +128,7 @@ string_type! {
     /// assert_eq!(LitCStr::parse(r#"c"a\n""#)?.c_string().as_c_str(), c"a\n");
     /// # Ok::<(), navyspindle::ParseError>(())
     /// ```
-    LitCStr, CStr, "c\"", r###"r#"c"a"_s"#"###,
-    r####"r##"cr#"a\n"#"##"####,
-    r###"r#"c"a\x41""#"###, "2..3", "3"
+    LitCStr, CStr, r#"c"a"_s"#, r##"cr#"a\n"#"##, r#"c"a\x41""#, "2..3", "3"
 }
 
 impl<'t> LitStr<'t> {
@@ -214,74 +183,46 @@ fn into_bytes(text: Cow<'_, str>) -> Cow<'_, [u8]> {
     }
 }
 
-/// The values of byte strings and C strings, which are bytes.
+/// The values of byte strings and C strings, which are bytes; that of `$text`, in an example, is `$value`.
 macro_rules! byte_values {
-    ($name:ident, $text:literal, $value:literal, $what:literal) => {
+    ($(#[$doc:meta])* $name:ident, $text:literal == $value:literal) => {
         impl<'t> $name<'t> {
-            #[doc = $what]
-            ///
-            /// ```
-            #[doc = concat!("use navyspindle::", stringify!($name), ";")]
-            ///
-            #[doc = concat!("assert_eq!(*", stringify!($name), "::parse(", $text, ")?.value(), *", $value, ");")]
-            /// # Ok::<(), navyspindle::ParseError>(())
-            /// ```
+            $(#[$doc])*
+            #[doc = example!($name, $text, "assert_eq!(*literal.value(), *", stringify!($value), ");")]
             #[inline]
             #[must_use]
             pub fn value(&self) -> Cow<'_, [u8]> {
                 if self.is_plain {
                     Cow::Borrowed(self.body().as_bytes())
                 } else {
-                    Cow::Owned(self.decoded())
+                    Cow::Owned(bytes_of(Self::KIND, self.body()))
                 }
             }
 
             /// The same in the lifetime of the literal's text.
-            ///
-            /// ```
-            #[doc = concat!("use navyspindle::", stringify!($name), ";")]
-            ///
-            #[doc = concat!("assert_eq!(*", stringify!($name), "::parse(", $text, ")?.into_value(), *", $value, ");")]
-            /// # Ok::<(), navyspindle::ParseError>(())
-            /// ```
+            #[doc = example!($name, $text, "assert_eq!(*literal.into_value(), *", stringify!($value), ");")]
             #[must_use]
             pub fn into_value(self) -> Cow<'t, [u8]> {
                 if self.is_plain {
                     into_bytes(part(self.text, self.lo, self.hi))
                 } else {
-                    Cow::Owned(self.decoded())
+                    Cow::Owned(bytes_of(Self::KIND, self.body()))
                 }
             }
         }
     };
 }
 
-byte_values!(
-    LitByteStr,
-    r#""b\"a\\xFF\"""#,
-    r#"b"a\xFF""#,
-    "The bytes that the literal stands for; borrowed where it has no escapes."
-);
-byte_values!(
-    LitCStr,
-    r#""c\"a\\xFF\"""#,
-    r#"b"a\xFF""#,
-    "The bytes that the literal stands for: none of them is 0, and no 0 ends them. Borrowed where it has no escapes."
-);
-
-impl LitByteStr<'_> {
-    #[inline]
-    fn decoded(&self) -> Vec<u8> {
-        bytes_of(Kind::ByteStr, self.body())
-    }
+byte_values! {
+    /// The bytes that the literal stands for; borrowed where it has no escapes.
+    LitByteStr, r#"b"a\xFF""# == b"a\xFF"
+}
+byte_values! {
+    /// The bytes that the literal stands for: none of them is 0, and no 0 ends them. Borrowed where it has no escapes.
+    LitCStr, r#"c"a\xFF""# == b"a\xFF"
 }
 
 impl LitCStr<'_> {
-    #[inline]
-    fn decoded(&self) -> Vec<u8> {
-        bytes_of(Kind::CStr, self.body())
-    }
-
     /// The C string that the literal stands for.
     ///
     /// ```

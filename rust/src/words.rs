@@ -1,9 +1,8 @@
 //! Truth values, and texts that are no literals.
 
-use crate::common::{literal_type, owned};
+use crate::common::{literal_type, text_type};
 use crate::parse_error::ParseError;
 use alloc::borrow::Cow;
-use core::fmt;
 
 /// A truth value: `true`, `false`.
 ///
@@ -21,7 +20,7 @@ pub struct LitBool<'t> {
     value: bool,
 }
 
-literal_type!(LitBool, Bool { suffix_at, value }, "\"true\"", "\"\"");
+literal_type!(LitBool, Bool(value), "true", "");
 
 impl<'t> LitBool<'t> {
     /// The literal of this text, which is the value's word.
@@ -59,45 +58,19 @@ impl<'t> LitBool<'t> {
 /// let Lit::Verbatim(literal) = Lit::new(r"'\q'") else { panic!() };
 /// assert_eq!(literal.explain().kind(), FlawKind::UnknownEscape);
 /// ```
-#[derive(Clone, PartialEq, Eq, Hash)]
+#[derive(Clone)]
 #[repr(C)]
 pub struct LitVerbatim<'t> {
     text: Cow<'t, str>,
 }
+
+text_type!(LitVerbatim(), "word");
 
 impl<'t> LitVerbatim<'t> {
     /// The text, which has no reading.
     #[inline]
     pub(crate) fn of(text: Cow<'t, str>) -> Self {
         LitVerbatim { text }
-    }
-
-    /// The text as it was read.
-    ///
-    /// ```
-    /// use navyspindle::Lit;
-    ///
-    /// let Lit::Verbatim(literal) = Lit::new("word") else { panic!() };
-    /// assert_eq!(literal.text(), "word");
-    /// ```
-    #[inline]
-    #[must_use]
-    pub fn text(&self) -> &str {
-        &self.text
-    }
-
-    /// The text as it was read, in its own lifetime.
-    ///
-    /// ```
-    /// use navyspindle::Lit;
-    ///
-    /// let Lit::Verbatim(literal) = Lit::new("word") else { panic!() };
-    /// assert_eq!(literal.into_text(), "word");
-    /// ```
-    #[inline]
-    #[must_use]
-    pub fn into_text(self) -> Cow<'t, str> {
-        self.text
     }
 
     /// It has no suffix.
@@ -109,22 +82,6 @@ impl<'t> LitVerbatim<'t> {
     /// It has no suffix.
     pub(crate) fn into_suffix(self) -> Cow<'static, str> {
         Cow::Borrowed("")
-    }
-
-    /// The same with a text of its own.
-    ///
-    /// ```
-    /// use navyspindle::{Lit, LitVerbatim};
-    ///
-    /// let Lit::Verbatim(literal) = Lit::new("word") else { panic!() };
-    /// let owned: LitVerbatim<'static> = literal.into_owned();
-    /// assert_eq!(owned.text(), "word");
-    /// ```
-    #[must_use]
-    pub fn into_owned(self) -> LitVerbatim<'static> {
-        LitVerbatim {
-            text: owned(self.text),
-        }
     }
 
     /// Why it is no literal of Rust with a value, and where. Of a float by its suffix ([`Lit::parse`](crate::Lit::parse)) it is that
@@ -144,17 +101,5 @@ impl<'t> LitVerbatim<'t> {
     #[must_use]
     pub fn explain(&self) -> ParseError {
         ParseError::of(&self.text)
-    }
-}
-
-impl fmt::Display for LitVerbatim<'_> {
-    fn fmt(&self, f: &mut fmt::Formatter<'_>) -> fmt::Result {
-        f.pad(&self.text)
-    }
-}
-
-impl fmt::Debug for LitVerbatim<'_> {
-    fn fmt(&self, f: &mut fmt::Formatter<'_>) -> fmt::Result {
-        f.debug_tuple("LitVerbatim").field(&self.text).finish()
     }
 }

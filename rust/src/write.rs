@@ -5,59 +5,22 @@ use alloc::string::String;
 use alloc::vec;
 use core::ffi::CStr;
 
-/// A value that is written.
-#[derive(Clone, Copy)]
-enum Value<'v> {
-    Str(&'v str),
-    ByteStr(&'v [u8]),
-    CStr(&'v CStr),
-    Byte(u8),
-    Char(char),
-}
-
-impl Value<'_> {
-    /// The room that its literal is written into: four bytes for each of its bytes, and three; seven of one character.
-    fn room(self) -> usize {
-        let len = match self {
-            Value::Str(text) => text.len(),
-            Value::ByteStr(bytes) => bytes.len(),
-            Value::CStr(c_str) => c_str.to_bytes().len(),
-            Value::Byte(_) | Value::Char(_) => 1,
-        };
-        let room = len.checked_mul(4).and_then(|len| len.checked_add(3));
-        room.expect("no value is that long")
-    }
-
-    /// Writes its literal to the front of what has the room for it, and returns how many bytes it takes.
-    fn write_into(self, out: &mut [u8]) -> usize {
-        match self {
-            Value::Str(text) => write_str_into(text, out),
-            Value::ByteStr(bytes) => write_bytes_into(Kind::ByteStr, bytes, out),
-            Value::CStr(c_str) => write_bytes_into(Kind::CStr, c_str.to_bytes(), out),
-            Value::Byte(byte) => write_bytes_into(Kind::Byte, &[byte], out),
-            Value::Char(character) => write_char_into(character, out),
-        }
-    }
-}
-
 /// How much room on the stack a literal is written into, where it needs no more.
 const SHORT: usize = 256;
 
-/// The text of the bytes that were written.
-fn text_of(bytes: &[u8]) -> &str {
-    core::str::from_utf8(bytes).expect("literals are UTF-8")
-}
-
-/// The literal that stands for the value, in no more room than it takes.
-fn written(value: Value<'_>) -> String {
-    let room = value.room();
+/// The literal of so many bytes, or of one character, in no more room than it takes. It is written to the front of what has room: four
+/// bytes for each, and three; seven for a character.
+fn written(len: usize, write: impl FnOnce(&mut [u8]) -> usize) -> String {
+    let room = len.checked_mul(4).and_then(|len| len.checked_add(3));
+    let room = room.expect("no value is that long");
     if room <= SHORT {
         let mut out = [0; SHORT];
-        let len = value.write_into(&mut out);
-        return String::from(text_of(&out[..len]));
+        let len = write(&mut out);
+        let text = core::str::from_utf8(&out[..len]);
+        return String::from(text.expect("literals are UTF-8"));
     }
     let mut out = vec![0; room];
-    let len = value.write_into(&mut out);
+    let len = write(&mut out);
     out.truncate(len);
     out.shrink_to_fit();
     String::from_utf8(out).expect("literals are UTF-8")
@@ -73,7 +36,7 @@ fn written(value: Value<'_>) -> String {
 /// ```
 #[must_use]
 pub fn write_str(value: &str) -> String {
-    written(Value::Str(value))
+    written(value.len(), |out| write_str_into(value, out))
 }
 
 /// The byte string literal that stands for the bytes.
@@ -83,7 +46,9 @@ pub fn write_str(value: &str) -> String {
 /// ```
 #[must_use]
 pub fn write_byte_str(value: &[u8]) -> String {
-    written(Value::ByteStr(value))
+    written(value.len(), |out| {
+        write_bytes_into(Kind::ByteStr, value, out)
+    })
 }
 
 /// The C string literal that stands for the C string.
@@ -93,7 +58,8 @@ pub fn write_byte_str(value: &[u8]) -> String {
 /// ```
 #[must_use]
 pub fn write_c_str(value: &CStr) -> String {
-    written(Value::CStr(value))
+    let bytes = value.to_bytes();
+    written(bytes.len(), |out| write_bytes_into(Kind::CStr, bytes, out))
 }
 
 /// The byte literal that stands for the byte.
@@ -103,7 +69,7 @@ pub fn write_c_str(value: &CStr) -> String {
 /// ```
 #[must_use]
 pub fn write_byte(value: u8) -> String {
-    written(Value::Byte(value))
+    written(1, |out| write_bytes_into(Kind::Byte, &[value], out))
 }
 
 /// The character literal that stands for the character.
@@ -113,7 +79,7 @@ pub fn write_byte(value: u8) -> String {
 /// ```
 #[must_use]
 pub fn write_char(value: char) -> String {
-    written(Value::Char(value))
+    written(1, |out| write_char_into(value, out))
 }
 
 #[cfg(test)]

@@ -28,5 +28,10 @@ fn main() {
             top.join("crates").join(name).join("src").display()
         );
     }
-    println!("cargo::rerun-if-changed={}", render.display());
+    for script in ["render", "uncalled.py", "uncalled.txt"] {
+        println!(
+            "cargo::rerun-if-changed={}",
+            top.join("tools").join(script).display()
+        );
+    }
 }

@@ -10,9 +10,9 @@ use core::ops::{BitAnd, BitOr, Sub};
 /// How many lanes there are at most, and in every loop.
 const ALL: usize = 64;
 
-/// The array whose item at each index is this.
+/// The array whose item at each index is this, whatever N is.
 macro_rules! lanes {
-    ($at:ident => $lane:expr) => {{
+    ($n:ident, $at:ident => $lane:expr) => {{
         let mut lanes = [0_u8; ALL];
         for $at in 0..ALL {
             lanes[$at] = $lane;
@@ -21,17 +21,8 @@ macro_rules! lanes {
     }};
 }
 
-/// N lanes of bytes, the first of these; N is 8, 16 or more by eights, up to 64.
-#[derive(Clone, Copy)]
-pub(crate) struct Simd<T, const N: usize>([u8; ALL], PhantomData<T>);
-
-/// Sixteen lanes.
-#[allow(non_camel_case_types)]
-pub(crate) type u8x16 = Simd<u8, 16>;
-
-/// All bits of a lane are set, or none.
-#[derive(Clone, Copy)]
-pub(crate) struct Mask<const N: usize>([u8; ALL]);
+// All bits of a mask's lane are set, or none.
+lane_types!([u8; ALL], lanes);
 
 /// A lane of a mask.
 #[inline(always)]
@@ -62,28 +53,19 @@ impl<const N: usize> Simd<u8, N> {
     /// Where the lanes of both are equal.
     #[inline(always)]
     pub(crate) fn simd_eq(self, other: Self) -> Mask<N> {
-        Mask(lanes!(at => all_if(self.0[at] == other.0[at])))
+        Mask(lanes!(N, at => all_if(self.0[at] == other.0[at])))
     }
 
     /// Where the lanes of both differ.
     #[inline(always)]
     pub(crate) fn simd_ne(self, other: Self) -> Mask<N> {
-        Mask(lanes!(at => all_if(self.0[at] != other.0[at])))
+        Mask(lanes!(N, at => all_if(self.0[at] != other.0[at])))
     }
 
     /// Where this side's lane is the greater one, or equal.
     #[inline(always)]
     pub(crate) fn simd_ge(self, other: Self) -> Mask<N> {
-        Mask(lanes!(at => all_if(self.0[at] >= other.0[at])))
-    }
-}
-
-impl<const N: usize> BitOr for Simd<u8, N> {
-    type Output = Self;
-
-    #[inline(always)]
-    fn bitor(self, other: Self) -> Self {
-        Simd(lanes!(at => self.0[at] | other.0[at]), PhantomData)
+        Mask(lanes!(N, at => all_if(self.0[at] >= other.0[at])))
     }
 }
 
@@ -94,27 +76,9 @@ impl<const N: usize> Sub for Simd<u8, N> {
     #[inline(always)]
     fn sub(self, other: Self) -> Self {
         Simd(
-            lanes!(at => self.0[at].wrapping_sub(other.0[at])),
+            lanes!(N, at => self.0[at].wrapping_sub(other.0[at])),
             PhantomData,
         )
-    }
-}
-
-impl<const N: usize> BitAnd for Mask<N> {
-    type Output = Self;
-
-    #[inline(always)]
-    fn bitand(self, other: Self) -> Self {
-        Mask(lanes!(at => self.0[at] & other.0[at]))
-    }
-}
-
-impl<const N: usize> BitOr for Mask<N> {
-    type Output = Self;
-
-    #[inline(always)]
-    fn bitor(self, other: Self) -> Self {
-        Mask(lanes!(at => self.0[at] | other.0[at]))
     }
 }
 
@@ -152,7 +116,7 @@ impl<const N: usize> Mask<N> {
     /// Each eight lanes by another bit, so that they go into one eight, which is then turned.
     #[inline(always)]
     fn gathered(&self) -> u64 {
-        let bits = lanes!(at => self.0[at] & (1 << (at / 8)));
+        let bits = lanes!(N, at => self.0[at] & (1 << (at / 8)));
         let mut eight = 0;
         let mut at = 0;
         while at < N / 8 {
@@ -168,7 +132,7 @@ impl<const N: usize> Mask<N> {
     /// Of eight lanes each by another bit, so that their sum is what they are together.
     #[inline(always)]
     fn summed(&self) -> u64 {
-        let bits = lanes!(at => self.0[at] & (1 << (at % 8)));
+        let bits = lanes!(N, at => self.0[at] & (1 << (at % 8)));
         let mut all = 0;
         let mut at = 0;
         while at < N / 8 {

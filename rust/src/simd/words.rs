@@ -36,17 +36,8 @@ macro_rules! eights {
     };
 }
 
-/// N lanes of bytes, the first of these; N is 8, 16 or more by eights, up to 64.
-#[derive(Clone, Copy)]
-pub(crate) struct Simd<T, const N: usize>([u64; 8], PhantomData<T>);
-
-/// Sixteen lanes.
-#[allow(non_camel_case_types)]
-pub(crate) type u8x16 = Simd<u8, 16>;
-
-/// The highest bit of each lane says whether it is set; the other bits say nothing.
-#[derive(Clone, Copy)]
-pub(crate) struct Mask<const N: usize>([u64; 8]);
+// The highest bit of a mask's lane says whether it is set; the other bits say nothing.
+lane_types!([u64; 8], eights);
 
 impl<const N: usize> Simd<u8, N> {
     /// The first N bytes of the slice, which has to have as many.
@@ -66,7 +57,7 @@ impl<const N: usize> Simd<u8, N> {
     #[inline(always)]
     pub(crate) fn splat(byte: u8) -> Self {
         let eight = byte as u64 * LOWEST;
-        Simd(eights!(N, at => eight), PhantomData)
+        Simd(eights!(N, _at => eight), PhantomData)
     }
 
     /// Where the lanes of both are equal: where nothing is left of their difference, so that no carry reaches the highest bit.
@@ -96,15 +87,6 @@ impl<const N: usize> Simd<u8, N> {
     }
 }
 
-impl<const N: usize> BitOr for Simd<u8, N> {
-    type Output = Self;
-
-    #[inline(always)]
-    fn bitor(self, other: Self) -> Self {
-        Simd(eights!(N, at => self.0[at] | other.0[at]), PhantomData)
-    }
-}
-
 /// Each lane wraps around by itself.
 impl<const N: usize> Sub for Simd<u8, N> {
     type Output = Self;
@@ -118,24 +100,6 @@ impl<const N: usize> Sub for Simd<u8, N> {
             rest ^ ((a ^ !b) & HIGHEST)
         });
         Simd(lanes, PhantomData)
-    }
-}
-
-impl<const N: usize> BitAnd for Mask<N> {
-    type Output = Self;
-
-    #[inline(always)]
-    fn bitand(self, other: Self) -> Self {
-        Mask(eights!(N, at => self.0[at] & other.0[at]))
-    }
-}
-
-impl<const N: usize> BitOr for Mask<N> {
-    type Output = Self;
-
-    #[inline(always)]
-    fn bitor(self, other: Self) -> Self {
-        Mask(eights!(N, at => self.0[at] | other.0[at]))
     }
 }
 

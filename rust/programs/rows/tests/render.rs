@@ -29,6 +29,8 @@ fn copy_of_sources(to: &Path) {
         "crates.txt".into(),
         "tools/render".into(),
         "tools/std_methods.txt".into(),
+        "tools/uncalled.py".into(),
+        "tools/uncalled.txt".into(),
         "rust/src/simd".into(),
         "rust/programs/src/rattle_std".into(),
         "rust/programs/rows/src".into(),
@@ -47,7 +49,7 @@ fn copy_of_sources(to: &Path) {
 
 /// What the script says where this text stands in the place of that one; `None` where it rejects nothing.
 fn rejected(folder: &Path, file: &str, old: &str, new: &str) -> Option<String> {
-    let path = folder.join("crates").join(file);
+    let path = folder.join(file);
     let source = fs::read_to_string(&path).unwrap();
     assert!(source.contains(old), "{file} has no {old}");
     fs::write(&path, source.replacen(old, new, 1)).unwrap();
@@ -59,13 +61,19 @@ fn rejected(folder: &Path, file: &str, old: &str, new: &str) -> Option<String> {
     (!ran.status.success()).then(|| String::from_utf8(ran.stderr).unwrap())
 }
 
+/// A folder with a copy of the sources, for the test of this name.
+fn folder_for(test: &str) -> PathBuf {
+    let folder = env::temp_dir().join(format!("navyspindle-{test}-{}", std::process::id()));
+    copy_of_sources(&folder);
+    folder
+}
+
 #[test]
 fn what_could_mean_something_else() {
-    let folder = env::temp_dir().join(format!("navyspindle-render-{}", std::process::id()));
-    copy_of_sources(&folder);
-    let line = "rl_lines/src/line.rt";
+    let folder = folder_for("render");
+    let line = "crates/rl_lines/src/line.rt";
     let bare = "bytes.iter().all(";
-    let ident = "rl_text/src/ident.rt";
+    let ident = "crates/rl_text/src/ident.rt";
     for (file, old, new, said) in [
         (line, bare, "bytes.to_vec().iter().all(", "to_vec"),
         (line, bare, "bytes.frobnicate().iter().all(", "frobnicate"),
@@ -95,5 +103,41 @@ fn what_could_mean_something_else() {
         assert!(words.contains(said), "{new}: {words}");
     }
     assert_eq!(rejected(&folder, line, bare, bare), None);
+    fs::remove_dir_all(&folder).unwrap();
+}
+
+/// An entry of what the package doesn't call, whose file, function, method, module or variant isn't there; and a line that is none.
+#[test]
+fn what_names_nothing() {
+    let folder = folder_for("uncalled");
+    let list = "tools/uncalled.txt";
+    for (old, new, said) in [
+        (
+            "rl_forms/kind.rs Kind::word",
+            "rl_forms/kinds.rs Kind::word",
+            "kinds.rs",
+        ),
+        ("Kind::word", "Kind::words", "Kind::words"),
+        ("Kind::word", "Sort::word", "Sort::word"),
+        (
+            "contents.rs body_unit",
+            "contents.rs body_units",
+            "body_units",
+        ),
+        (
+            "- rl_reading/contents.rs str_into",
+            "- rl_reading/contents.rs text_into",
+            "text_into",
+        ),
+        ("rl_text/span.rs *", "rl_text/spans.rs *", "spans.rs"),
+        ("LexKind::{Memory}", "LexKind::{Room}", "Room"),
+        ("LexKind::{Memory}", "Lex::{Memory}", "Lex::"),
+        ("Kind::word: ", "Kind::word ", "no entry"),
+    ] {
+        let words =
+            rejected(&folder, list, old, new).unwrap_or_else(|| panic!("{new} is rendered"));
+        assert!(words.contains(said), "{new}: {words}");
+    }
+    assert_eq!(rejected(&folder, list, "body_unit", "body_unit"), None);
     fs::remove_dir_all(&folder).unwrap();
 }

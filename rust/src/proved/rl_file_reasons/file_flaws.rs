@@ -40,6 +40,7 @@ fn explained(found: FlawAt<'_>, text: &str) -> Flaw {
 /// rustc takes CR LF as LF before it reads a file, so the flaw is the one that [`explain`](crate::rl_reasons::explain) finds in the text
 /// without each CR that an LF follows, with its places in bytes of the text as it is. A CR LF isn't cut apart: a place at an LF
 /// stands before its CR, and after an LF both are passed. A CR alone stays a flaw.
+#[cfg(feature = "rendered")]
 pub fn explain_in_file(text: &str) -> Option<Flaw> {
     match walk(text) {
         Ok(_) => None,

@@ -6,4 +6,6 @@ mod file_flaws;
 mod file_units;
 mod file_walk;
 
-pub use crate::rl_file_reasons::file_flaws::{explain_in_file, explain_signed_value_in_file, explain_value_in_file};
+pub use crate::rl_file_reasons::file_flaws::{explain_signed_value_in_file, explain_value_in_file};
+#[cfg(feature = "rendered")]
+pub use crate::rl_file_reasons::file_flaws::explain_in_file;

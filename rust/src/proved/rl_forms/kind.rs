@@ -64,6 +64,7 @@ impl Kind {
     }
 
     /// What errors call a literal of the kind, as `string literal`.
+    #[cfg(feature = "rendered")]
     pub fn word(self) -> &'static str {
         match self {
             Kind::Str => "string literal",
@@ -78,6 +79,7 @@ impl Kind {
     }
 
     /// What the `display` of its tokens calls it: its [`word`](Kind::word), but `C-string literal`.
+    #[cfg(feature = "rendered")]
     pub fn shown(self) -> &'static str {
         match self {
             Kind::CStr => "C-string literal",
@@ -86,6 +88,7 @@ impl Kind {
     }
 
     /// The name of its struct, as `LitStr`, which `Debug` prints.
+    #[cfg(feature = "rendered")]
     pub fn struct_name(self) -> &'static str {
         match self {
             Kind::Str => "LitStr",

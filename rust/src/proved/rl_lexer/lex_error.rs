@@ -14,6 +14,7 @@ pub struct LexError {
 
 /// What the lexer rejects, each reported at the byte that its line names. docs/REFUSALS.md has a
 /// text for each, and what to do.
+#[cfg_attr(not(feature = "rendered"), expect(dead_code, reason = "Memory: the package's lists and sources take no memory to be cut"))]
 #[derive(Clone, Copy, PartialEq, Eq, Debug)]
 pub enum LexKind {
     /// A doc comment, closed or not: its first slash.

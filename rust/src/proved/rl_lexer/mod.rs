@@ -4,6 +4,7 @@
 mod cursor;
 mod lex_error;
 mod lexeme;
+#[cfg(feature = "rendered")]
 mod lines;
 mod no_token;
 mod source;
@@ -13,6 +14,7 @@ pub mod whitespace;
 pub use crate::rl_lexer::cursor::{Lexeme, Tokens};
 pub use crate::rl_lexer::lex_error::{LexError, LexKind};
 pub use crate::rl_lexer::lexeme::Form;
+#[cfg(feature = "rendered")]
 pub use crate::rl_lexer::lines::{LineColumn, Lines};
 pub use crate::rl_lexer::source::SourceForm;
 pub use crate::rl_lexer::sources::{SourceToken, Sources};

@@ -3,7 +3,9 @@
 
 use crate::rl_reading::digit_rows::is_negative;
 use crate::rl_reading::digits::{is_plain_float, is_plain_integer};
-use crate::rl_reading::number_forms::{Number, float_suffix, read_integer, read_number};
+use crate::rl_reading::number_forms::{Number, read_number};
+#[cfg(feature = "rendered")]
+use crate::rl_reading::number_forms::{float_suffix, read_integer};
 use crate::rl_reading::quoted_forms::{
     QuotedForm, begins_character, find_bare_character, find_character, find_cooked, find_raw,
     find_single, split_opener,
@@ -122,6 +124,7 @@ fn float_found<'t>(text: &'t str, suffix: &'t str) -> Found {
 
 /// The reading of the text as an integer: `None` where it is none, `Some(None)` where its magnitude is past 128
 /// bits.
+#[cfg(feature = "rendered")]
 pub fn find_int(text: &str) -> Option<Option<Found>> {
     let integer = read_integer(text)?;
     match integer.magnitude {
@@ -131,6 +134,7 @@ pub fn find_int(text: &str) -> Option<Option<Found>> {
 }
 
 /// The reading of the text as a float, whether or not an integer stands there too: `None` where it is none.
+#[cfg(feature = "rendered")]
 pub fn find_float(text: &str) -> Option<Found> {
     let suffix = float_suffix(text)?;
     Some(float_found(text, suffix))
@@ -184,6 +188,7 @@ pub(crate) fn find_truth(text: &str) -> Option<Found> {
 }
 
 /// The reading of a text that is a literal.
+#[cfg(feature = "rendered")]
 pub fn found_in(text: &str) -> Found {
     match find(text) {
         Some(found) => found,

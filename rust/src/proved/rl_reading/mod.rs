@@ -12,16 +12,19 @@ mod segments;
 mod source_literals;
 pub mod units;
 
-pub use crate::rl_reading::contents::{
-    byte_of, byte_of_body, bytes_into, char_of, char_of_body, is_plain, str_into,
-};
+pub use crate::rl_reading::contents::bytes_into;
+#[cfg(feature = "rendered")]
+pub use crate::rl_reading::contents::{byte_of, byte_of_body, char_of, char_of_body, is_plain};
 pub use crate::rl_reading::digits::{is_plain_integer, numeral_into};
-pub use crate::rl_reading::found::{
-    Body, Found, Parts, find, find_float, find_int, find_negative, shape, truth_of,
-};
+pub use crate::rl_reading::found::{Body, Found, Parts, find, find_negative, shape, truth_of};
+#[cfg(feature = "rendered")]
+pub use crate::rl_reading::found::{find_float, find_int};
 pub use crate::rl_reading::next_literals::{
     ListStep, NextLiteral, Rejection, RejectionKind, list_step, next_literal,
 };
+#[cfg(feature = "rendered")]
 pub use crate::rl_reading::number_forms::{float_shape, int_shape, shape_negative};
-pub use crate::rl_reading::segments::{Segment, SegmentValue, Segments, place_of};
+pub use crate::rl_reading::segments::{Segment, SegmentValue, Segments};
+#[cfg(feature = "rendered")]
+pub use crate::rl_reading::segments::place_of;
 pub use crate::rl_reading::source_literals::{SourceStep, source_step};

@@ -4,6 +4,7 @@
 use crate::rl_reading::digit_rows::{
     DigitRow, after_minus, begins_digit, is_exponent_suffix, is_suffix, read_row, skip_row,
 };
+#[cfg(feature = "rendered")]
 use crate::rl_reading::found::{Parts, find_float, find_int, find_unsigned};
 use crate::rl_text::classes::{CharClass, skip_class};
 use crate::rl_text::text::{split_ascii, split_char};
@@ -74,6 +75,7 @@ pub(crate) fn integer_of(head: Head<'_>) -> Option<Integer<'_>> {
 }
 
 /// The integer that the text is.
+#[cfg(feature = "rendered")]
 pub fn read_integer(text: &str) -> Option<Integer<'_>> {
     match read_head(text) {
         Some(head) => integer_of(head),
@@ -84,6 +86,7 @@ pub fn read_integer(text: &str) -> Option<Integer<'_>> {
 /// The parts of an integer literal: `None` where the text is none, `Some(None)` where its magnitude is past 128 bits.
 ///
 /// The body is all that stands before the suffix, sign and prefix included. Both are slices of the text.
+#[cfg(feature = "rendered")]
 pub fn int_shape(text: &str) -> Option<Option<Parts<'_>>> {
     match find_int(text) {
         Some(Some(found)) => Some(Some(found.parts(text))),
@@ -156,6 +159,7 @@ pub(crate) fn head_suffix<'t>(text: &'t str, head: Head<'t>) -> Option<&'t str> 
 /// The parts of a float literal, whether or not an integer stands there too.
 ///
 /// The body is all that stands before the suffix, the sign included. Both are slices of the text.
+#[cfg(feature = "rendered")]
 pub fn float_shape(text: &str) -> Option<Parts<'_>> {
     let found = find_float(text)?;
     Some(found.parts(text))
@@ -182,6 +186,7 @@ pub(crate) fn read_number(text: &str) -> Option<Number<'_>> {
 ///
 /// `Some` exactly where the text with a minus before it reads as a literal; it is then an integer or a float. Body and
 /// suffix are slices of the text, without the minus.
+#[cfg(feature = "rendered")]
 pub fn shape_negative(text: &str) -> Option<Parts<'_>> {
     let found = find_unsigned(text)?;
     Some(found.parts(text))

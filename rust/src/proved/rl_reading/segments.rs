@@ -1,7 +1,9 @@
 // Rendered from crates/rl_reading/src/segments.rt by tools/render, which erases contracts: change that file, and render anew.
 //! The segments of quoted literals: what each piece of the text between the quotes stands for, and where it stands.
 
-use crate::rl_reading::found::{Body, find};
+use crate::rl_reading::found::Body;
+#[cfg(feature = "rendered")]
+use crate::rl_reading::found::find;
 use crate::rl_reading::units::{Piece, is_plain, split_plain, unit};
 use crate::rl_forms::Kind;
 use crate::rl_text::text::{before, split_char};
@@ -131,6 +133,7 @@ impl<'t> Segment<'t> {
 
 impl<'t> Segments<'t> {
     /// The segments of a quoted literal: `None` where the text isn't one.
+    #[cfg(feature = "rendered")]
     pub fn of(text: &'t str) -> Option<Segments<'t>> {
         let found = find(text)?;
         if !is_quoted(found.kind) {
@@ -204,12 +207,14 @@ impl<'t> Iterator for Segments<'t> {
 }
 
 /// Whether the kind is one of the five that have quotes.
+#[cfg(feature = "rendered")]
 fn is_quoted(kind: Kind) -> bool {
     !matches!(kind, Kind::Int | Kind::Float | Kind::Bool)
 }
 
 /// Where in the text of a quoted literal what gives this byte of its contents begins: `None` where the text is no quoted
 /// literal. [`Segments::place_of`] says where that is.
+#[cfg(feature = "rendered")]
 pub fn place_of(text: &str, at: usize) -> Option<usize> {
     Some(Segments::of(text)?.place_of(at))
 }

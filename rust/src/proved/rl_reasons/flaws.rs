@@ -1,6 +1,7 @@
 // Rendered from crates/rl_reasons/src/flaws.rt by tools/render, which erases contracts: change that file, and render anew.
 //! Kinds of flaws, and where a text has one.
 
+#[cfg(feature = "rendered")]
 use crate::rl_text::Span;
 use crate::rl_text::text::split_char;
 use core::fmt;
@@ -196,21 +197,14 @@ pub struct Flaw {
 impl Flaw {
     /// The place `lo..hi` in the file, by the span of the token whose text it is: counted from the span's first byte, and
     /// not beyond its last.
+    #[cfg(feature = "rendered")]
     pub fn in_span(self, span: Span) -> Span {
         Span::new(span.file, place_in(span, self.lo), place_in(span, self.hi))
-    }
-
-    /// The place `from..hi` in the file, by the span of the token whose text it is: what a compiler would mark.
-    pub fn piece_in_span(self, span: Span) -> Span {
-        Span::new(
-            span.file,
-            place_in(span, self.from),
-            place_in(span, self.hi),
-        )
     }
 }
 
 /// The place so many bytes after the span's first, but not beyond its last.
+#[cfg(feature = "rendered")]
 fn place_in(span: Span, at: usize) -> usize {
     match span.lo.checked_add(at) {
         Some(place) if place < span.hi => place,

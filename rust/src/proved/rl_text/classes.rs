@@ -6,6 +6,7 @@ use crate::rl_text::lanes::run_len;
 use crate::rl_text::text::{split_ascii, split_char, strip_byte};
 
 /// A class of characters.
+#[cfg_attr(not(feature = "rendered"), expect(dead_code, reason = "SuffixContinue, Unquoted, Ascii, NonNul: contracts alone speak of their runs"))]
 #[derive(Clone, Copy)]
 pub enum CharClass {
     /// What goes on with an identifier.

@@ -8,7 +8,9 @@ pub mod ident;
 pub mod lanes;
 pub mod room;
 pub mod scan;
+#[cfg(feature = "rendered")]
 mod span;
 pub mod text;
 
+#[cfg(feature = "rendered")]
 pub use crate::rl_text::span::Span;

@@ -1,0 +1,171 @@
+"""Parts off what the package `navyspindle` itself doesn't call of the core that tools/render makes, as tools/uncalled.txt lists it.
+
+Such an item gets an attribute, and so do the imports of it and those that it alone needs. Of an enum rustc is told which variants
+nothing makes. What nobody calls is left out. No expression is changed."""
+
+import re
+import sys
+import textwrap
+from pathlib import Path
+from typing import NamedTuple
+
+LIST = Path(__file__).resolve().parent / "uncalled.txt"
+ENTRY = re.compile(r"(- )?(\S+) (\*|\w+|\w+::\w+|\w+::\{\w+(?:, \w+)*\}): (\S.*)")
+
+# What is written before an item, and before an enum.
+ATTRIBUTE = '#[cfg(feature = "rendered")]\n'
+EXPECTATION = '#[cfg_attr(not(feature = "rendered"), expect(dead_code, reason = "{why}"))]\n'
+
+# An import: from where, and the one name or the several.
+USE = re.compile(r"^(pub(?:\(crate\))? |)use ([\w:]+)::(?:(\w+)|\{([\w,\s]+)\});\n", re.M)
+
+# How long a line of imports is at most.
+WIDTH = 100
+
+
+class Entry(NamedTuple):
+    """A line of the list."""
+    file: str
+    item: str
+    why: str
+    is_left_out: bool
+
+
+def fail(what):
+    sys.exit(f"render: tools/uncalled.txt: {what}")
+
+
+def listed():
+    """The entries of the list."""
+    entries = []
+    for line in LIST.read_text().split("\n"):
+        entry = ENTRY.fullmatch(line)
+        if entry and not (entry[1] and re.search(r"[*{]", entry[3])):
+            entries.append(Entry(entry[2], entry[3], entry[4], bool(entry[1])))
+        elif line and not line.startswith("#"):
+            fail(f"no entry: {line}")
+    return entries
+
+
+def front_of(text, at, form):
+    """Where the lines of this form begin that stand before the line at this place."""
+    return re.search(rf"(?:^{form}\n)*\Z", text[:at], re.M).start()
+
+
+def span_of(text, entry):
+    """Where the entry's function begins, with its attributes, and where it ends, by the layout of its file."""
+    owner, _, name = entry.item.rpartition("::")
+    indent = " " * 4 * bool(owner)
+    impl = rf"^impl(?:<[^{{]*?>)? {owner}(?:<[^{{]*?>)? \{{\n(?:(?!\}}).*\n)*?" * bool(owner)
+    found = re.search(rf"{impl}^(?P<head>{indent}(?:pub(?:\(crate\))? )?fn {name}\b)", text, re.M)
+    if not found:
+        fail(f"{entry.file} has no function {entry.item}")
+    end = re.compile(rf"^{indent}\}}\n", re.M).search(text, found.end()).end()
+    return front_of(text, found.start("head"), r" *#\[.*\]"), end
+
+
+def without(text, entry):
+    """The text without the entry's function and its documentation; of two empty lines that meet, one stays."""
+    start, end = span_of(text, entry)
+    front, back = text[:front_of(text, start, " *///.*")], text[end:]
+    return front.removesuffix("\n") + back if front.endswith("\n\n") else front + back.removeprefix("\n")
+
+
+def with_expectation(text, entry):
+    """The text in which rustc expects that nothing makes these variants of an enum, and says so where it is otherwise."""
+    name, variants = re.fullmatch(r"(\w+)::\{(.*)\}", entry.item).groups()
+    found = re.search(rf"^pub enum {name} \{{\n((?:(?!\}}).*\n)*)", text, re.M)
+    if not found or not set(variants.split(", ")) <= set(re.findall(r"^    (\w+)", found[1], re.M)):
+        fail(f"{entry.file} has no variants {entry.item}")
+    at = front_of(text, found.start(), r"#\[.*\]")
+    return text[:at] + EXPECTATION.format(why=f"{variants}: {entry.why}") + text[at:]
+
+
+def import_of(visibility, path, names):
+    """The import of these names, laid out as the sources have them."""
+    line = f"{visibility}use {path}::{names[0] if len(names) == 1 else '{' + ', '.join(names) + '}'};\n"
+    if len(line) <= WIDTH:
+        return line
+    rows = textwrap.fill(", ".join(names) + ",", WIDTH, initial_indent="    ", subsequent_indent="    ")
+    return f"{visibility}use {path}::{{\n{rows}\n}};\n"
+
+
+def with_imports(text, is_apart, is_left_out):
+    """The text in which imports stand apart of which that holds, and without those that are left out."""
+    def parted(use):
+        visibility, path, one, several = use.groups()
+        names = [one] if one else re.findall(r"\w+", several)
+        left = [name for name in names if not is_left_out(path, name)]
+        own = [name for name in left if not is_apart(visibility, path, name)]
+        if own == names:
+            return use.group()
+        apart = [name for name in left if name not in own]
+        lines = [import_of(visibility, path, own)] if own else []
+        return "".join(lines + [ATTRIBUTE + import_of(visibility, path, apart)] if apart else lines)
+    return USE.sub(parted, text)
+
+
+def words_of(code):
+    return set(re.findall(r"\w+", re.sub(r"//.*", "", code)))
+
+
+class Uncalled:
+    """The list, and what it makes of rendered files, which are given by name."""
+
+    def __init__(self):
+        self.entries = listed()
+        self.whole = {entry.file for entry in self.entries if entry.item == "*"}
+        self.apart = {(entry.file, entry.item) for entry in self.entries if not entry.is_left_out}
+        self.left_out = {(entry.file.split("/")[0], entry.item) for entry in self.entries if entry.is_left_out}
+
+    def is_left_out(self, path, name):
+        """Whether the import is of what is left out, by its module or by its crate."""
+        crate = re.match(r"(?:crate::)?(\w+)", path)[1]
+        return (crate, name) in self.left_out
+
+    def parted(self, name, text):
+        """The file of the core."""
+        here = [entry for entry in self.entries if entry.file == name and entry.item != "*"]
+        for entry in here:
+            if entry.is_left_out:
+                text = without(text, entry)
+            elif "{" in entry.item:
+                text = with_expectation(text, entry)
+        spans = sorted(span_of(text, entry) for entry in here if not entry.is_left_out and "{" not in entry.item)
+        apart = words_of("".join(text[start:end] for start, end in spans))
+        own = USE.sub("", text)
+        for start, end in spans:
+            own = own.replace(text[start:end], "", 1)
+        own = words_of(own)
+
+        def is_apart(visibility, path, item):
+            file = path.removeprefix("crate::").replace("::", "/") + ".rs"
+            given_out = file in self.whole or (file, item) in self.apart
+            return given_out if visibility else item in apart and item not in own
+
+        for start, _ in reversed(spans):
+            indent = re.match(" *", text[start:]).group()
+            text = text[:start] + indent + ATTRIBUTE + text[start:]
+        return with_imports(self.with_modules(name, text), is_apart, self.is_left_out)
+
+    def with_modules(self, name, text):
+        """The file in which modules stand apart that are listed as a whole."""
+        folder = name.removesuffix("mod.rs")
+        for file in self.whole:
+            if name.endswith("/mod.rs") and file.startswith(folder):
+                module = file.removeprefix(folder).removesuffix(".rs")
+                text, count = re.subn(rf"^((?:pub )?mod {module};\n)", rf"{ATTRIBUTE}\1", text, flags=re.M)
+                if not count:
+                    fail(f"{name} has no module {module}")
+        return text
+
+    def core(self, files):
+        """The files of the core, which have to hold each item that is listed."""
+        for entry in self.entries:
+            if entry.file not in files:
+                fail(f"{entry.file} isn't rendered")
+        return {name: self.parted(name, text) for name, text in files.items()}
+
+    def above(self, files):
+        """The files above it, which import nothing that is left out."""
+        return {name: with_imports(text, lambda *_: False, self.is_left_out) for name, text in files.items()}
