@@ -5,6 +5,7 @@ pub mod rl_forms;
 pub mod rl_lexer;
 pub mod rl_reading;
 pub mod rl_reasons;
+pub mod rl_recovery;
 pub mod rl_settings;
 pub mod rl_strict;
 pub mod rl_text;

@@ -1,0 +1,104 @@
+-- Single steps of a source that is read on after its errors.
+use Rattle.rl_text.proofs.Common.{◌≡◌, ◌≢◌, ℕ, ◌+◌, ◌-◌, ◌≤◌, ◌<◌, Bool, true, false, ◌==◌, List, [], ◌∷◌, ◌++◌, length, take, drop, Option, Some, None, refl, sym, ◌∙◌, ap, subst, arith, inl, inr, append-nil, codes, chars, IsUtf8, IsUtf8-take, if◌then◌else◌, none-some}
+use Rattle.std.specs.Prelude.{MatchOption}
+use Rattle.rl_text.specs.Texts.{IsTail, begins, byte_len}
+use Rattle.rl_text.proofs.TailLemmas.{tail_self, tail_step, cut_boundary, cut_chars}
+use Rattle.rl_text.proofs.Rests.{tail_length}
+use Rattle.rl_lexer.specs.Cursors.{CursorState, IsCursorState}
+use Rattle.rl_lexer.specs.Sources.{source_text, source_view, BeginsNoSource, IsCutUpTo, IsLiteralText, PassesTo, TakesSource, TakesLiteralAfter, SourceErrorAt}
+use Rattle.rl_lexer.specs.Mirrors.SourceAt.{source_error_kind}
+use Rattle.rl_lexer.specs.declared.lex_error.LexKind.{LexKind}
+use Rattle.rl_lexer.specs.declared.sources.SourceToken.{SourceToken}
+use Rattle.rl_lexer.proofs.CutLemmas.{byte_len-append}
+use Rattle.rl_lexer.proofs.ErrorKinds.{char_len}
+use Rattle.rl_lexer.proofs.LiteralSteps.{passed_join, passes_one}
+use Rattle.rl_lexer.proofs.SourceCuts.{stops_source}
+use Rattle.rl_recovery.specs.Recoveries.{begins_character, from_line_end, lines_after, TakesUp, GoesOn}
+use Rattle.rl_recovery.specs.Mirrors.Closing.{AreUnclosed}
+use Rattle.rl_recovery.specs.declared.unclosed.Unclosed.{Unclosed}
+use Rattle.rl_recovery.proofs.ClosingLemmas.{unclosed_end}
+use Rattle.rl_recovery.proofs.LineEnds.{EndsWith}
+
+-- the end of a text, by characters
+pub tail_chars : (a b : List ℕ) → IsUtf8 a → IsTail a b → EndsWith (chars a) (chars b)
+tail_chars a b u tail =
+    let xs = take (length a - length b) a in
+    (chars xs, cut_chars a xs b (IsUtf8-take a (length a - length b) u (cut_boundary a b tail)) tail refl)
+
+pub unclosed_rest : (k : Unclosed) (a b : List ℕ) → IsUtf8 a → IsTail a b → AreUnclosed k (chars a)
+    → AreUnclosed k (chars b)
+unclosed_rest k a b u tail is = unclosed_end k (chars a) (chars b) (tail_chars a b u tail) is
+
+-- ---- from one literal to the next
+
+pub stays : (s : CursorState) → IsUtf8 s.rest → PassesTo s s
+stays s u = record {
+  cuts = [];
+  others = tt;
+  goes_on = λ done cut. subst (λ z. IsCutUpTo (chars s.text) z (chars s.rest)) (sym (append-nil done)) cut;
+  same = refl;
+  following = tail_self s.rest u;
+}
+
+-- tokens that are no literals were passed, and what is known not to be closed isn't
+pub record Walks (unclosed : Unclosed) (old now : CursorState) : Type 0 where
+  pub passes : PassesTo old now
+  pub unclosed : AreUnclosed unclosed (chars now.rest)
+
+pub walks_start : (k : Unclosed) (s : CursorState) → IsCursorState s.text s.rest → AreUnclosed k (chars s.rest)
+    → Walks k s s
+walks_start k s is known = record { passes = stays s is.following.is_text; unclosed = known }
+
+pub walks_on : (k : Unclosed) (old now new : CursorState) (l : SourceToken) → Walks k old now → TakesSource now l new
+    → (IsLiteralText (source_view l.form) (chars l.text.now) → ⊥) → Walks k old new
+walks_on k old now new l w takes other = record {
+  passes = passed_join old now new (inr w.passes) (passes_one now new l takes other);
+  unclosed = unclosed_rest k now.rest new.rest w.passes.following.is_text takes.following w.unclosed;
+}
+
+-- no literal ends behind the text
+pub within : (old : CursorState) (l : SourceToken) (new : CursorState) → TakesLiteralAfter old l new
+    → l.hi ≤ length old.text
+within old l new t =
+    let takes = t.takes in
+    let text = source_text takes.cut.token in
+    let rest = t.between.rest in
+    let ends : takes.cut.at + byte_len text ≡ l.hi = takes.is_cut.hi_is in
+    let begins_at : takes.cut.at ≡ l.lo = takes.is_cut.lo_is in
+    let long : byte_len (chars rest) ≡ byte_len text + byte_len takes.after = ap byte_len takes.begins
+    ∙ byte_len-append text takes.after in
+    let bytes : byte_len (chars rest) ≡ length rest = char_len rest t.passes.following.is_text in
+    let place : l.lo + length rest ≡ length t.between.text = takes.place in
+    let same : length t.between.text ≡ length old.text = ap length t.passes.same in
+    omega (arith, ends, begins_at, long, bytes, place, same)
+
+-- ---- errors
+
+pub error_of : (rest : List ℕ) (kind : LexKind) → IsUtf8 rest → (empty : Bool) → empty ≡ (length rest == 0)
+    → empty ≡ false → BeginsNoSource (chars rest) → kind ≡ source_error_kind (chars rest) → SourceErrorAt kind (chars rest)
+error_of rest kind u empty is some none kind_is =
+    (stops_source rest rest (record { kind = kind; at = length rest - length rest }) kind
+    (record { is_text = u; following = tail_self rest u }) empty is some none kind_is refl).error
+
+pub lines_of : (t lines : List ℕ) → Some lines ≡ lines_after t
+    → from_line_end (begins_character t) false (drop 1 t) ≡ Some lines
+lines_of t lines h = go (begins (codes "/*") t) h
+  where
+    go : (b : Bool) → Some lines ≡ (if b then None else from_line_end (begins_character t) false (drop 1 t))
+        → from_line_end (begins_character t) false (drop 1 t) ≡ Some lines
+    go true h = absurd (none-some lines (sym h))
+    go false h = sym h
+
+pub goes_on_lines : (text lines : List ℕ) (part : CursorState) → Some lines ≡ lines_after (chars text)
+    → TakesUp text lines part → GoesOn text part
+goes_on_lines text lines part h takes = subst (λ (o : Option (List ℕ)). MatchOption o
+    (part ≡ record { text = []; rest = [] }) (λ z. TakesUp text z part)) h takes
+
+pub goes_on_none : (text : List ℕ) (part : CursorState) → None ≡ lines_after (chars text)
+    → part ≡ record { text = []; rest = [] } → GoesOn text part
+goes_on_none text part h none = subst (λ (o : Option (List ℕ)). MatchOption o
+    (part ≡ record { text = []; rest = [] }) (λ z. TakesUp text z part)) h none
+
+pub no_bytes : (t : List ℕ) → length t ≡ 0 → t ≡ []
+no_bytes [] h = refl
+no_bytes (c ∷ t) h = absurd (omega (arith, h))
