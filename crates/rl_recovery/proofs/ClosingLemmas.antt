@@ -97,8 +97,8 @@ pub unclosed_nil : (k : Unclosed) → AreUnclosed k []
 unclosed_nil k = record { quoted = λ on front body e. absurd (no_quote front body e); raw = nothing k.raw }
   where
     no_quote : (front body : List ℕ) → [] ≡ front ++ 34 ∷ body → ⊥
-    no_quote [] body e = cc
-    no_quote (c ∷ front) body e = cc
+    no_quote [] body e = absurd (cc)
+    no_quote (c ∷ front) body e = absurd (cc)
 
     nothing : (o : Option ℕ) → IfSome o (λ n. NoneCloses (Raw n) [])
     nothing None = tt

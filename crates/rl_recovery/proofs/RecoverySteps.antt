@@ -41,9 +41,9 @@ stays s u = record {
 }
 
 -- tokens that are no literals were passed, and what is known not to be closed isn't
-pub record Walks (unclosed : Unclosed) (old now : CursorState) : Type 0 where
+pub record Walks (known : Unclosed) (old now : CursorState) : Type 0 where
   pub passes : PassesTo old now
-  pub unclosed : AreUnclosed unclosed (chars now.rest)
+  pub unclosed : AreUnclosed known (chars now.rest)
 
 pub walks_start : (k : Unclosed) (s : CursorState) → IsCursorState s.text s.rest → AreUnclosed k (chars s.rest)
     → Walks k s s

@@ -25,18 +25,18 @@ NoneCloses Quoted t = (front body : List ℕ) → t ≡ front ++ code "\"" ∷ b
 NoneCloses (Raw n) t = after_raw n t ≡ None
 
 -- This is true of the openers that are known.
-pub record AreUnclosed (unclosed : Unclosed) (t : List ℕ) : Type 0 where
-  pub quoted : IsTrue unclosed.quoted → NoneCloses Quoted t
-  pub raw : IfSome unclosed.raw (λ n. NoneCloses (Raw n) t)
+pub record AreUnclosed (known : Unclosed) (t : List ℕ) : Type 0 where
+  pub quoted : IsTrue known.quoted → NoneCloses Quoted t
+  pub raw : IfSome known.raw (λ n. NoneCloses (Raw n) t)
 
 -- The opener is one of those that are known.
 abbrev pub IsIncluded : Unclosed → Opener → Type 0
-IsIncluded unclosed Quoted = IsTrue unclosed.quoted
-IsIncluded unclosed (Raw n) = IsSomeAnd unclosed.raw (λ least. least ≤ n)
+IsIncluded known Quoted = IsTrue known.quoted
+IsIncluded known (Raw n) = IsSomeAnd known.raw (λ least. least ≤ n)
 
 -- A source of which a part was taken up, with what is left of that part, in which nothing closes what is known.
-pub record IsRecoveryState (whole part rest : List ℕ) (unclosed : Unclosed) : Type 0 where
+pub record IsRecoveryState (whole part rest : List ℕ) (known : Unclosed) : Type 0 where
   pub is_text : IsUtf8 whole
   pub in_whole : IsTail whole part
   pub cursor : IsCursorState part rest
-  pub unclosed : AreUnclosed unclosed (chars rest)
+  pub unclosed : AreUnclosed known (chars rest)
