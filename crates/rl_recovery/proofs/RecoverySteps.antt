@@ -1,5 +1,5 @@
 -- Single steps of a source that is read on after its errors.
-use Rattle.rl_text.proofs.Common.{◌≡◌, ◌≢◌, ℕ, ◌+◌, ◌-◌, ◌≤◌, ◌<◌, Bool, true, false, ◌==◌, List, [], ◌∷◌, ◌++◌, length, take, drop, Option, Some, None, refl, sym, ◌∙◌, ap, subst, arith, inl, inr, append-nil, codes, chars, IsUtf8, IsUtf8-take, if◌then◌else◌, none-some}
+use Rattle.rl_text.proofs.Common.{◌≡◌, ◌≢◌, ℕ, ◌+◌, ◌-◌, ◌≤◌, ◌<◌, Bool, true, false, ◌==◌, List, [], ◌∷◌, ◌++◌, length, take, drop, Option, Some, None, refl, sym, ◌∙◌, ap, subst, arith, inl, inr, append-nil, codes, chars, IsUtf8, IsUtf8-nil, IsUtf8-take, chars-nil, if◌then◌else◌, none-some}
 use Rattle.std.specs.Prelude.{MatchOption}
 use Rattle.rl_text.specs.Texts.{IsTail, begins, byte_len}
 use Rattle.rl_text.proofs.TailLemmas.{tail_self, tail_step, cut_boundary, cut_chars}
@@ -9,14 +9,15 @@ use Rattle.rl_lexer.specs.Sources.{source_text, source_view, BeginsNoSource, IsC
 use Rattle.rl_lexer.specs.Mirrors.SourceAt.{source_error_kind}
 use Rattle.rl_lexer.specs.declared.lex_error.LexKind.{LexKind}
 use Rattle.rl_lexer.specs.declared.sources.SourceToken.{SourceToken}
+use Rattle.rl_lexer.proofs.CommentSteps.{nothing_tail}
 use Rattle.rl_lexer.proofs.CutLemmas.{byte_len-append}
 use Rattle.rl_lexer.proofs.ErrorKinds.{char_len}
 use Rattle.rl_lexer.proofs.LiteralSteps.{passed_join, passes_one}
 use Rattle.rl_lexer.proofs.SourceCuts.{stops_source}
 use Rattle.rl_recovery.specs.Recoveries.{begins_character, from_line_end, lines_after, TakesUp, GoesOn}
-use Rattle.rl_recovery.specs.Mirrors.Closing.{AreUnclosed}
+use Rattle.rl_recovery.specs.Mirrors.Closing.{AreUnclosed, IsRecoveryState}
 use Rattle.rl_recovery.specs.declared.unclosed.Unclosed.{Unclosed}
-use Rattle.rl_recovery.proofs.ClosingLemmas.{unclosed_end}
+use Rattle.rl_recovery.proofs.ClosingLemmas.{unclosed_end, unclosed_nil}
 use Rattle.rl_recovery.proofs.LineEnds.{EndsWith}
 
 -- the end of a text, by characters
@@ -102,3 +103,60 @@ goes_on_none text part h none = subst (λ (o : Option (List ℕ)). MatchOption o
 pub no_bytes : (t : List ℕ) → length t ≡ 0 → t ≡ []
 no_bytes [] h = refl
 no_bytes (c ∷ t) h = absurd (omega (arith, h))
+
+-- ---- the state of a source
+
+pub begins_state : (text rest : List ℕ) (known : Unclosed) → IsCursorState text rest
+    → ((t : List ℕ) → AreUnclosed known t) → IsRecoveryState text text rest known
+begins_state text rest known cursor all = record {
+  is_text = cursor.is_text;
+  in_whole = tail_self text cursor.is_text;
+  cursor = cursor;
+  unclosed = all (chars rest);
+}
+
+-- further on in the same part
+pub further : (whole part left rest : List ℕ) (known : Unclosed) → IsRecoveryState whole part left known
+    → IsTail left rest → IsRecoveryState whole part rest known
+further whole part left rest known is tail = record {
+  is_text = is.is_text;
+  in_whole = is.in_whole;
+  cursor = record { is_text = is.cursor.is_text; following = tail_step part left rest is.cursor.following tail };
+  unclosed = unclosed_rest known left rest is.cursor.following.is_text tail is.unclosed;
+}
+
+pub literal_tail : (old : CursorState) (l : SourceToken) (new : CursorState) → TakesLiteralAfter old l new
+    → IsTail old.rest new.rest
+literal_tail old l new t = tail_step old.rest t.between.rest new.rest t.passes.following t.takes.following
+
+-- lines after an error
+pub taken_up : (whole part left rest lines following : List ℕ) (known now : Unclosed)
+    → IsRecoveryState whole part left known → IsTail left rest → IsTail rest lines → IsCursorState lines following
+    → AreUnclosed now (chars lines) → IsRecoveryState whole lines following now
+taken_up whole part left rest lines following known now is tail more cursor unclosed = record {
+  is_text = is.is_text;
+  in_whole = tail_step whole part lines is.in_whole
+      (tail_step part left lines is.cursor.following (tail_step left rest lines tail more));
+  cursor = cursor;
+  unclosed = unclosed_rest now lines following cursor.is_text cursor.following unclosed;
+}
+
+-- nothing after an error
+pub nothing_left : (whole part left : List ℕ) (known : Unclosed) → IsRecoveryState whole part left known
+    → IsRecoveryState whole [] [] known
+nothing_left whole part left known is = record {
+  is_text = is.is_text;
+  in_whole = nothing_tail whole;
+  cursor = record { is_text = IsUtf8-nil; following = nothing_tail [] };
+  unclosed = subst (AreUnclosed known) (sym chars-nil) (unclosed_nil known);
+}
+
+-- what stands in a part stands in the whole text
+pub in_whole_len : (whole part left rest : List ℕ) (known : Unclosed) → IsRecoveryState whole part left known
+    → IsTail left rest → length rest ≤ length whole
+in_whole_len whole part left rest known is tail = omega (
+  arith,
+  tail_length whole part is.in_whole,
+  tail_length part left is.cursor.following,
+  tail_length left rest tail,
+)

@@ -1,10 +1,10 @@
 //! Which error stands at the front of a text, and where reading goes on after it.
 #![tactic(auto, using(rl_text::proofs::TailLemmas::tail_step))]
 
-ghost use Rattle.std.specs.Prelude.{◌≡◌, ◌<◌, codes, length, nat_lt, option_map, IfSome, IsTrue};
+ghost use Rattle.std.specs.Prelude.{◌≡◌, ◌<◌, ◌==◌, ◌&&◌, not, codes, length, nat_lt, option_map, IfSome, IsTrue};
 ghost use Rattle.std.specs.List.{list_all};
 ghost use Rattle.std.specs.Str.{chars};
-ghost use Rattle.rl_text.specs.Texts.{begins, IsTail};
+ghost use Rattle.rl_text.specs.Texts.{code, begins, IsTail};
 ghost use Rattle.rl_lexer.specs.Mirrors.SourceAt.{source_error_kind};
 ghost use Rattle.rl_recovery.specs.Recoveries.{begins_character, from_line_end, lines_after};
 
@@ -46,13 +46,27 @@ fn from_line_end(joins: bool, text: &str) -> Option<&str>
     let mut rest = text;
     let mut is_escaped = false;
     while let Some((c, following)) = split_char(rest) {
-        if c == '\n' && !is_escaped {
+        if ends_line(c, is_escaped) {
             return Some(rest);
         }
-        is_escaped = joins && c == '\\' && !is_escaped;
+        is_escaped = escapes_next(joins, c, is_escaped);
         rest = following;
     }
     None
+}
+
+/// Whether the character ends a line: an LF that isn't escaped.
+fn ends_line(c: char, is_escaped: bool) -> bool
+    ensures { result ≡ (c == code "\n" && not is_escaped) }
+{
+    c == '\n' && !is_escaped
+}
+
+/// Whether the character takes the next one along: where lines are joined, a backslash that isn't escaped.
+fn escapes_next(joins: bool, c: char, is_escaped: bool) -> bool
+    ensures { result ≡ (joins && c == code "\\" && not is_escaped) }
+{
+    joins && c == '\\' && !is_escaped
 }
 
 /// Whether the opener of a character or a byte begins the text.
