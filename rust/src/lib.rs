@@ -75,8 +75,8 @@ pub mod rendered {
 }
 
 use proved::{
-    rl_file_reasons, rl_forms, rl_lexer, rl_reading, rl_reasons, rl_recovery, rl_settings, rl_strict,
-    rl_text,
+    rl_file_reasons, rl_forms, rl_lexer, rl_reading, rl_reasons, rl_recovery, rl_settings,
+    rl_strict, rl_text,
 };
 
 pub use characters::{LitByte, LitChar};

@@ -168,18 +168,19 @@ impl fmt::Debug for Recover<'_> {
 
 #[cfg(test)]
 mod tests {
-    use super::source;
+    use super::{source, Item};
     use crate::rl_lexer::{LexKind, Sources};
     use std::{format, string::String, vec::Vec};
 
     /// The pieces of the texts: what opens, closes and joins, and what ends a search for a quote.
     const PIECES: [&str; 16] = [
-        "\"", "'", "\\", "r", "r#\"", "\"#", "#", "b'", "/*", "*/", "/", "//", "\n", "\n", "a", " 1 ",
+        "\"", "'", "\\", "r", "r#\"", "\"#", "#", "b'", "/*", "*/", "/", "//", "\n", "\n", "a",
+        " 1 ",
     ];
 
     /// The places of what `recover` returns.
     fn recovered(text: &str) -> Vec<String> {
-        let shown = |item| match item {
+        let shown = |item: Item<'_>| match item {
             Ok((range, _)) => format!("{range:?}"),
             Err(error) => format!("{} {:?}", error.at(), error.kind()),
         };
@@ -219,7 +220,8 @@ mod tests {
             // Of a character's quote the line goes on there.
             if !text.contains("\\\n") {
                 let expected = by_lines(&text);
-                errors += usize::from(expected.iter().filter(|it| it.contains("Unclosed")).count() > 1);
+                errors +=
+                    usize::from(expected.iter().filter(|it| it.contains("Unclosed")).count() > 1);
                 assert_eq!(recovered(&text), expected, "{text:?}");
                 compared += 1;
             }

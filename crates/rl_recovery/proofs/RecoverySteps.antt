@@ -7,6 +7,7 @@ use Rattle.rl_text.proofs.Rests.{tail_length}
 use Rattle.rl_lexer.specs.Cursors.{CursorState, IsCursorState}
 use Rattle.rl_lexer.specs.Sources.{source_text, source_view, BeginsNoSource, IsCutUpTo, IsLiteralText, PassesTo, TakesSource, TakesLiteralAfter, SourceErrorAt}
 use Rattle.rl_lexer.specs.Mirrors.SourceAt.{source_error_kind}
+use Rattle.rl_lexer.specs.declared.lex_error.LexError.{LexError}
 use Rattle.rl_lexer.specs.declared.lex_error.LexKind.{LexKind}
 use Rattle.rl_lexer.specs.declared.sources.SourceToken.{SourceToken}
 use Rattle.rl_lexer.proofs.CommentSteps.{nothing_tail}
@@ -14,7 +15,7 @@ use Rattle.rl_lexer.proofs.CutLemmas.{byte_len-append}
 use Rattle.rl_lexer.proofs.ErrorKinds.{char_len}
 use Rattle.rl_lexer.proofs.LiteralSteps.{passed_join, passes_one}
 use Rattle.rl_lexer.proofs.SourceCuts.{stops_source}
-use Rattle.rl_recovery.specs.Recoveries.{begins_character, from_line_end, lines_after, TakesUp, GoesOn}
+use Rattle.rl_recovery.specs.Recoveries.{RecoveryState, begins_character, from_line_end, lines_after, TakesUp, GoesOnAfter, StopsAt}
 use Rattle.rl_recovery.specs.Mirrors.Closing.{AreUnclosed, IsRecoveryState}
 use Rattle.rl_recovery.specs.declared.unclosed.Unclosed.{Unclosed}
 use Rattle.rl_recovery.proofs.ClosingLemmas.{unclosed_end, unclosed_nil}
@@ -91,12 +92,12 @@ lines_of t lines h = go (begins (codes "/*") t) h
     go false h = sym h
 
 pub goes_on_lines : (text lines : List ℕ) (part : CursorState) → Some lines ≡ lines_after (chars text)
-    → TakesUp text lines part → GoesOn text part
+    → TakesUp text lines part → GoesOnAfter text part
 goes_on_lines text lines part h takes = subst (λ (o : Option (List ℕ)). MatchOption o
     (part ≡ record { text = []; rest = [] }) (λ z. TakesUp text z part)) h takes
 
 pub goes_on_none : (text : List ℕ) (part : CursorState) → None ≡ lines_after (chars text)
-    → part ≡ record { text = []; rest = [] } → GoesOn text part
+    → part ≡ record { text = []; rest = [] } → GoesOnAfter text part
 goes_on_none text part h none = subst (λ (o : Option (List ℕ)). MatchOption o
     (part ≡ record { text = []; rest = [] }) (λ z. TakesUp text z part)) h none
 
@@ -160,3 +161,9 @@ in_whole_len whole part left rest known is tail = omega (
   tail_length part left is.cursor.following,
   tail_length left rest tail,
 )
+
+pub stops_at : (rest : List ℕ) (old new : RecoveryState) (e : LexError) (kind : LexKind) (at : ℕ)
+    → e ≡ record { kind = kind; at = at } → SourceErrorAt kind (chars rest) → at + length rest ≡ length old.whole
+    → GoesOnAfter rest new.part → new.whole ≡ old.whole → StopsAt rest old e new
+stops_at rest old new e kind at e_is error place goes_on same = subst (λ (x : LexError). StopsAt rest old x new)
+    (sym e_is) (record { error = error; place = place; goes_on = goes_on; same = same })

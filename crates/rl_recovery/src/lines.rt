@@ -1,7 +1,7 @@
 //! Which error stands at the front of a text, and where reading goes on after it.
 #![tactic(auto, using(rl_text::proofs::TailLemmas::tail_step))]
 
-ghost use Rattle.std.specs.Prelude.{◌≡◌, ◌<◌, ◌==◌, ◌&&◌, not, codes, length, nat_lt, option_map, IfSome, IsTrue};
+ghost use Rattle.std.specs.Prelude.{◌≡◌, ◌<◌, ◌==◌, ◌&&◌, false, not, codes, length, nat_lt, option_map, IfSome, IsTrue};
 ghost use Rattle.std.specs.List.{list_all};
 ghost use Rattle.std.specs.Str.{chars};
 ghost use Rattle.rl_text.specs.Texts.{code, begins, IsTail};

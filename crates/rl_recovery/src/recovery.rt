@@ -86,7 +86,7 @@ impl<'t> Model for Recovery<'t> {
 
 impl<'t> Recovery<'t> {
     ghost use Rattle.rl_lexer.specs.Sources.{IsCutUpTo};
-    ghost use Rattle.rl_recovery.specs.Recoveries.{TakesLiteral, GoesOn, StopsAt, ReportsError, EndsAfter};
+    ghost use Rattle.rl_recovery.specs.Recoveries.{TakesLiteral, GoesOnAfter, StopsAt, ReportsUnclosed, EndsAfter};
 
     /// A source, from its front.
     pub fn new(text: &'t str) -> Recovery<'t>
@@ -141,7 +141,7 @@ impl<'t> Recovery<'t> {
     fn go_on(&mut self, rest: &'t str)
         requires following { IsTail self.old.part.rest rest.now }
         requires none { BeginsNoSource (chars rest.now) }
-        ensures goes_on { GoesOn rest.now self.new.part }
+        ensures goes_on { GoesOnAfter rest.now self.new.part }
         ensures shorter { rest.now ≢ [] → length self.new.part.rest < length rest.now }
         ensures same { self.new.whole ≡ self.old.whole }
     {
@@ -186,7 +186,7 @@ impl<'t> Recovery<'t> {
     pub fn next_literal(&mut self) -> Option<Result<SourceToken<'t>, LexError>>
         ensures found { IfSome result (λ r. IfOk r (λ l. TakesLiteral self.old l self.new)) }
         // The first error of the part that was taken up last, and what is left after it.
-        ensures error { IfSome result (λ r. IfErr r (λ e. ReportsError self.old e self.new)) }
+        ensures error { IfSome result (λ r. IfErr r (λ e. ReportsUnclosed self.old e self.new)) }
         ensures shorter { IfSome result
             (λ r. length self.new.part.rest < length self.old.part.rest) }
         ensures none { IfNone result (EndsAfter self.old self.new) }
@@ -208,12 +208,13 @@ impl<'t> Recovery<'t> {
 
 /// The token with places that are so much further on.
 fn placed(before: usize, token: SourceToken<'_>) -> SourceToken<'_>
-    requires { before + token.hi < 2 ^ 64 }
+    requires lo { before + token.lo < 2 ^ 64 }
+    requires hi { before + token.hi < 2 ^ 64 }
     ensures { result ≡ record {
-      form = token.form;
-      text = token.text;
-      lo = before + token.lo;
-      hi = before + token.hi;
+      form = token.entry.form;
+      text = token.entry.text;
+      lo = before + token.entry.lo;
+      hi = before + token.entry.hi;
     } }
 {
     SourceToken {

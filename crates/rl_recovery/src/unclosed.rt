@@ -1,6 +1,6 @@
 //! Which literals aren't closed in what is left of a text, as far as that is known.
 
-ghost use Rattle.std.specs.Prelude.{◌≡◌, ◌≤◌, List, ℕ, Bool, Some, drop, IsTrue};
+ghost use Rattle.std.specs.Prelude.{◌≡◌, ◌≤◌, List, ℕ, Bool, false, Some, drop, IsTrue};
 ghost use Rattle.std.specs.Str.{chars};
 ghost use Rattle.rl_lexer.specs.Sources.{BeginsNoSource};
 ghost use Rattle.rl_recovery.specs.Recoveries.{from_line_end};

@@ -29,13 +29,23 @@ fn from_line_end(joins: bool, text: &str) -> Option<&str> {
     let mut rest = text;
     let mut is_escaped = false;
     while let Some((c, following)) = split_char(rest) {
-        if c == '\n' && !is_escaped {
+        if ends_line(c, is_escaped) {
             return Some(rest);
         }
-        is_escaped = joins && c == '\\' && !is_escaped;
+        is_escaped = escapes_next(joins, c, is_escaped);
         rest = following;
     }
     None
+}
+
+/// Whether the character ends a line: an LF that isn't escaped.
+fn ends_line(c: char, is_escaped: bool) -> bool {
+    c == '\n' && !is_escaped
+}
+
+/// Whether the character takes the next one along: where lines are joined, a backslash that isn't escaped.
+fn escapes_next(joins: bool, c: char, is_escaped: bool) -> bool {
+    joins && c == '\\' && !is_escaped
 }
 
 /// Whether the opener of a character or a byte begins the text.
