@@ -1,12 +1,12 @@
 -- What nothing closes in a text, nothing closes in its end.
 use Rattle.rl_text.proofs.Common.{◌≡◌, ◌≤◌, ℕ, zero, suc, Bool, true, false, ◌&&◌, ◌==◌, cond, List, [], ◌∷◌, ◌++◌, drop, replicate, Option, Some, None, refl, sym, ◌∙◌, ap, subst, arith, append_assoc, and_parts, and_from, none-some, IfSome}
-use Rattle.std.specs.Prelude.{IsTrue, IsSomeAnd}
-use Rattle.rl_lexer.specs.Lexemes.{begins_hashes, LiteralPrefix, NoPrefix, BytePrefix, CPrefix, prefix_text}
+use Rattle.std.specs.Prelude.{IsSomeAnd}
+use Rattle.rl_lexer.specs.Lexemes.{begins_hashes, LiteralPrefix, prefix_text}
 use Rattle.rl_lexer.specs.Mirrors.LexemeAt.{after_quote, after_raw}
 use Rattle.rl_lexer.specs.Sources.{BeginsNoSource}
 use Rattle.rl_lexer.proofs.LexemeRows.{quote_now}
 use Rattle.rl_recovery.specs.Recoveries.{from_line_end}
-use Rattle.rl_recovery.specs.Mirrors.Closing.{opened, BeginsOpener, NoneCloses, AreUnclosed, IsIncluded}
+use Rattle.rl_recovery.specs.Mirrors.Closing.{BeginsOpener, NoneCloses, AreUnclosed, IsIncluded}
 use Rattle.rl_recovery.specs.declared.openers.Opener.{Opener}
 use Rattle.rl_recovery.specs.declared.openers.Opener.TheVariants.{Quoted, Raw}
 use Rattle.rl_recovery.specs.declared.unclosed.Unclosed.{Unclosed}

@@ -1,5 +1,5 @@
 -- Where a line ends: what stands from there on is the end of the text, and of what follows an opener.
-use Rattle.rl_text.proofs.Common.{◌≡◌, ℕ, zero, suc, Bool, true, false, not, ◌&&◌, ◌==◌, List, [], ◌∷◌, ◌++◌, drop, replicate, Option, Some, None, refl, sym, ◌∙◌, ap, none-some, if◌then◌else◌}
+use Rattle.rl_text.proofs.Common.{◌≡◌, ℕ, zero, suc, Bool, true, false, not, ◌&&◌, ◌==◌, List, [], ◌∷◌, ◌++◌, drop, replicate, Option, Some, refl, sym, ◌∙◌, ap, none-some, if◌then◌else◌}
 use Rattle.rl_lexer.proofs.Comments.{same_Some}
 use Rattle.rl_lexer.specs.Lexemes.{LiteralPrefix, NoPrefix, BytePrefix, CPrefix, prefix_text}
 use Rattle.rl_recovery.specs.Recoveries.{from_line_end}
@@ -61,21 +61,3 @@ raw_lines joins NoPrefix n body r h = hashed_lines joins n body r h
 raw_lines joins BytePrefix n body r h = hashed_lines joins n body r
     (sym (plain joins 114 (hashed n body) refl refl) ∙ h)
 raw_lines joins CPrefix n body r h = hashed_lines joins n body r (sym (plain joins 114 (hashed n body) refl refl) ∙ h)
-
--- ---- a character that ends no line
-
-pub line_step : (joins escaped next ends : Bool) (s t : List ℕ) (c : ℕ) → s ≡ c ∷ t → ends ≡ (c == 10 && not escaped)
-    → ends ≡ false → next ≡ (joins && c == 92 && not escaped) → from_line_end joins next t
-    ≡ from_line_end joins escaped s
-line_step joins escaped next ends s t c e ends_is goes next_is =
-    ap (λ b. from_line_end joins b t) next_is
-    ∙ sym (ap (from_line_end joins escaped) e
-    ∙ ap (λ b. if b then Some (c ∷ t) else from_line_end joins (joins && c == 92 && not escaped) t)
-    (sym ends_is ∙ goes))
-
-pub line_here : (joins escaped ends : Bool) (s t : List ℕ) (c : ℕ) → s ≡ c ∷ t → ends ≡ (c == 10 && not escaped)
-    → ends ≡ true → Some s ≡ from_line_end joins escaped s
-line_here joins escaped ends s t c e ends_is stops =
-    ap Some e ∙ sym (ap (from_line_end joins escaped) e
-    ∙ ap (λ b. if b then Some (c ∷ t) else from_line_end joins (joins && c == 92 && not escaped) t)
-    (sym ends_is ∙ stops))

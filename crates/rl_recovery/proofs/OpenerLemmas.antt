@@ -1,14 +1,13 @@
 -- What begins with the opener of a quoted or a raw literal: a token, where the literal is closed, and else none.
-use Rattle.rl_text.proofs.Common.{◌≡◌, ℕ, zero, suc, Bool, true, false, ◌&&◌, ◌||◌, ◌==◌, cond, List, [], ◌∷◌, ◌++◌, drop, length, replicate, Option, Some, None, refl, sym, ◌∙◌, ap, subst, lit<, inl, inr, or_left, option_map, encode_utf8_all, encodes-chars, chars, IsUtf8, codes}
+use Rattle.rl_text.proofs.Common.{◌≡◌, ℕ, zero, suc, true, false, ◌&&◌, ◌||◌, cond, List, ◌∷◌, ◌++◌, drop, length, replicate, Option, Some, None, refl, sym, ◌∙◌, ap, lit<, inl, inr, option_map, encode_utf8_all, encodes-chars, chars, IsUtf8, codes}
 use Rattle.rl_text.specs.Texts.{first_passes, is_start, is_continue, begins_char, begins}
 use Rattle.rl_text.specs.Classes.{is_hash, after_run}
 use Rattle.rl_text.proofs.LowBytes.{low_front}
 use Rattle.rl_lexer.specs.Lexemes.{LiteralPrefix, NoPrefix, BytePrefix, CPrefix, prefix_text, BeginsRaw, LexemeForm, LiteralForm}
-use Rattle.rl_lexer.specs.Cuts.{BeginsQuote}
-use Rattle.rl_lexer.specs.Mirrors.LexemeAt.{after_quote, after_raw, after_suffix, hashes, LetterBHead, LetterCHead, LetterRHead, QuoteHead, quoted_at, raw_at, literal_at, word_at, lexeme_at, begins_hashed_quote, begins_quote}
+use Rattle.rl_lexer.specs.Mirrors.LexemeAt.{after_quote, after_raw, after_suffix, hashes, LetterBHead, LetterCHead, LetterRHead, QuoteHead, raw_at, literal_at, word_at, lexeme_at, begins_hashed_quote, begins_quote}
 use Rattle.rl_lexer.specs.Mirrors.SourceAt.{of_kind, other_at, opens, after_bad_quote, stray_at, or_stray}
-use Rattle.rl_lexer.specs.Sources.{BeginsNoSource, SourceKind, PlainKind, RawIdentifierKind, StrayKind}
-use Rattle.rl_lexer.proofs.HashLemmas.{hashes_before, hashes_count, hashes_first, hashes_past}
+use Rattle.rl_lexer.specs.Sources.{BeginsNoSource, PlainKind, RawIdentifierKind, StrayKind}
+use Rattle.rl_lexer.proofs.HashLemmas.{hashes_before, hashes_count, hashes_past}
 use Rattle.rl_lexer.proofs.LexemeAnswers.{form_before, no_lexeme}
 use Rattle.rl_lexer.proofs.LexemeFronts.{at_class, class34, class98, class99, class114, start_ascii}
 use Rattle.rl_lexer.proofs.LexemeOpeners.{quote_here, raw_opens_here}

@@ -1,21 +1,18 @@
 -- Single steps of a source that is read on after its errors.
-use Rattle.rl_text.proofs.Common.{◌≡◌, ◌≢◌, ℕ, ◌+◌, ◌-◌, ◌≤◌, ◌<◌, Bool, true, false, ◌==◌, List, [], ◌∷◌, ◌++◌, length, take, drop, Option, Some, None, refl, sym, ◌∙◌, ap, subst, arith, inl, inr, append-nil, codes, chars, IsUtf8, IsUtf8-nil, IsUtf8-take, chars-nil, if◌then◌else◌, none-some}
-use Rattle.std.specs.Prelude.{MatchOption}
-use Rattle.rl_text.specs.Texts.{IsTail, begins, byte_len}
+use Rattle.rl_text.proofs.Common.{◌≡◌, ℕ, ◌+◌, ◌-◌, ◌≤◌, Bool, true, false, ◌==◌, List, [], length, take, drop, Option, Some, None, refl, sym, subst, arith, inr, append-nil, codes, chars, IsUtf8, IsUtf8-nil, IsUtf8-take, chars-nil, if◌then◌else◌, none-some}
+use Rattle.rl_text.specs.Texts.{IsTail, begins}
 use Rattle.rl_text.proofs.TailLemmas.{tail_self, tail_step, cut_boundary, cut_chars}
 use Rattle.rl_text.proofs.Rests.{tail_length}
 use Rattle.rl_lexer.specs.Cursors.{CursorState, IsCursorState}
-use Rattle.rl_lexer.specs.Sources.{source_text, source_view, BeginsNoSource, IsCutUpTo, IsLiteralText, PassesTo, TakesSource, TakesLiteralAfter, SourceErrorAt}
+use Rattle.rl_lexer.specs.Sources.{source_view, BeginsNoSource, IsCutUpTo, IsLiteralText, PassesTo, TakesSource, TakesLiteralAfter, SourceErrorAt}
 use Rattle.rl_lexer.specs.Mirrors.SourceAt.{source_error_kind}
 use Rattle.rl_lexer.specs.declared.lex_error.LexError.{LexError}
 use Rattle.rl_lexer.specs.declared.lex_error.LexKind.{LexKind}
 use Rattle.rl_lexer.specs.declared.sources.SourceToken.{SourceToken}
 use Rattle.rl_lexer.proofs.CommentSteps.{nothing_tail}
-use Rattle.rl_lexer.proofs.CutLemmas.{byte_len-append}
-use Rattle.rl_lexer.proofs.ErrorKinds.{char_len}
 use Rattle.rl_lexer.proofs.LiteralSteps.{passed_join, passes_one}
 use Rattle.rl_lexer.proofs.SourceCuts.{stops_source}
-use Rattle.rl_recovery.specs.Recoveries.{RecoveryState, begins_character, from_line_end, lines_after, TakesUp, GoesOnAfter, StopsAt}
+use Rattle.rl_recovery.specs.Recoveries.{RecoveryState, begins_character, from_line_end, lines_after, TakesUpAfter, StopsAt}
 use Rattle.rl_recovery.specs.Mirrors.Closing.{AreUnclosed, IsRecoveryState}
 use Rattle.rl_recovery.specs.declared.unclosed.Unclosed.{Unclosed}
 use Rattle.rl_recovery.proofs.ClosingLemmas.{unclosed_end, unclosed_nil}
@@ -58,22 +55,6 @@ walks_on k old now new l w takes other = record {
   unclosed = unclosed_rest k now.rest new.rest w.passes.following.is_text takes.following w.unclosed;
 }
 
--- no literal ends behind the text
-pub within : (old : CursorState) (l : SourceToken) (new : CursorState) → TakesLiteralAfter old l new
-    → l.hi ≤ length old.text
-within old l new t =
-    let takes = t.takes in
-    let text = source_text takes.cut.token in
-    let rest = t.between.rest in
-    let ends : takes.cut.at + byte_len text ≡ l.hi = takes.is_cut.hi_is in
-    let begins_at : takes.cut.at ≡ l.lo = takes.is_cut.lo_is in
-    let long : byte_len (chars rest) ≡ byte_len text + byte_len takes.after = ap byte_len takes.begins
-    ∙ byte_len-append text takes.after in
-    let bytes : byte_len (chars rest) ≡ length rest = char_len rest t.passes.following.is_text in
-    let place : l.lo + length rest ≡ length t.between.text = takes.place in
-    let same : length t.between.text ≡ length old.text = ap length t.passes.same in
-    omega (arith, ends, begins_at, long, bytes, place, same)
-
 -- ---- errors
 
 pub error_of : (rest : List ℕ) (kind : LexKind) → IsUtf8 rest → (empty : Bool) → empty ≡ (length rest == 0)
@@ -90,20 +71,6 @@ lines_of t lines h = go (begins (codes "/*") t) h
         → from_line_end (begins_character t) false (drop 1 t) ≡ Some lines
     go true h = absurd (none-some lines (sym h))
     go false h = sym h
-
-pub goes_on_lines : (text lines : List ℕ) (part : CursorState) → Some lines ≡ lines_after (chars text)
-    → TakesUp text lines part → GoesOnAfter text part
-goes_on_lines text lines part h takes = subst (λ (o : Option (List ℕ)). MatchOption o
-    (part ≡ record { text = []; rest = [] }) (λ z. TakesUp text z part)) h takes
-
-pub goes_on_none : (text : List ℕ) (part : CursorState) → None ≡ lines_after (chars text)
-    → part ≡ record { text = []; rest = [] } → GoesOnAfter text part
-goes_on_none text part h none = subst (λ (o : Option (List ℕ)). MatchOption o
-    (part ≡ record { text = []; rest = [] }) (λ z. TakesUp text z part)) h none
-
-pub no_bytes : (t : List ℕ) → length t ≡ 0 → t ≡ []
-no_bytes [] h = refl
-no_bytes (c ∷ t) h = absurd (omega (arith, h))
 
 -- ---- the state of a source
 
@@ -164,6 +131,6 @@ in_whole_len whole part left rest known is tail = omega (
 
 pub stops_at : (rest : List ℕ) (old new : RecoveryState) (e : LexError) (kind : LexKind) (at : ℕ)
     → e ≡ record { kind = kind; at = at } → SourceErrorAt kind (chars rest) → at + length rest ≡ length old.whole
-    → GoesOnAfter rest new.part → new.whole ≡ old.whole → StopsAt rest old e new
+    → TakesUpAfter rest new.part → new.whole ≡ old.whole → StopsAt rest old e new
 stops_at rest old new e kind at e_is error place goes_on same = subst (λ (x : LexError). StopsAt rest old x new)
     (sym e_is) (record { error = error; place = place; goes_on = goes_on; same = same })

@@ -20,8 +20,8 @@ pub record RecoveryState : Type 0 where
 -- ---- literals
 
 -- the token of the part, with its places in the whole text
-abbrev pub placed_in : RecoveryState → SourceToken → SourceToken
-placed_in t l =
+abbrev pub placed_anew : RecoveryState → SourceToken → SourceToken
+placed_anew t l =
     let before = length t.whole - length t.part.text in
     record { form = l.form; text = l.text; lo = before + l.lo; hi = before + l.hi }
 
@@ -29,7 +29,7 @@ placed_in t l =
 pub record TakesLiteral (old : RecoveryState) (l : SourceToken) (new : RecoveryState) : Type 0 where
   pub token : SourceToken
   pub takes : TakesLiteralAfter old.part token new.part
-  pub literal_is : l ≡ placed_in old token
+  pub literal_is : l ≡ placed_anew old token
   pub same : new.whole ≡ old.whole
 
 -- ---- where reading goes on after an error
@@ -60,8 +60,8 @@ pub record TakesUp (text lines : List ℕ) (part : CursorState) : Type 0 where
   pub cursor : IsCursorState part.text part.rest
 
 -- Reading goes on after the error at the front of the text; where it leaves nothing, nothing is left.
-abbrev pub GoesOnAfter : List ℕ → CursorState → Type 0
-GoesOnAfter text part =
+abbrev pub TakesUpAfter : List ℕ → CursorState → Type 0
+TakesUpAfter text part =
     MatchOption (lines_after (chars text)) (part ≡ record { text = []; rest = [] })
     (λ lines. TakesUp text lines part)
 
@@ -72,7 +72,7 @@ pub record StopsAt (rest : List ℕ) (old : RecoveryState) (e : LexError) (new :
     : Type 0 where
   pub error : SourceErrorAt e.kind (chars rest)
   pub place : e.at + length rest ≡ length old.whole
-  pub goes_on : GoesOnAfter rest new.part
+  pub goes_on : TakesUpAfter rest new.part
   pub same : new.whole ≡ old.whole
 
 -- The error is the first of the part.

@@ -86,7 +86,7 @@ impl<'t> Model for Recovery<'t> {
 
 impl<'t> Recovery<'t> {
     ghost use Rattle.rl_lexer.specs.Sources.{IsCutUpTo};
-    ghost use Rattle.rl_recovery.specs.Recoveries.{TakesLiteral, GoesOnAfter, StopsAt, ReportsUnclosed, EndsAfter};
+    ghost use Rattle.rl_recovery.specs.Recoveries.{TakesLiteral, TakesUpAfter, StopsAt, ReportsUnclosed, EndsAfter};
 
     /// A source, from its front.
     pub fn new(text: &'t str) -> Recovery<'t>
@@ -141,7 +141,7 @@ impl<'t> Recovery<'t> {
     fn go_on(&mut self, rest: &'t str)
         requires following { IsTail self.old.part.rest rest.now }
         requires none { BeginsNoSource (chars rest.now) }
-        ensures goes_on { GoesOnAfter rest.now self.new.part }
+        ensures goes_on { TakesUpAfter rest.now self.new.part }
         ensures shorter { rest.now ≢ [] → length self.new.part.rest < length rest.now }
         ensures same { self.new.whole ≡ self.old.whole }
     {

@@ -1,7 +1,7 @@
 use Rattle.rl_text.proofs.Common.{both_ways, chars, subst, sym}
 use Rattle.rl_text.proofs.TailLemmas.{if_none}
 use Rattle.rl_lexer.specs.Cursors.{CursorState}
-use Rattle.rl_lexer.specs.Sources.{BeginsNoSource, PassesTo}
+use Rattle.rl_lexer.specs.Sources.{BeginsNoSource}
 use Rattle.rl_recovery.proofs.RecoverySteps.{walks_on, walks_start}
 use Rattle.rl_recovery.proofs.recovery.next_known.Goals as goal
 
