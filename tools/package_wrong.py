@@ -144,6 +144,12 @@ WRONG = [Wrong(*row) for row in [
      'a range leaves out the suffix'),
     ('source.rs', "tokens: Sources::resume(self.text, self.tokens.rest()),", "tokens: Sources::new(self.tokens.rest()),",
      'a copy of a source counts its places from where it was made'),
+    ('source.rs', "        if self.is_done {\n            tokens.next_literal();\n        }\n", "",
+     'an error that was returned is recovered once more'),
+    ('source.rs', "Recovery::resume(self.text, self.tokens.rest())", "Recovery::new(self.text)",
+     'what was taken before is recovered too'),
+    ('source.rs', "tokens: self.tokens.fork(),", "tokens: Recovery::new(self.text),",
+     'a copy of what is recovered begins at the front'),
     # line_index.rs
     ('line_index.rs', "(at < end).then_some(at)\n    }\n\n    /// The byte of a line and a column in bytes",
      "(at <= end).then_some(at)\n    }\n\n    /// The byte of a line and a column in bytes",
@@ -153,6 +159,8 @@ WRONG = [Wrong(*row) for row in [
     # error.rs
     ('error.rs', "token.map_or(text.len(), |token| token.hi)", "token.map_or(at, |token| token.hi)",
      'the error of what isn\'t closed has no bytes'),
+    ('error.rs', "range: error.at..text.len(),", "range: error.at..error.at + 1,",
+     'what isn\'t closed in a source has one byte'),
     ('error.rs', "list_error(rejection.kind, &text[rejection.at..])", "list_error(rejection.kind, text)",
      'whether a minus stands there is asked of the beginning of the text'),
     # settings.rs

@@ -37,12 +37,12 @@ impl ListError {
         }
     }
 
-    /// An error of the lexer.
+    /// What isn't closed in a source: it reaches to the text's end.
     #[cold]
-    pub(crate) fn of_lexer(text: &str, error: LexError) -> ListError {
+    pub(crate) fn of_source(text: &str, error: LexError) -> ListError {
         ListError {
             kind: lexer_error(error.kind),
-            range: range_at(text, error.at),
+            range: error.at..text.len(),
         }
     }
 

@@ -70,13 +70,14 @@ mod write;
 #[doc(hidden)]
 pub mod rendered {
     pub use crate::proved::{
-        rl_file_reasons, rl_forms, rl_lexer, rl_parts, rl_reading, rl_reasons, rl_settings, rl_strict,
-        rl_text,
+        rl_file_reasons, rl_forms, rl_lexer, rl_parts, rl_reading, rl_reasons, rl_recovery,
+        rl_settings, rl_strict, rl_text,
     };
 }
 
 use proved::{
-    rl_file_reasons, rl_forms, rl_lexer, rl_parts, rl_reading, rl_reasons, rl_settings, rl_strict, rl_text,
+    rl_file_reasons, rl_forms, rl_lexer, rl_parts, rl_reading, rl_reasons, rl_recovery,
+    rl_settings, rl_strict, rl_text,
 };
 
 pub use characters::{LitByte, LitChar};
@@ -92,7 +93,7 @@ pub use places::{Places, Segment, SegmentValue, Segments};
 pub use proc_macros::{next_literal, MacroError};
 pub use setting::{Setting, SettingError, SettingErrorKind, Settings};
 pub use settings::{settings, Entry, SettingsError};
-pub use source::{source, Source};
+pub use source::{source, Recover, Source};
 pub use strings::{LitByteStr, LitCStr, LitStr};
 pub use words::{LitBool, LitVerbatim};
 pub use write::{write_byte, write_byte_str, write_c_str, write_char, write_str};

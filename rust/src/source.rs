@@ -4,10 +4,25 @@ use crate::error::ListError;
 use crate::lit::Lit;
 use crate::rl_lexer::Sources;
 use crate::rl_reading::{source_step, SourceStep};
+use crate::rl_recovery::{recovery_step, Recovery};
 use alloc::borrow::Cow;
 use core::fmt;
 use core::iter::FusedIterator;
 use core::ops::Range;
+
+type Item<'t> = Result<(Range<usize>, Lit<'t>), ListError>;
+
+/// What a step over a source returns.
+fn item_of<'t>(text: &str, step: SourceStep<'t>) -> Option<Item<'t>> {
+    match step {
+        SourceStep::Literal(token, found) => {
+            let literal = Lit::of_token(Cow::Borrowed(token.text), found);
+            Some(Ok((token.lo..token.hi, literal)))
+        }
+        SourceStep::End => None,
+        SourceStep::Rejected(error) => Some(Err(ListError::of_source(text, error))),
+    }
+}
 
 /// The literals of a whole Rust source, each with its bytes; see [`source`].
 #[must_use = "an iterator does nothing until it is asked"]
@@ -24,7 +39,7 @@ pub struct Source<'t> {
 /// does; [`Lit::check`] says whether Rust takes one too.
 ///
 /// A quote that holds no or several characters is a literal of the source all the same, up to where it ends, as to rustc's lexer:
-/// `''`, `'ab'`, `b'hello'`, and `'1a`. It has no reading either. [`Source::following_lines`] says where to go on after an error.
+/// `''`, `'ab'`, `b'hello'`, and `'1a`. It has no reading either. [`Source::recover`] goes on after each error.
 ///
 /// Two texts are judged otherwise than by rustc. In `'\n\''` a quote follows two escapes: to rustc all of it is one bad
 /// literal, here `'\n\'` is one, and the last quote isn't closed. A CR in the white space after an escaped line end (`"a\`, LF,
@@ -50,55 +65,50 @@ pub fn source(text: &str) -> Source<'_> {
 }
 
 impl<'t> Source<'t> {
-    /// The lines after the one in which it stands: what stands after the first LF of what is left of the text. `None` where no LF
-    /// is left. So a source is taken up after an error: [`source`] cuts these lines anew.
+    /// The literals from where it stands on, and every error: reading goes on after each. An error that it has returned isn't
+    /// returned again.
+    ///
+    /// After a quote that isn't closed come the lines after its own. Of a character's or a byte's quote, a line goes on after
+    /// an escaped line end. A comment that isn't closed reaches to the text's end. An error's bytes do too.
+    ///
+    /// The time grows as the text does, whatever stands in it; but each number of hashes with which a raw string isn't closed,
+    /// smaller than those before, is searched for once more.
     ///
     /// ```
     /// use navyspindle::source;
     ///
     /// let text = "f(\"a);\nlet b = 'x';\ng('ab');\n";
-    /// let (mut shown, mut lines) = (Vec::new(), text);
-    /// loop {
-    ///     let front = text.len() - lines.len();
-    ///     let mut literals = source(lines);
-    ///     for item in &mut literals {
-    ///         shown.push(match item {
-    ///             Ok((range, literal)) => format!("{}: {}", front + range.start, literal.text()),
-    ///             Err(error) => format!("{}: {}", front + error.at(), error.kind()),
-    ///         });
-    ///     }
-    ///     match literals.following_lines() {
-    ///         Some(following) => lines = following,
-    ///         None => break,
-    ///     }
-    /// }
+    /// let shown: Vec<_> = source(text)
+    ///     .recover()
+    ///     .map(|item| match item {
+    ///         Ok((range, literal)) => format!("{}: {}", range.start, literal.text()),
+    ///         Err(error) => format!("{}: {}", error.at(), error.kind()),
+    ///     })
+    ///     .collect();
     /// assert_eq!(shown, ["2: quoted literal isn't closed", "15: 'x'", "22: 'ab'"]);
     /// ```
-    #[must_use]
-    pub fn following_lines(&self) -> Option<&'t str> {
-        self.tokens.following_lines()
+    pub fn recover(self) -> Recover<'t> {
+        let mut tokens = Recovery::resume(self.text, self.tokens.rest());
+        if self.is_done {
+            tokens.next_literal();
+        }
+        Recover {
+            text: self.text,
+            tokens,
+        }
     }
 }
 
 impl<'t> Iterator for Source<'t> {
-    type Item = Result<(Range<usize>, Lit<'t>), ListError>;
+    type Item = Item<'t>;
 
     fn next(&mut self) -> Option<Self::Item> {
         if self.is_done {
             return None;
         }
-        match source_step(&mut self.tokens) {
-            SourceStep::Literal(token, found) => {
-                let literal = Lit::of_token(Cow::Borrowed(token.text), found);
-                return Some(Ok((token.lo..token.hi, literal)));
-            }
-            SourceStep::End => self.is_done = true,
-            SourceStep::Rejected(error) => {
-                self.is_done = true;
-                return Some(Err(ListError::of_lexer(self.text, error)));
-            }
-        }
-        None
+        let step = source_step(&mut self.tokens);
+        self.is_done = !matches!(step, SourceStep::Literal(..));
+        item_of(self.text, step)
     }
 }
 
@@ -119,5 +129,103 @@ impl Clone for Source<'_> {
 impl fmt::Debug for Source<'_> {
     fn fmt(&self, f: &mut fmt::Formatter<'_>) -> fmt::Result {
         f.debug_tuple("Source").field(&self.tokens.rest()).finish()
+    }
+}
+
+/// The literals of a whole Rust source and its errors, each with its bytes; see [`Source::recover`].
+#[must_use = "an iterator does nothing until it is asked"]
+pub struct Recover<'t> {
+    text: &'t str,
+    tokens: Recovery<'t>,
+}
+
+impl<'t> Iterator for Recover<'t> {
+    type Item = Item<'t>;
+
+    fn next(&mut self) -> Option<Self::Item> {
+        item_of(self.text, recovery_step(&mut self.tokens))
+    }
+}
+
+impl FusedIterator for Recover<'_> {}
+
+/// What was taken stays taken in the clone alone.
+impl Clone for Recover<'_> {
+    fn clone(&self) -> Self {
+        Recover {
+            text: self.text,
+            tokens: self.tokens.fork(),
+        }
+    }
+}
+
+/// What is left of the source.
+impl fmt::Debug for Recover<'_> {
+    fn fmt(&self, f: &mut fmt::Formatter<'_>) -> fmt::Result {
+        f.debug_tuple("Recover").field(&self.tokens.rest()).finish()
+    }
+}
+
+#[cfg(test)]
+mod tests {
+    use super::{source, Item};
+    use crate::rl_lexer::{LexKind, Sources};
+    use std::{format, string::String, vec::Vec};
+
+    /// The pieces of the texts: what opens, closes and joins, and what ends a search for a quote.
+    const PIECES: [&str; 16] = [
+        "\"", "'", "\\", "r", "r#\"", "\"#", "#", "b'", "/*", "*/", "/", "//", "\n", "\n", "a",
+        " 1 ",
+    ];
+
+    /// The places of what `recover` returns.
+    fn recovered(text: &str) -> Vec<String> {
+        let shown = |item: Item<'_>| match item {
+            Ok((range, _)) => format!("{range:?}"),
+            Err(error) => format!("{} {:?}", error.at(), error.kind()),
+        };
+        source(text).recover().map(shown).collect()
+    }
+
+    /// The same of a loop that cuts the lines after each error as a source of their own, however often they are searched.
+    fn by_lines(text: &str) -> Vec<String> {
+        let (mut shown, mut lines) = (Vec::new(), text);
+        loop {
+            let front = text.len() - lines.len();
+            let mut tokens = Sources::new(lines);
+            while let Some(token) = tokens.next_literal() {
+                shown.push(format!("{:?}", front + token.lo..front + token.hi));
+            }
+            let Some(error) = tokens.error() else {
+                return shown;
+            };
+            shown.push(format!("{} {:?}", front + error.at, error.kind));
+            match tokens.following_lines() {
+                Some(following) if error.kind == LexKind::UnclosedQuote => lines = following,
+                _ => return shown,
+            }
+        }
+    }
+
+    #[test]
+    fn as_by_lines() {
+        let (mut state, mut compared, mut errors) = (7_u64, 0, 0);
+        while compared < 60_000 {
+            let mut text = String::new();
+            for _ in 0..compared % 24 {
+                state = state.wrapping_mul(0x5851_F42D_4C95_7F2D).wrapping_add(1);
+                text += PIECES[(state >> 60) as usize];
+            }
+            state = state.wrapping_add(1);
+            // Of a character's quote the line goes on there.
+            if !text.contains("\\\n") {
+                let expected = by_lines(&text);
+                errors +=
+                    usize::from(expected.iter().filter(|it| it.contains("Unclosed")).count() > 1);
+                assert_eq!(recovered(&text), expected, "{text:?}");
+                compared += 1;
+            }
+        }
+        assert!(errors > 6_000, "{errors}");
     }
 }

@@ -6,6 +6,7 @@ pub mod rl_lexer;
 pub mod rl_parts;
 pub mod rl_reading;
 pub mod rl_reasons;
+pub mod rl_recovery;
 pub mod rl_settings;
 pub mod rl_strict;
 pub mod rl_text;

@@ -134,15 +134,41 @@ pub fn check_source(text: &str) {
                 let name = format!("{:?}", cause.kind);
                 // A quote or a comment isn't closed.
                 check_error(&error, cause.at..text.len(), &name, text);
-                break;
+                return check_recovery(text);
             }
             (None, None) => {
                 assert!(proved.error().is_none(), "{text:?}");
-                break;
+                return;
             }
             (ours, token) => panic!("{text:?}: {ours:?}, {}", token.is_some()),
         }
-        assert_eq!(ours.following_lines(), proved.following_lines(), "{text:?}");
     }
-    assert_eq!(ours.following_lines(), proved.following_lines(), "{text:?}");
+}
+
+/// What is recovered is what a source of its own has, after each error the lines after it.
+fn check_recovery(text: &str) {
+    // Lines are joined there, or begin as a whole source alone may.
+    if ["\\\n", "\n\u{feff}", "\n#!"].iter().any(|it| text.contains(it)) {
+        return;
+    }
+    let mut ours = source(text).recover();
+    let mut lines = text;
+    loop {
+        let front = text.len() - lines.len();
+        let mut proved = rl_tokens::Sources::new(lines);
+        while let Some(token) = proved.next_literal() {
+            let (range, ours) = ours.next().unwrap().unwrap();
+            let span = front + token.lo..front + token.hi;
+            check_item(text, range, &ours, &proved_of(token.text), span);
+        }
+        let Some(cause) = proved.error() else { break };
+        let error = ours.next().unwrap().unwrap_err();
+        let name = format!("{:?}", cause.kind);
+        check_error(&error, front + cause.at..text.len(), &name, text);
+        match proved.following_lines() {
+            Some(following) if name == "UnclosedQuote" => lines = following,
+            _ => break,
+        }
+    }
+    assert!(ours.next().is_none(), "{text:?}");
 }

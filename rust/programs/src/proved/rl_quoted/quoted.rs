@@ -114,6 +114,11 @@ impl<K: QuotedKind, A: Allocator> Quoted<K, A> {
         self.segments().end_of(at)
     }
 
+    /// The bytes of the token's text that the bytes of the contents from `lo` up to `hi` come from.
+    fn range_of(&self, lo: usize, hi: usize) -> (usize, usize) {
+        range_of(K::KIND, self.token.text(), &self.body, lo, hi)
+    }
+
     /// Where in its file the bytes of the contents from `lo` up to `hi` come from: from where what gives the first begins
     /// ([`place_of`](Quoted::place_of)) to where what gives the last ends ([`end_of`](Quoted::end_of)). Of no bytes, no
     /// bytes where the next begins. Where the literal's span isn't as long as its text, which then stands elsewhere, the
@@ -123,7 +128,7 @@ impl<K: QuotedKind, A: Allocator> Quoted<K, A> {
         if !self.spans_text() {
             return span;
         }
-        let (first, last) = range_of(K::KIND, self.token.text(), &self.body, lo, hi);
+        let (first, last) = self.range_of(lo, hi);
         Span {
             file: span.file,
             lo: span.lo + first,

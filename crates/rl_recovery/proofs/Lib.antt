@@ -1,0 +1,4 @@
+pub mod OpenerLemmas
+pub mod ClosingLemmas
+pub mod LineEnds
+pub mod RecoverySteps

@@ -1,0 +1,3 @@
+-- Mirrors of the code, for private functions and proofs.
+
+pub mod Closing

@@ -1,0 +1,137 @@
+//! What is read after errors of a source, and that hostile texts take no longer for each byte than short ones.
+
+use navyspindle::{source, Recover};
+use std::time::{Duration, Instant};
+
+fn shown(items: Recover<'_>) -> Vec<String> {
+    items
+        .map(|item| match item {
+            Ok((_, literal)) => literal.text().to_owned(),
+            Err(error) => format!("{} {:?}", error.at(), error.kind()),
+        })
+        .collect()
+}
+
+#[test]
+fn after_each_error() {
+    let rows: [(&str, &[&str]); 22] = [
+        ("", &[]),
+        ("1 2", &["1", "2"]),
+        ("1 \"a 2", &["1", "2 UnclosedQuote"]),
+        ("\"a\n1 'b'\n", &["0 UnclosedQuote", "1", "'b'"]),
+        ("b\"a\n1", &["0 UnclosedQuote", "1"]),
+        ("r\"a\n1", &["0 UnclosedQuote", "1"]),
+        ("cr#\"a\"\n1", &["0 UnclosedQuote", "1"]),
+        ("1 /* 2\n3", &["1", "2 UnclosedComment"]),
+        ("/** 2\n3", &["0 UnclosedComment"]),
+        ("'\n1 + 'b", &["0 UnclosedQuote", "1"]),
+        ("'+\n1", &["0 UnclosedQuote", "1"]),
+        // A known opener is reported, and one that may be closed is searched for.
+        (
+            "\\\"\n\\\"\n1",
+            &["1 UnclosedQuote", "4 UnclosedQuote", "1"],
+        ),
+        (
+            "r##\"\nr#\"\nr##\"\"#\n1",
+            &["0 UnclosedQuote", "r#\"\nr##\"\"#", "1"],
+        ),
+        (
+            "r#\"\n1 r##\"\n2 r\"\n3",
+            &[
+                "0 UnclosedQuote",
+                "1",
+                "6 UnclosedQuote",
+                "2",
+                "13 UnclosedQuote",
+                "3",
+            ],
+        ),
+        // After an escaped line end a character's line goes on, and a string's doesn't.
+        ("'+ \\\n1\n2", &["0 UnclosedQuote", "2"]),
+        ("b'+ \\\n1 \\\n2", &["0 UnclosedQuote"]),
+        ("'+ \\\\\n1\n2", &["0 UnclosedQuote", "1", "2"]),
+        ("\"+ \\\n1\n2", &["0 UnclosedQuote", "1", "2"]),
+        ("'\\x\n1", &["0 UnclosedQuote", "1"]),
+        // What may stand at a source's front alone.
+        ("\"\n#!1\n2", &["0 UnclosedQuote", "1", "2"]),
+        ("\"\n\u{feff}1", &["0 UnclosedQuote", "1"]),
+        ("\"\n/* \" */ 1", &["\"\n/* \"", "1"]),
+    ];
+    for (text, expected) in rows {
+        assert_eq!(shown(source(text).recover()), expected, "{text:?}");
+    }
+}
+
+#[test]
+fn from_where_a_source_stands() {
+    let text = "1 2 'a \"b\n3 \\\"c\n4";
+    let mut items = source(text);
+    assert!(items.next().is_some());
+    let recovered = ["2", "7 UnclosedQuote"];
+    assert_eq!(shown(items.clone().recover())[..2], recovered);
+    assert_eq!(items.by_ref().count(), 2);
+    let mut rest = items.recover();
+    assert_eq!(shown(rest.clone()), shown(source(text).recover())[3..]);
+    assert_eq!(rest.by_ref().count(), 3);
+    assert!(rest.next().is_none() && rest.next().is_none());
+    assert_eq!(format!("{rest:?}"), "Recover(\"\")");
+    let error = source("1 \"a\n2").recover().find_map(Result::err).unwrap();
+    assert_eq!(error.range(), 2..6);
+}
+
+/// The time for all that is recovered of a text, the best of three.
+fn time(text: &str) -> Duration {
+    let once = |_| {
+        let begin = Instant::now();
+        assert!(source(text).recover().count() > 0);
+        begin.elapsed()
+    };
+    (0..3).map(once).min().unwrap()
+}
+
+/// Raw openers with fewer and fewer hashes, of about so many bytes.
+fn falling(size: usize) -> String {
+    let most = (1..).find(|n| n * (n + 7) / 2 > size).unwrap();
+    let line = |n| format!("r{}\"\n", "#".repeat(n));
+    (1..most).rev().map(line).collect()
+}
+
+#[test]
+fn hostile_texts() {
+    let lines = [
+        "/*\n",
+        "\"\n",
+        "\\\"\n",
+        "r#\"\n",
+        "r\"\nr#\"\n",
+        "r##\"\nr#\"\n",
+        "\\\"\nr#\"\nb\"\n",
+        "' \\\n",
+        "\\' \\\n",
+        "'\n",
+        "'/\n",
+        "'\\x\n",
+        "'\\\n",
+        "'/\n#!/*\n",
+        "\\'+ \\\n/\n",
+    ];
+    for line in lines {
+        let text = |size: usize| line.repeat(size / line.len());
+        check_growth(line, &text(1 << 16), &text(1 << 20));
+    }
+    check_growth("falling", &falling(1 << 16), &falling(1 << 20));
+}
+
+fn check_growth(name: &str, short: &str, long: &str) {
+    let each = |text: &str| time(text).as_secs_f64() / text.len() as f64;
+    let (few, many) = (each(short), each(long));
+    println!(
+        "{name:?}: {:.1} ns and {:.1} ns a byte",
+        few * 1e9,
+        many * 1e9
+    );
+    assert!(
+        many <= few * 4.0,
+        "{name:?}: {few:e} s and {many:e} s a byte"
+    );
+}
