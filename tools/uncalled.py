@@ -53,13 +53,13 @@ def front_of(text, at, form):
 
 
 def span_of(text, entry):
-    """Where the entry's function begins, with its attributes, and where it ends, by the layout of its file."""
+    """Where the entry's function or struct begins, with its attributes, and where it ends, by the layout of its file."""
     owner, _, name = entry.item.rpartition("::")
     indent = " " * 4 * bool(owner)
     impl = rf"^impl(?:<[^{{]*?>)? {owner}(?:<[^{{]*?>)? \{{\n(?:(?!\}}).*\n)*?" * bool(owner)
-    found = re.search(rf"{impl}^(?P<head>{indent}(?:pub(?:\(crate\))? )?fn {name}\b)", text, re.M)
+    found = re.search(rf"{impl}^(?P<head>{indent}(?:pub(?:\(crate\))? )?(?:fn|struct) {name}\b)", text, re.M)
     if not found:
-        fail(f"{entry.file} has no function {entry.item}")
+        fail(f"{entry.file} has no function or struct {entry.item}")
     end = re.compile(rf"^{indent}\}}\n", re.M).search(text, found.end()).end()
     return front_of(text, found.start("head"), r" *#\[.*\]"), end
 

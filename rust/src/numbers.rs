@@ -2,11 +2,8 @@
 
 use crate::common::{example, literal_type};
 use crate::contents::digits_of;
-use crate::rl_reading::digit_rows::{after_minus, skip_row};
-use crate::rl_reading::number_forms::split_radix;
-use crate::rl_reading::shape;
+use crate::rl_parts::{float_parts, integer_parts, FloatParts};
 use crate::rl_text::scan::{near_len_before, Marks};
-use crate::rl_text::text::before;
 use alloc::borrow::Cow;
 use alloc::format;
 use alloc::string::String;
@@ -174,11 +171,6 @@ macro_rules! number_type {
             pub fn base10_parse<N: FromStr>(&self) -> Result<N, N::Err> {
                 self.base10_digits().parse()
             }
-
-            /// All before the suffix, a minus too, where the proved code finds it.
-            fn numeral(&self) -> &str {
-                shape(&self.text).map_or("", |parts| parts.body)
-            }
         }
     };
 }
@@ -300,8 +292,7 @@ impl<'t> LitInt<'t> {
     /// ```
     #[must_use]
     pub fn base(&self) -> Base {
-        let (radix, _) = split_radix(after_minus(self.numeral()));
-        Base::of(radix)
+        integer_parts(&self.text).map_or(Base::Decimal, |parts| Base::of(parts.radix))
     }
 
     /// The digits as they stand, without sign, prefix and suffix.
@@ -314,15 +305,8 @@ impl<'t> LitInt<'t> {
     /// ```
     #[must_use]
     pub fn digits(&self) -> &str {
-        let (_, digits) = split_radix(after_minus(self.numeral()));
-        digits
+        integer_parts(&self.text).map_or("", |parts| parts.digits)
     }
-}
-
-/// The digits and underscores at the front of a text, and what follows them.
-fn split_row(text: &str) -> (&str, &str) {
-    let rest = skip_row(text).rest;
-    (before(text, rest), rest)
 }
 
 /// The bytes of a float's numeral that its digits don't keep as they are: `numeral_into` leaves out two, and changes one.
@@ -382,12 +366,12 @@ impl<'t> LitFloat<'t> {
     /// ```
     #[must_use]
     pub fn number_part(&self) -> &str {
-        self.numeral()
+        &self.text[..self.suffix_at]
     }
 
-    /// The digits before the dot, and what follows them before the suffix.
-    fn split_integer(&self) -> (&str, &str) {
-        split_row(after_minus(self.numeral()))
+    /// The proved parts: its text reads as a float.
+    fn parts(&self) -> Option<FloatParts<'_>> {
+        float_parts(&self.text)
     }
 
     /// The digits before the dot, as they stand, without a sign.
@@ -400,8 +384,7 @@ impl<'t> LitFloat<'t> {
     /// ```
     #[must_use]
     pub fn integer_part(&self) -> &str {
-        let (digits, _) = self.split_integer();
-        digits
+        self.parts().map_or("", |parts| parts.integer)
     }
 
     /// The digits after the dot, as they stand; `None` where there is no dot.
@@ -416,9 +399,7 @@ impl<'t> LitFloat<'t> {
     /// ```
     #[must_use]
     pub fn fractional_part(&self) -> Option<&str> {
-        let (_, rest) = self.split_integer();
-        let (digits, _) = split_row(rest.strip_prefix('.')?);
-        Some(digits)
+        self.parts()?.fraction
     }
 
     /// What stands after the letter of the exponent, its sign too; `None` where there is no exponent.
@@ -432,8 +413,6 @@ impl<'t> LitFloat<'t> {
     /// ```
     #[must_use]
     pub fn exponent_part(&self) -> Option<&str> {
-        let (_, rest) = self.split_integer();
-        let (_, rest) = split_row(rest.strip_prefix('.').unwrap_or(rest));
-        rest.strip_prefix(['e', 'E'])
+        self.parts()?.exponent
     }
 }

@@ -185,11 +185,8 @@ macro_rules! quoted_type {
             #[doc = $crate::common::example!($name, $text, "assert_eq!(literal.range_of(0..1), ", $range, ");")]
             #[must_use]
             pub fn range_of(&self, bytes: core::ops::Range<usize>) -> core::ops::Range<usize> {
-                let lo = self.cursor().place_of(bytes.start);
-                if bytes.is_empty() {
-                    return lo..lo;
-                }
-                lo..self.cursor().end_of(bytes.end - 1)
+                let (lo, hi) = $crate::rl_parts::range_of(Self::KIND, &self.text, &self.parts(), bytes.start, bytes.end);
+                lo..hi
             }
 
             /// Where each byte of the value comes from.

@@ -200,8 +200,8 @@ mod tests {
                 return shown;
             };
             shown.push(format!("{} {:?}", front + error.at, error.kind));
-            match tokens.following_lines() {
-                Some(following) if error.kind == LexKind::UnclosedQuote => lines = following,
+            match tokens.rest().split_once('\n') {
+                Some((_, following)) if error.kind == LexKind::UnclosedQuote => lines = following,
                 _ => return shown,
             }
         }

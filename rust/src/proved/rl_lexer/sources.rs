@@ -4,8 +4,10 @@
 use crate::rl_lexer::lex_error::LexError;
 use crate::rl_lexer::no_token::source_error_kind;
 use crate::rl_lexer::source::{
-    SourceForm, after_first_line, first_source, is_literal, skip_unlikely, without_preamble,
+    SourceForm, first_source, is_literal, skip_unlikely, without_preamble,
 };
+#[cfg(feature = "rendered")]
+use crate::rl_lexer::source::after_first_line;
 use crate::rl_lexer::whitespace::skip;
 
 /// A token of a source, borrowed from it: what it is, and where it stands.
@@ -106,6 +108,7 @@ impl<'t> Sources<'t> {
     /// The lines after the one in which the cursor stands: what stands after the first LF of [`rest`](Sources::rest). `None`
     /// where no LF is left. So a source is taken up after an error: [`Sources::new`] cuts these lines anew, with places counted
     /// from their front, which is as many bytes after the text's as they are shorter.
+    #[cfg(feature = "rendered")]
     pub fn following_lines(&self) -> Option<&'t str> {
         after_first_line(self.rest)
     }

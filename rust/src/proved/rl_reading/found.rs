@@ -62,6 +62,7 @@ pub struct Found {
 ///
 /// The body of a quoted literal is what stands between its quotes; that of a number is all before
 /// its suffix, sign and prefix included; that of a truth value is the whole text.
+#[cfg(feature = "rendered")]
 #[derive(Clone, Copy, PartialEq, Eq, Debug)]
 pub struct Parts<'t> {
     /// What the literal is.
@@ -74,6 +75,7 @@ pub struct Parts<'t> {
 
 impl Found {
     /// The literal's body, as a slice of the text that it was found in.
+    #[cfg(feature = "rendered")]
     #[inline(always)]
     pub fn body_in<'t>(&self, text: &'t str) -> &'t str {
         &text[self.body.lo..self.body.hi]
@@ -86,6 +88,7 @@ impl Found {
     }
 
     /// The literal's parts, as slices of its text.
+    #[cfg(feature = "rendered")]
     #[inline(always)]
     pub(crate) fn parts<'t>(&self, text: &'t str) -> Parts<'t> {
         Parts {
@@ -258,6 +261,7 @@ pub fn begins_number(text: &str) -> bool {
 ///
 /// A text without CR is a byte, or a byte string with escapes, and its suffix empty or a word,
 /// exactly where it is a strict one (`strict_bytes`).
+#[cfg(feature = "rendered")]
 pub fn shape(text: &str) -> Option<Parts<'_>> {
     let found = find(text)?;
     Some(found.parts(text))

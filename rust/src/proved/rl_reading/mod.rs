@@ -16,9 +16,9 @@ pub use crate::rl_reading::contents::bytes_into;
 #[cfg(feature = "rendered")]
 pub use crate::rl_reading::contents::{byte_of, byte_of_body, char_of, char_of_body, is_plain};
 pub use crate::rl_reading::digits::{is_plain_integer, numeral_into};
-pub use crate::rl_reading::found::{Body, Found, Parts, find, find_negative, shape, truth_of};
+pub use crate::rl_reading::found::{Body, Found, find, find_negative, truth_of};
 #[cfg(feature = "rendered")]
-pub use crate::rl_reading::found::{find_float, find_int};
+pub use crate::rl_reading::found::{Parts, find_float, find_int, shape};
 pub use crate::rl_reading::next_literals::{
     ListStep, NextLiteral, Rejection, RejectionKind, list_step, next_literal,
 };

@@ -47,17 +47,6 @@ pub struct Recovery<'t> {
 }
 
 impl<'t> Recovery<'t> {
-    /// A source, from its front.
-    pub fn new(text: &'t str) -> Recovery<'t> {
-        let tokens = Sources::new(text);
-        Recovery {
-            text,
-            part: text,
-            rest: tokens.rest(),
-            unclosed: Unclosed::nothing(),
-        }
-    }
-
     /// A source from a place on, where a cursor over the same text stood, whose [`rest`](Sources::rest) this is.
     pub fn resume(text: &'t str, rest: &'t str) -> Recovery<'t> {
         Recovery {
