@@ -79,14 +79,13 @@ fn from_where_a_source_stands() {
     assert_eq!(error.range(), 2..6);
 }
 
-/// The time for all that is recovered of a text, the best of three.
-fn time(text: &str) -> Duration {
-    let once = |_| {
-        let begin = Instant::now();
+/// The time for all that is recovered of a text, so many times.
+fn time(text: &str, times: usize) -> Duration {
+    let begin = Instant::now();
+    for _ in 0..times {
         assert!(source(text).recover().count() > 0);
-        begin.elapsed()
-    };
-    (0..3).map(once).min().unwrap()
+    }
+    begin.elapsed()
 }
 
 /// Raw openers with fewer and fewer hashes, of about so many bytes.
@@ -122,16 +121,15 @@ fn hostile_texts() {
     check_growth("falling", &falling(1 << 16), &falling(1 << 20));
 }
 
+/// A long text takes at most four times what short ones of as many bytes take, in the best of three rounds.
 fn check_growth(name: &str, short: &str, long: &str) {
-    let each = |text: &str| time(text).as_secs_f64() / text.len() as f64;
-    let (few, many) = (each(short), each(long));
-    println!(
-        "{name:?}: {:.1} ns and {:.1} ns a byte",
-        few * 1e9,
-        many * 1e9
-    );
-    assert!(
-        many <= few * 4.0,
-        "{name:?}: {few:e} s and {many:e} s a byte"
-    );
+    let (mut few, mut many) = (Duration::MAX, Duration::MAX);
+    for _ in 0..3 {
+        few = few.min(time(short, long.len() / short.len()));
+        many = many.min(time(long, 1));
+        if many <= few * 4 {
+            return;
+        }
+    }
+    panic!("{name:?}: {few:?} for short texts, {many:?} for a long one");
 }

@@ -1,7 +1,7 @@
 //! Lists of literals, and the literals of sources: each with its bytes, and what ends them.
 
 use crate::literals::{check_closely, check_same, proved_of, Proved};
-use navyspindle::{literals, source, ListError, Lit, Literals, Source};
+use navyspindle::{literals, source, ListError, Lit, Literals, Recover, Source};
 use navyspindle_programs::rattle_std::alloc::Global;
 use navyspindle_programs::{rl_grammar, rl_tokens, rust_literals};
 use std::ops::Range;
@@ -23,6 +23,14 @@ macro_rules! next_of {
 }
 next_of!(next_of_list, Literals<'t>);
 next_of!(next_of_source, Source<'t>);
+
+/// The next item of what is recovered, which a copy that is made before gives too.
+fn next_recovered<'t>(items: &mut Recover<'t>) -> Option<Item<'t>> {
+    let mut copy = items.clone();
+    let item = items.next();
+    assert_eq!(copy.next(), item);
+    item
+}
 
 /// A literal of a text, that of it closely which isn't as it stands there.
 fn check_item(text: &str, range: Range<usize>, ours: &Lit, proved: &Proved, span: Range<usize>) {
@@ -122,10 +130,12 @@ pub fn check_list(text: &str) {
 pub fn check_source(text: &str) {
     let mut proved = rl_tokens::Sources::new(text);
     let mut ours = source(text);
+    let mut returned = 1;
     loop {
         let copy = ours.clone();
         match (next_of_source(&mut ours, copy), proved.next_literal()) {
             (Some(Ok((range, ours))), Some(token)) => {
+                returned += 1;
                 let literal = proved_of(token.text);
                 check_item(text, range, &ours, &literal, token.lo..token.hi);
             }
@@ -134,6 +144,8 @@ pub fn check_source(text: &str) {
                 let name = format!("{:?}", cause.kind);
                 // A quote or a comment isn't closed.
                 check_error(&error, cause.at..text.len(), &name, text);
+                let rest = source(text).recover().skip(returned);
+                assert!(ours.recover().eq(rest), "{text:?}");
                 return check_recovery(text);
             }
             (None, None) => {
@@ -148,7 +160,10 @@ pub fn check_source(text: &str) {
 /// What is recovered is what a source of its own has, after each error the lines after it.
 fn check_recovery(text: &str) {
     // Lines are joined there, or begin as a whole source alone may.
-    if ["\\\n", "\n\u{feff}", "\n#!"].iter().any(|it| text.contains(it)) {
+    if ["\\\n", "\n\u{feff}", "\n#!"]
+        .iter()
+        .any(|it| text.contains(it))
+    {
         return;
     }
     let mut ours = source(text).recover();
@@ -157,12 +172,12 @@ fn check_recovery(text: &str) {
         let front = text.len() - lines.len();
         let mut proved = rl_tokens::Sources::new(lines);
         while let Some(token) = proved.next_literal() {
-            let (range, ours) = ours.next().unwrap().unwrap();
+            let (range, ours) = next_recovered(&mut ours).unwrap().unwrap();
             let span = front + token.lo..front + token.hi;
             check_item(text, range, &ours, &proved_of(token.text), span);
         }
         let Some(cause) = proved.error() else { break };
-        let error = ours.next().unwrap().unwrap_err();
+        let error = next_recovered(&mut ours).unwrap().unwrap_err();
         let name = format!("{:?}", cause.kind);
         check_error(&error, front + cause.at..text.len(), &name, text);
         match proved.following_lines() {
@@ -170,5 +185,5 @@ fn check_recovery(text: &str) {
             _ => break,
         }
     }
-    assert!(ours.next().is_none(), "{text:?}");
+    assert!(next_recovered(&mut ours).is_none(), "{text:?}");
 }
