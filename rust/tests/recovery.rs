@@ -116,9 +116,9 @@ fn hostile_texts() {
     ];
     for line in lines {
         let text = |size: usize| line.repeat(size / line.len());
-        check_growth(line, &text(1 << 16), &text(1 << 20));
+        check_growth(line, &text(1 << 14), &text(1 << 18));
     }
-    check_growth("falling", &falling(1 << 16), &falling(1 << 20));
+    check_growth("falling", &falling(1 << 12), &falling(1 << 14));
 }
 
 /// A long text takes at most four times what short ones of as many bytes take, in the best of three rounds.
