@@ -2,19 +2,7 @@
 
 mod runs;
 
-use runs::STEPS;
-
-/// Where the characters past ASCII change their class: the first character of each run, times four, and its class.
-static RUNS: [u32; STEPS.len()] = {
-    let mut runs = STEPS;
-    let (mut first, mut at) = (0, 0);
-    while at < runs.len() {
-        first += runs[at] >> 2;
-        runs[at] = (first << 2) | (runs[at] & 3);
-        at += 1;
-    }
-    runs
-};
+use runs::RUNS;
 
 /// Identifiers go on with it.
 const CONTINUE: u32 = 1;
