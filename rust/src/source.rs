@@ -2,8 +2,8 @@
 
 use crate::error::ListError;
 use crate::lit::Lit;
-use crate::rl_lexer::Sources;
-use crate::rl_reading::{source_step, SourceStep};
+use crate::rl_lexer::{SourceToken, Sources};
+use crate::rl_reading::{source_step, Found, SourceStep};
 use crate::rl_recovery::{recovery_step, Recovery};
 use alloc::borrow::Cow;
 use core::fmt;
@@ -12,16 +12,10 @@ use core::ops::Range;
 
 type Item<'t> = Result<(Range<usize>, Lit<'t>), ListError>;
 
-/// What a step over a source returns.
-fn item_of<'t>(text: &str, step: SourceStep<'t>) -> Option<Item<'t>> {
-    match step {
-        SourceStep::Literal(token, found) => {
-            let literal = Lit::of_token(Cow::Borrowed(token.text), found);
-            Some(Ok((token.lo..token.hi, literal)))
-        }
-        SourceStep::End => None,
-        SourceStep::Rejected(error) => Some(Err(ListError::of_source(text, error))),
-    }
+/// A literal's token, and what reading it finds.
+fn literal_of<'t>(token: SourceToken<'t>, found: Option<Found>) -> (Range<usize>, Lit<'t>) {
+    let literal = Lit::of_token(Cow::Borrowed(token.text), found);
+    (token.lo..token.hi, literal)
 }
 
 /// The literals of a whole Rust source, each with its bytes; see [`source`].
@@ -106,9 +100,15 @@ impl<'t> Iterator for Source<'t> {
         if self.is_done {
             return None;
         }
-        let step = source_step(&mut self.tokens);
-        self.is_done = !matches!(step, SourceStep::Literal(..));
-        item_of(self.text, step)
+        match source_step(&mut self.tokens) {
+            SourceStep::Literal(token, found) => return Some(Ok(literal_of(token, found))),
+            SourceStep::End => self.is_done = true,
+            SourceStep::Rejected(error) => {
+                self.is_done = true;
+                return Some(Err(ListError::of_source(self.text, error)));
+            }
+        }
+        None
     }
 }
 
@@ -143,7 +143,11 @@ impl<'t> Iterator for Recover<'t> {
     type Item = Item<'t>;
 
     fn next(&mut self) -> Option<Self::Item> {
-        item_of(self.text, recovery_step(&mut self.tokens))
+        match recovery_step(&mut self.tokens) {
+            SourceStep::Literal(token, found) => Some(Ok(literal_of(token, found))),
+            SourceStep::End => None,
+            SourceStep::Rejected(error) => Some(Err(ListError::of_source(self.text, error))),
+        }
     }
 }
 
