@@ -18,7 +18,7 @@
 //!
 //! let Lit::Int(literal) = Lit::parse("0xFF_u8")? else { panic!() };
 //! assert_eq!(literal.base10_digits(), "255");
-//! assert_eq!(literal.base10_parse::<u8>(), Ok(255));
+//! assert_eq!(literal.value::<u8>(), Ok(255));
 //! # Ok::<(), navyspindle::ParseError>(())
 //! ```
 //!
@@ -62,6 +62,7 @@ mod slices;
 mod source;
 mod strings;
 mod unicode;
+mod value;
 mod words;
 mod write;
 
@@ -95,6 +96,7 @@ pub use setting::{Setting, SettingError, SettingErrorKind, Settings};
 pub use settings::{settings, Entry, SettingsError};
 pub use source::{source, Recover, Source};
 pub use strings::{LitByteStr, LitCStr, LitStr};
+pub use value::{Number, ValueError, ValueErrorKind};
 pub use words::{LitBool, LitVerbatim};
 pub use write::{write_byte, write_byte_str, write_c_str, write_char, write_str};
 

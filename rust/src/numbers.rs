@@ -134,6 +134,17 @@ impl NumberType {
     pub fn is_float(self) -> bool {
         matches!(self, NumberType::F32 | NumberType::F64)
     }
+
+    /// Whether it is a type of integers without negative ones.
+    ///
+    /// ```
+    /// assert!(navyspindle::NumberType::Usize.is_unsigned());
+    /// ```
+    #[must_use]
+    pub fn is_unsigned(self) -> bool {
+        use NumberType::{Usize, U128, U16, U32, U64, U8};
+        matches!(self, U8 | U16 | U32 | U64 | U128 | Usize)
+    }
 }
 
 impl fmt::Display for NumberType {
@@ -161,7 +172,8 @@ macro_rules! number_type {
                 NumberType::named(self.suffix())
             }
 
-            /// The digits as a number type reads them. The suffix isn't looked at.
+            /// The digits as a number type reads them. The suffix isn't looked at, as in `syn`: of `10k` they are 10, of `0XFF` they
+            /// are 0, and of `1e400` an infinity; [`value`](Self::value) rejects these.
             ///
             /// # Errors
             ///

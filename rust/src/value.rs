@@ -1,0 +1,232 @@
+//! Numbers as values of Rust's types.
+
+use crate::numbers::{Base, LitFloat, LitInt, NumberType};
+use core::fmt;
+use core::ops::Range;
+
+mod sealed {
+    use crate::numbers::NumberType;
+    use core::str::FromStr;
+
+    /// What `value` asks of a type.
+    pub trait Typed: FromStr {
+        const TYPE: NumberType;
+
+        /// Whether it is a number, and no infinity.
+        fn is_number(&self) -> bool;
+    }
+}
+
+/// One of Rust's types of numbers: what [`LitInt::value`] and [`LitFloat::value`] return.
+///
+/// ```
+/// use navyspindle::{LitInt, Number, ValueError};
+///
+/// fn all<N: Number>(texts: &[&str]) -> Result<Vec<N>, ValueError> {
+///     texts.iter().map(|text| LitInt::parse(text).unwrap().value()).collect()
+/// }
+/// assert_eq!(all::<i8>(&["-128", "0x7F", "1i8"])?, [-128, 127, 1]);
+/// # Ok::<(), ValueError>(())
+/// ```
+pub trait Number: sealed::Typed {}
+
+macro_rules! numbers {
+    ($($name:ident $variant:ident),* => $is_number:expr) => {$(
+        impl sealed::Typed for $name {
+            const TYPE: NumberType = NumberType::$variant;
+
+            fn is_number(&self) -> bool {
+                let is_number: fn($name) -> bool = $is_number;
+                is_number(*self)
+            }
+        }
+
+        impl Number for $name {}
+    )*};
+}
+
+numbers!(u8 U8, u16 U16, u32 U32, u64 U64, u128 U128, usize Usize => |_| true);
+numbers!(i8 I8, i16 I16, i32 I32, i64 I64, i128 I128, isize Isize => |_| true);
+numbers!(f32 F32, f64 F64 => |number| number.is_finite());
+
+/// Why a literal is no value of a type, and where.
+///
+/// ```
+/// use navyspindle::{LitInt, NumberType};
+///
+/// let error = LitInt::parse("0x1FFu8").unwrap().value::<u8>().unwrap_err();
+/// assert_eq!((error.wanted(), error.range()), (NumberType::U8, 0..5));
+/// assert_eq!(error.to_string(), "number that u8 doesn't hold at byte 0");
+/// ```
+#[derive(Clone, Debug, PartialEq, Eq, Hash)]
+pub struct ValueError {
+    kind: ValueErrorKind,
+    wanted: NumberType,
+    range: Range<usize>,
+}
+
+/// Why a literal is no value of a type.
+///
+/// ```
+/// use navyspindle::{LitInt, ValueErrorKind};
+///
+/// let error = LitInt::parse("10k").unwrap().value::<u8>().unwrap_err();
+/// assert_eq!(error.kind(), ValueErrorKind::Suffix);
+/// ```
+#[derive(Clone, Copy, Debug, PartialEq, Eq, Hash)]
+#[non_exhaustive]
+pub enum ValueErrorKind {
+    /// Its suffix is another type's, or no type's.
+    Suffix,
+    /// It is an integer where the type is of floats, or a float where the type is of integers.
+    Form,
+    /// A minus stands before it, and the type has no negative numbers.
+    Minus,
+    /// The type doesn't hold the number; of a float, as nothing but an infinity.
+    OutOfRange,
+}
+
+impl ValueError {
+    /// What is wrong.
+    ///
+    /// ```
+    /// use navyspindle::{LitFloat, ValueErrorKind};
+    ///
+    /// let error = LitFloat::parse("1e400").unwrap().value::<f64>().unwrap_err();
+    /// assert_eq!(error.kind(), ValueErrorKind::OutOfRange);
+    /// ```
+    #[must_use]
+    pub fn kind(&self) -> ValueErrorKind {
+        self.kind
+    }
+
+    /// The type that was asked for.
+    ///
+    /// ```
+    /// use navyspindle::{LitInt, NumberType};
+    ///
+    /// let error = LitInt::parse("-1").unwrap().value::<u8>().unwrap_err();
+    /// assert_eq!(error.wanted(), NumberType::U8);
+    /// ```
+    #[must_use]
+    pub fn wanted(&self) -> NumberType {
+        self.wanted
+    }
+
+    /// The bytes of the literal's text that are wrong: its suffix, its minus, or all before the suffix.
+    ///
+    /// ```
+    /// assert_eq!(navyspindle::LitInt::parse("10k").unwrap().value::<u8>().unwrap_err().range(), 2..3);
+    /// ```
+    #[must_use]
+    pub fn range(&self) -> Range<usize> {
+        self.range.clone()
+    }
+}
+
+impl fmt::Display for ValueError {
+    fn fmt(&self, f: &mut fmt::Formatter<'_>) -> fmt::Result {
+        let (wanted, at) = (self.wanted, self.range.start);
+        match self.kind {
+            ValueErrorKind::Suffix => write!(f, "suffix that isn't {wanted} at byte {at}"),
+            ValueErrorKind::Form if wanted.is_float() => {
+                write!(f, "integer where {wanted} is wanted at byte {at}")
+            }
+            ValueErrorKind::Form => write!(f, "float where {wanted} is wanted at byte {at}"),
+            ValueErrorKind::Minus => write!(f, "minus before a number of {wanted} at byte {at}"),
+            ValueErrorKind::OutOfRange => {
+                write!(f, "number that {wanted} doesn't hold at byte {at}")
+            }
+        }
+    }
+}
+
+impl core::error::Error for ValueError {}
+
+/// The number that these digits in base ten are, of a literal whose suffix begins there.
+fn number_of<N: Number>(
+    digits: &str,
+    suffix_at: usize,
+) -> Result<N, (ValueErrorKind, Range<usize>)> {
+    if digits.starts_with('-') && N::TYPE.is_unsigned() {
+        return Err((ValueErrorKind::Minus, 0..1));
+    }
+    match digits.parse::<N>() {
+        Ok(number) if number.is_number() => Ok(number),
+        _ => Err((ValueErrorKind::OutOfRange, 0..suffix_at)),
+    }
+}
+
+/// The error with the type that was asked for.
+fn error_of<N: Number>((kind, range): (ValueErrorKind, Range<usize>)) -> ValueError {
+    let wanted = N::TYPE;
+    ValueError {
+        kind,
+        wanted,
+        range,
+    }
+}
+
+impl LitInt<'_> {
+    /// The value of a type, as Rust takes the literal for one: its suffix is the type's name, or there is none and the type is of
+    /// integers; and the type holds the number. One minus may stand before it, where the type has negative numbers.
+    ///
+    /// # Errors
+    ///
+    /// Which of these doesn't hold, and where.
+    ///
+    /// ```
+    /// use navyspindle::LitInt;
+    ///
+    /// assert_eq!(LitInt::parse("0xFF_u8")?.value::<u8>(), Ok(255));
+    /// assert_eq!(LitInt::parse("-128")?.value::<i8>(), Ok(-128));
+    /// assert_eq!(LitInt::parse("1f32")?.value::<f32>(), Ok(1.0));
+    /// // The suffix is `XFF`: no hexadecimal number.
+    /// assert!(LitInt::parse("0XFF")?.value::<u8>().is_err());
+    /// assert!(LitInt::parse("300")?.value::<u8>().is_err());
+    /// # Ok::<(), navyspindle::ParseError>(())
+    /// ```
+    pub fn value<N: Number>(&self) -> Result<N, ValueError> {
+        let (suffix, is_float) = (self.suffix(), N::TYPE.is_float());
+        let suffix_at = self.suffix_range().start;
+        let is_decimal = self.base() == Base::Decimal;
+        let found = if suffix.is_empty() && is_float {
+            Err((ValueErrorKind::Form, 0..suffix_at))
+        } else if !suffix.is_empty() && (suffix != N::TYPE.as_str() || is_float && !is_decimal) {
+            Err((ValueErrorKind::Suffix, self.suffix_range()))
+        } else {
+            number_of(&self.base10_digits(), suffix_at)
+        };
+        found.map_err(error_of::<N>)
+    }
+}
+
+impl LitFloat<'_> {
+    /// The value of a type of floats, as Rust takes the literal for one: its suffix is the type's name, or there is none; and
+    /// the number isn't so large that only an infinity is near it. One minus may stand before it.
+    ///
+    /// # Errors
+    ///
+    /// Which of these doesn't hold, and where.
+    ///
+    /// ```
+    /// use navyspindle::LitFloat;
+    ///
+    /// assert_eq!(LitFloat::parse("-1_0.5E+3f64")?.value::<f64>(), Ok(-10500.0));
+    /// assert!(LitFloat::parse("1.0u8")?.value::<f64>().is_err());
+    /// assert!(LitFloat::parse("1e39")?.value::<f32>().is_err());
+    /// # Ok::<(), navyspindle::ParseError>(())
+    /// ```
+    pub fn value<N: Number>(&self) -> Result<N, ValueError> {
+        let suffix = self.suffix();
+        let suffix_at = self.suffix_range().start;
+        let found = if !N::TYPE.is_float() {
+            Err((ValueErrorKind::Form, 0..suffix_at))
+        } else if !suffix.is_empty() && suffix != N::TYPE.as_str() {
+            Err((ValueErrorKind::Suffix, self.suffix_range()))
+        } else {
+            number_of(&self.base10_digits(), suffix_at)
+        };
+        found.map_err(error_of::<N>)
+    }
+}
