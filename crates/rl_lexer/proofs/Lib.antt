@@ -22,5 +22,6 @@ pub mod LineLemmas
 pub mod ErrorKinds
 pub mod WordsAndMarks
 pub mod LiteralSteps
+pub mod CommentsPassed
 pub mod UnlikelyFronts
 pub mod TruthWords

@@ -1,16 +1,18 @@
 -- What stands between one literal of a source and the next.
-use Rattle.rl_text.proofs.Common.{◌≡◌, ◌⊎◌, inl, inr, ℕ, true, false, ◌==◌, ◌+◌, ◌-◌, ◌≤◌, List, [], ◌∷◌, ◌++◌, refl, sym, ap, subst, ◌∙◌, append_assoc, append-nil, arith, AllByRecursion, chars}
+use Rattle.rl_text.proofs.Common.{◌≡◌, ◌⊎◌, inl, inr, ℕ, None, Some, true, false, ◌==◌, ◌+◌, ◌-◌, ◌≤◌, List, [], ◌∷◌, ◌++◌, refl, sym, ap, subst, ◌∙◌, append_assoc, append-nil, arith, AllByRecursion, chars}
 use Rattle.rl_text.specs.Texts.{byte_len, is_white, IsTail}
 use Rattle.rl_forms.specs.Trivia.{White}
 use Rattle.rl_lexer.specs.Skipping.{Skipped}
 use Rattle.rl_lexer.specs.Cursors.{CursorState, IsCursorState}
 use Rattle.rl_lexer.specs.Sources.{CutSource, SourceKind, source_kind, source_text, source_view, SourceBefore, SourcesUpTo, source_end, IsCutUpTo, TakesSource, IsLiteralText, IsNoLiteral, PassesTo}
-use Rattle.rl_lexer.specs.Mirrors.LiteralsAt.{HoldsNoLiteral}
+use Rattle.rl_lexer.specs.Mirrors.LiteralsAt.{HoldsNoLiteral, Reaches}
+use Rattle.rl_lexer.specs.Mirrors.SkippedAt.{after_piece}
+use Rattle.rl_text.specs.Classes.{after_run}
 use Rattle.rl_lexer.specs.declared.sources.SourceToken.{SourceToken}
 use Rattle.rl_text.proofs.TailLemmas.{tail_step}
 use Rattle.rl_lexer.proofs.CutLemmas.{byte_len-append}
 use Rattle.rl_lexer.proofs.ErrorKinds.{char_len}
-use Rattle.rl_lexer.proofs.Pieces.{after_piece-past, one_rest, skipped_after, skipped_again, skipped_here}
+use Rattle.rl_lexer.proofs.Pieces.{after_piece-past, one_rest, skipped_after, skipped_again, skipped_here, skipped_run}
 use Rattle.rl_text.proofs.Rests.{tail_length}
 use Rattle.rl_lexer.proofs.SourceCuts.{cut_more}
 
@@ -74,27 +76,35 @@ holds_skipped t start r skipped h = record {
       h.goes_on whole done (omega (arith, room, skipped_len t start skipped)) (subst (IsCutUpTo whole done) same cut);
 }
 
--- From a text, whatever trivia it begins with, no literal stands up to the rest.
-pub record Reaches (t r : List ℕ) : Type 0 where
-  pub start : List ℕ
-  pub skipped : Skipped t start
-  pub holds : HoldsNoLiteral start r
-
 pub reach_end : (t r : List ℕ) → Skipped t r → Reaches t r
 reach_end t r skipped = record { start = r; skipped = skipped; holds = holds_start r }
 
 pub reach_white : (c : ℕ) (t r : List ℕ) → is_white c ≡ true → Reaches t r → Reaches (c ∷ t) r
 reach_white c t r white h = record { start = h.start; skipped = skipped_after (c ∷ t) t h.start (after_piece-past (White c) t white) h.skipped; holds = h.holds }
 
+-- white space and a plain comment
+pub reach_piece : (t u r : List ℕ) → after_piece t ≡ Some u → Reaches u r → Reaches t r
+reach_piece t u r piece h = record { start = h.start; skipped = skipped_after t u h.start piece h.skipped; holds = h.holds }
+
+pub reach_run : (t u r : List ℕ) → u ≡ after_run is_white t → Reaches u r → Reaches t r
+reach_run t u r run h = record { start = h.start; skipped = skipped_run t u h.start run h.skipped; holds = h.holds }
+
+-- a token where no trivia begins
+pub reach_first : (t after r : List ℕ) (kind : SourceKind) → after_piece t ≡ None
+    → (token : SourceBefore t kind after) → (IsLiteralText kind (source_text token.token) → ⊥) → Reaches after r
+    → Reaches t r
+reach_first t after r kind none token other h = record {
+  start = t;
+  skipped = skipped_here t none;
+  holds = holds_join t h.start r (holds_one t after h.start kind token other h.skipped
+      (skipped_len after h.start h.skipped)) h.holds;
+}
+
 pub reach_token : (c : ℕ) (t after r : List ℕ) (kind : SourceKind) → (c == 47) ≡ false → is_white c ≡ false
     → (token : SourceBefore (c ∷ t) kind after) → (IsLiteralText kind (source_text token.token) → ⊥) → Reaches after r
     → Reaches (c ∷ t) r
-reach_token c t after r kind slash white token other h = record {
-  start = c ∷ t;
-  skipped = skipped_here (c ∷ t) (rw (slash, white) refl);
-  holds = holds_join (c ∷ t) h.start r (holds_one (c ∷ t) after h.start kind token other h.skipped
-      (skipped_len after h.start h.skipped)) h.holds;
-}
+reach_token c t after r kind slash white token other h = reach_first (c ∷ t) after r kind (rw (slash, white) refl) token
+    other h
 
 -- ---- by the cursor
 

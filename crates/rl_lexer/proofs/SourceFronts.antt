@@ -168,7 +168,7 @@ lifetime_found t r h = go (after_any_name t) refl h
           | inr (a, x) ↦ here m e a (same_Some m r x)
         ]
 
-doc_line_found : (t r : List ℕ) → is_comment_line t ≡ false → after_run is_in_line t ≡ r
+pub doc_line_found : (t r : List ℕ) → is_comment_line t ≡ false → after_run is_in_line t ≡ r
     → SourceBefore (47 ∷ 47 ∷ t) DocCommentKind r
 doc_line_found t r doc e =
     let (row, is, same) = run_found is_in_line t in
@@ -176,7 +176,7 @@ doc_line_found t r doc e =
     let whole : t ≡ row ++ r = same ∙ ap (λ x. row ++ x) e in
     record { token = DocLineToken row; is_source = (is_row, sym (line_plain row r is_row.ends) ∙ ap is_comment_line (sym whole) ∙ doc); text_is = ap (λ x. 47 ∷ 47 ∷ x) whole; kind_is = refl }
 
-doc_block_found : (t r : List ℕ) → is_comment_block t ≡ false → Closes 1 t r
+pub doc_block_found : (t r : List ℕ) → is_comment_block t ≡ false → Closes 1 t r
     → SourceBefore (47 ∷ 42 ∷ t) DocCommentKind r
 doc_block_found t r doc (i, m, is, same, more) =
     let whole : t ≡ inside_text i ++ r = same ∙ ap (λ x. inside_text i ++ x) more in

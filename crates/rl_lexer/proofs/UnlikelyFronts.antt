@@ -1,22 +1,24 @@
 -- In front of the first byte at which a literal or a comment may begin stands none.
-use Rattle.rl_text.proofs.Common.{◌≡◌, ℕ, zero, suc, ◌+◌, ◌<◌, ◌≤◌, Bool, true, false, not, ◌&&◌, ◌||◌, ◌==◌, nat_le, cond, List, [], ◌∷◌, ◌++◌, Some, None, length, take, drop, get_or, refl, sym, ap, subst, ◌∙◌, arith, agree_below_at, and_from, and_parts, nat_tests, take-append-drop, prefix_len-le-length, IsCharBoundary-start, IsCharBoundary-after_ascii, IsUtf8-take, chars-append, chars-IsAscii, is_ascii_alphabetic, is_ascii_digit, list_all, prefix_len, chars, IsAscii, IsCharBoundary, IsUtf8}
-use Rattle.rl_text.proofs.UnlikelyLanes.{with_before-length}
+use Rattle.rl_text.proofs.Common.{◌≡◌, ℕ, zero, suc, ◌+◌, ◌<◌, ◌≤◌, Bool, true, false, not, ◌&&◌, ◌||◌, ◌==◌, nat_le, cond, List, [], ◌∷◌, ◌++◌, Some, None, length, take, drop, get_or, lit<, nat_lt, refl, sym, ap, subst, ◌∙◌, arith, agree_below_at, and_from, and_parts, nat_tests, take-append-drop, prefix_len-le-length, IsCharBoundary-start, IsCharBoundary-after_ascii, IsUtf8-take, chars-append, chars-IsAscii, is_ascii_alphabetic, is_ascii_digit, list_all, prefix_len, chars, IsAscii, IsCharBoundary, IsUtf8}
+use Rattle.rl_text.proofs.BeginsLemmas.{begins_bytes}
+use Rattle.rl_text.proofs.UnlikelyPlaces.{is_past}
 use Rattle.rl_lexer.proofs.LexemeRows.{not_true}
-use Rattle.rl_text.specs.Texts.{is_among, is_white, is_continue}
+use Rattle.rl_text.specs.Texts.{begins, begins_char, is_among, is_white, is_continue}
 use Rattle.rl_lexer.specs.Skipping.{Skipped}
 use Rattle.rl_lexer.specs.Lexemes.{IdentifierForm, LiteralForm, DelimiterForm, MarkForm, delimiters, marks}
 use Rattle.rl_forms.specs.Reading.{truth_text}
 use Rattle.rl_text.specs.Classes.{after_run}
 use Rattle.rl_lexer.specs.Sources.{PlainKind, StrayKind, SourceBefore, IsLiteralText, source_text}
-use Rattle.rl_lexer.specs.Mirrors.LexemeAt.{StrayHead, begins_word, is_prefix_letter, is_mark_alone, mark_form, head_class, lexeme_at, begins_raw_after}
+use Rattle.rl_lexer.specs.Mirrors.LexemeAt.{StrayHead, LetterBHead, LetterCHead, LetterRHead, OtherLetterHead, word_at, begins_word, is_prefix_letter, is_mark_alone, mark_form, head_class, lexeme_at, begins_raw_after}
 use Rattle.rl_lexer.specs.Mirrors.SourceAt.{after_bad_quote, any_at, of_kind, opens, or_stray, other_at}
 use Rattle.rl_text.specs.Mirrors.RunsAt.{is_word_byte}
-use Rattle.rl_lexer.specs.Mirrors.LiteralsAt.{HoldsNoLiteral, past_word}
-use Rattle.rl_text.specs.Mirrors.UnlikelyAt.{is_likely_mark, is_likely_head, begins_none, with_before, unlikely_len, last_of, byte_before}
+use Rattle.rl_lexer.specs.Mirrors.LiteralsAt.{HoldsNoLiteral, Reaches, past_word}
+use Rattle.rl_text.specs.Mirrors.UnlikelyAt.{is_likely_mark, is_likely_head, goes_on_likely, may_begin, begins_none, first_or, unlikely_after, unlikely_len, last_of, byte_before}
 use Rattle.rl_text.proofs.AsciiRuns.{held_agrees}
-use Rattle.rl_lexer.proofs.LexemeAnswers.{no_lexeme}
-use Rattle.rl_lexer.proofs.LexemeFronts.{at_class, stray_class, start_ascii}
-use Rattle.rl_lexer.proofs.LiteralSteps.{Reaches, holds_skipped, reach_end, reach_token, reach_white}
+use Rattle.rl_lexer.proofs.LexemeAnswers.{form_before, no_lexeme}
+use Rattle.rl_lexer.proofs.LexemeFronts.{at_class, class_start, class98, class99, class114, stray_class, start_ascii}
+use Rattle.rl_lexer.proofs.LiteralSteps.{holds_skipped, reach_token, reach_white}
+use Rattle.rl_lexer.proofs.Pieces.{is_equal}
 use Rattle.rl_lexer.proofs.SourceFronts.{any_found, plain_before}
 use Rattle.rl_lexer.proofs.WordsAndMarks.{mark_found, word_found}
 
@@ -55,17 +57,23 @@ stray_table c low is = implied (stray_here c) (stray_facts c)
 
 -- ---- the tokens in front
 
-word_no_literal : (c : ℕ) (u after : List ℕ) (token : SourceBefore (c ∷ u) (PlainKind IdentifierForm) after)
-    → (c == 116) ≡ false → (c == 102) ≡ false → IsLiteralText (PlainKind IdentifierForm) (source_text token.token) → ⊥
-word_no_literal c u after token no_t no_f (b, is) =
+-- neither of the two words, by its first two letters
+word_no_truth : (c : ℕ) (u after : List ℕ) (token : SourceBefore (c ∷ u) (PlainKind IdentifierForm) after)
+    → ((c == 116) && begins_char 114 u) ≡ false → ((c == 102) && begins_char 97 u) ≡ false
+    → IsLiteralText (PlainKind IdentifierForm) (source_text token.token) → ⊥
+word_no_truth c u after token no_t no_f (b, is) =
     let whole : c ∷ u ≡ truth_text b ++ after = token.text_is ∙ ap (λ z. z ++ after) is in
     go b whole
   where
     go : (b : Bool) → c ∷ u ≡ truth_text b ++ after → ⊥
-    go true e = let q : c ≡ 116 = cc in let k : (116 == 116) ≡ false = subst (λ (z : ℕ). (z == 116) ≡ false) q no_t in
-        cc
-    go false e = let q : c ≡ 102 = cc in let k : (102 == 102) ≡ false = subst (λ (z : ℕ). (z == 102) ≡ false) q no_f in
-        cc
+    go true e =
+        let k : (begins_char 116 (truth_text true ++ after) && begins_char 114 (drop 1 (truth_text true ++ after)))
+        ≡ false = subst (λ (z : List ℕ). (begins_char 116 z && begins_char 114 (drop 1 z)) ≡ false) e no_t in
+        absurd (cc)
+    go false e =
+        let k : (begins_char 102 (truth_text false ++ after) && begins_char 97 (drop 1 (truth_text false ++ after)))
+        ≡ false = subst (λ (z : List ℕ). (begins_char 102 z && begins_char 97 (drop 1 z)) ≡ false) e no_f in
+        absurd (cc)
 
 reach_word : (c : ℕ) (u r : List ℕ) → c < 128 → word_here c ≡ true → Reaches (after_run is_continue u) r
     → Reaches (c ∷ u) r
@@ -79,8 +87,35 @@ reach_word c u r low here more =
     let token = plain_before (c ∷ u) (after_run is_continue u) IdentifierForm
     (word_found (c ∷ u) u (after_run is_continue u) c refl begins refl) in
     reach_token c u (after_run is_continue u) r (PlainKind IdentifierForm) (not_true (c == 47) slash.0)
-    (not_true (is_white c) white.0) token (word_no_literal c u (after_run is_continue u) token
-    (not_true (c == 116) truth.0) (not_true (c == 102) truth.1)) more
+    (not_true (is_white c) white.0) token (word_no_truth c u (after_run is_continue u) token
+    (ap (λ b. b && begins_char 114 u) (not_true (c == 116) truth.0)) (ap (λ b. b && begins_char 97 u)
+    (not_true (c == 102) truth.1))) more
+
+-- ---- letters with which no literal goes on
+
+-- the next character, as far as it is of ASCII
+abbrev Agrees : ℕ → List ℕ → Type 0
+Agrees next u = (k : ℕ) → 0 < k → k < 128 → begins_char k u ≡ (next == k)
+
+letter_b : (u : List ℕ) → begins_char 34 u ≡ false → begins_char 39 u ≡ false → begins_char 114 u ≡ false
+    → lexeme_at (98 ∷ u) ≡ word_at u
+letter_b u quote apostrophe raw = at_class 98 u LetterBHead class98 ∙ rw (quote, apostrophe, raw) refl
+
+letter_c : (u : List ℕ) → begins_char 34 u ≡ false → begins_char 114 u ≡ false → lexeme_at (99 ∷ u) ≡ word_at u
+letter_c u quote raw = at_class 99 u LetterCHead class99 ∙ rw (quote, raw) refl
+
+letter_r : (u : List ℕ) → begins_char 34 u ≡ false → begins_char 35 u ≡ false → lexeme_at (114 ∷ u) ≡ word_at u
+letter_r [] quote hash = at_class 114 [] LetterRHead class114
+letter_r (d ∷ u) quote hash = at_class 114 (d ∷ u) LetterRHead class114 ∙ rw (hash, quote) refl
+
+reach_letter : (c : ℕ) (u r : List ℕ) → (c == 47) ≡ false → is_white c ≡ false → lexeme_at (c ∷ u) ≡ word_at u
+    → ((c == 116) && begins_char 114 u) ≡ false → ((c == 102) && begins_char 97 u) ≡ false
+    → Reaches (after_run is_continue u) r → Reaches (c ∷ u) r
+reach_letter c u r slash white word no_t no_f more =
+    let token = plain_before (c ∷ u) (after_run is_continue u) IdentifierForm
+    (form_before (c ∷ u) (IdentifierForm, after_run is_continue u) word) in
+    reach_token c u (after_run is_continue u) r (PlainKind IdentifierForm) slash white token
+    (word_no_truth c u (after_run is_continue u) token no_t no_f) more
 
 -- of a mark's form
 mark_no_literal : (d : Bool) (c : ℕ) (text : List ℕ) → IsLiteralText (PlainKind (cond d (DelimiterForm c) (MarkForm c)))
@@ -141,7 +176,7 @@ reach_stray c u r low here white more =
 
 -- ---- fronts of ASCII
 
-low_of : (p c : ℕ) → begins_none (p, c) ≡ true → c < 128
+low_of : (p c : ℕ) → is_past (p, c) ≡ true → c < 128
 low_of p c h = go (nat_le 128 c) refl h
   where
     marks_low : (q a s : Bool) (x : Bool) → not ((q || a || s || true) || x) ≡ true → ⊥
@@ -150,7 +185,7 @@ low_of p c h = go (nat_le 128 c) refl h
     marks_low false false true x h = cc
     marks_low false false false x h = cc
 
-    go : (b : Bool) → nat_le 128 c ≡ b → begins_none (p, c) ≡ true → c < 128
+    go : (b : Bool) → nat_le 128 c ≡ b → is_past (p, c) ≡ true → c < 128
     go true e h = absurd (marks_low (c == 34) (c == 39) (c == 47) (not (is_word_byte p) && is_likely_head c)
         (ap (λ b. not ((c == 34 || c == 39 || c == 47 || b) || (not (is_word_byte p) && is_likely_head c))) (sym e)
         ∙ h))
@@ -180,24 +215,130 @@ reach_other c u r low plain unlikely more = go (is_white c) (is_mark_alone c) re
     go false true e f = reach_mark c u r slash e f more
     go false false e f = reach_stray c u r low (rw (plain, unlikely, e, f) refl) e more
 
-pub reach_front : (p : ℕ) (cs t r : List ℕ) → list_all begins_none (with_before p cs) ≡ true
-    → Reaches (past_word (last_of p cs) t) r → Reaches (past_word p (cs ++ t)) r
-reach_front p [] t r all h = h
-reach_front p (c ∷ cs) t r all h = go (reach_front c cs t r (and_parts (begins_none (p, c))
-    (list_all begins_none (with_before c cs)) all).1 h) (is_word_byte p) (is_word_byte c) refl refl
+-- what a place tells at which none begins
+abbrev Passes : ℕ → ℕ → List ℕ → List ℕ → Type 0
+Passes p c u r =
+    (c < 128) × (not (is_likely_mark c) ≡ true)
+    × (is_word_byte p ≡ false → is_word_byte c ≡ true → Reaches (after_run is_continue u) r → Reaches (c ∷ u) r)
+
+-- by the byte before it
+passes_before : (p c : ℕ) (u r : List ℕ) → is_past (p, c) ≡ true → Passes p c u r
+passes_before p c u r past =
+    let parts = parts_of (is_likely_mark c) (is_word_byte p) (is_likely_head c) past in (
+      low_of p c past,
+      parts.0,
+      λ plain word more. reach_word c u r (low_of p c past) (rw (word, parts.1 plain) refl)
+          more,
+    )
+
+and_true : (b : Bool) → (b && true) ≡ b
+and_true true = refl
+and_true false = refl
+
+or_false : (a b : Bool) → (a || b) ≡ false → (a || b || false) ≡ false
+or_false true b h = absurd (cc)
+or_false false true h = absurd (cc)
+or_false false false h = refl
+
+three : (a b d : Bool) → (a || b || d) ≡ false → (a ≡ false) × (b ≡ false) × (d ≡ false)
+three true b d h = absurd (cc)
+three false true d h = absurd (cc)
+three false false true h = absurd (cc)
+three false false false h = (refl, refl, refl)
+
+-- by the next
+passes_letter : (p c next : ℕ) (u r : List ℕ) → Agrees next u → goes_on_likely c next ≡ false → Passes p c u r
+passes_letter p c next u r agrees stops = go (c == 98) (c == 99) (c == 114) (c == 116) (c == 102) refl refl refl refl refl
+    stops
   where
-    parts : (begins_none (p, c) ≡ true) × (list_all begins_none (with_before c cs) ≡ true)
-    parts = and_parts (begins_none (p, c)) (list_all begins_none (with_before c cs)) all
+    here : (k : ℕ) → (c == k) ≡ true → Passes p k u r → Passes p c u r
+    here k e is = subst (λ (z : ℕ). Passes p z u r) (sym (is_equal c k e)) is
 
-    low : c < 128
-    low = low_of p c parts.0
+    begun : (k : ℕ) → 0 < k → k < 128 → (next == k) ≡ false → begins_char k u ≡ false
+    begun k some low is = agrees k some low ∙ is
 
-    unlikely : (not (is_likely_mark c) ≡ true) × (is_word_byte p ≡ false → not (is_likely_head c) ≡ true)
-    unlikely = parts_of (is_likely_mark c) (is_word_byte p) (is_likely_head c) parts.0
+    go : (b d e t f : Bool) → (c == 98) ≡ b → (c == 99) ≡ d → (c == 114) ≡ e → (c == 116) ≡ t → (c == 102) ≡ f
+        → cond b (next == 34 || next == 39 || next == 114) (cond d (next == 34 || next == 114)
+        (cond e (next == 34 || next == 35) (cond t (next == 114) (cond f (next == 97) true)))) ≡ false → Passes p c u r
+    go true d e t f hb hd he ht hf h =
+        let n = three (next == 34) (next == 39) (next == 114) h in
+        here 98 hb (
+          lit< tt,
+          refl,
+          λ plain word more. reach_letter 98 u r refl refl
+              (letter_b u (begun 34 (lit< tt) (lit< tt) n.0) (begun 39 (lit< tt) (lit< tt) n.1)
+              (begun 114 (lit< tt) (lit< tt) n.2)) refl refl more,
+        )
+    go false true e t f hb hd he ht hf h =
+        let n = three (next == 34) (next == 114) false (or_false (next == 34) (next == 114) h) in
+        here 99 hd (
+          lit< tt,
+          refl,
+          λ plain word more. reach_letter 99 u r refl refl
+              (letter_c u (begun 34 (lit< tt) (lit< tt) n.0) (begun 114 (lit< tt) (lit< tt) n.1)) refl refl more,
+        )
+    go false false true t f hb hd he ht hf h =
+        let n = three (next == 34) (next == 35) false (or_false (next == 34) (next == 35) h) in
+        here 114 he (
+          lit< tt,
+          refl,
+          λ plain word more. reach_letter 114 u r refl refl
+              (letter_r u (begun 34 (lit< tt) (lit< tt) n.0) (begun 35 (lit< tt) (lit< tt) n.1)) refl refl more,
+        )
+    go false false false true f hb hd he ht hf h =
+        here 116 ht (
+          lit< tt,
+          refl,
+          λ plain word more. reach_letter 116 u r refl refl
+              (at_class 116 u OtherLetterHead (class_start 116 (start_ascii 116 (lit< tt)))) (begun 114 (lit< tt) (lit< tt) h) refl more,
+        )
+    go false false false false true hb hd he ht hf h =
+        here 102 hf (
+          lit< tt,
+          refl,
+          λ plain word more. reach_letter 102 u r refl refl
+              (at_class 102 u OtherLetterHead (class_start 102 (start_ascii 102 (lit< tt)))) refl (begun 97 (lit< tt) (lit< tt) h) more,
+        )
+    go false false false false false hb hd he ht hf h = absurd (cc)
+
+both : (m : Bool) → not (m && true) ≡ true → not m ≡ true
+both true h = absurd (cc)
+both false h = refl
+
+-- a place at which none begins
+passes : (p c next : ℕ) (u r : List ℕ) → Agrees next u → begins_none p c next ≡ true → Passes p c u r
+passes p c next u r agrees none = go (goes_on_likely c next) refl none
+  where
+    go : (g : Bool) → goes_on_likely c next ≡ g → not (may_begin (p, c) && g) ≡ true → Passes p c u r
+    go true e none = passes_before p c u r (both (may_begin (p, c)) none)
+    go false e none = passes_letter p c next u r agrees e
+
+-- ---- fronts
+
+-- at each of the bytes none begins, where this is the next after them
+abbrev none_in : ℕ → List ℕ → ℕ → Bool
+none_in p [] next = true
+none_in p (c ∷ cs) next = begins_none p c (first_or next cs) && none_in c cs next
+
+agrees_in : (next : ℕ) (cs t : List ℕ) → Agrees next t → Agrees (first_or next cs) (cs ++ t)
+agrees_in next [] t agrees = agrees
+agrees_in next (d ∷ cs) t agrees = λ k some low. refl
+
+pub reach_front : (p next : ℕ) (cs t r : List ℕ) → Agrees next t → none_in p cs next ≡ true
+    → Reaches (past_word (last_of p cs) t) r → Reaches (past_word p (cs ++ t)) r
+reach_front p next [] t r agrees all h = h
+reach_front p next (c ∷ cs) t r agrees all h = go (reach_front c next cs t r agrees parts.1 h) (is_word_byte p)
+    (is_word_byte c) refl refl
+  where
+    parts : (begins_none p c (first_or next cs) ≡ true) × (none_in c cs next ≡ true)
+    parts = and_parts (begins_none p c (first_or next cs)) (none_in c cs next) all
+
+    facts : Passes p c (cs ++ t) r
+    facts = passes p c (first_or next cs) (cs ++ t) r (agrees_in next cs t agrees) parts.0
 
     run : (b : Bool) → is_word_byte c ≡ b → after_run is_continue (c ∷ (cs ++ t))
         ≡ cond b (after_run is_continue (cs ++ t)) (c ∷ (cs ++ t))
-    run b e = ap (λ z. cond z (after_run is_continue (cs ++ t)) (c ∷ (cs ++ t))) (held_agrees true c low ∙ e)
+    run b e = ap (λ z. cond z (after_run is_continue (cs ++ t)) (c ∷ (cs ++ t))) (held_agrees true c facts.0 ∙ e)
 
     here : Reaches (past_word c (cs ++ t)) r → (b : Bool) → is_word_byte c ≡ b
         → Reaches (cond b (after_run is_continue (cs ++ t)) (cs ++ t)) r
@@ -210,51 +351,65 @@ reach_front p (c ∷ cs) t r all h = go (reach_front c cs t r (and_parts (begins
         (here more true f)
     go more true false e f = subst (λ (z : List ℕ). Reaches z r)
         (sym (ap (λ b. cond b (after_run is_continue (c ∷ (cs ++ t))) (c ∷ (cs ++ t))) e ∙ run false f))
-        (reach_other c (cs ++ t) r low f unlikely.0 (here more false f))
+        (reach_other c (cs ++ t) r facts.0 f facts.1 (here more false f))
     go more false true e f = subst (λ (z : List ℕ). Reaches z r)
         (sym (ap (λ b. cond b (after_run is_continue (c ∷ (cs ++ t))) (c ∷ (cs ++ t))) e))
-        (reach_word c (cs ++ t) r low (rw (f, unlikely.1 e) refl) (here more true f))
+        (facts.2 e f (here more true f))
     go more false false e f = subst (λ (z : List ℕ). Reaches z r)
         (sym (ap (λ b. cond b (after_run is_continue (c ∷ (cs ++ t))) (c ∷ (cs ++ t))) e))
-        (reach_other c (cs ++ t) r low f unlikely.0 (here more false f))
+        (reach_other c (cs ++ t) r facts.0 f facts.1 (here more false f))
 
 -- ---- the bytes in front
 
-front_unlikely : (p : ℕ) (bs : List ℕ) → list_all begins_none
-    (with_before p (take (prefix_len begins_none (with_before p bs)) bs)) ≡ true
-front_unlikely p [] = refl
-front_unlikely p (b ∷ bs) = go (begins_none (p, b)) refl (front_unlikely b bs)
+-- the next after some of the bytes is the next in all
+first_same : (n : ℕ) (bs : List ℕ) → first_or (first_or 0 (drop n bs)) (take n bs) ≡ first_or 0 bs
+first_same zero bs = refl
+first_same (suc n) [] = refl
+first_same (suc n) (b ∷ bs) = refl
+
+front_up_to : (n p : ℕ) (bs : List ℕ) → n ≤ unlikely_after p bs
+    → none_in p (take n bs) (first_or 0 (drop n bs)) ≡ true
+front_up_to zero p bs h = refl
+front_up_to (suc n) p [] h = absurd (omega arith)
+front_up_to (suc n) p (b ∷ bs) h = go (begins_none p b (first_or 0 bs)) refl h (front_up_to n b bs)
   where
-    go : (t : Bool) → begins_none (p, b) ≡ t → list_all begins_none
-        (with_before b (take (prefix_len begins_none (with_before b bs)) bs)) ≡ true
-        → list_all begins_none (with_before p (take (cond t (1 + prefix_len begins_none (with_before b bs)) 0)
-        (b ∷ bs))) ≡ true
-    go true e more =
-        let n = prefix_len begins_none (with_before b bs) in
-        ap (λ k. list_all begins_none (with_before p (take k (b ∷ bs)))) (let q : 1 + n ≡ suc n = omega arith in q)
-        ∙ and_from (begins_none (p, b)) (list_all begins_none (with_before b (take n bs))) e more
-    go false e more = refl
+    go : (t : Bool) → begins_none p b (first_or 0 bs) ≡ t → suc n ≤ cond t (suc (unlikely_after b bs)) 0
+        → (n ≤ unlikely_after b bs → none_in b (take n bs) (first_or 0 (drop n bs)) ≡ true)
+        → none_in p (take (suc n) (b ∷ bs)) (first_or 0 (drop (suc n) (b ∷ bs))) ≡ true
+    go true e h more = and_from (begins_none p b (first_or (first_or 0 (drop n bs)) (take n bs)))
+        (none_in b (take n bs) (first_or 0 (drop n bs))) (ap (begins_none p b) (first_same n bs) ∙ e)
+        (more (omega arith))
+    go false e h more = absurd (omega arith)
 
--- a shorter front too
-shorter_front : (p n m : ℕ) (bs : List ℕ) → n ≤ m → list_all begins_none (with_before p (take m bs)) ≡ true
-    → list_all begins_none (with_before p (take n bs)) ≡ true
-shorter_front p zero m bs h all = refl
-shorter_front p (suc n) zero bs h all = absurd (omega arith)
-shorter_front p (suc n) (suc m) [] h all = refl
-shorter_front p (suc n) (suc m) (b ∷ bs) h all =
-    let parts = and_parts (begins_none (p, b)) (list_all begins_none (with_before b (take m bs))) all in
-    and_from (begins_none (p, b)) (list_all begins_none (with_before b (take n bs))) parts.0
-    (shorter_front b n m bs (omega arith) parts.1)
+-- what stands before one at which none begins, and what that is, is of ASCII
+none_low : (p c next : ℕ) → begins_none p c next ≡ true → c < 128
+none_low p c next none = (passes p c next (next ∷ []) [] (λ k some low. refl) none).0
 
-front_up_to : (n : ℕ) (bs : List ℕ) → n ≤ unlikely_len bs → list_all begins_none (with_before 0 (take n bs)) ≡ true
-front_up_to n bs h = shorter_front 0 n (unlikely_len bs) bs h (front_unlikely 0 bs)
+front_ascii : (p next : ℕ) (cs : List ℕ) → none_in p cs next ≡ true → IsAscii cs
+front_ascii p next [] h i = omega arith
+front_ascii p next (c ∷ cs) h zero = none_low p c (first_or next cs) (and_parts (begins_none p c (first_or next cs))
+    (none_in c cs next) h).0
+front_ascii p next (c ∷ cs) h (suc i) = front_ascii c next cs (and_parts (begins_none p c (first_or next cs))
+    (none_in c cs next) h).1 i
 
-front_ascii : (p : ℕ) (cs : List ℕ) → list_all begins_none (with_before p cs) ≡ true → IsAscii cs
-front_ascii p [] h i = omega arith
-front_ascii p (c ∷ cs) h zero = low_of p c (and_parts (begins_none (p, c)) (list_all begins_none (with_before c cs))
-    h).0
-front_ascii p (c ∷ cs) h (suc i) = front_ascii c cs (and_parts (begins_none (p, c))
-    (list_all begins_none (with_before c cs)) h).1 i
+-- what follows by bytes is what follows by characters
+agrees_bytes : (rest : List ℕ) → IsUtf8 rest → Agrees (first_or 0 rest) (chars rest)
+agrees_bytes rest u = λ k some low. first_char k (chars rest)
+    ∙ sym (begins_bytes (k ∷ []) rest u (and_from (nat_lt k 128) true (below k low) refl)) ∙ first_byte k rest some
+  where
+    below : (k : ℕ) → k < 128 → nat_lt k 128 ≡ true
+    below k low = grind (arith, nat_tests)
+
+    first_char : (k : ℕ) (t : List ℕ) → begins_char k t ≡ begins (k ∷ []) t
+    first_char k [] = refl
+    first_char k (c ∷ t) = sym (and_true (c == k))
+
+    unequal : (k : ℕ) → 0 < k → (0 == k) ≡ false
+    unequal k some = grind (arith, nat_tests)
+
+    first_byte : (k : ℕ) (t : List ℕ) → 0 < k → begins (k ∷ []) t ≡ (first_or 0 t == k)
+    first_byte k [] some = sym (unequal k some)
+    first_byte k (c ∷ t) some = and_true (c == k)
 
 get_taken : (n : ℕ) (bs : List ℕ) (m : ℕ) → m < n → get_or (take n bs) m 0 ≡ get_or bs m 0
 get_taken zero bs m h = absurd (omega arith)
@@ -263,38 +418,48 @@ get_taken (suc n) (b ∷ bs) zero h = refl
 get_taken (suc n) (b ∷ bs) (suc m) h = get_taken n bs m (omega arith)
 
 pub unlikely-within : (bs : List ℕ) → unlikely_len bs ≤ length bs
-unlikely-within bs = omega (arith, prefix_len-le-length begins_none (with_before 0 bs), with_before-length 0 bs)
+unlikely-within bs = go 0 bs
+  where
+    go : (p : ℕ) (bs : List ℕ) → unlikely_after p bs ≤ length bs
+    go p [] = omega arith
+    go p (b ∷ bs) = step (begins_none p b (first_or 0 bs)) (go b bs)
+      where
+        step : (t : Bool) → unlikely_after b bs ≤ length bs → cond t (suc (unlikely_after b bs)) 0 ≤ suc (length bs)
+        step true h = omega arith
+        step false h = omega arith
 
 pub unlikely-boundary : (bs : List ℕ) (n : ℕ) → IsUtf8 bs → n ≤ unlikely_len bs → IsCharBoundary bs n
 unlikely-boundary bs zero u e = IsCharBoundary-start bs u
 unlikely-boundary bs (suc m) u e =
     let long = unlikely-within bs in
-    let whole = front_up_to (suc m) bs e in
-    let low : get_or (take (suc m) bs) m 0 < 128 = front_ascii 0 (take (suc m) bs) whole m in
+    let whole = front_up_to (suc m) 0 bs e in
+    let low : get_or (take (suc m) bs) m 0 < 128 = front_ascii 0 (first_or 0 (drop (suc m) bs)) (take (suc m) bs) whole
+    m in
     let same = get_taken (suc m) bs m (omega arith) in
     let next : m + 1 ≡ suc m = omega arith in
     subst (IsCharBoundary bs) next (IsCharBoundary-after_ascii bs m u (omega arith) (omega (arith, low, same)))
 
--- From the text up to what is left at that place, after the word that goes on there and all trivia, not_true
--- literal stands.
-pub unlikely-reaches : (bs rest : List ℕ) (n : ℕ) (r : List ℕ) → IsUtf8 bs → n ≤ unlikely_len bs → rest ≡ drop n bs
-    → Skipped (past_word (byte_before bs n) (chars rest)) r → Reaches (chars bs) r
-unlikely-reaches bs rest n r u e cut skipped =
+-- From the text up to what is left at that place, after the word that goes on there, and on from it, no literal stands.
+pub unlikely-reaches : (bs rest : List ℕ) (n : ℕ) (r : List ℕ) → IsUtf8 bs → IsUtf8 rest → n ≤ unlikely_len bs
+    → rest ≡ drop n bs → Reaches (past_word (byte_before bs n) (chars rest)) r → Reaches (chars bs) r
+unlikely-reaches bs rest n r u v e cut reaches =
     let front = take n bs in
+    let next = first_or 0 (drop n bs) in
     let at = unlikely-boundary bs n u e in
-    let all = front_up_to n bs e in
+    let all = front_up_to n 0 bs e in
     let whole : chars bs ≡ front ++ chars rest =
     ap chars (sym (take-append-drop n bs)) ∙ chars-append front (drop n bs) (IsUtf8-take bs n u at)
-    ∙ ap (λ z. z ++ chars (drop n bs)) (chars-IsAscii front (front_ascii 0 front all))
+    ∙ ap (λ z. z ++ chars (drop n bs)) (chars-IsAscii front (front_ascii 0 next front all))
     ∙ ap (λ z. front ++ chars z) (sym cut) in
-    subst (λ (z : List ℕ). Reaches z r) (sym whole) (reach_front 0 front (chars rest) r all
-    (reach_end (past_word (last_of 0 front) (chars rest)) r skipped))
+    let agrees : Agrees next (chars rest) = subst (λ (z : List ℕ). Agrees (first_or 0 z) (chars rest)) cut
+    (agrees_bytes rest v) in
+    subst (λ (z : List ℕ). Reaches z r) (sym whole) (reach_front 0 next front (chars rest) r agrees all reaches)
 
 -- The same for what is left, in the words of the contract: after the byte before the place.
-pub unlikely-holds : (bs rest past next : List ℕ) (n before : ℕ) → IsUtf8 bs → n ≤ unlikely_len bs → rest ≡ drop n bs
-    → before ≡ byte_before bs n → past ≡ past_word before (chars rest) → Skipped past next
+pub unlikely-holds : (bs rest past next : List ℕ) (n before : ℕ) → IsUtf8 bs → IsUtf8 rest → n ≤ unlikely_len bs
+    → rest ≡ drop n bs → before ≡ byte_before bs n → past ≡ past_word before (chars rest) → Reaches past next
     → HoldsNoLiteral (chars bs) next
-unlikely-holds bs rest past next n before u e cut is word skipped =
-    let reaches = unlikely-reaches bs rest n next u e cut (subst (λ (z : List ℕ). Skipped z next)
-    (word ∙ ap (λ b. past_word b (chars rest)) is) skipped) in
+unlikely-holds bs rest past next n before u v e cut is word more =
+    let reaches = unlikely-reaches bs rest n next u v e cut (subst (λ z. Reaches z next)
+    (word ∙ ap (λ b. past_word b (chars rest)) is) more) in
     holds_skipped (chars bs) reaches.start next reaches.skipped reaches.holds

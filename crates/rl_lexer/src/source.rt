@@ -3,24 +3,25 @@
 
 mod bad_quote;
 
-ghost use Rattle.std.specs.Prelude.{◌≡◌, ◌↔◌, ◌<◌, ◌≤◌, Bool, length, option_map, IfSome, IfNone, IsTrue};
+ghost use Rattle.std.specs.Prelude.{◌≡◌, ◌↔◌, ◌<◌, ◌≤◌, Bool, length, option_map, IfSome, IfNone, IsFalse, IsTrue};
 ghost use Rattle.std.specs.List.{list_all};
 ghost use Rattle.std.specs.Str.{chars};
 ghost use Rattle.rl_text.specs.Texts.{IsTail};
-ghost use Rattle.rl_text.specs.Texts.{is_continue};
+ghost use Rattle.rl_text.specs.Texts.{first_passes, is_continue, is_white};
 ghost use Rattle.rl_lexer.specs.Cursors.{form_view};
 ghost use Rattle.rl_lexer.specs.Sources.{is_in_line, IsAfterLine, PlainKind, IsLiteralText, source_view, SourceBefore, BeginsNoSource, IsWithoutLine, IsWithoutPreamble, without_mark};
 ghost use Rattle.rl_text.specs.Classes.{after_run};
 ghost use Rattle.rl_forms.specs.Reading.{truth_text};
-ghost use Rattle.rl_lexer.specs.Mirrors.LiteralsAt.{HoldsNoLiteral, past_word};
+ghost use Rattle.rl_lexer.specs.Mirrors.LiteralsAt.{HoldsNoLiteral, Reaches, past_word};
+ghost use Rattle.rl_lexer.specs.Mirrors.SkippedAt.{after_any_comment};
 ghost use Rattle.rl_lexer.specs.Mirrors.SourceAt.{after_doc, after_name, after_marked, after_any_name, after_lifetime, other_at, stray_at};
 
 use crate::lexeme::{Form, number_or_other, rebuilt, word_or_mark};
 use crate::no_token::{begins_raw_identifier, opens};
-use crate::whitespace::{after_block, is_comment_block, is_comment_line, skip};
+use crate::whitespace::{after_block, after_line, is_comment_block, is_comment_line, skip};
 use bad_quote::after_bad_quote;
 use rl_text::characters::is_start;
-use rl_text::classes::skip_word;
+use rl_text::classes::{skip_white, skip_word};
 use rl_text::lanes::{byte_before, is_word_byte, unlikely_len};
 use rl_text::scan::{Marks, next_mark, split_before};
 use rl_text::text::{begins_with, split_ascii, split_char, strip_byte, without_first};
@@ -56,8 +57,8 @@ pub(crate) fn first_source(text: &str) -> Option<(SourceForm, &str)>
     rebuilt_source(text)
 }
 
-/// What is left of a text from the first byte on at which a literal or a comment may begin, or from a token's before that, after
-/// white space and comments there. All in front is passed sixteen bytes at a time; no token is made of it.
+/// What is left of a text from the first byte on at which a literal may begin, or from a token's before that, after white space
+/// and all comments there. All in front is passed sixteen bytes at a time; no token is made of it, nor of doc comments.
 #[inline(always)]
 pub(crate) fn skip_unlikely(text: &str) -> &str
     ensures holds { HoldsNoLiteral (chars text.now) (chars result.now) }
@@ -66,11 +67,40 @@ pub(crate) fn skip_unlikely(text: &str) -> &str
 {
     let bytes = text.as_bytes();
     let at = unlikely_len(bytes);
-    if at == 0 {
-        return text;
-    }
     let rest = after_word(byte_before(bytes, at), &text[at..]);
-    skip(rest)
+    skip_all_comments(skip_white(rest))
+}
+
+/// What is left of a text after comments at its front, doc comments among them, and white space after each. White space doesn't
+/// begin the text. A block that isn't closed stays.
+#[inline(always)]
+fn skip_all_comments(text: &str) -> &str
+    requires { IsFalse (first_passes is_white (chars text.now)) }
+    ensures reaches { Reaches (chars text.now) (chars result.now) }
+    ensures following { IsTail text.now result.now }
+    ensures shorter { length result.now ≤ length text.now }
+{
+    let mut rest = text;
+    while let Some(inside) = strip_byte(rest, b'/') {
+        let Some(following) = after_any_comment(inside) else {
+            return rest;
+        };
+        rest = skip_white(following);
+    }
+    rest
+}
+
+/// What follows a comment of any kind, by what stands after its first slash: of a line its LF too.
+#[inline(always)]
+fn after_any_comment(text: &str) -> Option<&str>
+    ensures rest { option_map (λ rest. chars rest.now) result ≡ after_any_comment (chars text.now) }
+    ensures following { IfSome result (λ rest. IsTail text.now rest.now) }
+{
+    match split_ascii(text) {
+        Some((b'/', following)) => Some(after_line(following)),
+        Some((b'*', following)) => after_block(following),
+        _ => None,
+    }
 }
 
 /// The text after the word that goes on there, where it stands after this byte: past ASCII one may.

@@ -1,6 +1,6 @@
 //! White space and plain comments.
 
-ghost use Rattle.std.specs.Prelude.{◌≡◌, slice_index, option_map, IfSome, IsFalse};
+ghost use Rattle.std.specs.Prelude.{◌≡◌, option_map, IfSome, IsFalse};
 ghost use Rattle.std.specs.Str.{chars};
 ghost use Rattle.rl_text.specs.Texts.{is_white, first_passes, IsTail};
 ghost use Rattle.rl_forms.specs.Trivia.{is_comment_line, is_comment_block};
@@ -8,6 +8,7 @@ ghost use Rattle.rl_lexer.specs.Skipping.{Skipped, OneRest};
 ghost use Rattle.rl_lexer.specs.Mirrors.SkippedAt.{after_line, after_block, after_comment};
 
 use rl_text::classes::skip_white;
+use rl_text::lanes::byte_at;
 use rl_text::scan::{Marks, near_len_before, next_mark};
 use rl_text::text::{begins_with, split_ascii, strip_byte};
 
@@ -108,7 +109,7 @@ pub(crate) fn is_comment_block(inside: &str) -> bool
 }
 
 /// What follows the LF that ends a line comment; nothing where the text ends in the comment.
-fn after_line(text: &str) -> &str
+pub(crate) fn after_line(text: &str) -> &str
     ensures rest { chars result.now ≡ after_line (chars text.now) }
     ensures following { IsTail text.now result.now }
 {
@@ -149,11 +150,4 @@ pub(crate) fn after_block(text: &str) -> Option<&str>
         }
     }
     None
-}
-
-/// The byte at a place, and 0 past the end.
-fn byte_at(bytes: &[u8], at: usize) -> u8
-    ensures { result ≡ slice_index bytes.now at }
-{
-    if at < bytes.len() { bytes[at] } else { 0 }
 }

@@ -105,3 +105,14 @@ module _ {X : Type 0} (p q : X → Bool) (opposite : (x : X) → not (q x) ≡ p
       split d i n ∙ ap (λ b. cond b (length c + prefix_len q (drop (i + n) d)) (prefix_len q c))
       (ne_eqb _ _ (λ (e : prefix_len q c ≡ length c). omega (arith, all_pass c (sym (same_run c) ∙ e))))
       ∙ same_run c ∙ sym (trailing_mask_l p 64 c (omega (arith, length-chunk i n d room)) some)
+
+  -- it is one of them
+  pub stops_within : (d : List X) (i n : ℕ) → i + n ≤ length d → n ≤ 64 → 0 < mask_l (map p (chunk i n d))
+      → count_trailing_zeros 64 (mask_l (map p (chunk i n d))) < n
+  stops_within d i n room short some =
+      let c = chunk i n d in
+      let long = length-chunk i n d room in
+      let at = prefix_len (λ x. not (p x)) c in
+      let bit = trailing_mask_l p 64 c (omega (arith, long)) some in
+      let other : at ≡ length c → ⊥ = λ e. omega (arith, all_pass c e) in
+      omega (arith, bit, long, other, prefix_len-le-length (λ x. not (p x)) c)

@@ -10,4 +10,5 @@ pub mod ScanLemmas
 pub mod RunLanes
 pub mod AsciiRuns
 pub mod UnlikelyLanes
+pub mod UnlikelyPlaces
 pub mod LowBytes

@@ -2,8 +2,7 @@
 use Rattle.rl_text.proofs.Common.{◌≡◌, ℕ, zero, suc, ◌+◌, ◌-◌, ◌*◌, ◌^◌, ◌<◌, ◌≤◌, ◌==◌, nat_le, ◌||◌, ◌&&◌, Bool, true, false, not, cond, List, [], ◌∷◌, map, length, take, drop, refl, sym, ap, ap₂, ◌∙◌, arith, agree_below_at, nat_tests, map-map, bit_or, chunk, mask_l, get_or}
 use lib.Bits.{bit_and, and_block, or_block}
 use Rattle.rl_text.specs.Mirrors.RunsAt.{has_bit, is_word_byte}
-use Rattle.rl_text.specs.Mirrors.UnlikelyAt.{is_likely_mark, is_likely_head, may_begin, begins_none, with_before, last_of, byte_before}
-use Rattle.rl_text.proofs.LaneLemmas.{not-not}
+use Rattle.rl_text.specs.Mirrors.UnlikelyAt.{is_likely_mark, is_likely_head, may_begin, with_before, last_of, byte_before}
 
 -- ---- each byte after the one before it
 
@@ -110,9 +109,6 @@ likely_mask bs at m w h some room marks words heads =
     ap₂ bit_or m_is both ∙ or_mask (λ x. is_likely_mark x.1) (λ x. not (is_word_byte x.0) && is_likely_head x.1) v
 
 -- ---- the first byte
-
-pub begins_opposite : (x : ℕ × ℕ) → not (begins_none x) ≡ may_begin x
-begins_opposite x = sym (not-not (may_begin x))
 
 -- by bits
 pub likely_low : (c : ℕ) → c < 64 → has_bit 288090205599039488 c ≡ (is_likely_mark c || is_likely_head c)

@@ -3,6 +3,7 @@ use Rattle.std.specs.Prelude.{ℕ, cond, List, ◌++◌, ◌≤◌}
 use Rattle.std.specs.List.{AllByRecursion}
 use Rattle.rl_text.specs.Texts.{byte_len, is_continue}
 use Rattle.rl_text.specs.Classes.{after_run}
+use Rattle.rl_lexer.specs.Skipping.{Skipped}
 use Rattle.rl_lexer.specs.Sources.{CutSource, IsCutUpTo, IsNoLiteral}
 use Rattle.rl_text.specs.Mirrors.RunsAt.{is_word_byte}
 
@@ -18,3 +19,9 @@ pub record HoldsNoLiteral (left rest : List ℕ) : Type 0 where
 -- what follows the word that goes on after this byte
 abbrev pub past_word : ℕ → List ℕ → List ℕ
 past_word before t = cond (is_word_byte before) (after_run is_continue t) t
+
+-- From a text, whatever trivia it begins with, no literal stands up to the rest.
+pub record Reaches (t rest : List ℕ) : Type 0 where
+  pub start : List ℕ
+  pub skipped : Skipped t start
+  pub holds : HoldsNoLiteral start rest

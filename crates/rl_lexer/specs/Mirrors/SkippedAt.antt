@@ -33,3 +33,9 @@ after_comment (c ∷ t) =
 abbrev pub after_piece : List ℕ → Option (List ℕ)
 after_piece [] = None
 after_piece (c ∷ t) = cond (c == code "/") (after_comment t) (cond (is_white c) (Some t) None)
+
+-- What follows a comment of any kind, a doc comment too, by what stands after its first slash.
+abbrev pub after_any_comment : List ℕ → Option (List ℕ)
+after_any_comment [] = None
+after_any_comment (c ∷ t) =
+    cond (c == code "/") (Some (after_line t)) (cond (c == code "*") (after_block 0 t) None)

@@ -1,8 +1,8 @@
 -- A mirror of the code, for proofs alone: bytes at which a literal or a comment may begin.
-use Rattle.std.specs.Prelude.{ℕ, Bool, not, ◌||◌, ◌&&◌, ◌==◌, nat_le, take, List, [], ◌∷◌}
+use Rattle.std.specs.Prelude.{ℕ, Bool, true, not, ◌||◌, ◌&&◌, ◌==◌, cond, nat_le, take, List, [], ◌∷◌}
+use Rattle.std.proofs.Common.{suc}
 use Prim.Native.Char.{code}
 use Rattle.std.specs.Char.{is_ascii_digit}
-use Rattle.std.specs.List.{prefix_len}
 use Rattle.rl_text.specs.Mirrors.RunsAt.{is_word_byte}
 
 -- ---- bytes at which a literal or a comment may begin
@@ -21,17 +21,40 @@ is_likely_head c =
 abbrev pub may_begin : ℕ × ℕ → Bool
 may_begin x = is_likely_mark x.1 || (not (is_word_byte x.0) && is_likely_head x.1)
 
-abbrev pub begins_none : ℕ × ℕ → Bool
-begins_none x = not (may_begin x)
-
 -- each byte after the one before it
 abbrev pub with_before : ℕ → List ℕ → List (ℕ × ℕ)
 with_before before [] = []
 with_before before (c ∷ cs) = (before, c) ∷ with_before c cs
 
+-- what goes on with a literal's prefix, or with one of the two words; after all else anything does
+abbrev pub goes_on_likely : ℕ → ℕ → Bool
+goes_on_likely c next =
+    cond (c == code "b") (next == code "\"" || next == code "'" || next == code "r")
+    (cond (c == code "c") (next == code "\"" || next == code "r")
+    (cond (c == code "r") (next == code "\"" || next == code "#")
+    (cond (c == code "t") (next == code "r") (cond (c == code "f") (next == code "a") true))))
+
+-- the first, or this where there is none
+abbrev pub first_or : ℕ → List ℕ → ℕ
+first_or other [] = other
+first_or other (c ∷ cs) = c
+
+abbrev pub is_likely_place : List ℕ → Bool
+is_likely_place [] = true
+is_likely_place (c ∷ cs) = goes_on_likely c (first_or 0 cs)
+
+-- of a byte, between the one before it and the next
+abbrev pub begins_none : ℕ → ℕ → ℕ → Bool
+begins_none before c next = not (may_begin (before, c) && goes_on_likely c next)
+
 -- how many bytes stand in front of the first that may begin one
+abbrev pub unlikely_after : ℕ → List ℕ → ℕ
+unlikely_after before [] = 0
+unlikely_after before (c ∷ cs) =
+    cond (begins_none before c (first_or 0 cs)) (suc (unlikely_after c cs)) 0
+
 abbrev pub unlikely_len : List ℕ → ℕ
-unlikely_len bytes = prefix_len begins_none (with_before 0 bytes)
+unlikely_len bytes = unlikely_after 0 bytes
 
 -- the last of the bytes, or the one before them
 abbrev pub last_of : ℕ → List ℕ → ℕ

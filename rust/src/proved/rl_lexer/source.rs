@@ -5,10 +5,10 @@ mod bad_quote;
 
 use crate::rl_lexer::lexeme::{Form, number_or_other, rebuilt, word_or_mark};
 use crate::rl_lexer::no_token::{begins_raw_identifier, opens};
-use crate::rl_lexer::whitespace::{after_block, is_comment_block, is_comment_line, skip};
+use crate::rl_lexer::whitespace::{after_block, after_line, is_comment_block, is_comment_line, skip};
 use bad_quote::after_bad_quote;
 use crate::rl_text::characters::is_start;
-use crate::rl_text::classes::skip_word;
+use crate::rl_text::classes::{skip_white, skip_word};
 use crate::rl_text::lanes::{byte_before, is_word_byte, unlikely_len};
 use crate::rl_text::scan::{Marks, split_before};
 #[cfg(feature = "rendered")]
@@ -40,17 +40,38 @@ pub(crate) fn first_source(text: &str) -> Option<(SourceForm, &str)> {
     rebuilt_source(text)
 }
 
-/// What is left of a text from the first byte on at which a literal or a comment may begin, or from a token's before that, after
-/// white space and comments there. All in front is passed sixteen bytes at a time; no token is made of it.
+/// What is left of a text from the first byte on at which a literal may begin, or from a token's before that, after white space
+/// and all comments there. All in front is passed sixteen bytes at a time; no token is made of it, nor of doc comments.
 #[inline(always)]
 pub(crate) fn skip_unlikely(text: &str) -> &str {
     let bytes = text.as_bytes();
     let at = unlikely_len(bytes);
-    if at == 0 {
-        return text;
-    }
     let rest = after_word(byte_before(bytes, at), &text[at..]);
-    skip(rest)
+    skip_all_comments(skip_white(rest))
+}
+
+/// What is left of a text after comments at its front, doc comments among them, and white space after each. White space doesn't
+/// begin the text. A block that isn't closed stays.
+#[inline(always)]
+fn skip_all_comments(text: &str) -> &str {
+    let mut rest = text;
+    while let Some(inside) = strip_byte(rest, b'/') {
+        let Some(following) = after_any_comment(inside) else {
+            return rest;
+        };
+        rest = skip_white(following);
+    }
+    rest
+}
+
+/// What follows a comment of any kind, by what stands after its first slash: of a line its LF too.
+#[inline(always)]
+fn after_any_comment(text: &str) -> Option<&str> {
+    match split_ascii(text) {
+        Some((b'/', following)) => Some(after_line(following)),
+        Some((b'*', following)) => after_block(following),
+        _ => None,
+    }
 }
 
 /// The text after the word that goes on there, where it stands after this byte: past ASCII one may.

@@ -2,6 +2,7 @@
 //! White space and plain comments.
 
 use crate::rl_text::classes::skip_white;
+use crate::rl_text::lanes::byte_at;
 use crate::rl_text::scan::{Marks, near_len_before, next_mark};
 use crate::rl_text::text::{begins_with, split_ascii, strip_byte};
 
@@ -69,7 +70,7 @@ pub(crate) fn is_comment_block(inside: &str) -> bool {
 }
 
 /// What follows the LF that ends a line comment; nothing where the text ends in the comment.
-fn after_line(text: &str) -> &str {
+pub(crate) fn after_line(text: &str) -> &str {
     match next_mark(Marks::two(b'\n', b'\n'), text) {
         Some((_, following)) => following,
         None => "",
@@ -104,9 +105,4 @@ pub(crate) fn after_block(text: &str) -> Option<&str> {
         }
     }
     None
-}
-
-/// The byte at a place, and 0 past the end.
-fn byte_at(bytes: &[u8], at: usize) -> u8 {
-    if at < bytes.len() { bytes[at] } else { 0 }
 }

@@ -126,6 +126,44 @@ fn likely_among(bytes: &[u8], at: usize) -> u64 {
     marks_among(bytes, at) | heads
 }
 
+/// Whether a literal may begin with the byte, which stands after no word, where this is the next: at a letter only where its
+/// prefix goes on, or one of the words `true` and `false` does.
+#[inline(always)]
+fn goes_on_likely(byte: u8, next: u8) -> bool {
+    match byte {
+        b'b' => matches!(next, b'"' | b'\'' | b'r'),
+        b'c' => matches!(next, b'"' | b'r'),
+        b'r' => matches!(next, b'"' | b'#'),
+        b't' => next == b'r',
+        b'f' => next == b'a',
+        _ => true,
+    }
+}
+
+/// Whether a literal or a comment may begin at the place, of which [`likely_among`] says so by its byte and the one before.
+#[inline(always)]
+fn is_likely_place(bytes: &[u8], at: usize) -> bool {
+    goes_on_likely(bytes[at], byte_at(bytes, at + 1))
+}
+
+/// The first place among sixteen at which a literal or a comment may begin. `None` where there is none. A bit is set for each
+/// at which one may by its byte and the one before.
+#[inline(always)]
+fn first_likely(bytes: &[u8], from: usize, found: u64) -> Option<usize> {
+    let mut at = from;
+    let mut left = found;
+    while left != 0 {
+        let place = left.trailing_zeros();
+        at += place as usize;
+        if is_likely_place(bytes, at) {
+            return Some(at);
+        }
+        at += 1;
+        left >>= place + 1;
+    }
+    None
+}
+
 /// How many bytes at the front begin no literal and no comment, looked at sixteen at a time while so many are left.
 #[inline(never)]
 pub fn unlikely_len(bytes: &[u8]) -> usize {
@@ -135,12 +173,18 @@ pub fn unlikely_len(bytes: &[u8]) -> usize {
     let mut at = 1;
     while bytes.len() - at >= LANES {
         let found = likely_among(bytes, at);
-        if found != 0 {
-            return at + found.trailing_zeros() as usize;
+        if let Some(place) = first_likely(bytes, at, found) {
+            return place;
         }
         at += LANES;
     }
     at
+}
+
+/// The byte at a place, and 0 past the end.
+#[inline(always)]
+pub fn byte_at(bytes: &[u8], at: usize) -> u8 {
+    if at < bytes.len() { bytes[at] } else { 0 }
 }
 
 /// The byte before a place, and 0 at the front.

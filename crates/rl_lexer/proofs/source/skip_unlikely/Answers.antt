@@ -1,9 +1,10 @@
 use Rattle.rl_text.proofs.Common.{◌≤◌, ◌∙◌, ap, subst, arith, chars}
-use Rattle.rl_text.specs.Texts.{IsTail}
+use Rattle.rl_text.specs.Texts.{IsTail, is_white}
 use Rattle.rl_text.specs.Mirrors.UnlikelyAt.{byte_before, unlikely_len}
 use Rattle.rl_text.proofs.TailLemmas.{tail_step}
-use Rattle.rl_lexer.proofs.LiteralSteps.{holds_start}
 use Rattle.rl_text.proofs.Rests.{tail_drop}
+use Rattle.rl_lexer.proofs.LiteralSteps.{reach_run}
+use Rattle.rl_lexer.proofs.Pieces.{run_ends}
 use Rattle.rl_lexer.proofs.UnlikelyFronts.{unlikely-boundary, unlikely-holds, unlikely-within}
 use Rattle.rl_lexer.proofs.source.skip_unlikely.Goals as goal
 
@@ -11,24 +12,26 @@ pub range_from-requires : goal.range_from-requires
 range_from-requires c = λ _. unlikely-boundary c.args.text.now c.unlikely_len-at.result c.utf8.text
     (subst (λ z. c.unlikely_len-at.result ≤ unlikely_len z) c.as_bytes-bytes.ensures.value c.unlikely_len-at.ensures)
 
+pub byte_before-requires : goal.byte_before-requires
+byte_before-requires c = omega (arith, unlikely-within c.as_bytes-bytes.result.now, c.unlikely_len-at.ensures)
+
+pub skip_all_comments-requires : goal.skip_all_comments-requires
+skip_all_comments-requires c = run_ends is_white (chars c.after_word-rest.result.now) _ c.skip_white.ensures.rest
+
 pub returns-clause-holds : goal.returns-clause-holds
 returns-clause-holds c =
     let t = c.args.text.now in
     let at = c.unlikely_len-at.result in
-    unlikely-holds t c.range_from.result.now (chars c.after_word-rest.result.now) (chars c.skip.result.now) at
-    c.byte_before.result c.utf8.text (subst (λ z. at ≤ unlikely_len z) c.as_bytes-bytes.ensures.value
-    c.unlikely_len-at.ensures) c.range_from.ensures.value (c.byte_before.ensures
-    ∙ ap (λ z. byte_before z at) c.as_bytes-bytes.ensures.value) c.after_word-rest.ensures.rest
-    c.skip.ensures.skipped
-
-pub byte_before-requires : goal.byte_before-requires
-byte_before-requires c = omega (arith, unlikely-within c.as_bytes-bytes.result.now, c.unlikely_len-at.ensures)
+    unlikely-holds t c.range_from.result.now (chars c.after_word-rest.result.now)
+    (chars c.skip_all_comments.result.now) at c.byte_before.result c.utf8.text c.range_from.utf8
+    (subst (λ z. at ≤ unlikely_len z) c.as_bytes-bytes.ensures.value c.unlikely_len-at.ensures)
+    c.range_from.ensures.value (c.byte_before.ensures ∙ ap (λ z. byte_before z at) c.as_bytes-bytes.ensures.value)
+    c.after_word-rest.ensures.rest (reach_run (chars c.after_word-rest.result.now) _ _ c.skip_white.ensures.rest
+    c.skip_all_comments.ensures.reaches)
 
 pub returns-clause-following : goal.returns-clause-following
 returns-clause-following c =
     let tail : IsTail c.args.text.now c.range_from.result.now = tail_drop c.args.text.now c.range_from.result.now
     c.unlikely_len-at.result c.range_from.ensures.value c.range_from.utf8 in
-    tail_step _ _ _ (tail_step _ _ _ tail c.after_word-rest.ensures.following) c.skip.ensures.following
-
-pub returns-then-at-eq0-clause-holds : goal.returns-then-at-eq0-clause-holds
-returns-then-at-eq0-clause-holds c = holds_start (chars c.args.text.now)
+    tail_step _ _ _ (tail_step _ _ _ (tail_step _ _ _ tail c.after_word-rest.ensures.following)
+    c.skip_white.ensures.following) c.skip_all_comments.ensures.following

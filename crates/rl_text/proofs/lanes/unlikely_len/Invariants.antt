@@ -1,10 +1,10 @@
-use Rattle.rl_text.proofs.Common.{◌≡◌, ◌+◌, ◌-◌, ◌<◌, ◌≤◌, length, drop, prefix_len}
-use Rattle.rl_text.specs.Mirrors.UnlikelyAt.{begins_none, with_before, unlikely_len}
+use Rattle.rl_text.proofs.Common.{◌≡◌, ◌-◌, ◌<◌, ◌≤◌, length}
+use Rattle.rl_text.specs.Mirrors.UnlikelyAt.{unlikely_len}
 use Rattle.rl_text.proofs.lanes.unlikely_len.Given as goal
 
 abbrev pub invariant-loop-at : goal.invariant-loop-at
 invariant-loop-at l = record {
-  run : unlikely_len l.bytes ≡ l.at + prefix_len begins_none (drop l.at (with_before 0 l.bytes));
+  front : l.at ≤ unlikely_len l.bytes;
   in_range : l.at ≤ length l.bytes;
   past_first : 0 < l.at;
 }
