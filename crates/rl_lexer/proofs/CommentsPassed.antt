@@ -1,5 +1,5 @@
 -- No literal stands in comments, doc comments among them.
-use Rattle.rl_text.proofs.Common.{◌≡◌, ℕ, Bool, true, false, ◌==◌, cond, List, [], ◌∷◌, Some, None, refl, sym, ap, subst, ◌∙◌}
+use Rattle.rl_text.proofs.Common.{◌≡◌, ℕ, Bool, true, false, ◌==◌, cond, List, [], ◌∷◌, Some, None, refl, sym, subst}
 use Rattle.rl_forms.specs.Trivia.{is_comment_block, is_comment_line}
 use Rattle.rl_text.specs.Classes.{after_run}
 use Rattle.rl_text.specs.Texts.{is_white}

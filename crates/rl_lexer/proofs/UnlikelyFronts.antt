@@ -1,10 +1,9 @@
 -- In front of the first byte at which a literal or a comment may begin stands none.
-use Rattle.rl_text.proofs.Common.{◌≡◌, ℕ, zero, suc, ◌+◌, ◌<◌, ◌≤◌, Bool, true, false, not, ◌&&◌, ◌||◌, ◌==◌, nat_le, cond, List, [], ◌∷◌, ◌++◌, Some, None, length, take, drop, get_or, lit<, nat_lt, refl, sym, ap, subst, ◌∙◌, arith, agree_below_at, and_from, and_parts, nat_tests, take-append-drop, prefix_len-le-length, IsCharBoundary-start, IsCharBoundary-after_ascii, IsUtf8-take, chars-append, chars-IsAscii, is_ascii_alphabetic, is_ascii_digit, list_all, prefix_len, chars, IsAscii, IsCharBoundary, IsUtf8}
+use Rattle.rl_text.proofs.Common.{◌≡◌, ℕ, zero, suc, ◌+◌, ◌<◌, ◌≤◌, Bool, true, false, not, ◌&&◌, ◌||◌, ◌==◌, nat_le, cond, List, [], ◌∷◌, ◌++◌, Some, None, length, take, drop, get_or, lit<, nat_lt, refl, sym, ap, subst, ◌∙◌, arith, agree_below_at, and_from, and_parts, nat_tests, take-append-drop, IsCharBoundary-start, IsCharBoundary-after_ascii, IsUtf8-take, chars-append, chars-IsAscii, is_ascii_alphabetic, is_ascii_digit, chars, IsAscii, IsCharBoundary, IsUtf8}
 use Rattle.rl_text.proofs.BeginsLemmas.{begins_bytes}
 use Rattle.rl_text.proofs.UnlikelyPlaces.{is_past}
 use Rattle.rl_lexer.proofs.LexemeRows.{not_true}
 use Rattle.rl_text.specs.Texts.{begins, begins_char, is_among, is_white, is_continue}
-use Rattle.rl_lexer.specs.Skipping.{Skipped}
 use Rattle.rl_lexer.specs.Lexemes.{IdentifierForm, LiteralForm, DelimiterForm, MarkForm, delimiters, marks}
 use Rattle.rl_forms.specs.Reading.{truth_text}
 use Rattle.rl_text.specs.Classes.{after_run}

@@ -6,7 +6,7 @@ use Rattle.rl_forms.proofs.OneNumber.{float_once}
 use Rattle.rl_forms.proofs.OneReading.{one_reading}
 use Rattle.rl_forms.proofs.StrictNumbers.{letter_no_part, no_part}
 use Rattle.rl_reading.specs.Mirrors.NumberAt.{run, has_value, digit_row_at, after_digits, after_minus, radix_at}
-use Rattle.rl_reading.proofs.FloatLemmas.{letter_no_dot}
+use Rattle.rl_reading.proofs.FloatLemmas.{fraction_stops, letter_no_dot}
 use Rattle.rl_reading.proofs.IntegerLemmas.{minus_past, radix_past}
 use Rattle.rl_reading.proofs.RunLemmas.{run_join, run_past}
 use Rattle.rl_reading.proofs.TestLemmas.{passes_more}
@@ -26,9 +26,6 @@ reads_as_other t x found kind (v, r) other (w, y, s) = other (one_reading t foun
 -- what reads as a float is one
 pub found_float : (t x : List ℕ) (kind : Kind) → kind ≡ Float → HasSuffix kind t x → (n : List ℕ) × FloatReads t n x
 found_float t x kind e h = let r = subst (λ (k : Kind). HasSuffix k t x) e h in (r.1.numeral, r.1.reads)
-
-pub reads_found : (t x : List ℕ) (found kind : Kind) → found ≡ kind → HasSuffix found t x → ReadsAs kind t
-reads_found t x found kind e h = let r = subst (λ (k : Kind). HasSuffix k t x) e h in (r.0, x, r.1)
 
 -- ---- rows of digits
 
@@ -70,16 +67,11 @@ integer_is t m x base row digits rest (s, r) from is stops =
 
 -- ---- floats
 
--- no row of digits goes on into an exponent, nor into a fraction and one
+-- no row of digits goes on into an exponent
 exponent_stops : (e : Exponent) (x : List ℕ) → IsExponent e x
     → first_passes (is_row_part (has_value 10)) (exponent_text e) ≡ false
 exponent_stops NoExponent x h = refl
 exponent_stops (Power letter us sg row) x h = letter_no_part letter h.0
-
-fraction_stops : (f : Fraction) (z : List ℕ) → first_passes (is_row_part (has_value 10)) z ≡ false
-    → first_passes (is_row_part (has_value 10)) (fraction_text f ++ z) ≡ false
-fraction_stops NoFraction z h = h
-fraction_stops (Dot row) z h = refl
 
 -- what stands after the letter
 letter_past : (e : Exponent) → after_letter (exponent_text e) ≡ power_row e

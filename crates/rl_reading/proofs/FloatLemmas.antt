@@ -33,7 +33,7 @@ exponent_stops NoExponent x h k = suffix_no_part x (suffix_sound x h)
 exponent_stops (Power letter us sg row) x h k = letter_no_part letter k.0
 
 -- nor into a fraction
-fraction_stops : (f : Fraction) (z : List ℕ) → first_passes (is_row_part (has_value 10)) z ≡ false
+pub fraction_stops : (f : Fraction) (z : List ℕ) → first_passes (is_row_part (has_value 10)) z ≡ false
     → first_passes (is_row_part (has_value 10)) (fraction_text f ++ z) ≡ false
 fraction_stops NoFraction z h = h
 fraction_stops (Dot row) z h = refl

@@ -1,4 +1,4 @@
-use Rattle.rl_text.proofs.Common.{arith, ap, chars, common_steps, subst, sym, ◌∙◌}
+use Rattle.rl_text.proofs.Common.{arith, chars, common_steps, subst, sym}
 use Rattle.rl_text.specs.Texts.{is_white}
 use Rattle.rl_text.proofs.TailLemmas.{tail_step}
 use Rattle.rl_lexer.proofs.CommentsPassed.{no_comment, reach_comment}

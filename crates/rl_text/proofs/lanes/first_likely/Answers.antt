@@ -1,6 +1,6 @@
 use Rattle.rl_text.proofs.Common.{◌≡◌, ◌+◌, ◌-◌, ap, sym, arith, count_trailing_zeros, chunk, map, mask_l, ◌∙◌}
 use Rattle.rl_text.specs.Mirrors.UnlikelyAt.{may_begin, with_before}
-use Rattle.rl_text.proofs.UnlikelyPlaces.{AreLanes, all_past, lanes_left, next_place}
+use Rattle.rl_text.proofs.UnlikelyPlaces.{all_past, lanes_left, next_place}
 use Rattle.rl_text.proofs.lanes.first_likely.Goals as goal
 
 pub is_likely_place-requires : goal.is_likely_place-requires

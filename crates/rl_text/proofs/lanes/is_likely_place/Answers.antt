@@ -1,4 +1,4 @@
-use Rattle.rl_text.proofs.Common.{◌∙◌, arith}
+use Rattle.rl_text.proofs.Common.{◌∙◌}
 use Rattle.rl_text.proofs.UnlikelyPlaces.{place_agrees}
 use Rattle.rl_text.proofs.lanes.is_likely_place.Goals as goal
 

@@ -1,4 +1,4 @@
-use Rattle.rl_text.proofs.Common.{◌≡◌, ◌-◌, ◌<◌, ◌≤◌, length}
+use Rattle.rl_text.proofs.Common.{◌-◌, ◌<◌, ◌≤◌, length}
 use Rattle.rl_text.specs.Mirrors.UnlikelyAt.{unlikely_len}
 use Rattle.rl_text.proofs.lanes.unlikely_len.Given as goal
 

@@ -1,4 +1,4 @@
-use Rattle.rl_text.proofs.Common.{◌≡◌, ◌≤◌, ◌<◌, ◌+◌, ◌∷◌, ◌∙◌, length, ap, sym, drop, get_or, arith, rules, IsCharBoundary-after_ascii, IsUtf8, IsUtf8-drop, chars}
+use Rattle.rl_text.proofs.Common.{◌≡◌, ◌<◌, ◌+◌, ◌∷◌, ◌∙◌, length, ap, sym, drop, get_or, arith, IsCharBoundary-after_ascii, IsUtf8, IsUtf8-drop, chars}
 use Rattle.std.proofs.lemmas.List.{get_or-drop, drop-drop, length-drop}
 use Rattle.rl_text.proofs.ScanLemmas.{ascii_first, none_first, other_first}
 use Rattle.rl_text.proofs.text.ascii_at.Goals as goal
