@@ -60,7 +60,7 @@ other_no_lexeme (StrayToken c) t other is = absurd other
 
 -- ---- at most one token begins a text
 
-record SameToken (v w : SourceLexeme) (x y : List ℕ) : Type 0 where
+pub record SameToken (v w : SourceLexeme) (x y : List ℕ) : Type 0 where
   pub kind : source_kind v ≡ source_kind w
   pub rest : x ≡ y
 
@@ -124,7 +124,7 @@ both_late v w x y a b is js e =
     (source_kind w, y) p in
     record { kind = ap (λ (z : SourceKind × List ℕ). z.0) q; rest = ap (λ (z : SourceKind × List ℕ). z.1) q }
 
-one_token : (v w : SourceLexeme) (x y : List ℕ) → IsSource v x → IsSource w y → source_text v ++ x ≡ source_text w ++ y
+pub one_token : (v w : SourceLexeme) (x y : List ℕ) → IsSource v x → IsSource w y → source_text v ++ x ≡ source_text w ++ y
     → SameToken v w x y
 one_token v w x y is js e = go (sort_of v) (sort_of w)
   where

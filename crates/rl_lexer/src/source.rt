@@ -42,9 +42,11 @@ pub enum SourceForm {
     Stray,
 }
 
-/// The form of the token that the text begins with, and the rest after it. `None` where none does.
+/// What the token is that a text begins with, as a source is cut, and the rest of the text after it. `None` where no token begins
+/// it: at its end, and where a comment or a quoted literal is opened that isn't closed. White space and plain comments are no
+/// tokens; [`skip`](crate::whitespace::skip) passes them.
 #[inline(always)]
-pub(crate) fn first_source(text: &str) -> Option<(SourceForm, &str)>
+pub fn first_source(text: &str) -> Option<(SourceForm, &str)>
     ensures found { IfSome result
         (λ p. SourceBefore (chars text.now) (source_view p.0) (chars p.1.now)) }
     ensures none { IfNone result (BeginsNoSource (chars text.now)) }

@@ -1,0 +1,40 @@
+-- The literal that a text begins with.
+use Rattle.std.specs.Prelude.{◌≡◌, ◌⊎◌, ℕ, List, ◌∷◌, ◌++◌, Some}
+use Rattle.std.specs.Str.{chars}
+use Prim.Native.Char.{code}
+use Rattle.rl_forms.specs.Reading.{HasNoReading}
+use Rattle.rl_lexer.specs.Sources.{SourceKind, SourceBefore, IsLiteralText}
+use Rattle.rl_reading.specs.declared.found.Found.{Found}
+use Rattle.rl_reading.specs.Founds.{IsFound}
+use Rattle.rl_reading.specs.NextLiterals.{FindsReading}
+use Rattle.rl_leading.specs.declared.leading.LeadingLiteral.{LeadingLiteral}
+
+-- The first token of the text is the literal: a literal token, or one of the words `true` and `false`.
+pub record Leads (text : List ℕ) (l : LeadingLiteral) : Type 0 where
+  pub kind : SourceKind
+  pub begins : SourceBefore (chars text) kind (chars l.following.now)
+  pub is_literal : IsLiteralText kind (chars l.text.now)
+  pub text_is : text ≡ l.text.now ++ l.following.now
+  pub reading : FindsReading l.text.now l.found
+
+-- no literal is the first token of the text, whatever follows
+abbrev pub LeadsNone : List ℕ → Type 0
+LeadsNone text = (l : LeadingLiteral) → Leads text l → ⊥
+
+-- A minus and the number right after it, which read together.
+pub record LeadsNegative (text : List ℕ) (l : LeadingLiteral) : Type 0 where
+  pub unsigned : List ℕ
+  pub number : LeadingLiteral
+  pub found : Found
+  pub minus : text ≡ code "-" ∷ unsigned
+  pub leads : Leads unsigned number
+  pub literal : l.text.now ≡ code "-" ∷ number.text.now
+  pub following : l.following.now ≡ number.following.now
+  pub is_found : IsFound l.text.now found
+  pub found_is : l.found ≡ Some found
+
+abbrev pub LeadsSigned : List ℕ → LeadingLiteral → Type 0
+LeadsSigned text l = Leads text l ⊎ LeadsNegative text l
+
+abbrev pub LeadsNoneSigned : List ℕ → Type 0
+LeadsNoneSigned text = (l : LeadingLiteral) → LeadsSigned text l → ⊥
