@@ -31,9 +31,11 @@ pub enum SourceForm {
     Stray,
 }
 
-/// The form of the token that the text begins with, and the rest after it. `None` where none does.
+/// What the token is that a text begins with, as a source is cut, and the rest of the text after it. `None` where no token begins
+/// it: at its end, and where a comment or a quoted literal is opened that isn't closed. White space and plain comments are no
+/// tokens; [`skip`](crate::rl_lexer::whitespace::skip) passes them.
 #[inline(always)]
-pub(crate) fn first_source(text: &str) -> Option<(SourceForm, &str)> {
+pub fn first_source(text: &str) -> Option<(SourceForm, &str)> {
     if let Some((form, following)) = word_or_mark(text) {
         return Some((SourceForm::Token(form), following));
     }
