@@ -3,7 +3,7 @@
 use crate::rl_lexer::{LexError, Sources};
 use crate::rl_reading::Rejection;
 use crate::rl_settings::{lexer_error, list_error};
-pub use crate::rl_settings::{Part, SyntaxErrorKind as ErrorKind};
+pub use crate::rl_settings::{Part, SyntaxErrorKind};
 use core::fmt;
 use core::ops::Range;
 
@@ -23,7 +23,7 @@ pub(crate) fn range_at(text: &str, at: usize) -> Range<usize> {
 /// ```
 #[derive(Clone, Debug, PartialEq, Eq, Hash)]
 pub struct ListError {
-    kind: ErrorKind,
+    kind: SyntaxErrorKind,
     range: Range<usize>,
 }
 
@@ -49,13 +49,13 @@ impl ListError {
     /// What was rejected.
     ///
     /// ```
-    /// use navyspindle::{literals, ErrorKind};
+    /// use navyspindle::{literals, SyntaxErrorKind};
     ///
     /// let error = literals("(1)").find_map(Result::err).unwrap();
-    /// assert_eq!(error.kind(), ErrorKind::Group);
+    /// assert_eq!(error.kind(), SyntaxErrorKind::Group);
     /// ```
     #[must_use]
-    pub fn kind(&self) -> ErrorKind {
+    pub fn kind(&self) -> SyntaxErrorKind {
         self.kind
     }
 

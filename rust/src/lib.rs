@@ -82,7 +82,7 @@ use proved::{
 };
 
 pub use characters::{LitByte, LitChar};
-pub use error::{ErrorKind, ListError, Part};
+pub use error::{ListError, Part, SyntaxErrorKind};
 pub use kind::Kind;
 pub use line_index::{LineColumn, LineIndex};
 pub use list::{literals, Literals};
@@ -93,7 +93,7 @@ pub use places::{Places, Segment, SegmentValue, Segments};
 #[cfg(feature = "proc-macro")]
 pub use proc_macros::{next_literal, MacroError};
 pub use setting::{Setting, SettingError, SettingErrorKind, Settings};
-pub use settings::{settings, Entry, SettingsError};
+pub use settings::{settings, Entry, SettingsSyntaxError};
 pub use source::{source, Recover, Source};
 pub use strings::{LitByteStr, LitCStr, LitStr};
 pub use value::{Number, ValueError, ValueErrorKind};

@@ -194,7 +194,7 @@ macro_rules! number_type {
 ///
 /// let literal = LitInt::parse("0xFF_u8")?;
 /// assert_eq!(literal.base10_digits(), "255");
-/// assert_eq!(literal.base10_parse::<u8>(), Ok(255));
+/// assert_eq!(literal.value::<u8>(), Ok(255));
 /// assert_eq!((literal.base(), literal.type_suffix()), (Base::Hexadecimal, Some(NumberType::U8)));
 /// # Ok::<(), navyspindle::ParseError>(())
 /// ```
@@ -219,7 +219,7 @@ number_type!(LitInt, "12" == 12.0, "-12");
 ///
 /// let literal = LitFloat::parse("1_0.5E+3f64")?;
 /// assert_eq!(literal.base10_digits(), "10.5e3");
-/// assert_eq!(literal.base10_parse::<f64>()?, 10500.0);
+/// assert_eq!(literal.value::<f64>()?, 10500.0);
 /// assert_eq!((literal.integer_part(), literal.fractional_part()), ("1_0", Some("5")));
 /// assert_eq!(literal.exponent_part(), Some("+3"));
 /// # Ok::<(), Box<dyn std::error::Error>>(())
