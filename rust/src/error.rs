@@ -1,5 +1,6 @@
 //! What is wrong with a text of literals, of settings, or of a source, and where.
 
+use crate::common::shifted;
 use crate::rl_lexer::{LexError, Sources};
 use crate::rl_reading::Rejection;
 use crate::rl_settings::{lexer_error, list_error};
@@ -69,11 +70,26 @@ impl ListError {
         self.range.start
     }
 
+    /// The error with its place so many bytes on: in a text of which this one is a part that begins there.
+    ///
+    /// ```
+    /// let error = navyspindle::literals("1 word").find_map(Result::err).unwrap();
+    /// assert_eq!(error.shifted(100).range(), 102..106);
+    /// ```
+    #[must_use]
+    pub fn shifted(self, by: usize) -> Self {
+        ListError {
+            range: shifted(self.range, by),
+            ..self
+        }
+    }
+
     /// The bytes of the token that was rejected; of a quote or a comment that isn't closed, up to the text's end.
     ///
     /// ```
     /// assert_eq!(navyspindle::literals("1 word").find_map(Result::err).unwrap().range(), 2..6);
     /// ```
+    #[doc(alias = "span")]
     #[must_use]
     pub fn range(&self) -> Range<usize> {
         self.range.clone()

@@ -143,9 +143,29 @@ impl SettingError {
     /// assert_eq!(Settings::read(r#"host = "a\qb""#)?.string(host).unwrap_err().range(), 10..11);
     /// # Ok::<(), navyspindle::SettingError>(())
     /// ```
+    #[doc(alias = "span")]
     #[must_use]
     pub fn range(&self) -> Range<usize> {
         self.range.clone()
+    }
+}
+
+impl SettingError {
+    /// The error with its place so many bytes on: in a text of which this one is a part that begins there.
+    ///
+    /// ```
+    /// use navyspindle::Settings;
+    ///
+    /// let error = Settings::read("prt = 1")?.check(&[]).unwrap_err();
+    /// assert_eq!(error.shifted(100).range(), 100..103);
+    /// # Ok::<(), navyspindle::SettingError>(())
+    /// ```
+    #[must_use]
+    pub fn shifted(self, by: usize) -> Self {
+        SettingError {
+            range: shifted(self.range, by),
+            ..self
+        }
     }
 }
 

@@ -1,5 +1,6 @@
 //! Settings: names that are set to literals, with commas between.
 
+use crate::common::shifted;
 use crate::error::{range_at, SyntaxErrorKind};
 use crate::list::placed;
 use crate::lit::Lit;
@@ -83,9 +84,24 @@ impl SettingsSyntaxError {
     /// assert_eq!(navyspindle::settings("a = 1 b").unwrap_err().range(), 6..7);
     /// assert_eq!(navyspindle::settings("a = 'b").unwrap_err().range(), 4..6);
     /// ```
+    #[doc(alias = "span")]
     #[must_use]
     pub fn range(&self) -> Range<usize> {
         self.range.clone()
+    }
+
+    /// The error with its place so many bytes on: in a text of which this one is a part that begins there.
+    ///
+    /// ```
+    /// let error = navyspindle::settings("a = 1 b").unwrap_err();
+    /// assert_eq!(error.shifted(100).range(), 106..107);
+    /// ```
+    #[must_use]
+    pub fn shifted(self, by: usize) -> Self {
+        SettingsSyntaxError {
+            range: shifted(self.range, by),
+            ..self
+        }
     }
 
     /// The name that stood before.

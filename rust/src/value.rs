@@ -119,6 +119,7 @@ impl ValueError {
     /// ```
     /// assert_eq!(navyspindle::LitInt::parse("10k").unwrap().value::<u8>().unwrap_err().range(), 2..3);
     /// ```
+    #[doc(alias = "span")]
     #[must_use]
     pub fn range(&self) -> Range<usize> {
         self.range.clone()
