@@ -25,7 +25,7 @@
 //! # Features
 //!
 //! - `proc-macro`: literals from and to the tokens of rustc's own crate `proc_macro`, which [`Lit`] and the structs are then made
-//!   of by `try_from`; `next_literal`, `to_token_stream`, `MacroError`. Off by default.
+//!   of by `try_from`; `next_literal`, `next_of`, `to_token_stream`, `MacroError`. Off by default.
 #![no_std]
 #![forbid(unsafe_code)]
 #![deny(missing_docs)]
@@ -91,7 +91,7 @@ pub use numbers::{Base, LitFloat, LitInt, NumberType};
 pub use parse_error::{FlawKind, ParseError, ParseErrorKind};
 pub use places::{Places, Segment, SegmentValue, Segments};
 #[cfg(feature = "proc-macro")]
-pub use proc_macros::{next_literal, MacroError};
+pub use proc_macros::{next_literal, next_of, LitOfKind, MacroError};
 pub use setting::{Setting, SettingError, SettingErrorKind, Settings};
 pub use settings::{settings, Entry, SettingsSyntaxError};
 pub use source::{source, Recover, Source};
