@@ -192,8 +192,12 @@ impl<'t> Settings<'t> {
     /// # Ok::<(), navyspindle::SettingError>(())
     /// ```
     pub fn read(text: &'t str) -> Result<Self, SettingError> {
-        let entries = settings(text)?;
-        Ok(Settings { text, entries })
+        Ok(Settings::of_entries(text, settings(text)?))
+    }
+
+    /// These settings, which were read of the text.
+    pub(crate) fn of_entries(text: &'t str, entries: Vec<Entry<'t>>) -> Self {
+        Settings { text, entries }
     }
 
     /// All of them, in their order.
@@ -347,7 +351,7 @@ impl<'t> Settings<'t> {
     }
 
     /// What a setting's value is taken as, which Rust takes and which has no suffix; `None` where the setting isn't set.
-    fn value_of<'s, V>(
+    pub(crate) fn value_of<'s, V>(
         &'s self,
         setting: Setting,
         take: impl FnOnce(&'s Lit<'t>) -> Result<V, SettingErrorKind>,
