@@ -2,6 +2,7 @@
 //! values that TOML doesn't have are those that rustc makes of the same literal.
 
 use navyspindle::{config, settings, ErrorKind, Lit, Part, Setting, SettingErrorKind, Settings};
+use std::ops::Range;
 
 /// A value as `tomllib` returns it.
 #[derive(Clone, Copy)]
@@ -407,44 +408,44 @@ fn a_value_of_another_kind_is_an_error_of_each_reader() {
     }
 }
 
-#[test]
-fn a_value_that_rust_rejects_or_with_a_suffix_is_an_error() {
+/// The error of the reader for the text's kind.
+fn rejected(text: &str) -> (SettingErrorKind, Range<usize>) {
+    let read = Settings::read_config(text).expect(text);
     let a = value("a");
+    let answer = match &text[4..5] {
+        "'" => read.character(a).map(|_| ()),
+        "c" => read.c_string(a).map(|_| ()),
+        _ if text[5..].starts_with('"') => read.byte_string(a).map(|_| ()),
+        _ => read.byte(a).map(|_| ()),
+    };
+    let error = answer.expect_err(text);
+    (error.kind().clone(), error.range())
+}
+
+#[test]
+fn a_value_with_a_suffix_is_an_error() {
+    let suffix = SettingErrorKind::Suffix(value("a"));
+    assert_eq!(rejected("a = 'b'x"), (suffix.clone(), 7..8));
+    assert_eq!(rejected("a = b'b'xy"), (suffix.clone(), 8..10));
+    assert_eq!(rejected("a = b\"b\"x"), (suffix.clone(), 8..9));
+    assert_eq!(rejected("a = c\"b\"x"), (suffix, 8..9));
+}
+
+/// rustc rejects each: "unknown character escape: `q`", "unicode escape in byte string", "null characters in C string literals are not
+/// supported", "unknown byte escape: `q`". The place is the first character with which no literal goes on.
+#[test]
+fn a_value_that_rust_rejects_is_an_error_at_its_place() {
     for (text, range) in [
-        ("a = 'b'x", 7..8),
-        ("a = b'b'x", 8..9),
-        ("a = b\"b\"x", 8..9),
-        ("a = c\"b\"x", 8..9),
+        ("a = '\\q'", 6..7),
+        ("a = b'\\u{61}'", 7..8),
+        ("a = c\"\\0\"", 7..8),
+        ("a = b\"\\q\"", 7..8),
     ] {
-        let read = Settings::read_config(text).expect(text);
-        let answers = [
-            read.character(a).map(|_| ()),
-            read.byte(a).map(|_| ()),
-            read.byte_string(a).map(|_| ()),
-            read.c_string(a).map(|_| ()),
-        ];
-        for answer in answers {
-            let error = answer.expect_err(text);
-            assert_eq!(
-                (error.kind(), error.range()),
-                (&SettingErrorKind::Suffix(a), range.clone()),
-                "{text}"
-            );
-        }
-    }
-    for text in [
-        "a = '\\q'",
-        "a = b'\\u{61}'",
-        "a = c\"\\0\"",
-        "a = b\"\\q\"",
-    ] {
-        let read = Settings::read_config(text).expect(text);
-        let kinds = [
-            read.character(a).is_err(),
-            read.byte(a).is_err(),
-            read.byte_string(a).is_err(),
-            read.c_string(a).is_err(),
-        ];
-        assert_eq!(kinds, [true; 4], "{text}");
+        let (kind, found) = rejected(text);
+        assert!(
+            matches!(kind, SettingErrorKind::Literal(..)),
+            "{text}: {kind:?}"
+        );
+        assert_eq!(found, range, "{text}");
     }
 }
