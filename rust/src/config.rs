@@ -1,17 +1,17 @@
 //! Configuration files: settings parted by line ends as well as by commas, under names with dots; and more kinds of values by name.
 
+use crate::common::shifted;
 use crate::lit::Lit;
 use crate::rl_lexer::Tokens;
 use crate::rl_settings::{
     entry_step, first_error, without_mark, EntryRejection, EntryStep, NextEntry,
 };
-use crate::setting::{Setting, SettingError, SettingErrorKind, Settings};
-use crate::settings::{entry_of, rejected, Entry, SettingsError};
+use crate::setting::{no_such, without_suffix, Setting, SettingError, Settings};
+use crate::settings::{entry_of, rejected, Entry, SettingsSyntaxError};
 use alloc::borrow::Cow;
 use alloc::collections::BTreeSet;
 use alloc::ffi::CString;
 use alloc::vec::Vec;
-use core::ops::Range;
 
 /// The settings of a configuration file, in their order: each a name, `=` and a literal, with a comma or a line end between two.
 ///
@@ -39,44 +39,32 @@ use core::ops::Range;
 /// assert_eq!(entries[2].value, Lit::new("8080"));
 /// assert_eq!(&text[entries[2].name_range.clone()], "server.port");
 /// assert_eq!(LineIndex::new(text).line_column(entries[2].value_range.start).to_string(), "3:34");
-/// # Ok::<(), navyspindle::SettingsError>(())
+/// # Ok::<(), navyspindle::SettingsSyntaxError>(())
 /// ```
 ///
 /// ```
-/// use navyspindle::{config, ErrorKind, Part};
+/// use navyspindle::{config, SyntaxErrorKind, Part};
 ///
 /// let error = config("a = 1 b = 2").unwrap_err();
-/// assert_eq!((error.kind(), error.range()), (ErrorKind::Expected(Part::Comma), 6..7));
+/// assert_eq!((error.kind(), error.range()), (SyntaxErrorKind::Expected(Part::Comma), 6..7));
 /// let error = config("a. = 1").unwrap_err();
-/// assert_eq!((error.kind(), error.range()), (ErrorKind::Expected(Part::Name), 3..4));
+/// assert_eq!((error.kind(), error.range()), (SyntaxErrorKind::Expected(Part::Name), 3..4));
 /// ```
-pub fn config(text: &str) -> Result<Vec<Entry<'_>>, SettingsError> {
+pub fn config(text: &str) -> Result<Vec<Entry<'_>>, SettingsSyntaxError> {
     let body = without_mark(text);
     let front = text.len() - body.len();
-    match entries_of(body) {
-        Ok(mut entries) => {
-            for entry in &mut entries {
-                move_range(&mut entry.name_range, front);
-                move_range(&mut entry.value_range, front);
-            }
-            Ok(entries)
-        }
-        Err(mut error) => {
-            move_range(&mut error.range, front);
-            Err(error)
-        }
+    let mut entries = entries_of(body).map_err(|error| error.shifted(front))?;
+    for entry in &mut entries {
+        entry.name_range = shifted(entry.name_range.clone(), front);
+        entry.value_range = shifted(entry.value_range.clone(), front);
     }
-}
-
-/// Moves a range so many bytes on: from the text after a byte order mark into the whole one.
-fn move_range(range: &mut Range<usize>, by: usize) {
-    *range = range.start + by..range.end + by;
+    Ok(entries)
 }
 
 /// The settings of a text before which no byte order mark stands.
-fn entries_of(text: &str) -> Result<Vec<Entry<'_>>, SettingsError> {
+fn entries_of(text: &str) -> Result<Vec<Entry<'_>>, SettingsSyntaxError> {
     if let Some(error) = first_error(text) {
-        return Err(SettingsError::of_lexer(text, error));
+        return Err(SettingsSyntaxError::of_lexer(text, error));
     }
     let mut tokens = Tokens::new(text);
     let (mut entries, mut names) = (Vec::new(), BTreeSet::new());
@@ -86,7 +74,7 @@ fn entries_of(text: &str) -> Result<Vec<Entry<'_>>, SettingsError> {
             EntryStep::Entry(NextEntry { name, value }) => {
                 let range = name.lo..name.hi;
                 if !names.insert(name.text) {
-                    return Err(SettingsError::repeated(name.text, range));
+                    return Err(SettingsSyntaxError::repeated(name.text, range));
                 }
                 entries.push(entry_of(text, name.text, range, value));
             }
@@ -108,7 +96,7 @@ impl<'t> Settings<'t> {
     /// ```
     /// use navyspindle::{Setting, Settings};
     ///
-    /// const PORT: Setting = Setting { name: "server.port", expected: "an integer from 0 to 65535" };
+    /// const PORT: Setting = Setting::new("server.port", "an integer from 0 to 65535");
     /// let read = Settings::read_config("title = \"a\"\nserver.port = 8080\n")?;
     /// assert_eq!(read.number::<u16>(PORT)?, Some(8080));
     /// # Ok::<(), navyspindle::SettingError>(())
@@ -126,7 +114,7 @@ impl<'t> Settings<'t> {
     /// ```
     /// use navyspindle::{Setting, Settings};
     ///
-    /// const QUOTE: Setting = Setting { name: "quote", expected: "a character" };
+    /// const QUOTE: Setting = Setting::new("quote", "a character");
     /// assert_eq!(Settings::read_config(r"quote = '\u{ab}'")?.character(QUOTE)?, Some('«'));
     /// assert_eq!(Settings::read_config("")?.character(QUOTE)?, None);
     /// let error = Settings::read_config(r#"quote = "a""#)?.character(QUOTE).unwrap_err();
@@ -134,9 +122,9 @@ impl<'t> Settings<'t> {
     /// # Ok::<(), navyspindle::SettingError>(())
     /// ```
     pub fn character(&self, setting: Setting) -> Result<Option<char>, SettingError> {
-        self.value_of(setting, |value| match value {
-            Lit::Char(literal) => Ok(literal.value()),
-            _ => Err(SettingErrorKind::Kind(setting)),
+        self.value_of(setting, |entry| match &entry.value {
+            Lit::Char(literal) => without_suffix(setting, entry, literal.value()),
+            _ => Err(no_such(setting, entry)),
         })
     }
 
@@ -149,16 +137,16 @@ impl<'t> Settings<'t> {
     /// ```
     /// use navyspindle::{Setting, Settings};
     ///
-    /// const END: Setting = Setting { name: "end", expected: "a byte" };
+    /// const END: Setting = Setting::new("end", "a byte");
     /// assert_eq!(Settings::read_config(r"end = b'\n'")?.byte(END)?, Some(10));
     /// assert_eq!(Settings::read_config("")?.byte(END)?, None);
     /// assert!(Settings::read_config("end = 10")?.byte(END).is_err());
     /// # Ok::<(), navyspindle::SettingError>(())
     /// ```
     pub fn byte(&self, setting: Setting) -> Result<Option<u8>, SettingError> {
-        self.value_of(setting, |value| match value {
-            Lit::Byte(literal) => Ok(literal.value()),
-            _ => Err(SettingErrorKind::Kind(setting)),
+        self.value_of(setting, |entry| match &entry.value {
+            Lit::Byte(literal) => without_suffix(setting, entry, literal.value()),
+            _ => Err(no_such(setting, entry)),
         })
     }
 
@@ -171,7 +159,7 @@ impl<'t> Settings<'t> {
     /// ```
     /// use navyspindle::{Setting, Settings};
     ///
-    /// const MAGIC: Setting = Setting { name: "magic", expected: "a byte string" };
+    /// const MAGIC: Setting = Setting::new("magic", "a byte string");
     /// let read = Settings::read_config(r#"magic = b"\x89PNG""#)?;
     /// assert_eq!(read.byte_string(MAGIC)?.as_deref(), Some(&b"\x89PNG"[..]));
     /// assert_eq!(Settings::read_config("")?.byte_string(MAGIC)?, None);
@@ -179,9 +167,9 @@ impl<'t> Settings<'t> {
     /// # Ok::<(), navyspindle::SettingError>(())
     /// ```
     pub fn byte_string(&self, setting: Setting) -> Result<Option<Cow<'_, [u8]>>, SettingError> {
-        self.value_of(setting, |value| match value {
-            Lit::ByteStr(literal) => Ok(literal.value()),
-            _ => Err(SettingErrorKind::Kind(setting)),
+        self.value_of(setting, |entry| match &entry.value {
+            Lit::ByteStr(literal) => without_suffix(setting, entry, literal.value()),
+            _ => Err(no_such(setting, entry)),
         })
     }
 
@@ -194,7 +182,7 @@ impl<'t> Settings<'t> {
     /// ```
     /// use navyspindle::{Setting, Settings};
     ///
-    /// const LIBRARY: Setting = Setting { name: "library", expected: "a C string" };
+    /// const LIBRARY: Setting = Setting::new("library", "a C string");
     /// let read = Settings::read_config(r#"library = c"libé.so""#)?;
     /// assert_eq!(read.c_string(LIBRARY)?.as_deref(), Some(c"libé.so"));
     /// assert_eq!(Settings::read_config("")?.c_string(LIBRARY)?, None);
@@ -202,9 +190,9 @@ impl<'t> Settings<'t> {
     /// # Ok::<(), navyspindle::SettingError>(())
     /// ```
     pub fn c_string(&self, setting: Setting) -> Result<Option<CString>, SettingError> {
-        self.value_of(setting, |value| match value {
-            Lit::CStr(literal) => Ok(literal.c_string()),
-            _ => Err(SettingErrorKind::Kind(setting)),
+        self.value_of(setting, |entry| match &entry.value {
+            Lit::CStr(literal) => without_suffix(setting, entry, literal.c_string()),
+            _ => Err(no_such(setting, entry)),
         })
     }
 }

@@ -1,7 +1,9 @@
 //! Configuration files. Where a text is one of TOML too, what it holds and where it is wrong are what Python's `tomllib` says of it;
 //! values that TOML doesn't have are those that rustc makes of the same literal.
 
-use navyspindle::{config, settings, ErrorKind, Lit, Part, Setting, SettingErrorKind, Settings};
+use navyspindle::{
+    config, settings, Lit, Part, Setting, SettingErrorKind, Settings, SyntaxErrorKind,
+};
 use std::ops::Range;
 
 /// A value as `tomllib` returns it.
@@ -16,10 +18,7 @@ enum Toml {
 use Toml::{Bool, Float, Int, Str};
 
 fn value(name: &'static str) -> Setting {
-    Setting {
-        name,
-        expected: "a value",
-    }
+    Setting::new(name, "a value")
 }
 
 /// That the text has these names, in this order, with these values.
@@ -107,7 +106,7 @@ fn texts_that_are_toml_too() {
 }
 
 /// What is wrong with the text, and the byte where.
-fn error_of(text: &str) -> (ErrorKind, usize) {
+fn error_of(text: &str) -> (SyntaxErrorKind, usize) {
     let error = config(text).expect_err(text);
     (error.kind(), error.range().start)
 }
@@ -115,8 +114,8 @@ fn error_of(text: &str) -> (ErrorKind, usize) {
 /// `tomllib` rejects each at this line and column, or at the text's end.
 #[test]
 fn texts_that_toml_rejects_too() {
-    let missed = |part| ErrorKind::Expected(part);
-    let ended = |part| ErrorKind::EndOfInput(part);
+    let missed = |part| SyntaxErrorKind::Expected(part);
+    let ended = |part| SyntaxErrorKind::EndOfInput(part);
     // "Expected newline or end of document after a statement (at line 1, column 7)"
     assert_eq!(error_of("a = 1 b = 2"), (missed(Part::Comma), 6));
     assert_eq!(error_of("a = 1 2"), (missed(Part::Comma), 6));
@@ -134,8 +133,8 @@ fn texts_that_toml_rejects_too() {
     assert_eq!(error_of("a. = 1"), (missed(Part::Name), 3));
     assert_eq!(error_of("a..b = 1"), (missed(Part::Name), 2));
     // "Cannot overwrite a value"
-    assert_eq!(error_of("a = 1\na = 2"), (ErrorKind::Repeated, 6));
-    assert_eq!(error_of("a.b = 1\na.b = 2"), (ErrorKind::Repeated, 8));
+    assert_eq!(error_of("a = 1\na = 2"), (SyntaxErrorKind::Repeated, 6));
+    assert_eq!(error_of("a.b = 1\na.b = 2"), (SyntaxErrorKind::Repeated, 8));
 }
 
 #[test]
@@ -178,20 +177,23 @@ fn commas_and_line_ends() {
         let place = text.len() - "b = 2".len();
         assert_eq!(
             error_of(&text),
-            (ErrorKind::Expected(Part::Comma), place),
+            (SyntaxErrorKind::Expected(Part::Comma), place),
             "{text:?}"
         );
     }
     // Two commas, and a comma with nothing before it.
     assert_eq!(
         error_of("a = 1,, b = 2"),
-        (ErrorKind::Expected(Part::Name), 6)
+        (SyntaxErrorKind::Expected(Part::Name), 6)
     );
     assert_eq!(
         error_of("a = 1\n,\n, b = 2"),
-        (ErrorKind::Expected(Part::Name), 8)
+        (SyntaxErrorKind::Expected(Part::Name), 8)
     );
-    assert_eq!(error_of(",a = 1"), (ErrorKind::Expected(Part::Name), 0));
+    assert_eq!(
+        error_of(",a = 1"),
+        (SyntaxErrorKind::Expected(Part::Name), 0)
+    );
 }
 
 #[test]
@@ -201,7 +203,7 @@ fn a_line_end_inside_a_value_ends_nothing() {
         let place = text.len() - "b = 2".len();
         assert_eq!(
             error_of(&text),
-            (ErrorKind::Expected(Part::Comma), place),
+            (SyntaxErrorKind::Expected(Part::Comma), place),
             "{text:?}"
         );
         assert_eq!(
@@ -212,13 +214,13 @@ fn a_line_end_inside_a_value_ends_nothing() {
     // Nor does one before the value.
     assert_eq!(
         error_of("a\n=\n1 b = 2"),
-        (ErrorKind::Expected(Part::Comma), 6)
+        (SyntaxErrorKind::Expected(Part::Comma), 6)
     );
 }
 
 #[test]
 fn dots() {
-    let name = ErrorKind::Expected(Part::Name);
+    let name = SyntaxErrorKind::Expected(Part::Name);
     for text in [
         "a . b = 1",
         "a .b = 1",
@@ -243,7 +245,7 @@ fn dots() {
     let ended = config("a.b.").expect_err("no name");
     assert_eq!(
         (ended.kind(), ended.range()),
-        (ErrorKind::EndOfInput(Part::Name), 4..4)
+        (SyntaxErrorKind::EndOfInput(Part::Name), 4..4)
     );
     // The whole token or group that stands in the name's place.
     for (text, stands) in [
@@ -266,7 +268,7 @@ fn dots() {
     assert_eq!(error_of("a = 1\n.b = 2"), (name, 6));
     assert_eq!(
         error_of("a = \"1\".b = 2"),
-        (ErrorKind::Expected(Part::Comma), 7)
+        (SyntaxErrorKind::Expected(Part::Comma), 7)
     );
 }
 
@@ -310,11 +312,11 @@ fn a_byte_order_mark_is_passed_and_counted() {
     // One mark, at the front alone.
     assert_eq!(
         error_of("\u{feff}\u{feff}a = 1"),
-        (ErrorKind::StrayCharacter, 3)
+        (SyntaxErrorKind::StrayCharacter, 3)
     );
     assert_eq!(
         error_of("a = 1\n\u{feff}b = 1"),
-        (ErrorKind::StrayCharacter, 6)
+        (SyntaxErrorKind::StrayCharacter, 6)
     );
     let missing = Settings::read_config("\u{feff}a = 1")
         .expect("one")

@@ -148,7 +148,8 @@ fn ended(form: SourceForm, following: Option<&str>) -> Option<(SourceForm, &str)
 }
 
 /// What follows a doc comment, by what stands after its first slash: of a line its LF.
-#[inline(always)]
+#[cfg_attr(debug_assertions, inline)]
+#[cfg_attr(not(debug_assertions), inline(always))]
 fn after_doc(text: &str) -> Option<&str> {
     let Some((second, following)) = split_ascii(text) else {
         return None;

@@ -49,7 +49,8 @@ pub enum EntryStep<'t> {
 
 /// Cuts off a dot and an identifier where they go on with a name that ends at the byte `hi`. `None` where no dot stands next. The
 /// text ends at the byte `end`.
-#[inline(always)]
+#[cfg_attr(debug_assertions, inline)]
+#[cfg_attr(not(debug_assertions), inline(always))]
 fn take_part<'t>(
     tokens: &mut Tokens<'t>,
     end: usize,
@@ -98,7 +99,8 @@ fn has_line_end(text: &str, lo: usize, tokens: &Tokens<'_>) -> bool {
 }
 
 /// Cuts off the comma that stands next, and says whether one does.
-#[inline(always)]
+#[cfg_attr(debug_assertions, inline)]
+#[cfg_attr(not(debug_assertions), inline(always))]
 fn pass_comma(tokens: &mut Tokens<'_>) -> bool {
     let mut ahead = tokens.fork();
     let Some(token) = ahead.next() else {
@@ -113,7 +115,8 @@ fn pass_comma(tokens: &mut Tokens<'_>) -> bool {
 
 /// Cuts off the comma that stands next, after a value that ends at the byte `hi`. None need stand at the end of the text, or of the
 /// value's line.
-#[inline(always)]
+#[cfg_attr(debug_assertions, inline)]
+#[cfg_attr(not(debug_assertions), inline(always))]
 fn take_separator(tokens: &mut Tokens<'_>, text: &str, hi: usize) -> Result<(), SyntaxError> {
     if pass_comma(tokens) {
         return Ok(());
@@ -137,7 +140,8 @@ fn take_entry_value<'t>(tokens: &mut Tokens<'t>, text: &str) -> Result<NextLiter
 }
 
 /// Cuts off the entry that stands next. Where none does, tokens may be cut off too.
-#[inline(always)]
+#[cfg_attr(debug_assertions, inline)]
+#[cfg_attr(not(debug_assertions), inline(always))]
 fn take_entry<'t>(tokens: &mut Tokens<'t>, text: &str) -> Result<NextEntry<'t>, EntryRejection<'t>> {
     let name = match take_dotted_name(tokens, text.len()) {
         Ok(name) => name,

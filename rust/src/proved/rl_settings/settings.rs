@@ -112,7 +112,8 @@ pub(crate) fn is_mark(form: Form, mark: char) -> bool {
 }
 
 /// Cuts off the next token where it is this mark. Where it is another, it may be cut off too.
-#[inline(always)]
+#[cfg_attr(debug_assertions, inline)]
+#[cfg_attr(not(debug_assertions), inline(always))]
 pub(crate) fn take_mark(
     tokens: &mut Tokens<'_>,
     end: usize,
@@ -163,7 +164,8 @@ fn take_value<'t>(tokens: &mut Tokens<'t>, end: usize) -> Result<NextLiteral<'t>
 }
 
 /// Cuts off the setting that stands next. Where none does, tokens may be cut off too.
-#[inline(always)]
+#[cfg_attr(debug_assertions, inline)]
+#[cfg_attr(not(debug_assertions), inline(always))]
 fn take_setting<'t>(
     tokens: &mut Tokens<'t>,
     end: usize,
