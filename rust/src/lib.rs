@@ -1,7 +1,7 @@
 //! Reads and writes Rust's literals: kinds, values, suffixes, the places of what they hold, and why a text is none.
 //!
-//! [`Lit::parse`] reads one literal, [`source`] those of a whole file, [`literals`] and [`settings`] lists, [`Settings`] what a
-//! reader of settings asks for; [`write_str`] and its siblings write values. Places are byte offsets; [`LineIndex`] makes lines and
+//! [`Lit::parse`] reads one literal, [`source`] those of a whole file, [`literals`] and [`settings`] lists, [`config`] a
+//! configuration file, [`Settings`] what a reader of settings asks for; [`write_str`] and its siblings write values. Places are byte offsets; [`LineIndex`] makes lines and
 //! columns of them.
 //!
 //! The code in `proved` is rendered from sources in Rattle, which is Rust with contracts: each function is proved there to do what
@@ -38,6 +38,7 @@ extern crate std;
 
 mod characters;
 mod common;
+mod config;
 mod contents;
 mod error;
 mod front;
@@ -83,6 +84,7 @@ use proved::{
 };
 
 pub use characters::{LitByte, LitChar};
+pub use config::config;
 pub use error::{ListError, Part, SyntaxErrorKind};
 pub use front::skip_blanks;
 pub use kind::Kind;
