@@ -1,0 +1,4 @@
+pub mod NumeralLemmas
+pub mod GroupLemmas
+pub mod SuffixLemmas
+pub mod IntegerLaws

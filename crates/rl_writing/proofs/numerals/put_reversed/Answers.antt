@@ -1,0 +1,40 @@
+use Rattle.rl_text.proofs.Common.{◌≡◌, ◌+◌, ◌*◌, ◌/◌, ◌^◌, ◌<◌, refl, sym, ap, subst, ◌∙◌, inl, inr, arith}
+use Rattle.rl_writing.proofs.NumeralLemmas.{before_nothing, count_left, fits_more, put_first, put_more}
+use Rattle.rl_writing.proofs.numerals.put_reversed.Goals as goal
+
+pub loop-left-init : goal.loop-left-init
+loop-left-init c = record {
+  digits = before_nothing c.args.radix c.args.upper c.args.value;
+  fits = omega (arith, c.ranges.value.fits);
+  some = inr refl;
+  len = refl;
+}
+
+pub put_byte-count-requires : goal.put_byte-count-requires
+put_byte-count-requires c =
+    let l = c.loop-left in
+    omega (arith, count_left l.left l.count l.invariant.fits l.invariant.some, l.invariant.len, c.requires.room)
+
+pub returns-then-left-eq0-clause-digits : goal.returns-then-left-eq0-clause-digits
+returns-then-left-eq0-clause-digits c =
+    let l = c.loop-left in
+    put_first c.args.radix c.from-base.result c.args.upper l.left c.digit.result _ _ _ c.from-base.ensures
+    c.put_byte-count.ensures.bytes c.digit.ensures c.if-left-eq0.true l.invariant.digits
+
+pub returns-then-left-eq0-clause-within : goal.returns-then-left-eq0-clause-within
+returns-then-left-eq0-clause-within c =
+    let l = c.loop-left in
+    omega (arith, count_left l.left l.count l.invariant.fits l.invariant.some, c.put_byte-count.ensures.end)
+
+pub loop-left-preserved : goal.loop-left-preserved
+loop-left-preserved c =
+    let l = c.loop-left in
+    let base = c.from-base.ensures in
+    record {
+      digits = put_more c.args.radix c.from-base.result c.args.upper l.left c.digit.result _ _ _ c.requires.low base
+          c.put_byte-count.ensures.bytes c.digit.ensures c.if-left-eq0.false l.invariant.digits;
+      fits = fits_more l.left c.from-base.result l.count c.put_byte-count.result (omega (arith, base, c.requires.low))
+          c.put_byte-count.ensures.end l.invariant.fits;
+      some = inl (omega (arith, c.if-left-eq0.false));
+      len = c.put_byte-count.ensures.len ∙ l.invariant.len;
+    }

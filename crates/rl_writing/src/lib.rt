@@ -1,0 +1,14 @@
+//! Writers of literals beside the plain ones of `rl_forms`: integers in a style, and raw strings. What is written
+//! is a token of the strict grammar and reads as the value. No memory is taken.
+#![tactic(auto)]
+
+mod base;
+mod integer_type;
+mod integers;
+mod numerals;
+mod raw_strings;
+
+pub use crate::base::Base;
+pub use crate::integer_type::IntegerType;
+pub use crate::integers::{IntegerStyle, write_integer_into};
+pub use crate::raw_strings::{raw_hashes, write_raw_into};
