@@ -1,8 +1,6 @@
 -- What an integer is written as is strict, and reads as the value.
-use Rattle.rl_text.proofs.Common.{◌≡◌, ℕ, ◌^◌, ◌<◌, ◌≤◌, ◌||◌, ◌&&◌, Bool, true, false, not, eqb, List, [], ◌∷◌, ◌++◌, length, Option, ◌⊎◌, refl, sym, ap, subst, ◌∙◌, inl, inr, arith, append_assoc, nat_lt, digit_value, is_ascii_digit, list_all, list_any, list_all-append, and_parts, and_from, or_parts, or_from, or_left, or_right, ltb-true, chars, chars-IsAscii, IsAscii, IsUtf8, if◌then◌else◌}
+use Rattle.rl_text.proofs.Common.{◌≡◌, ℕ, ◌^◌, ◌<◌, ◌≤◌, ◌||◌, ◌&&◌, Bool, true, false, not, eqb, List, [], ◌∷◌, ◌++◌, length, Option, ◌⊎◌, refl, sym, ap, subst, ◌∙◌, inl, inr, arith, append_assoc, nat_lt, digit_value, is_ascii_digit, list_all, list_any, and_parts, and_from, or_parts, or_from, or_left, or_right, chars, IsUtf8, if◌then◌else◌}
 use Rattle.std.proofs.lemmas.Bool.{and_right}
-use Rattle.std.proofs.lemmas.Str.{IsUtf8-from_ascii}
-use Rattle.std.proofs.lemmas.Str.Ascii.{IsAscii-nil}
 use Rattle.std.specs.Fmt.{decimal}
 use Rattle.rl_text.specs.Texts.{first_passes, begins, is_underscore, is_row_part}
 use Rattle.rl_text.proofs.Basics.{all_weaker, all_same, apart, digit_is_ten, passes_same}
@@ -13,14 +11,14 @@ use Rattle.rl_forms.specs.Reading.{Digits, ReadsInt}
 use Rattle.rl_forms.specs.Strict.{dec, BasedPrefix, IsDecimalText, IsDigits, StrictInt}
 use Rattle.rl_forms.proofs.Dec.{dec_is_decimal}
 use Rattle.rl_forms.proofs.StrictNumbers.{strict_int}
-use Rattle.rl_forms.proofs.WritingLemmas.{ascii_cons}
 use Rattle.rl_writing.specs.declared.integer_type.IntegerType.{IntegerType}
 use Rattle.rl_writing.specs.declared.integers.IntegerStyle.{IntegerStyle}
 use Rattle.rl_writing.specs.Integers.{base_of, ends_group, grouped, numeral, suffix_text}
 use Rattle.rl_writing.specs.WrittenIntegers.{IsWrittenInteger, written_integer}
+use Rattle.rl_writing.proofs.AsciiLemmas.{is_low, low_chars, low_join, low_utf8}
 use Rattle.rl_writing.proofs.GroupLemmas.{grouped_all, grouped_digits}
 use Rattle.rl_writing.proofs.NumeralLemmas.{is_glyph, numeral_glyphs, numeral_some, numeral_value}
-use Rattle.rl_writing.proofs.SuffixLemmas.{IsPlainSuffix, is_base_letter, is_low, suffix_is}
+use Rattle.rl_writing.proofs.SuffixLemmas.{IsPlainSuffix, is_base_letter, suffix_is}
 
 pub radix_low : (b : Base) → 2 ≤ radix b
 radix_low Binary = omega arith
@@ -197,20 +195,14 @@ prefix_low Octal = refl
 prefix_low Decimal = refl
 prefix_low Hexadecimal = refl
 
-pub written_low : (value : ℕ) (style : IntegerStyle) (suffix : Option IntegerType)
+written_low : (value : ℕ) (style : IntegerStyle) (suffix : Option IntegerType)
     → list_all is_low (written_integer value style suffix) ≡ true
 written_low value style suffix =
     let b = base_of style.base in
     let row = grouped style.group (numeral (radix b) style.upper value) in
     let x = suffix_text suffix in
-    list_all-append is_low (prefix b) (row ++ x) ∙ and_from _ _ (prefix_low b)
-    (list_all-append is_low row x ∙ and_from _ _ (row_is b style.upper style.group value).ascii (suffix_is suffix).ascii)
-
-low_ascii : (t : List ℕ) → list_all is_low t ≡ true → IsAscii t
-low_ascii [] h = IsAscii-nil
-low_ascii (c ∷ t) h =
-    let p = and_parts (is_low c) (list_all is_low t) h in
-    ascii_cons c t (ltb-true c 128 p.0) (low_ascii t p.1)
+    low_join (prefix b) (row ++ x) (prefix_low b)
+    (low_join row x (row_is b style.upper style.group value).ascii (suffix_is suffix).ascii)
 
 -- ---- the bytes that are put
 
@@ -225,17 +217,17 @@ written_bytes value style suffix whole inner front digits x base is_whole is_inn
     (are_digits ∙ ap (λ z. numeral z style.upper value) is_base)
     ∙ ap (λ z. prefix (base_of style.base) ++ (grouped style.group (numeral (radix (base_of style.base)) style.upper value) ++ z)) is_x
 
-written_ascii : (value : ℕ) (style : IntegerStyle) (suffix : Option IntegerType) (whole : List ℕ)
-    → whole ≡ written_integer value style suffix → IsAscii whole
-written_ascii value style suffix whole e = subst IsAscii (sym e) (low_ascii _ (written_low value style suffix))
+whole_low : (value : ℕ) (style : IntegerStyle) (suffix : Option IntegerType) (whole : List ℕ)
+    → whole ≡ written_integer value style suffix → list_all is_low whole ≡ true
+whole_low value style suffix whole e = ap (list_all is_low) e ∙ written_low value style suffix
 
 pub written_utf8 : (value : ℕ) (style : IntegerStyle) (suffix : Option IntegerType) (whole : List ℕ)
     → whole ≡ written_integer value style suffix → IsUtf8 whole
-written_utf8 value style suffix whole e = IsUtf8-from_ascii whole (written_ascii value style suffix whole e)
+written_utf8 value style suffix whole e = low_utf8 whole (whole_low value style suffix whole e)
 
 pub written_is : (value : ℕ) (style : IntegerStyle) (suffix : Option IntegerType) (whole : List ℕ) → value < 2 ^ 128
     → whole ≡ written_integer value style suffix → IsWrittenInteger value style suffix (chars whole)
 written_is value style suffix whole h e =
     subst (λ z. IsWrittenInteger value style suffix z)
-    (sym (chars-IsAscii whole (written_ascii value style suffix whole e) ∙ e))
+    (sym (low_chars whole (whole_low value style suffix whole e) ∙ e))
     (integer_written value style suffix (omega arith))

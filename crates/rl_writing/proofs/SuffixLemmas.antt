@@ -7,9 +7,7 @@ use Rattle.rl_forms.specs.Strict.{IsStrictSuffix}
 use Rattle.rl_writing.specs.declared.integer_type.IntegerType.{IntegerType}
 use Rattle.rl_writing.specs.declared.integer_type.IntegerType.TheVariants.{U8, U16, U32, U64, U128, Usize, I8, I16, I32, I64, I128, Isize}
 use Rattle.rl_writing.specs.Integers.{suffix_text}
-
-abbrev pub is_low : ℕ → Bool
-is_low c = nat_lt c 128
+use Rattle.rl_writing.proofs.AsciiLemmas.{is_low}
 
 -- the letters of the prefixes
 abbrev pub is_base_letter : ℕ → Bool
