@@ -1,5 +1,9 @@
 -- Digits in groups: what holds of the digits holds of the groups.
-use Rattle.rl_text.proofs.Common.{◌≡◌, ℕ, ◌&&◌, Bool, true, false, not, cond, eqb, List, [], ◌∷◌, ◌++◌, length, refl, sym, ap, ◌∙◌, inl, inr, list_all, list_any, and_parts, and_from, cases_Bool, if◌then◌else◌}
+use Rattle.rl_text.proofs.Common.{◌≡◌, ℕ, ◌*◌, ◌-◌, ◌≤◌, ◌&&◌, Bool, true, false, not, cond, eqb, List, [], ◌∷◌, ◌++◌, length, take, refl, sym, ap, ◌∙◌, inl, inr, arith, nat_lt, list_all, list_any, and_parts, and_from, cases_Bool, if◌then◌else◌}
+use Rattle.std.specs.Prelude.{reverse}
+use Rattle.std.proofs.Common.{length-take}
+use Rattle.std.proofs.lemmas.Bool.{and_left, and_right}
+use Rattle.std.proofs.lemmas.List.{length-reverse}
 use Rattle.rl_text.specs.Texts.{first_passes, is_underscore}
 use Rattle.rl_forms.specs.Spelling.{without_underscores}
 use Rattle.rl_writing.specs.Integers.{ends_group, grouped}
@@ -37,3 +41,24 @@ grouped_digits size (d ∷ ds) h =
       | inl e ↦ ap without_underscores (with_mark size d ds e) ∙ stays (95 ∷ grouped size ds) ∙ ap (λ z. d ∷ z) more
       | inr e ↦ ap without_underscores (without_mark size d ds e) ∙ stays (grouped size ds) ∙ ap (λ z. d ∷ z) more
     ]
+
+-- ---- how long they are
+
+pub grouped_length : (size : ℕ) (ds : List ℕ) → length (grouped size ds) ≤ 2 * length ds - 1
+grouped_length size [] = omega arith
+grouped_length size (d ∷ []) = omega (arith, ap length (without_mark size d [] (and_left _ _ (and_right (nat_lt 0 size) false refl))))
+grouped_length size (d ∷ e ∷ ds) =
+    let more = grouped_length size (e ∷ ds) in
+    elim (cases_Bool (ends_group size (length (e ∷ ds)))) [
+      | inl h ↦ omega (arith, more, ap length (with_mark size d (e ∷ ds) h))
+      | inr h ↦ omega (arith, more, ap length (without_mark size d (e ∷ ds) h))
+    ]
+
+pub grouped_short : (size n k : ℕ) (room : List ℕ) → n ≤ k → length (grouped size (reverse (take n room))) ≤ 2 * k - 1
+grouped_short size n k room h =
+    omega (arith, h, grouped_length size (reverse (take n room)), length-reverse (take n room), length-take n room)
+
+-- of size 0 is no group
+pub ungrouped : (ds : List ℕ) → grouped 0 ds ≡ ds
+ungrouped [] = refl
+ungrouped (d ∷ ds) = ap (λ z. d ∷ z) (ungrouped ds)

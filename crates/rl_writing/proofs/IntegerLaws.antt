@@ -195,6 +195,12 @@ prefix_low Octal = refl
 prefix_low Decimal = refl
 prefix_low Hexadecimal = refl
 
+pub prefix_short : (b : Base) (text : List ℕ) → text ≡ prefix b → length text ≤ 2
+prefix_short Binary text e = omega (arith, ap length e)
+prefix_short Octal text e = omega (arith, ap length e)
+prefix_short Decimal text e = omega (arith, ap length e)
+prefix_short Hexadecimal text e = omega (arith, ap length e)
+
 written_low : (value : ℕ) (style : IntegerStyle) (suffix : Option IntegerType)
     → list_all is_low (written_integer value style suffix) ≡ true
 written_low value style suffix =

@@ -5,3 +5,5 @@ pub mod SuffixLemmas
 pub mod IntegerLaws
 pub mod HashLemmas
 pub mod RawLaws
+pub mod UnicodeLemmas
+pub mod AsciiLaws

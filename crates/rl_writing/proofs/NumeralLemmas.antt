@@ -194,23 +194,23 @@ numeral_some base upper n =
 
 -- ---- how many they are
 
--- a number of 128 bits that was divided so often is less than so much
-pub fits_more : (n base count more : ℕ) → 2 ≤ base → more ≡ count + 1 → n * 2 ^ count < 2 ^ 128
-    → n / base * 2 ^ more < 2 ^ 128
-fits_more n base count more low is h =
+-- a number of so many bits that was divided so often is less than so much
+pub fits_more : (n base count more bits : ℕ) → 2 ≤ base → more ≡ count + 1 → n * 2 ^ count < 2 ^ bits
+    → n / base * 2 ^ more < 2 ^ bits
+fits_more n base count more bits low is h =
     let same : more ≡ suc count = omega (arith, is) in
     let power : 2 ^ more ≡ 2 ^ count * 2 = ap (λ z. 2 ^ z) same ∙ pow-suc 2 count in
     let half = mul-le-mul_right (2 ^ count) (halved n base low) in
     omega (arith, h, half, ap (λ z. n / base * z) power)
 
-pub count_left : (n count : ℕ) → n * 2 ^ count < 2 ^ 128 → (0 < n) ⊎ (count ≡ 0) → count < 128
-count_left n count h (inr e) = omega arith
-count_left n count h (inl some) =
-    elim (cases_lt count 128) [
+pub count_left : (n count bits : ℕ) → 0 < bits → n * 2 ^ count < 2 ^ bits → (0 < n) ⊎ (count ≡ 0) → count < bits
+count_left n count bits some h (inr e) = omega arith
+count_left n count bits some h (inl more) =
+    elim (cases_lt count bits) [
       | inl a ↦ a
       | inr a ↦
-          let large : 2 ^ 128 ≤ 2 ^ count = pow-le-pow_right (omega arith) a in
-          let one = mul-le-mul_right (2 ^ count) some in
+          let large : 2 ^ bits ≤ 2 ^ count = pow-le-pow_right (omega arith) a in
+          let one = mul-le-mul_right (2 ^ count) more in
           absurd (omega (arith, h, large, one))
     ]
 

@@ -1,3 +1,4 @@
+pub mod AsciiStrings
 pub mod Integers
 pub mod RawStrings
 pub mod WrittenIntegers

@@ -1,6 +1,6 @@
 //! Digits of numbers.
 
-ghost use Rattle.std.specs.Prelude.{◌≡◌, ◌+◌, ◌*◌, ◌++◌, ◌<◌, ◌≤◌, length, reverse, take};
+ghost use Rattle.std.specs.Prelude.{◌≡◌, ◌+◌, ◌^◌, ◌++◌, ◌<◌, ◌≤◌, length, reverse, take};
 ghost use Rattle.std.specs.Fmt.{digit_glyph};
 ghost use Rattle.rl_writing.specs.Integers.{ends_group, grouped, numeral};
 
@@ -20,13 +20,15 @@ fn digit(value: u8, upper: bool) -> u8
     }
 }
 
-/// Puts the digits of the number at the front of the room, the last of them first, and returns how many they are.
+/// Puts the digits of the number at the front of the room, the last of them first, and returns how many they are: no more
+/// than bits.
 pub fn put_reversed(value: u128, radix: u8, upper: bool, room: &mut [u8]) -> usize
     requires low { 2 ≤ radix }
     requires high { radix ≤ 16 }
-    requires room { 128 ≤ length room.old }
+    requires some { 0 < length room.old }
+    requires room { value < 2 ^ length room.old }
     ensures digits { reverse (take result room.new) ≡ numeral radix upper value }
-    ensures within { result ≤ 128 }
+    ensures within { result ≤ length room.new }
     ensures len { length room.new ≡ length room.old }
 {
     let base = u128::from(radix);
@@ -52,8 +54,8 @@ fn ends_group(group: usize, left: usize) -> bool
 /// Puts digits after the first `at` bytes of the slice, in groups of this size with an underscore between two, and returns
 /// where they end. They stand in `digits` the last of them first. Of size 0 is no group.
 pub fn put_grouped(out: &mut [u8], at: usize, digits: &[u8], group: usize) -> usize
-    requires { at + 2 * length digits.now ≤ length out.old }
-    ensures end { result ≤ at + 2 * length digits.now }
+    requires { at + length (grouped group (reverse digits.now)) ≤ length out.old }
+    ensures end { result ≡ at + length (grouped group (reverse digits.now)) }
     ensures bytes { take result out.new ≡ take at out.old ++ grouped group (reverse digits.now) }
     ensures len { length out.new ≡ length out.old }
 {

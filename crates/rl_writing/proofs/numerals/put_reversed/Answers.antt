@@ -1,11 +1,11 @@
-use Rattle.rl_text.proofs.Common.{◌≡◌, ◌+◌, ◌*◌, ◌/◌, ◌^◌, ◌<◌, refl, sym, ap, subst, ◌∙◌, inl, inr, arith}
+use Rattle.rl_text.proofs.Common.{◌≡◌, ◌+◌, ◌*◌, ◌/◌, ◌^◌, ◌<◌, length, refl, sym, ap, subst, ◌∙◌, inl, inr, arith}
 use Rattle.rl_writing.proofs.NumeralLemmas.{before_nothing, count_left, fits_more, put_first, put_more}
 use Rattle.rl_writing.proofs.numerals.put_reversed.Goals as goal
 
 pub loop-left-init : goal.loop-left-init
 loop-left-init c = record {
   digits = before_nothing c.args.radix c.args.upper c.args.value;
-  fits = omega (arith, c.ranges.value.fits);
+  fits = omega (arith, c.requires.room);
   some = inr refl;
   len = refl;
 }
@@ -13,7 +13,8 @@ loop-left-init c = record {
 pub put_byte-count-requires : goal.put_byte-count-requires
 put_byte-count-requires c =
     let l = c.loop-left in
-    omega (arith, count_left l.left l.count l.invariant.fits l.invariant.some, l.invariant.len, c.requires.room)
+    let left = count_left l.left l.count (length c.args.room.now) c.requires.some l.invariant.fits l.invariant.some in
+    omega (arith, left, l.invariant.len)
 
 pub returns-then-left-eq0-clause-digits : goal.returns-then-left-eq0-clause-digits
 returns-then-left-eq0-clause-digits c =
@@ -24,7 +25,8 @@ returns-then-left-eq0-clause-digits c =
 pub returns-then-left-eq0-clause-within : goal.returns-then-left-eq0-clause-within
 returns-then-left-eq0-clause-within c =
     let l = c.loop-left in
-    omega (arith, count_left l.left l.count l.invariant.fits l.invariant.some, c.put_byte-count.ensures.end)
+    let left = count_left l.left l.count (length c.args.room.now) c.requires.some l.invariant.fits l.invariant.some in
+    omega (arith, left, l.invariant.len, c.put_byte-count.ensures.end, c.put_byte-count.ensures.len)
 
 pub loop-left-preserved : goal.loop-left-preserved
 loop-left-preserved c =
@@ -33,7 +35,7 @@ loop-left-preserved c =
     record {
       digits = put_more c.args.radix c.from-base.result c.args.upper l.left c.digit.result _ _ _ c.requires.low base
           c.put_byte-count.ensures.bytes c.digit.ensures c.if-left-eq0.false l.invariant.digits;
-      fits = fits_more l.left c.from-base.result l.count c.put_byte-count.result (omega (arith, base, c.requires.low))
+      fits = fits_more l.left c.from-base.result l.count c.put_byte-count.result _ (omega (arith, base, c.requires.low))
           c.put_byte-count.ensures.end l.invariant.fits;
       some = inl (omega (arith, c.if-left-eq0.false));
       len = c.put_byte-count.ensures.len ∙ l.invariant.len;

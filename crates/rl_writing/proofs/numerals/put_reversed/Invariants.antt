@@ -8,7 +8,7 @@ use Rattle.rl_writing.proofs.numerals.put_reversed.Given as goal
 abbrev pub invariant-loop-left : goal.invariant-loop-left
 invariant-loop-left l = record {
   digits : digits_before l.radix l.upper l.left (reverse (take l.count l.room)) ≡ numeral l.radix l.upper l.value;
-  fits : l.left * 2 ^ l.count < 2 ^ 128;
+  fits : l.left * 2 ^ l.count < 2 ^ length l.initial.room;
   some : (0 < l.left) ⊎ (l.count ≡ 0);
   len : length l.room ≡ length l.initial.room;
 }
