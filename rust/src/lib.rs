@@ -72,13 +72,13 @@ mod write;
 pub mod rendered {
     pub use crate::proved::{
         rl_file_reasons, rl_forms, rl_lexer, rl_parts, rl_reading, rl_reasons, rl_recovery,
-        rl_settings, rl_strict, rl_text,
+        rl_settings, rl_strict, rl_text, rl_writing,
     };
 }
 
 use proved::{
     rl_file_reasons, rl_forms, rl_lexer, rl_parts, rl_reading, rl_reasons, rl_recovery,
-    rl_settings, rl_strict, rl_text,
+    rl_settings, rl_strict, rl_text, rl_writing,
 };
 
 pub use characters::{LitByte, LitChar};

@@ -1,5 +1,5 @@
 -- What a text is written as in ASCII is strict, and reads as the text.
-use Rattle.rl_text.proofs.Common.{◌≡◌, ℕ, suc, ◌*◌, ◌/◌, ◌%◌, ◌<◌, ◌≤◌, ◌==◌, ◌&&◌, Bool, true, false, not, eqb, List, [], ◌∷◌, ◌++◌, length, refl, sym, ap, subst, ◌∙◌, inl, inr, arith, append_assoc, append-nil, nat_lt, nat_le, list_all, flat_map, scalar, and_parts, and_from, cases_lt, lt-ltb, eqb-true, not-true, agree_below_at, encode_ascii, encode_utf8, chars, IsUtf8, ltb-true, length-encode, len_utf8_bounds, if◌then◌else◌}
+use Rattle.rl_text.proofs.Common.{◌≡◌, ℕ, suc, ◌*◌, ◌/◌, ◌%◌, ◌<◌, ◌≤◌, ◌==◌, ◌&&◌, Bool, true, false, not, eqb, List, [], ◌∷◌, ◌++◌, length, refl, sym, ap, subst, ◌∙◌, inl, inr, arith, append_assoc, append-nil, nat_le, list_all, flat_map, scalar, and_parts, and_from, cases_lt, lt-ltb, eqb-true, not-true, agree_below_at, encode_ascii, encode_utf8, chars, IsUtf8, ltb-true, length-encode, len_utf8_bounds, if◌then◌else◌}
 use Rattle.std.proofs.lemmas.Bool.{le-ltb, leb-true}
 use Rattle.std.proofs.lemmas.Grind.{flat_map-append}
 use Rattle.std.proofs.lemmas.Str.{scalars-chars}
@@ -249,7 +249,8 @@ pub one_piece : (k : Kind) (c : ℕ) (a b : List ℕ) → a ≡ opener k → b �
 one_piece k c a b a_is b_is = b_is ∙ ap (λ z. z ++ ascii_text k c) a_is
     ∙ ap (λ z. opener k ++ z) (sym (append-nil (ascii_text k c)))
 
-pub piece_more : (k : Kind) (xs a b : List ℕ) (c : ℕ) → a ≡ opener k ++ flat_map (ascii_text k) xs → b ≡ a ++ ascii_text k c
+pub piece_more : (k : Kind) (xs a b : List ℕ) (c : ℕ) → a ≡ opener k ++ flat_map (ascii_text k) xs → b ≡ a
+    ++ ascii_text k c
     → b ≡ opener k ++ flat_map (ascii_text k) (xs ++ (c ∷ []))
 piece_more k xs a b c a_is b_is =
     let all : flat_map (ascii_text k) (xs ++ (c ∷ [])) ≡ flat_map (ascii_text k) xs ++ ascii_text k c =

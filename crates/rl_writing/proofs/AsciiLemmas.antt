@@ -1,5 +1,5 @@
 -- Texts in ASCII.
-use Rattle.rl_text.proofs.Common.{◌≡◌, ℕ, Bool, true, List, [], ◌∷◌, ◌++◌, sym, ap, subst, ◌∙◌, nat_lt, list_all, list_all-append, and_parts, and_from, ltb-true, chars, chars-append, chars-IsAscii, IsAscii, IsUtf8}
+use Rattle.rl_text.proofs.Common.{◌≡◌, ℕ, Bool, true, List, [], ◌∷◌, ◌++◌, ap, ◌∙◌, nat_lt, list_all, list_all-append, and_parts, and_from, ltb-true, chars, chars-append, chars-IsAscii, IsAscii, IsUtf8}
 use Rattle.std.proofs.lemmas.Str.{IsUtf8-append, IsUtf8-from_ascii}
 use Rattle.std.proofs.lemmas.Str.Ascii.{IsAscii-cons, IsAscii-nil}
 
@@ -22,7 +22,8 @@ pub low_join : (a b : List ℕ) → list_all is_low a ≡ true → list_all is_l
 low_join a b h k = list_all-append is_low a b ∙ and_from _ _ h k
 
 -- a text between two in ASCII
-pub framed_utf8 : (a b t : List ℕ) → list_all is_low a ≡ true → list_all is_low b ≡ true → IsUtf8 t → IsUtf8 (a ++ (t ++ b))
+pub framed_utf8 : (a b t : List ℕ) → list_all is_low a ≡ true → list_all is_low b ≡ true → IsUtf8 t
+    → IsUtf8 (a ++ (t ++ b))
 framed_utf8 a b t h k u = IsUtf8-append a (t ++ b) (low_utf8 a h) (IsUtf8-append t b u (low_utf8 b k))
 
 pub framed_chars : (a b t : List ℕ) → list_all is_low a ≡ true → list_all is_low b ≡ true → IsUtf8 t

@@ -1,10 +1,10 @@
 -- Digits in groups: what holds of the digits holds of the groups.
-use Rattle.rl_text.proofs.Common.{◌≡◌, ℕ, ◌*◌, ◌-◌, ◌≤◌, ◌&&◌, Bool, true, false, not, cond, eqb, List, [], ◌∷◌, ◌++◌, length, take, refl, sym, ap, ◌∙◌, inl, inr, arith, nat_lt, list_all, list_any, and_parts, and_from, cases_Bool, if◌then◌else◌}
+use Rattle.rl_text.proofs.Common.{◌≡◌, ℕ, ◌*◌, ◌-◌, ◌≤◌, Bool, true, false, not, cond, List, [], ◌∷◌, ◌++◌, length, take, refl, ap, ◌∙◌, inl, inr, arith, nat_lt, list_all, and_parts, and_from, cases_Bool, if◌then◌else◌}
 use Rattle.std.specs.Prelude.{reverse}
 use Rattle.std.proofs.Common.{length-take}
 use Rattle.std.proofs.lemmas.Bool.{and_left, and_right}
 use Rattle.std.proofs.lemmas.List.{length-reverse}
-use Rattle.rl_text.specs.Texts.{first_passes, is_underscore}
+use Rattle.rl_text.specs.Texts.{is_underscore}
 use Rattle.rl_forms.specs.Spelling.{without_underscores}
 use Rattle.rl_writing.specs.Integers.{ends_group, grouped}
 
@@ -46,7 +46,8 @@ grouped_digits size (d ∷ ds) h =
 
 pub grouped_length : (size : ℕ) (ds : List ℕ) → length (grouped size ds) ≤ 2 * length ds - 1
 grouped_length size [] = omega arith
-grouped_length size (d ∷ []) = omega (arith, ap length (without_mark size d [] (and_left _ _ (and_right (nat_lt 0 size) false refl))))
+grouped_length size (d ∷ []) = omega (arith, ap length (without_mark size d []
+    (and_left _ _ (and_right (nat_lt 0 size) false refl))))
 grouped_length size (d ∷ e ∷ ds) =
     let more = grouped_length size (e ∷ ds) in
     elim (cases_Bool (ends_group size (length (e ∷ ds)))) [

@@ -1,6 +1,5 @@
 -- How many hashes a raw string needs, by what follows its quotes.
-use Rattle.rl_text.proofs.Common.{◌≡◌, ℕ, zero, suc, ◌+◌, ◌<◌, ◌≤◌, ◌==◌, ◌&&◌, Bool, true, false, cond, eqb, List, [], ◌∷◌, ◌++◌, replicate, refl, sym, ap, subst, ◌∙◌, inl, inr, arith, eqb-true, cases_Bool, cases_lt, nat_lt, lt-ltb, if◌then◌else◌}
-use Rattle.std.proofs.lemmas.Bool.{le-ltb}
+use Rattle.rl_text.proofs.Common.{◌≡◌, ℕ, zero, suc, ◌+◌, ◌<◌, ◌≤◌, ◌&&◌, Bool, true, false, cond, eqb, List, [], ◌∷◌, ◌++◌, replicate, refl, sym, ap, subst, ◌∙◌, inl, inr, arith, eqb-true, cases_Bool, cases_lt, nat_lt, lt-ltb, if◌then◌else◌}
 use Rattle.std.specs.Prelude.{max}
 use Rattle.rl_writing.specs.RawStrings.{hashes_opened}
 
@@ -22,7 +21,8 @@ run_more (suc n) t = omega (arith, run_more n t)
 
 pub closes_needed : (n : ℕ) (front rest : List ℕ) → n < needed_in ((front ++ (34 ∷ replicate n 35)) ++ rest)
 closes_needed n [] rest = omega (arith, run_more n rest)
-closes_needed n (c ∷ front) rest = wider (eqb c 34) ((front ++ (34 ∷ replicate n 35)) ++ rest) (closes_needed n front rest)
+closes_needed n (c ∷ front) rest = wider (eqb c 34) ((front ++ (34 ∷ replicate n 35)) ++ rest)
+    (closes_needed n front rest)
   where
     wider : (b : Bool) (t : List ℕ) → n < needed_in t → n < cond b (max (suc (run t)) (needed_in t)) (needed_in t)
     wider true t h = omega (arith, h)
@@ -54,7 +54,8 @@ needed_closes n [] h = absurd (omega (arith, h))
 needed_closes n (c ∷ t) h =
     elim (cases_Bool (eqb c 34)) [
       | inl e ↦
-          let same : needed_in (c ∷ t) ≡ max (suc (run t)) (needed_in t) = ap (λ b. cond b (max (suc (run t)) (needed_in t)) (needed_in t)) e in
+          let same : needed_in (c ∷ t) ≡ max (suc (run t)) (needed_in t) = ap
+              (λ b. cond b (max (suc (run t)) (needed_in t)) (needed_in t)) e in
           elim (cases_lt n (needed_in t)) [
             | inl a ↦ closes_after n c t (needed_closes n t a)
             | inr a ↦
@@ -62,7 +63,8 @@ needed_closes n (c ∷ t) h =
                 ([], front.0, ap (λ z. z ∷ t) (eqb-true c 34 e) ∙ ap (λ z. 34 ∷ z) front.1)
           ]
       | inr e ↦
-          let same : needed_in (c ∷ t) ≡ needed_in t = ap (λ b. cond b (max (suc (run t)) (needed_in t)) (needed_in t)) e in
+          let same : needed_in (c ∷ t) ≡ needed_in t = ap (λ b. cond b (max (suc (run t)) (needed_in t)) (needed_in t))
+              e in
           closes_after n c t (needed_closes n t (omega (arith, h, same)))
     ]
 

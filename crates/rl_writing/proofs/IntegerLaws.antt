@@ -1,10 +1,9 @@
 -- What an integer is written as is strict, and reads as the value.
-use Rattle.rl_text.proofs.Common.{◌≡◌, ℕ, ◌^◌, ◌<◌, ◌≤◌, ◌||◌, ◌&&◌, Bool, true, false, not, eqb, List, [], ◌∷◌, ◌++◌, length, Option, ◌⊎◌, refl, sym, ap, subst, ◌∙◌, inl, inr, arith, append_assoc, nat_lt, digit_value, is_ascii_digit, list_all, list_any, and_parts, and_from, or_parts, or_from, or_left, or_right, chars, IsUtf8, if◌then◌else◌}
+use Rattle.rl_text.proofs.Common.{◌≡◌, ℕ, ◌^◌, ◌<◌, ◌≤◌, ◌||◌, ◌&&◌, Bool, true, false, not, eqb, List, [], ◌∷◌, ◌++◌, length, Option, ◌⊎◌, refl, sym, ap, subst, ◌∙◌, inl, inr, arith, append_assoc, nat_lt, digit_value, is_ascii_digit, list_all, list_any, and_parts, or_parts, or_from, or_left, or_right, chars, IsUtf8, if◌then◌else◌}
 use Rattle.std.proofs.lemmas.Bool.{and_right}
 use Rattle.std.specs.Fmt.{decimal}
 use Rattle.rl_text.specs.Texts.{first_passes, begins, is_underscore, is_row_part}
-use Rattle.rl_text.proofs.Basics.{all_weaker, all_same, apart, digit_is_ten, passes_same}
-use Rattle.rl_forms.specs.declared.kind.Kind.TheVariants.{Int}
+use Rattle.rl_text.proofs.Basics.{all_weaker, all_same, apart, digit_is_ten}
 use Rattle.rl_forms.specs.Numbers.{Base, Binary, Octal, Decimal, Hexadecimal, NoSign, prefix, radix, begins_base, limit}
 use Rattle.rl_forms.specs.Spelling.{place_value, without_underscores}
 use Rattle.rl_forms.specs.Reading.{Digits, ReadsInt}
@@ -68,7 +67,8 @@ row_is b upper size value =
     let glyphs = numeral_glyphs base upper value (radix_low b) (radix_high b) in
     let some = numeral_some base upper value in
     let first = some.first in
-    let begun : list_all (is_glyph base) (first ∷ some.more) ≡ true = ap (list_all (is_glyph base)) (sym some.is) ∙ glyphs in
+    let begun : list_all (is_glyph base) (first ∷ some.more) ≡ true = ap (list_all (is_glyph base)) (sym some.is)
+        ∙ glyphs in
     record {
       first = first;
       more = (if ends_group size (length some.more) then 95 ∷ [] else []) ++ grouped size some.more;
@@ -97,13 +97,15 @@ decimal_digits value row r = (
 -- no prefix's letter follows a digit where digits and a suffix do
 part_no_letter : (c : ℕ) → is_row_part (has_value 10) c ≡ true → is_base_letter c ≡ false
 part_no_letter c h =
-    let other : (k : ℕ) → is_row_part (has_value 10) k ≡ false → eqb c k ≡ false = λ k n. apart (is_row_part (has_value 10)) c k h n in
+    let other : (k : ℕ) → is_row_part (has_value 10) k ≡ false → eqb c k
+        ≡ false = λ k n. apart (is_row_part (has_value 10)) c k h n in
     or_from _ _ (or_from _ _ (other 98 refl) (other 111 refl)) (other 120 refl)
 
 rest_no_letter : (row x : List ℕ) → list_all (is_row_part (has_value 10)) row ≡ true
     → first_passes is_base_letter x ≡ false → first_passes is_base_letter (row ++ x) ≡ false
 rest_no_letter [] x h n = n
-rest_no_letter (c ∷ row) x h n = part_no_letter c (and_parts (is_row_part (has_value 10) c) (list_all (is_row_part (has_value 10)) row) h).0
+rest_no_letter (c ∷ row) x h n = part_no_letter c (and_parts (is_row_part (has_value 10) c)
+    (list_all (is_row_part (has_value 10)) row) h).0
 
 second : (p k c : ℕ) (t : List ℕ) → first_passes (λ z. eqb z k) t ≡ false → begins (p ∷ k ∷ []) (c ∷ t) ≡ false
 second p k c [] h = and_right (eqb c p) false refl
@@ -124,7 +126,8 @@ no_base c t h =
 decimal_text : (value : ℕ) (row x : List ℕ) → IsRow 10 value row → first_passes is_base_letter x ≡ false
     → IsDecimalText (row ++ x)
 decimal_text value row x r n =
-    let each : list_all (is_row_part (has_value 10)) (r.first ∷ r.more) ≡ true = ap (list_all (is_row_part (has_value 10))) (sym r.is) ∙ r.each in
+    let each : list_all (is_row_part (has_value 10)) (r.first ∷ r.more)
+        ≡ true = ap (list_all (is_row_part (has_value 10))) (sym r.is) ∙ r.each in
     let more = (and_parts (is_row_part (has_value 10) r.first) (list_all (is_row_part (has_value 10)) r.more) each).1 in
     ap (λ z. begins_base (z ++ x)) r.is ∙ no_base r.first (r.more ++ x) (rest_no_letter r.more x more n)
 
@@ -133,16 +136,19 @@ decimal_text value row x r n =
 -- how the text begins, by its base
 abbrev IsFront : Base → List ℕ → List ℕ → Type 0
 IsFront b row x =
-    ((prefix b ≡ []) × (radix b ≡ 10) × IsDigits row × IsDecimalText (prefix b ++ (row ++ x))) ⊎ BasedPrefix (prefix b) (radix b)
+    ((prefix b ≡ []) × (radix b ≡ 10) × IsDigits row × IsDecimalText (prefix b ++ (row ++ x)))
+        ⊎ BasedPrefix (prefix b) (radix b)
 
-front_is : (b : Base) (value : ℕ) (row x : List ℕ) → IsRow (radix b) value row → first_passes is_base_letter x ≡ false → IsFront b row x
+front_is : (b : Base) (value : ℕ) (row x : List ℕ) → IsRow (radix b) value row → first_passes is_base_letter x ≡ false
+    → IsFront b row x
 front_is Binary value row x r n = inr (inl (refl, refl))
 front_is Octal value row x r n = inr (inr (inl (refl, refl)))
 front_is Decimal value row x r n = inl (refl, refl, decimal_digits value row r, decimal_text value row x r n)
 front_is Hexadecimal value row x r n = inr (inr (inr (refl, refl)))
 
 row_some : (base value : ℕ) (row : List ℕ) → IsRow base value row → list_any (has_value base) row ≡ true
-row_some base value row r = ap (list_any (has_value base)) r.is ∙ or_left (has_value base r.first) (list_any (has_value base) r.more) r.begins
+row_some base value row r = ap (list_any (has_value base)) r.is
+    ∙ or_left (has_value base r.first) (list_any (has_value base) r.more) r.begins
 
 integer_strict : (b : Base) (value : ℕ) (row x : List ℕ) → value ≤ limit → IsRow (radix b) value row → IsPlainSuffix x
     → StrictInt (prefix b ++ (row ++ x)) (Digits (decimal value)) x
@@ -212,7 +218,8 @@ written_low value style suffix =
 
 -- ---- the bytes that are put
 
-pub written_bytes : (value : ℕ) (style : IntegerStyle) (suffix : Option IntegerType) (whole inner front digits x : List ℕ)
+pub written_bytes : (value : ℕ) (style : IntegerStyle) (suffix : Option IntegerType)
+    (whole inner front digits x : List ℕ)
     (base : ℕ) → whole ≡ inner ++ x → inner ≡ front ++ grouped style.group digits → front ≡ prefix (base_of style.base)
     → digits ≡ numeral base style.upper value → base ≡ radix (base_of style.base) → x ≡ suffix_text suffix
     → whole ≡ written_integer value style suffix
@@ -221,7 +228,8 @@ written_bytes value style suffix whole inner front digits x base is_whole is_inn
     ∙ ap (λ z. z ++ (grouped style.group digits ++ x)) is_front
     ∙ ap (λ z. prefix (base_of style.base) ++ (grouped style.group z ++ x))
     (are_digits ∙ ap (λ z. numeral z style.upper value) is_base)
-    ∙ ap (λ z. prefix (base_of style.base) ++ (grouped style.group (numeral (radix (base_of style.base)) style.upper value) ++ z)) is_x
+    ∙ ap (λ z. prefix (base_of style.base) ++ (grouped style.group
+        (numeral (radix (base_of style.base)) style.upper value) ++ z)) is_x
 
 whole_low : (value : ℕ) (style : IntegerStyle) (suffix : Option IntegerType) (whole : List ℕ)
     → whole ≡ written_integer value style suffix → list_all is_low whole ≡ true

@@ -1,7 +1,7 @@
 -- Digits of numbers of any size, and the number that they spell.
 use Rattle.rl_text.proofs.Common.{◌≡◌, ℕ, zero, suc, ◌+◌, ◌*◌, ◌/◌, ◌%◌, ◌^◌, ◌<◌, ◌≤◌, ◌⊎◌, ◌&&◌, Bool, true, false, not, cond, eqb, List, [], ◌∷◌, ◌++◌, length, refl, sym, ap, subst, ◌∙◌, inl, inr, arith, nat_lt, digit_value, list_all, eqb-true, eq-eqb, ne_eqb, lt-ltb, and_parts, and_from, cases_Bool, cases_lt, agree_below_at}
 use Rattle.std.proofs.lemmas.Bool.{eqb-false}
-use Rattle.std.proofs.lemmas.Nat.{div-add-mod', pow_below}
+use Rattle.std.proofs.lemmas.Nat.{div-add-mod'}
 use Rattle.std.proofs.Math.Nat.{pow-suc, pow-zero, mod-lt, mul-le-mul_left, mul-le-mul_right, pow-le-pow_right}
 use Rattle.std.specs.Prelude.{reverse}
 use Rattle.std.proofs.lemmas.List.{reverse-append}
@@ -100,7 +100,8 @@ last_digit base upper zero acc low some = absurd (some (omega (arith, halved zer
 last_digit base upper (suc m) acc low some =
     let half = halved (suc m) base low in
     goes_on (suc m) base upper (suc m) acc (ne_eqb (suc m / base) 0 some)
-    ∙ room base upper low m (suc m / base) (suc m / base) (now base upper (suc m) acc) (omega (arith, half)) (omega arith)
+    ∙ room base upper low m (suc m / base) (suc m / base) (now base upper (suc m) acc) (omega (arith, half))
+        (omega arith)
 
 -- ---- what they spell
 
@@ -118,7 +119,8 @@ one_more base upper n acc low high =
     let power : base ^ length (n ∷ acc) ≡ p * base = pow-suc base (length acc) in
     ap (λ z. n / base * z + (digit_value (digit_glyph upper (n % base)) * p + v)) power
     ∙ ap (λ z. n / base * (p * base) + (z * p + v)) value
-    ∙ (let whole : n / base * (p * base) + (n % base * p + v) ≡ (n / base * base + n % base) * p + v = omega arith in whole)
+    ∙ (let whole : n / base * (p * base) + (n % base * p + v) ≡ (n / base * base + n % base) * p + v = omega arith in
+        whole)
     ∙ ap (λ z. z * p + v) (div-add-mod' n base)
 
 value_ends : (k base : ℕ) (upper : Bool) (n : ℕ) (acc : List ℕ) → 2 ≤ base → base ≤ 16 → eqb (n / base) 0 ≡ true
@@ -189,7 +191,8 @@ unfolding numeral
 numeral_some base upper n =
     elim (cases_Bool (eqb (n / base) 0)) [
       | inl e ↦ record { first = digit_glyph upper (n % base); more = []; is = ends n base upper n [] e }
-      | inr e ↦ subst IsSome (sym (goes_on n base upper n [] e)) (some_onto n base upper (n / base) (digit_glyph upper (n % base)) [])
+      | inr e ↦ subst IsSome (sym (goes_on n base upper n [] e))
+          (some_onto n base upper (n / base) (digit_glyph upper (n % base)) [])
     ]
 
 -- ---- how many they are

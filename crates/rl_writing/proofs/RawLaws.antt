@@ -1,5 +1,6 @@
 -- When a raw literal stands for its characters.
-use Rattle.rl_text.proofs.Common.{◌≡◌, ℕ, zero, suc, ◌<◌, ◌≤◌, ◌&&◌, Bool, true, false, not, eqb, List, [], ◌∷◌, ◌++◌, length, replicate, refl, sym, ap, subst, ◌∙◌, ◌⊎◌, inl, inr, arith, append_assoc, append-nil, nat_lt, list_all, and_parts, and_from, both_ways, cases_lt, chars, IsUtf8}
+use Rattle.rl_text.proofs.Common.{◌≡◌, ℕ, zero, suc, ◌<◌, ◌≤◌, ◌&&◌, Bool, true, false, not, eqb, List, [], ◌∷◌, ◌++◌, length, replicate, refl, sym, ap, subst, ◌∙◌, inl, inr, arith, append_assoc, append-nil, nat_lt, list_all, and_parts, and_from, both_ways, cases_lt, chars, chars_from_encodes, IsUtf8}
+use Rattle.std.specs.Prelude.{encode_utf8_all}
 use Rattle.rl_text.specs.Texts.{first_passes}
 use Rattle.rl_text.proofs.Basics.{all_weaker, hashes_all, word_without}
 use Rattle.rl_forms.specs.declared.kind.Kind.{Kind}
@@ -10,7 +11,7 @@ use Rattle.rl_forms.specs.Strict.{IsRawInside, IsStrictSuffix, Strict, StrictRaw
 use Rattle.rl_forms.proofs.Agreeing.{strict_reads}
 use Rattle.rl_forms.proofs.OneQuoted.{raw_once, same_tail}
 use Rattle.rl_forms.proofs.StrictNumbers.{same_run}
-use Rattle.rl_writing.specs.RawStrings.{raw_contents, raw_text, stands_raw, HasFewestHashes, HasNoRaw, IsNoRaw}
+use Rattle.rl_writing.specs.RawStrings.{raw_contents, raw_text, stands_raw, HasFewestHashes, HasNoRaw}
 use Rattle.rl_writing.proofs.AsciiLemmas.{is_low, framed_chars, framed_utf8, low_join}
 use Rattle.rl_writing.proofs.HashLemmas.{closes_needed, needed_closes, needed_in}
 
@@ -22,7 +23,8 @@ stands_bare ByteStr c s h = (and_parts (not (eqb c 13)) (nat_lt c 128) h).0
 stands_bare CStr c s h = (and_parts (not (eqb c 13)) (not (eqb c 0)) h).0
 stands_bare kind c s h = absurd (cc)
 
-allowed : (k : Kind) (inside : List ℕ) → is_string k ≡ true → list_all (stands_raw k) inside ≡ true → IsRawInside k inside
+allowed : (k : Kind) (inside : List ℕ) → is_string k ≡ true → list_all (stands_raw k) inside ≡ true
+    → IsRawInside k inside
 allowed Str inside s h = tt
 allowed ByteStr inside s h = all_weaker (stands_raw ByteStr) (λ c. nat_lt c 128)
     (λ c p. (and_parts (not (eqb c 13)) (nat_lt c 128) p).1) inside h
@@ -62,13 +64,15 @@ joined : (o inside x : List ℕ) (n : ℕ)
     → (((o ++ replicate n 35) ++ (34 ∷ inside)) ++ (34 ∷ replicate n 35)) ++ x ≡ o ++ after_opener n inside x
 joined o inside x n = simp append_assoc
 
-no_suffix : (n : ℕ) (inside : List ℕ) → after_opener n inside [] ≡ replicate n 35 ++ (34 ∷ (inside ++ (34 ∷ replicate n 35)))
+no_suffix : (n : ℕ) (inside : List ℕ) → after_opener n inside [] ≡ replicate n 35
+    ++ (34 ∷ (inside ++ (34 ∷ replicate n 35)))
 no_suffix n inside = ap (λ z. replicate n 35 ++ (34 ∷ (inside ++ (34 ∷ z)))) (append-nil (replicate n 35))
 
 strict_text : (k : Kind) (n : ℕ) (inside : List ℕ) → is_string k ≡ true
     → raw_text k n inside ≡ (((strict_raw_opener k ++ replicate n 35) ++ (34 ∷ inside)) ++ (34 ∷ replicate n 35)) ++ []
 strict_text k n inside s =
-    ap (λ z. raw_opener k ++ z) (sym (no_suffix n inside)) ∙ ap (λ z. z ++ after_opener n inside []) (sym (same_opener k s))
+    ap (λ z. raw_opener k ++ z) (sym (no_suffix n inside)) ∙ ap (λ z. z ++ after_opener n inside [])
+        (sym (same_opener k s))
     ∙ sym (joined (strict_raw_opener k) inside [] n)
 
 -- ---- what stands for the characters
@@ -93,7 +97,8 @@ raw_is k n inside s stand few enough = record {
 
 raw_strict : (k : Kind) (n : ℕ) (inside : List ℕ) → is_string k ≡ true
     → StrictRaw (raw_text k n inside) k (raw_contents k inside) []
-    → Strict (raw_text k n inside) k (raw_contents k inside) [] × Reads (raw_text k n inside) k (raw_contents k inside) []
+    → Strict (raw_text k n inside) k (raw_contents k inside) []
+        × Reads (raw_text k n inside) k (raw_contents k inside) []
 raw_strict Str n inside s r = (inr r, strict_reads _ Str _ [] (inr r) tt)
 raw_strict ByteStr n inside s r = (inr r, strict_reads _ ByteStr _ [] (inr r) tt)
 raw_strict CStr n inside s r = (inr r, strict_reads _ CStr _ [] (inr r) tt)
@@ -134,15 +139,16 @@ all_raw [] = refl
 all_raw (c ∷ cs) = all_raw cs
 
 -- after the same opener, hashes and what stands inside are the same
-raw_at : (n : ℕ) (inside x : List ℕ) → list_all (λ c. not (eqb c 34)) x ≡ true → Raw Str (114 ∷ after_opener n inside x) inside x
+raw_at : (n : ℕ) (inside x : List ℕ) → list_all (λ c. not (eqb c 34)) x ≡ true
+    → Raw Str (114 ∷ after_opener n inside x) inside x
 raw_at n inside x h = record { hashes = n; inside = inside; string = refl; each = all_raw inside; no_quote = h; text_is = refl; value_is = refl }
 
 same_parts : (n m : ℕ) (inside other x : List ℕ) → list_all (λ c. not (eqb c 34)) x ≡ true
     → after_opener n inside [] ≡ after_opener m other x → (n ≡ m) × (inside ≡ other)
 same_parts n m inside other x h e =
-    let run = same_run (λ c. eqb c 35) (replicate n 35) (replicate m 35) _ _ (hashes_all n) (hashes_all m) refl refl e in
-    let read = subst (λ z. Raw Str (114 ∷ z) other x) (sym e) (raw_at m other x h) in
-    (
+    let run = same_run (λ c. eqb c 35) (replicate n 35) (replicate m 35) _ _ (hashes_all n) (hashes_all m) refl refl e
+        in
+    let read = subst (λ z. Raw Str (114 ∷ z) other x) (sym e) (raw_at m other x h) in (
       sym (length_hashes n) ∙ ap length run.0 ∙ length_hashes m,
       (raw_once Str (114 ∷ after_opener n inside []) inside [] other x (raw_at n inside [] refl) read).0,
     )
@@ -186,16 +192,26 @@ fewest_hashes k n inside s stand is few =
     record {
       strict = both.0;
       reads = both.1;
-      fewest = λ fewer less v x r. let needs = strict_needs k fewer inside x v s r in omega (arith, less, is, needs.enough);
+      fewest = λ fewer less v x r. let needs = strict_needs k fewer inside x v s r in omega
+          (arith, less, is, needs.enough);
     }
 
-pub none_stands : (k : Kind) (inside : List ℕ) → is_string k ≡ true → list_all (stands_raw k) inside ≡ false → HasNoRaw k inside
+pub none_stands : (k : Kind) (inside : List ℕ) → is_string k ≡ true → list_all (stands_raw k) inside ≡ false
+    → HasNoRaw k inside
 none_stands k inside s h n v x r = both_ways (list_all (stands_raw k) inside) h (strict_needs k n inside x v s r).stand
 
-pub none_suffices : (k : Kind) (n : ℕ) (inside : List ℕ) → is_string k ≡ true → needed_in inside ≡ n → 256 ≤ n → HasNoRaw k inside
+pub none_suffices : (k : Kind) (n : ℕ) (inside : List ℕ) → is_string k ≡ true → needed_in inside ≡ n → 256 ≤ n
+    → HasNoRaw k inside
 none_suffices k n inside s is many m v x r =
     let needs = strict_needs k m inside x v s r in
     omega (arith, is, many, needs.few, needs.enough)
+
+-- the same of what has these bytes
+pub no_other : (k : Kind) (text value inside : List ℕ) → text ≡ value → IsUtf8 value → HasNoRaw k (chars text)
+    → encode_utf8_all inside ≡ value → HasNoRaw k inside
+no_other k text value inside same u none e =
+    let is : inside ≡ chars text = chars_from_encodes inside value u e ∙ ap chars (sym same) in
+    subst (HasNoRaw k) (sym is) none
 
 -- ---- the bytes that are put
 

@@ -1,6 +1,6 @@
 -- The names of integer types are suffixes of numbers, and lengthen none of their digits.
-use Rattle.rl_text.proofs.Common.{◌≡◌, ℕ, ◌<◌, ◌||◌, ◌&&◌, Bool, true, false, not, eqb, List, [], ◌∷◌, Option, Some, None, refl, sym, ap, ◌∙◌, inl, inr, nat_lt, is_ascii_alphabetic, is_ascii_alphanumeric, is_ascii_hexdigit, list_all, and_from, and_parts, or_right, both_ways, or_parts, ltb-true, not-true, is_xid_continue, is_xid_start, is_xid_continue-ascii, is_xid_start-ascii}
-use Rattle.rl_text.specs.Texts.{first_passes, is_underscore, is_white, xid_ok, IsWord}
+use Rattle.rl_text.proofs.Common.{◌≡◌, ℕ, ◌||◌, ◌&&◌, Bool, true, false, not, eqb, List, [], ◌∷◌, Option, Some, None, refl, ap, ◌∙◌, inl, inr, is_ascii_alphabetic, is_ascii_alphanumeric, is_ascii_hexdigit, list_all, and_from, and_parts, or_right, both_ways, or_parts, ltb-true, not-true, is_xid_continue, is_xid_start, is_xid_continue-ascii, is_xid_start-ascii}
+use Rattle.rl_text.specs.Texts.{first_passes, is_underscore, is_white, IsWord}
 use Rattle.rl_text.proofs.Basics.{apart}
 use Rattle.rl_forms.specs.Numbers.{is_exponent_letter}
 use Rattle.rl_forms.specs.Strict.{IsStrictSuffix}
@@ -59,7 +59,8 @@ name_word c cs letter first more = record {
   identifier =
       let low = ltb-true c 128 (part_low c first) in
       and_from (eqb c 95 || is_xid_start c) (list_all is_xid_continue cs)
-      (or_right (eqb c 95) (is_xid_start c) (is_xid_start-ascii c low ∙ letter)) (parts_pass is_xid_continue part_continues cs more);
+      (or_right (eqb c 95) (is_xid_start c) (is_xid_start-ascii c low ∙ letter))
+          (parts_pass is_xid_continue part_continues cs more);
   not_underscore = λ e. both_ways (eqb c 95) (apart is_ascii_alphabetic c 95 letter refl)
       (ap (first_passes (λ z. eqb z 95)) e);
   no_white = and_from _ _ (part_no_white c first) (parts_pass (λ z. not (is_white z)) part_no_white cs more);

@@ -1,6 +1,6 @@
 -- Escapes of characters by their numbers.
-use Rattle.rl_text.proofs.Common.{◌≡◌, ℕ, zero, suc, ◌+◌, ◌*◌, ◌/◌, ◌%◌, ◌^◌, ◌<◌, ◌≤◌, ◌==◌, ◌&&◌, Bool, true, false, not, cond, eqb, List, [], ◌∷◌, ◌++◌, length, map, refl, sym, ap, ◌∙◌, inl, inr, arith, append_assoc, nat_lt, nat_le, digit_value, is_ascii_hexdigit, all_scalars, scalar, list_all, flat_map, and_parts, and_from, eq-eqb, lt-ltb, cases_Bool, cases_lt, encode_utf8, length-append, length-encode}
-use Rattle.std.proofs.lemmas.Bool.{eqb-false, le-leb, le-ltb}
+use Rattle.rl_text.proofs.Common.{◌≡◌, ℕ, zero, suc, ◌+◌, ◌*◌, ◌/◌, ◌%◌, ◌^◌, ◌<◌, ◌≤◌, ◌&&◌, Bool, true, false, not, cond, eqb, List, [], ◌∷◌, ◌++◌, length, map, refl, sym, ap, ◌∙◌, inl, inr, arith, append_assoc, nat_lt, digit_value, is_ascii_hexdigit, all_scalars, scalar, list_all, flat_map, and_parts, and_from, eq-eqb, lt-ltb, cases_Bool, cases_lt, encode_utf8, length-append, length-encode}
+use Rattle.std.proofs.lemmas.Bool.{le-leb, le-ltb}
 use Rattle.std.proofs.lemmas.Nat.{div_below}
 use Rattle.std.proofs.Math.Nat.{pow-suc, pow-zero, one-mul}
 use Rattle.std.proofs.Math.Utf8.{scalar_cases}
@@ -110,7 +110,8 @@ abbrev pub digits_of : ℕ → List (ℕ × ℕ)
 digits_of c = plain_digits (numeral 16 false c)
 
 pub escape_value : (c : ℕ) → spaced_value (digits_of c) ≡ c
-escape_value c = ap (place_value 16) (digits_alone (numeral 16 false c)) ∙ numeral_value 16 false c (omega arith) (omega arith)
+escape_value c = ap (place_value 16) (digits_alone (numeral 16 false c))
+    ∙ numeral_value 16 false c (omega arith) (omega arith)
 
 pub escape_text : (c : ℕ) → unicode_escape c ≡ strict_text (UnicodeEscape (digits_of c))
 escape_text c = ap (λ z. 92 ∷ 117 ∷ 123 ∷ (z ++ (125 ∷ []))) (sym (digits_text (numeral 16 false c)))
@@ -134,7 +135,8 @@ glyph_low c h =
 
 pub escape_low : (c : ℕ) → list_all is_low (unicode_escape c) ≡ true
 escape_low c = low_join (numeral 16 false c) (125 ∷ [])
-    (all_weaker (is_glyph 16) is_low glyph_low (numeral 16 false c) (numeral_glyphs 16 false c (omega arith) (omega arith))) refl
+    (all_weaker (is_glyph 16) is_low glyph_low (numeral 16 false c)
+        (numeral_glyphs 16 false c (omega arith) (omega arith))) refl
 
 -- ---- the bytes that are put
 

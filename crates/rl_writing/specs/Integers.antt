@@ -1,5 +1,5 @@
 -- The parts of integers as they are written: digits, groups of them, suffixes.
-use Rattle.std.specs.Prelude.{ℕ, suc, ◌%◌, Bool, false, ◌&&◌, ◌==◌, nat_lt, List, [], ◌∷◌, ◌++◌, codes, length, if◌then◌else◌, Option, Some, None}
+use Rattle.std.specs.Prelude.{ℕ, suc, ◌%◌, Bool, ◌&&◌, ◌==◌, nat_lt, List, [], ◌∷◌, ◌++◌, codes, length, if◌then◌else◌, Option, Some, None}
 use Rattle.std.specs.Fmt.{digits_onto}
 use Prim.Native.Char.{code}
 use Rattle.rl_forms.specs.Numbers as numbers

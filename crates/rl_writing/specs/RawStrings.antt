@@ -1,5 +1,5 @@
 -- What texts are written as in raw strings.
-use Rattle.std.specs.Prelude.{ℕ, ◌+◌, ◌<◌, ◌&&◌, ◌==◌, not, nat_lt, Bool, List, [], ◌∷◌, ◌++◌, replicate, cond, if◌then◌else◌}
+use Rattle.std.specs.Prelude.{ℕ, ◌+◌, ◌<◌, ◌&&◌, ◌==◌, not, nat_lt, Bool, List, [], ◌∷◌, ◌++◌, replicate, if◌then◌else◌}
 use Prim.Native.Char.{code}
 use Rattle.rl_forms.specs.declared.kind.Kind.{Kind}
 use Rattle.rl_forms.specs.declared.kind.Kind.TheVariants.{ByteStr, CStr}

@@ -34,7 +34,12 @@ fn suffix_of(suffix: Option<IntegerType>) -> &'static str
 
 /// Writes the integer literal of the value, in the style and with the suffix, and returns how many bytes it is long: at
 /// most 262. A literal has no sign.
-pub fn write_integer_into(value: u128, style: IntegerStyle, suffix: Option<IntegerType>, out: &mut [u8]) -> usize
+pub fn write_integer_into(
+    value: u128,
+    style: IntegerStyle,
+    suffix: Option<IntegerType>,
+    out: &mut [u8],
+) -> usize
     requires { 262 ≤ length out.old }
     ensures written { IsWrittenInteger value style suffix (chars (take result out.new)) }
     ensures utf8 { IsUtf8 (take result out.new) }

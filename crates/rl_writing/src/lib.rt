@@ -13,4 +13,4 @@ pub use crate::ascii::{write_char_ascii_into, write_str_ascii_into};
 pub use crate::base::Base;
 pub use crate::integer_type::IntegerType;
 pub use crate::integers::{IntegerStyle, write_integer_into};
-pub use crate::raw_strings::{raw_hashes, write_raw_into};
+pub use crate::raw_strings::{raw_form, raw_hashes, write_raw_into};

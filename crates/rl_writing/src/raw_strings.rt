@@ -1,7 +1,7 @@
 //! How texts are written as raw strings.
 
-ghost use Rattle.std.specs.Prelude.{◌≡◌, ◌+◌, ◌*◌, ◌++◌, ◌≤◌, IfNone, IfSome, IsTrue, length, replicate, take};
-ghost use Rattle.std.specs.Str.{chars, IsUtf8};
+ghost use Rattle.std.specs.Prelude.{◌≡◌, ◌+◌, ◌*◌, ◌++◌, ◌≤◌, ℕ, List, IfNone, IfSome, IsTrue, encode_utf8_all, length, replicate, take};
+ghost use Rattle.std.specs.Str.{all_scalars, chars, IsUtf8};
 ghost use Rattle.rl_text.specs.Texts.{code};
 ghost use Rattle.rl_forms.specs.Quoted.{is_string, raw_opener};
 ghost use Rattle.rl_writing.specs.RawStrings.{hashes_opened, raw_text, stands_raw, HasFewestHashes, HasNoRaw};
@@ -54,6 +54,25 @@ pub fn raw_hashes(kind: Kind, text: &str) -> Option<usize>
         rest = after;
     }
     if needed < 256 { Some(needed) } else { None }
+}
+
+/// The text that stands inside a raw string of the kind for these bytes, and the fewest hashes with which it does, as
+/// [`raw_hashes`] finds them. `None` where no raw string stands for them: they are no UTF-8, which is what literals are
+/// written in, or `raw_hashes` finds none.
+pub fn raw_form(kind: Kind, value: &[u8]) -> Option<(&str, usize)>
+    requires { IsTrue (is_string kind) }
+    ensures text { IfSome result (λ form. form.0.now ≡ value.now) }
+    ensures some { IfSome result (λ form. HasFewestHashes kind (chars form.0.now) form.1) }
+    ensures none { IfNone result ((inside : List ℕ) → IsTrue (all_scalars inside)
+        → encode_utf8_all inside ≡ value.now → HasNoRaw kind inside) }
+{
+    let Ok(text) = std::str::from_utf8(value) else {
+        return None;
+    };
+    match raw_hashes(kind, text) {
+        Some(hashes) => Some((text, hashes)),
+        None => None,
+    }
 }
 
 /// Puts so many hashes after the first `at` bytes of the slice, and returns where they end.

@@ -1,5 +1,6 @@
--- The digits of what is left, before those that stand there, are those of the number; what is left gets halved at least.
-use Rattle.rl_text.proofs.Common.{◌≡◌, ◌*◌, ◌^◌, ◌<◌, ◌≤◌, ◌⊎◌, length, take}
+-- The digits of what is left, before those that stand there, are those of the number; what is left gets halved at
+-- least.
+use Rattle.rl_text.proofs.Common.{◌≡◌, ◌*◌, ◌^◌, ◌<◌, ◌⊎◌, length, take}
 use Rattle.std.specs.Prelude.{reverse}
 use Rattle.rl_writing.specs.Integers.{numeral}
 use Rattle.rl_writing.proofs.NumeralLemmas.{digits_before}

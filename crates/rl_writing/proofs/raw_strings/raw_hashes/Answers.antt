@@ -1,7 +1,6 @@
 use Rattle.rl_text.proofs.Common.{◌&&◌, ap, sym, ◌∙◌, list_all, chars}
-use Rattle.rl_text.proofs.TailLemmas.{if_none}
 use Rattle.rl_writing.specs.RawStrings.{stands_raw}
-use Rattle.rl_writing.proofs.HashLemmas.{needed_end, needed_from, needed_in, needed_step}
+use Rattle.rl_writing.proofs.HashLemmas.{needed_end, needed_from}
 use Rattle.rl_writing.proofs.RawLaws.{fewest_hashes, none_stands, none_suffices}
 use Rattle.rl_writing.proofs.raw_strings.raw_hashes.Goals as goal
 
