@@ -44,6 +44,7 @@ mod kind;
 mod line_index;
 mod list;
 mod lit;
+mod made;
 mod numbers;
 mod parse_error;
 mod places;
@@ -96,9 +97,12 @@ pub use setting::{Setting, SettingError, SettingErrorKind, Settings};
 pub use settings::{settings, Entry, SettingsError};
 pub use source::{source, Recover, Source};
 pub use strings::{LitByteStr, LitCStr, LitStr};
-pub use value::{Number, ValueError, ValueErrorKind};
+pub use value::{Float, Integer, Number, ValueError, ValueErrorKind};
 pub use words::{LitBool, LitVerbatim};
-pub use write::{write_byte, write_byte_str, write_c_str, write_char, write_str};
+pub use write::{
+    write_byte, write_byte_str, write_c_str, write_char, write_char_ascii, write_integer,
+    write_raw_byte_str, write_raw_c_str, write_raw_str, write_str, write_str_ascii, IntegerStyle,
+};
 
 /// Whether the text is a literal token of the Rust Reference.
 ///
