@@ -1,5 +1,7 @@
 //! Procedural macros that read literals, for the tests.
 
+mod written;
+
 use navyspindle::{next_literal, write_str, Kind, Lit, LitStr, MacroError};
 use proc_macro::{Span, TokenStream, TokenTree};
 use std::iter::Peekable;
@@ -117,4 +119,16 @@ pub fn sum_error(input: TokenStream) -> TokenStream {
             tokens_of(&write_str(&error.to_string()))
         }
     }
+}
+
+/// Pairs of literals that stand for the same values, as a slice: as the compiler's own writers write them, and as the package does. The
+/// input names the kind or the type.
+#[proc_macro]
+pub fn written(input: TokenStream) -> TokenStream {
+    let name = input.to_string();
+    let pairs = written::written(&name).ok_or_else(|| {
+        let message = format!("no literals of {name}");
+        MacroError::new(message, Span::call_site())
+    });
+    or_error(pairs.map(|pairs| tokens_of(&pairs)))
 }
