@@ -1,5 +1,5 @@
 -- What a text is written as in ASCII is strict, and reads as the text.
-use Rattle.rl_text.proofs.Common.{◌≡◌, ℕ, suc, ◌*◌, ◌/◌, ◌%◌, ◌<◌, ◌≤◌, ◌==◌, ◌&&◌, Bool, true, false, not, eqb, List, [], ◌∷◌, ◌++◌, length, refl, sym, ap, subst, ◌∙◌, inl, inr, arith, append_assoc, append-nil, nat_le, list_all, flat_map, scalar, and_parts, and_from, cases_lt, lt-ltb, eqb-true, not-true, agree_below_at, encode_ascii, encode_utf8, chars, IsUtf8, ltb-true, length-encode, len_utf8_bounds, if◌then◌else◌}
+use Rattle.rl_text.proofs.Common.{◌≡◌, ℕ, suc, ◌*◌, ◌/◌, ◌%◌, ◌<◌, ◌≤◌, ◌==◌, ◌&&◌, Bool, true, false, not, eqb, List, [], ◌∷◌, ◌++◌, length, refl, sym, ap, subst, ◌∙◌, inl, inr, arith, append_assoc, append-nil, nat_le, list_all, flat_map, scalar, and_parts, and_from, cases_lt, lt-ltb, eqb-true, not-true, agree_below_at, encode_utf8, chars, IsUtf8, length-encode, len_utf8_bounds, if◌then◌else◌}
 use Rattle.std.proofs.lemmas.Bool.{le-ltb, leb-true}
 use Rattle.std.proofs.lemmas.Grind.{flat_map-append}
 use Rattle.std.proofs.lemmas.Str.{scalars-chars}
@@ -14,7 +14,7 @@ use Rattle.rl_forms.specs.Strict.{StrictUnit, Itself, QuoteEscape, PlainEscape, 
 use Rattle.rl_forms.specs.Written.{closer, is_written_as_number, upper_digit, written_unit}
 use Rattle.rl_forms.proofs.Agreeing.{strict_reads}
 use Rattle.rl_writing.specs.AsciiStrings.{ascii_literal, ascii_text, unicode_escape, IsAsciiForm}
-use Rattle.rl_writing.proofs.AsciiLemmas.{is_low, low_chars, low_join, low_utf8}
+use Rattle.rl_writing.proofs.AsciiLemmas.{encoded_low, is_low, low_chars, low_join, low_utf8}
 use Rattle.rl_writing.proofs.UnicodeLemmas.{digits_of, escape_fits, escape_is, escape_low, escape_short, escape_text, escape_value}
 
 -- ---- a character in ASCII
@@ -222,13 +222,6 @@ form_of k v whole f e =
 pub form_utf8 : (k : Kind) (v whole : List ℕ) → IsAsciiForm k v (ascii_literal k v) → whole ≡ ascii_literal k v
     → IsUtf8 whole
 form_utf8 k v whole f e = low_utf8 whole (ap (list_all is_low) e ∙ f.ascii)
-
--- ASCII is its own encoding
-pub encoded_low : (t : List ℕ) → list_all is_low t ≡ true → encode_utf8_all t ≡ t
-encoded_low [] h = refl
-encoded_low (c ∷ t) h =
-    let p = and_parts (is_low c) (list_all is_low t) h in
-    ap (λ z. z ++ encode_utf8_all t) (encode_ascii c (ltb-true c 128 p.0)) ∙ ap (λ z. c ∷ z) (encoded_low t p.1)
 
 -- the bytes of what a character in ASCII is written as
 pub low_bytes : (k : Kind) (c : ℕ) (bytes : List ℕ) → holds_characters k ≡ true → IsScalar c → c < 128

@@ -1,5 +1,6 @@
 -- Texts in ASCII.
-use Rattle.rl_text.proofs.Common.{◌≡◌, ℕ, Bool, true, List, [], ◌∷◌, ◌++◌, ap, ◌∙◌, nat_lt, list_all, list_all-append, and_parts, and_from, ltb-true, chars, chars-append, chars-IsAscii, IsAscii, IsUtf8}
+use Rattle.rl_text.proofs.Common.{◌≡◌, ℕ, Bool, true, List, [], ◌∷◌, ◌++◌, refl, ap, ◌∙◌, nat_lt, list_all, list_all-append, and_parts, and_from, ltb-true, encode_ascii, chars, chars-append, chars-IsAscii, IsAscii, IsUtf8}
+use Rattle.std.specs.Prelude.{encode_utf8_all}
 use Rattle.std.proofs.lemmas.Str.{IsUtf8-append, IsUtf8-from_ascii}
 use Rattle.std.proofs.lemmas.Str.Ascii.{IsAscii-cons, IsAscii-nil}
 
@@ -30,3 +31,10 @@ pub framed_chars : (a b t : List ℕ) → list_all is_low a ≡ true → list_al
     → chars (a ++ (t ++ b)) ≡ a ++ (chars t ++ b)
 framed_chars a b t h k u = chars-append a (t ++ b) (low_utf8 a h) ∙ ap (λ z. z ++ chars (t ++ b)) (low_chars a h)
     ∙ ap (λ z. a ++ z) (chars-append t b u ∙ ap (λ z. chars t ++ z) (low_chars b k))
+
+-- ASCII is its own encoding
+pub encoded_low : (t : List ℕ) → list_all is_low t ≡ true → encode_utf8_all t ≡ t
+encoded_low [] h = refl
+encoded_low (c ∷ t) h =
+    let p = and_parts (is_low c) (list_all is_low t) h in
+    ap (λ z. z ++ encode_utf8_all t) (encode_ascii c (ltb-true c 128 p.0)) ∙ ap (λ z. c ∷ z) (encoded_low t p.1)

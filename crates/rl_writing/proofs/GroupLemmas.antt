@@ -46,8 +46,11 @@ grouped_digits size (d ∷ ds) h =
 
 pub grouped_length : (size : ℕ) (ds : List ℕ) → length (grouped size ds) ≤ 2 * length ds - 1
 grouped_length size [] = omega arith
-grouped_length size (d ∷ []) = omega (arith, ap length (without_mark size d []
-    (and_left _ _ (and_right (nat_lt 0 size) false refl))))
+grouped_length size (d ∷ []) = omega (
+  arith,
+  ap length (without_mark size d []
+      (and_left _ _ (and_right (nat_lt 0 size) false refl))),
+)
 grouped_length size (d ∷ e ∷ ds) =
     let more = grouped_length size (e ∷ ds) in
     elim (cases_Bool (ends_group size (length (e ∷ ds)))) [

@@ -55,7 +55,7 @@ needed_closes n (c ∷ t) h =
     elim (cases_Bool (eqb c 34)) [
       | inl e ↦
           let same : needed_in (c ∷ t) ≡ max (suc (run t)) (needed_in t) = ap
-              (λ b. cond b (max (suc (run t)) (needed_in t)) (needed_in t)) e in
+          (λ b. cond b (max (suc (run t)) (needed_in t)) (needed_in t)) e in
           elim (cases_lt n (needed_in t)) [
             | inl a ↦ closes_after n c t (needed_closes n t a)
             | inr a ↦
@@ -64,7 +64,7 @@ needed_closes n (c ∷ t) h =
           ]
       | inr e ↦
           let same : needed_in (c ∷ t) ≡ needed_in t = ap (λ b. cond b (max (suc (run t)) (needed_in t)) (needed_in t))
-              e in
+          e in
           closes_after n c t (needed_closes n t (omega (arith, h, same)))
     ]
 

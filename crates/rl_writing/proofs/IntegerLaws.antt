@@ -68,7 +68,7 @@ row_is b upper size value =
     let some = numeral_some base upper value in
     let first = some.first in
     let begun : list_all (is_glyph base) (first ∷ some.more) ≡ true = ap (list_all (is_glyph base)) (sym some.is)
-        ∙ glyphs in
+    ∙ glyphs in
     record {
       first = first;
       more = (if ends_group size (length some.more) then 95 ∷ [] else []) ++ grouped size some.more;
@@ -98,7 +98,7 @@ decimal_digits value row r = (
 part_no_letter : (c : ℕ) → is_row_part (has_value 10) c ≡ true → is_base_letter c ≡ false
 part_no_letter c h =
     let other : (k : ℕ) → is_row_part (has_value 10) k ≡ false → eqb c k
-        ≡ false = λ k n. apart (is_row_part (has_value 10)) c k h n in
+    ≡ false = λ k n. apart (is_row_part (has_value 10)) c k h n in
     or_from _ _ (or_from _ _ (other 98 refl) (other 111 refl)) (other 120 refl)
 
 rest_no_letter : (row x : List ℕ) → list_all (is_row_part (has_value 10)) row ≡ true
@@ -127,7 +127,7 @@ decimal_text : (value : ℕ) (row x : List ℕ) → IsRow 10 value row → first
     → IsDecimalText (row ++ x)
 decimal_text value row x r n =
     let each : list_all (is_row_part (has_value 10)) (r.first ∷ r.more)
-        ≡ true = ap (list_all (is_row_part (has_value 10))) (sym r.is) ∙ r.each in
+    ≡ true = ap (list_all (is_row_part (has_value 10))) (sym r.is) ∙ r.each in
     let more = (and_parts (is_row_part (has_value 10) r.first) (list_all (is_row_part (has_value 10)) r.more) each).1 in
     ap (λ z. begins_base (z ++ x)) r.is ∙ no_base r.first (r.more ++ x) (rest_no_letter r.more x more n)
 
@@ -137,7 +137,7 @@ decimal_text value row x r n =
 abbrev IsFront : Base → List ℕ → List ℕ → Type 0
 IsFront b row x =
     ((prefix b ≡ []) × (radix b ≡ 10) × IsDigits row × IsDecimalText (prefix b ++ (row ++ x)))
-        ⊎ BasedPrefix (prefix b) (radix b)
+    ⊎ BasedPrefix (prefix b) (radix b)
 
 front_is : (b : Base) (value : ℕ) (row x : List ℕ) → IsRow (radix b) value row → first_passes is_base_letter x ≡ false
     → IsFront b row x
@@ -229,7 +229,7 @@ written_bytes value style suffix whole inner front digits x base is_whole is_inn
     ∙ ap (λ z. prefix (base_of style.base) ++ (grouped style.group z ++ x))
     (are_digits ∙ ap (λ z. numeral z style.upper value) is_base)
     ∙ ap (λ z. prefix (base_of style.base) ++ (grouped style.group
-        (numeral (radix (base_of style.base)) style.upper value) ++ z)) is_x
+    (numeral (radix (base_of style.base)) style.upper value) ++ z)) is_x
 
 whole_low : (value : ℕ) (style : IntegerStyle) (suffix : Option IntegerType) (whole : List ℕ)
     → whole ≡ written_integer value style suffix → list_all is_low whole ≡ true

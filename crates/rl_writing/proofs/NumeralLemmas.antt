@@ -101,7 +101,7 @@ last_digit base upper (suc m) acc low some =
     let half = halved (suc m) base low in
     goes_on (suc m) base upper (suc m) acc (ne_eqb (suc m / base) 0 some)
     ∙ room base upper low m (suc m / base) (suc m / base) (now base upper (suc m) acc) (omega (arith, half))
-        (omega arith)
+    (omega arith)
 
 -- ---- what they spell
 
@@ -120,7 +120,7 @@ one_more base upper n acc low high =
     ap (λ z. n / base * z + (digit_value (digit_glyph upper (n % base)) * p + v)) power
     ∙ ap (λ z. n / base * (p * base) + (z * p + v)) value
     ∙ (let whole : n / base * (p * base) + (n % base * p + v) ≡ (n / base * base + n % base) * p + v = omega arith in
-        whole)
+    whole)
     ∙ ap (λ z. z * p + v) (div-add-mod' n base)
 
 value_ends : (k base : ℕ) (upper : Bool) (n : ℕ) (acc : List ℕ) → 2 ≤ base → base ≤ 16 → eqb (n / base) 0 ≡ true

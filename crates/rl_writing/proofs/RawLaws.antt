@@ -1,18 +1,18 @@
 -- When a raw literal stands for its characters.
-use Rattle.rl_text.proofs.Common.{◌≡◌, ℕ, zero, suc, ◌<◌, ◌≤◌, ◌&&◌, Bool, true, false, not, eqb, List, [], ◌∷◌, ◌++◌, length, replicate, refl, sym, ap, subst, ◌∙◌, inl, inr, arith, append_assoc, append-nil, nat_lt, list_all, and_parts, and_from, both_ways, cases_lt, chars, chars_from_encodes, IsUtf8}
+use Rattle.rl_text.proofs.Common.{◌≡◌, ℕ, zero, suc, ◌<◌, ◌≤◌, ◌&&◌, Bool, true, false, not, eqb, List, [], ◌∷◌, ◌++◌, length, replicate, refl, sym, ap, subst, ◌∙◌, inl, inr, arith, append_assoc, append-nil, nat_lt, list_all, and_parts, and_from, both_ways, cases_lt, chars, chars_from_encodes, encodes-chars, IsUtf8}
 use Rattle.std.specs.Prelude.{encode_utf8_all}
 use Rattle.rl_text.specs.Texts.{first_passes}
 use Rattle.rl_text.proofs.Basics.{all_weaker, hashes_all, word_without}
 use Rattle.rl_forms.specs.declared.kind.Kind.{Kind}
 use Rattle.rl_forms.specs.declared.kind.Kind.TheVariants.{Str, ByteStr, CStr}
-use Rattle.rl_forms.specs.Quoted.{is_raw, is_string, raw_opener, Raw}
-use Rattle.rl_forms.specs.Reading.{Contents, Reads}
+use Rattle.rl_forms.specs.Quoted.{holds_characters, is_raw, is_string, raw_opener, Raw}
+use Rattle.rl_forms.specs.Reading.{Bytes, Contents, Reads}
 use Rattle.rl_forms.specs.Strict.{IsRawInside, IsStrictSuffix, Strict, StrictRaw, strict_closer, strict_opener, strict_raw_opener}
 use Rattle.rl_forms.proofs.Agreeing.{strict_reads}
 use Rattle.rl_forms.proofs.OneQuoted.{raw_once, same_tail}
 use Rattle.rl_forms.proofs.StrictNumbers.{same_run}
 use Rattle.rl_writing.specs.RawStrings.{raw_contents, raw_text, stands_raw, HasFewestHashes, HasNoRaw}
-use Rattle.rl_writing.proofs.AsciiLemmas.{is_low, framed_chars, framed_utf8, low_join}
+use Rattle.rl_writing.proofs.AsciiLemmas.{encoded_low, is_low, framed_chars, framed_utf8, low_join}
 use Rattle.rl_writing.proofs.HashLemmas.{closes_needed, needed_closes, needed_in}
 
 -- ---- which characters
@@ -72,7 +72,7 @@ strict_text : (k : Kind) (n : ℕ) (inside : List ℕ) → is_string k ≡ true
     → raw_text k n inside ≡ (((strict_raw_opener k ++ replicate n 35) ++ (34 ∷ inside)) ++ (34 ∷ replicate n 35)) ++ []
 strict_text k n inside s =
     ap (λ z. raw_opener k ++ z) (sym (no_suffix n inside)) ∙ ap (λ z. z ++ after_opener n inside [])
-        (sym (same_opener k s))
+    (sym (same_opener k s))
     ∙ sym (joined (strict_raw_opener k) inside [] n)
 
 -- ---- what stands for the characters
@@ -98,7 +98,7 @@ raw_is k n inside s stand few enough = record {
 raw_strict : (k : Kind) (n : ℕ) (inside : List ℕ) → is_string k ≡ true
     → StrictRaw (raw_text k n inside) k (raw_contents k inside) []
     → Strict (raw_text k n inside) k (raw_contents k inside) []
-        × Reads (raw_text k n inside) k (raw_contents k inside) []
+    × Reads (raw_text k n inside) k (raw_contents k inside) []
 raw_strict Str n inside s r = (inr r, strict_reads _ Str _ [] (inr r) tt)
 raw_strict ByteStr n inside s r = (inr r, strict_reads _ ByteStr _ [] (inr r) tt)
 raw_strict CStr n inside s r = (inr r, strict_reads _ CStr _ [] (inr r) tt)
@@ -147,7 +147,7 @@ same_parts : (n m : ℕ) (inside other x : List ℕ) → list_all (λ c. not (eq
     → after_opener n inside [] ≡ after_opener m other x → (n ≡ m) × (inside ≡ other)
 same_parts n m inside other x h e =
     let run = same_run (λ c. eqb c 35) (replicate n 35) (replicate m 35) _ _ (hashes_all n) (hashes_all m) refl refl e
-        in
+    in
     let read = subst (λ z. Raw Str (114 ∷ z) other x) (sym e) (raw_at m other x h) in (
       sym (length_hashes n) ∙ ap length run.0 ∙ length_hashes m,
       (raw_once Str (114 ∷ after_opener n inside []) inside [] other x (raw_at n inside [] refl) read).0,
@@ -205,6 +205,18 @@ pub none_suffices : (k : Kind) (n : ℕ) (inside : List ℕ) → is_string k ≡
 none_suffices k n inside s is many m v x r =
     let needs = strict_needs k m inside x v s r in
     omega (arith, is, many, needs.few, needs.enough)
+
+-- what holds bytes holds those of the text
+pub bytes_held : (k : Kind) (n : ℕ) (text value : List ℕ) → is_string k ≡ true → holds_characters k ≡ false
+    → text ≡ value → IsUtf8 value → HasFewestHashes k (chars text) n → raw_contents k (chars text) ≡ Bytes value
+bytes_held ByteStr n text value s h same u f =
+    let stand = (strict_needs ByteStr n (chars text) [] _ s f.strict).stand in
+    let low = all_weaker (stands_raw ByteStr) is_low (λ c p. (and_parts (not (eqb c 13)) (nat_lt c 128) p).1) (chars text)
+    stand in
+    ap Bytes (sym (encoded_low (chars text) low) ∙ ap (λ z. encode_utf8_all (chars z)) same ∙ encodes-chars value u)
+bytes_held CStr n text value s h same u f = ap Bytes (ap (λ z. encode_utf8_all (chars z)) same ∙ encodes-chars value u)
+bytes_held Str n text value s h same u f = absurd (cc)
+bytes_held kind n text value s h same u f = absurd (cc)
 
 -- the same of what has these bytes
 pub no_other : (k : Kind) (text value inside : List ℕ) → text ≡ value → IsUtf8 value → HasNoRaw k (chars text)

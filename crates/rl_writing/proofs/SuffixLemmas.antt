@@ -60,7 +60,7 @@ name_word c cs letter first more = record {
       let low = ltb-true c 128 (part_low c first) in
       and_from (eqb c 95 || is_xid_start c) (list_all is_xid_continue cs)
       (or_right (eqb c 95) (is_xid_start c) (is_xid_start-ascii c low ∙ letter))
-          (parts_pass is_xid_continue part_continues cs more);
+      (parts_pass is_xid_continue part_continues cs more);
   not_underscore = λ e. both_ways (eqb c 95) (apart is_ascii_alphabetic c 95 letter refl)
       (ap (first_passes (λ z. eqb z 95)) e);
   no_white = and_from _ _ (part_no_white c first) (parts_pass (λ z. not (is_white z)) part_no_white cs more);

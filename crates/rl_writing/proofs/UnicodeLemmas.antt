@@ -136,7 +136,7 @@ glyph_low c h =
 pub escape_low : (c : ℕ) → list_all is_low (unicode_escape c) ≡ true
 escape_low c = low_join (numeral 16 false c) (125 ∷ [])
     (all_weaker (is_glyph 16) is_low glyph_low (numeral 16 false c)
-        (numeral_glyphs 16 false c (omega arith) (omega arith))) refl
+    (numeral_glyphs 16 false c (omega arith) (omega arith))) refl
 
 -- ---- the bytes that are put
 

@@ -24,7 +24,7 @@ IsNoRaw kind hashes inside =
     (contents : Contents) (suffix : List ℕ) → Strict (raw_text kind hashes inside) kind contents suffix → ⊥
 
 -- The raw literal of the kind with so many hashes is strict and reads as the characters; with fewer
--- hashes it is no token.
+-- hashes it is no token of the kind.
 pub record HasFewestHashes (kind : Kind) (inside : List ℕ) (hashes : ℕ) : Type 0 where
   pub strict : Strict (raw_text kind hashes inside) kind (raw_contents kind inside) []
   pub reads : Reads (raw_text kind hashes inside) kind (raw_contents kind inside) []

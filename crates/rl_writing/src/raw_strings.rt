@@ -1,10 +1,11 @@
 //! How texts are written as raw strings.
 
-ghost use Rattle.std.specs.Prelude.{◌≡◌, ◌+◌, ◌*◌, ◌++◌, ◌≤◌, ℕ, List, IfNone, IfSome, IsTrue, encode_utf8_all, length, replicate, take};
+ghost use Rattle.std.specs.Prelude.{◌≡◌, ◌+◌, ◌*◌, ◌++◌, ◌≤◌, ℕ, List, IfNone, IfSome, IsFalse, IsTrue, encode_utf8_all, length, replicate, take};
 ghost use Rattle.std.specs.Str.{all_scalars, chars, IsUtf8};
 ghost use Rattle.rl_text.specs.Texts.{code};
-ghost use Rattle.rl_forms.specs.Quoted.{is_string, raw_opener};
-ghost use Rattle.rl_writing.specs.RawStrings.{hashes_opened, raw_text, stands_raw, HasFewestHashes, HasNoRaw};
+ghost use Rattle.rl_forms.specs.Quoted.{holds_characters, is_string, raw_opener};
+ghost use Rattle.rl_forms.specs.Reading.{Bytes};
+ghost use Rattle.rl_writing.specs.RawStrings.{hashes_opened, raw_contents, raw_text, stands_raw, HasFewestHashes, HasNoRaw};
 
 use rl_forms::Kind;
 use rl_text::room::{put_byte, put_text};
@@ -56,13 +57,15 @@ pub fn raw_hashes(kind: Kind, text: &str) -> Option<usize>
     if needed < 256 { Some(needed) } else { None }
 }
 
-/// The text that stands inside a raw string of the kind for these bytes, and the fewest hashes with which it does, as
-/// [`raw_hashes`] finds them. `None` where no raw string stands for them: they are no UTF-8, which is what literals are
-/// written in, or `raw_hashes` finds none.
+/// The text that stands inside a raw string of the kind, which holds bytes, for these bytes, and the fewest hashes with which it
+/// does, as [`raw_hashes`] finds them. `None` where no raw string stands for them: they are no UTF-8, which is what
+/// literals are written in, or `raw_hashes` finds none.
 pub fn raw_form(kind: Kind, value: &[u8]) -> Option<(&str, usize)>
-    requires { IsTrue (is_string kind) }
+    requires string { IsTrue (is_string kind) }
+    requires bytes { IsFalse (holds_characters kind) }
     ensures text { IfSome result (λ form. form.0.now ≡ value.now) }
     ensures some { IfSome result (λ form. HasFewestHashes kind (chars form.0.now) form.1) }
+    ensures holds { IfSome result (λ form. raw_contents kind (chars form.0.now) ≡ Bytes value.now) }
     ensures none { IfNone result ((inside : List ℕ) → IsTrue (all_scalars inside)
         → encode_utf8_all inside ≡ value.now → HasNoRaw kind inside) }
 {

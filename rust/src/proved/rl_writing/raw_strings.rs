@@ -42,9 +42,9 @@ pub fn raw_hashes(kind: Kind, text: &str) -> Option<usize> {
     if needed < 256 { Some(needed) } else { None }
 }
 
-/// The text that stands inside a raw string of the kind for these bytes, and the fewest hashes with which it does, as
-/// [`raw_hashes`] finds them. `None` where no raw string stands for them: they are no UTF-8, which is what literals are
-/// written in, or `raw_hashes` finds none.
+/// The text that stands inside a raw string of the kind, which holds bytes, for these bytes, and the fewest hashes with which it
+/// does, as [`raw_hashes`] finds them. `None` where no raw string stands for them: they are no UTF-8, which is what
+/// literals are written in, or `raw_hashes` finds none.
 pub fn raw_form(kind: Kind, value: &[u8]) -> Option<(&str, usize)> {
     let Ok(text) = core::str::from_utf8(value) else {
         return None;

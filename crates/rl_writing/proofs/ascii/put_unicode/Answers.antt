@@ -10,8 +10,15 @@ put_grouped-at-requires c =
 pub put_byte-requires : goal.put_byte-requires
 put_byte-requires c =
     let fit = digits_fit c.args.c _ _ c.put_reversed-count.ensures.digits c.from.ensures in
-    omega (arith, fit, c.requires, c.put-at.ensures.end, c.put-at.ensures.len, c.put_grouped-at.ensures.end,
-        c.put_grouped-at.ensures.len)
+    omega (
+      arith,
+      fit,
+      c.requires,
+      c.put-at.ensures.end,
+      c.put-at.ensures.len,
+      c.put_grouped-at.ensures.end,
+      c.put_grouped-at.ensures.len,
+    )
 
 pub returns-clause-end : goal.returns-clause-end
 returns-clause-end c =

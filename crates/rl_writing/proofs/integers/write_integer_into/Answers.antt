@@ -21,21 +21,42 @@ returns-clause-utf8 c =
 pub put_grouped-at-requires : goal.put_grouped-at-requires
 put_grouped-at-requires c =
     let digits = grouped_short c.args.style.group c.put_reversed-count.result 128 c.put_reversed-count.new.room
-        (omega (arith, c.put_reversed-count.ensures.within, c.put_reversed-count.ensures.len)) in
-    omega (arith, digits, prefix_short (base_of c.args.style.base) c.prefix.result.now c.prefix.ensures,
-        c.put_text-at.ensures.end, c.put_text-at.ensures.len, c.requires)
+    (omega (arith, c.put_reversed-count.ensures.within, c.put_reversed-count.ensures.len)) in
+    omega (
+      arith,
+      digits,
+      prefix_short (base_of c.args.style.base) c.prefix.result.now c.prefix.ensures,
+      c.put_text-at.ensures.end,
+      c.put_text-at.ensures.len,
+      c.requires,
+    )
 
 pub put_text-requires : goal.put_text-requires
 put_text-requires c =
     let digits = grouped_short c.args.style.group c.put_reversed-count.result 128 c.put_reversed-count.new.room
-        (omega (arith, c.put_reversed-count.ensures.within, c.put_reversed-count.ensures.len)) in
-    omega (arith, digits, prefix_short (base_of c.args.style.base) c.prefix.result.now c.prefix.ensures,
-        c.put_text-at.ensures.end, c.put_text-at.ensures.len, c.requires, c.put_grouped-at.ensures.end,
-        c.put_grouped-at.ensures.len, c.suffix_of.ensures.short)
+    (omega (arith, c.put_reversed-count.ensures.within, c.put_reversed-count.ensures.len)) in
+    omega (
+      arith,
+      digits,
+      prefix_short (base_of c.args.style.base) c.prefix.result.now c.prefix.ensures,
+      c.put_text-at.ensures.end,
+      c.put_text-at.ensures.len,
+      c.requires,
+      c.put_grouped-at.ensures.end,
+      c.put_grouped-at.ensures.len,
+      c.suffix_of.ensures.short,
+    )
 
 pub returns-clause-within : goal.returns-clause-within
 returns-clause-within c =
     let digits = grouped_short c.args.style.group c.put_reversed-count.result 128 c.put_reversed-count.new.room
-        (omega (arith, c.put_reversed-count.ensures.within, c.put_reversed-count.ensures.len)) in
-    omega (arith, digits, prefix_short (base_of c.args.style.base) c.prefix.result.now c.prefix.ensures,
-        c.put_text-at.ensures.end, c.put_grouped-at.ensures.end, c.suffix_of.ensures.short, c.put_text.ensures.end)
+    (omega (arith, c.put_reversed-count.ensures.within, c.put_reversed-count.ensures.len)) in
+    omega (
+      arith,
+      digits,
+      prefix_short (base_of c.args.style.base) c.prefix.result.now c.prefix.ensures,
+      c.put_text-at.ensures.end,
+      c.put_grouped-at.ensures.end,
+      c.suffix_of.ensures.short,
+      c.put_text.ensures.end,
+    )
