@@ -1,8 +1,8 @@
 //! Reads and writes Rust's literals: kinds, values, suffixes, the places of what they hold, and why a text is none.
 //!
 //! [`Lit::parse`] reads one literal, [`source`] those of a whole file, [`literals`] and [`settings`] lists, [`Settings`] what a
-//! reader of settings asks for; [`write_str`] and its siblings write values. Places are byte offsets; [`LineIndex`] makes lines and
-//! columns of them.
+//! reader of settings asks for; [`write_str`] and its siblings write values, and [`LitStr::new`] and its like make literals of them.
+//! Places are byte offsets; [`LineIndex`] makes lines and columns of them.
 //!
 //! The code in `proved` is rendered from sources in Rattle, which is Rust with contracts: each function is proved there to do what
 //! its contract says, against a written grammar, and the contracts are erased. So every text has one reading, and that is the
