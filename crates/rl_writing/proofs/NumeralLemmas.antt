@@ -198,13 +198,14 @@ numeral_some base upper n =
 -- ---- how many they are
 
 -- a number of so many bits that was divided so often is less than so much
-pub fits_more : (n base count more bits : ℕ) → 2 ≤ base → more ≡ count + 1 → n * 2 ^ count < 2 ^ bits
-    → n / base * 2 ^ more < 2 ^ bits
-fits_more n base count more bits low is h =
+pub fits_more : (n rest base count more bits : ℕ) → 2 ≤ base → rest ≡ n / base → more ≡ count + 1
+    → n * 2 ^ count < 2 ^ bits → rest * 2 ^ more < 2 ^ bits
+fits_more n rest base count more bits low rest_is is h =
     let same : more ≡ suc count = omega (arith, is) in
     let power : 2 ^ more ≡ 2 ^ count * 2 = ap (λ z. 2 ^ z) same ∙ pow-suc 2 count in
     let half = mul-le-mul_right (2 ^ count) (halved n base low) in
-    omega (arith, h, half, ap (λ z. n / base * z) power)
+    let whole : n / base * 2 ^ more < 2 ^ bits = omega (arith, h, half, ap (λ z. n / base * z) power) in
+    omega (arith, whole, ap (λ z. z * 2 ^ more) rest_is)
 
 pub count_left : (n count bits : ℕ) → 0 < bits → n * 2 ^ count < 2 ^ bits → (0 < n) ⊎ (count ≡ 0) → count < bits
 count_left n count bits some h (inr e) = omega arith
@@ -222,20 +223,24 @@ count_left n count bits some h (inl more) =
 reversed : (xs ys : List ℕ) (d : ℕ) → ys ≡ xs ++ (d ∷ []) → reverse ys ≡ d ∷ reverse xs
 reversed xs ys d e = ap reverse e ∙ reverse-append xs (d ∷ [])
 
--- the last that is put is the first
-pub put_first : (base b : ℕ) (upper : Bool) (left d : ℕ) (xs ys whole : List ℕ) → b ≡ base → ys ≡ xs ++ (d ∷ [])
-    → d ≡ digit_glyph upper (left % b) → left / b ≡ 0 → digits_before base upper left (reverse xs) ≡ whole
-    → reverse ys ≡ whole
-put_first base b upper left d xs ys whole same bytes is none before =
-    reversed xs ys d bytes ∙ ap (λ z. z ∷ reverse xs) (is ∙ ap (λ z. digit_glyph upper (left % z)) same)
-    ∙ sym (one_digit base upper left (reverse xs) (ap (λ z. left / z) (sym same) ∙ none)) ∙ before
+-- the digit that was put before the others
+now_first : (base : ℕ) (upper : Bool) (left last d : ℕ) (xs ys : List ℕ) → last ≡ left % base → ys ≡ xs ++ (d ∷ [])
+    → d ≡ digit_glyph upper last → reverse ys ≡ digit_glyph upper (left % base) ∷ reverse xs
+now_first base upper left last d xs ys last_is bytes is =
+    reversed xs ys d bytes ∙ ap (λ z. z ∷ reverse xs) (is ∙ ap (digit_glyph upper) last_is)
 
-pub put_more : (base b : ℕ) (upper : Bool) (left d : ℕ) (xs ys whole : List ℕ) → 2 ≤ base → b ≡ base
-    → ys ≡ xs ++ (d ∷ []) → d ≡ digit_glyph upper (left % b) → (left / b ≡ 0 → ⊥)
-    → digits_before base upper left (reverse xs) ≡ whole → digits_before base upper (left / b) (reverse ys) ≡ whole
-put_more base b upper left d xs ys whole low same bytes is some before =
-    let now : reverse ys ≡ digit_glyph upper (left % base) ∷ reverse xs = reversed xs ys d bytes
-    ∙ ap (λ z. z ∷ reverse xs) (is ∙ ap (λ z. digit_glyph upper (left % z)) same) in
-    ap (λ z. digits_before base upper (left / z) (reverse ys)) same
-    ∙ ap (digits_before base upper (left / base)) now
-    ∙ sym (last_digit base upper left (reverse xs) low (λ e. some (ap (λ z. left / z) same ∙ e))) ∙ before
+-- the last that is put is the first
+pub put_first : (base : ℕ) (upper : Bool) (left rest last d : ℕ) (xs ys whole : List ℕ) → rest ≡ left / base
+    → last ≡ left % base → ys ≡ xs ++ (d ∷ []) → d ≡ digit_glyph upper last → rest ≡ 0
+    → digits_before base upper left (reverse xs) ≡ whole → reverse ys ≡ whole
+put_first base upper left rest last d xs ys whole rest_is last_is bytes is none before =
+    now_first base upper left last d xs ys last_is bytes is
+    ∙ sym (one_digit base upper left (reverse xs) (sym rest_is ∙ none)) ∙ before
+
+pub put_more : (base : ℕ) (upper : Bool) (left rest last d : ℕ) (xs ys whole : List ℕ) → 2 ≤ base → rest ≡ left / base
+    → last ≡ left % base → ys ≡ xs ++ (d ∷ []) → d ≡ digit_glyph upper last → (rest ≡ 0 → ⊥)
+    → digits_before base upper left (reverse xs) ≡ whole → digits_before base upper rest (reverse ys) ≡ whole
+put_more base upper left rest last d xs ys whole low rest_is last_is bytes is some before =
+    ap (λ z. digits_before base upper z (reverse ys)) rest_is
+    ∙ ap (digits_before base upper (left / base)) (now_first base upper left last d xs ys last_is bytes is)
+    ∙ sym (last_digit base upper left (reverse xs) low (λ e. some (rest_is ∙ e))) ∙ before

@@ -211,7 +211,8 @@ pub bytes_held : (k : Kind) (n : ℕ) (text value : List ℕ) → is_string k �
     → text ≡ value → IsUtf8 value → HasFewestHashes k (chars text) n → raw_contents k (chars text) ≡ Bytes value
 bytes_held ByteStr n text value s h same u f =
     let stand = (strict_needs ByteStr n (chars text) [] _ s f.strict).stand in
-    let low = all_weaker (stands_raw ByteStr) is_low (λ c p. (and_parts (not (eqb c 13)) (nat_lt c 128) p).1) (chars text)
+    let low = all_weaker (stands_raw ByteStr) is_low (λ c p. (and_parts (not (eqb c 13)) (nat_lt c 128) p).1)
+    (chars text)
     stand in
     ap Bytes (sym (encoded_low (chars text) low) ∙ ap (λ z. encode_utf8_all (chars z)) same ∙ encodes-chars value u)
 bytes_held CStr n text value s h same u f = ap Bytes (ap (λ z. encode_utf8_all (chars z)) same ∙ encodes-chars value u)

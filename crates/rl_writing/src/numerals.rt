@@ -1,6 +1,6 @@
 //! Digits of numbers.
 
-ghost use Rattle.std.specs.Prelude.{◌≡◌, ◌+◌, ◌^◌, ◌++◌, ◌<◌, ◌≤◌, length, reverse, take};
+ghost use Rattle.std.specs.Prelude.{◌≡◌, ◌+◌, ◌/◌, ◌%◌, ◌^◌, ◌++◌, ◌<◌, ◌≤◌, length, reverse, take};
 ghost use Rattle.std.specs.Fmt.{digit_glyph};
 ghost use Rattle.rl_writing.specs.Integers.{ends_group, grouped, numeral};
 
@@ -20,8 +20,26 @@ fn digit(value: u8, upper: bool) -> u8
     }
 }
 
-/// Puts the digits of the number at the front of the room, the last of them first, and returns how many they are: no more
-/// than bits.
+/// The quotient and the rest. Numbers of 64 bits are divided as such, which takes a fraction of the time.
+fn divided(number: u128, by: u8) -> (u128, u8)
+    requires { 0 < by }
+    ensures quotient { result.0 ≡ number / by }
+    ensures rest { result.1 ≡ number % by }
+{
+    match u64::try_from(number) {
+        Ok(short) => {
+            let by = u64::from(by);
+            (u128::from(short / by), (short % by) as u8)
+        }
+        Err(_) => {
+            let by = u128::from(by);
+            (number / by, (number % by) as u8)
+        }
+    }
+}
+
+/// Puts the digits of the number at the front of the room, the last of them first, and returns how many they are. The room has
+/// a byte for each bit of the number at least.
 pub fn put_reversed(value: u128, radix: u8, upper: bool, room: &mut [u8]) -> usize
     requires low { 2 ≤ radix }
     requires high { radix ≤ 16 }
@@ -31,13 +49,12 @@ pub fn put_reversed(value: u128, radix: u8, upper: bool, room: &mut [u8]) -> usi
     ensures within { result ≤ length room.new }
     ensures len { length room.new ≡ length room.old }
 {
-    let base = u128::from(radix);
     let mut left = value;
     let mut count = 0;
     loop {
-        let last = (left % base) as u8;
+        let (rest, last) = divided(left, radix);
         count = put_byte(room, count, digit(last, upper));
-        left /= base;
+        left = rest;
         if left == 0 {
             return count;
         }

@@ -19,7 +19,9 @@ put_byte-count-requires c =
 pub returns-then-left-eq0-clause-digits : goal.returns-then-left-eq0-clause-digits
 returns-then-left-eq0-clause-digits c =
     let l = c.loop-left in
-    put_first c.args.radix c.from-base.result c.args.upper l.left c.digit.result _ _ _ c.from-base.ensures
+    let d = c.divided-rest in
+    put_first c.args.radix c.args.upper l.left d.result.0 d.result.1 c.digit.result _ _ _ d.ensures.quotient
+    d.ensures.rest
     c.put_byte-count.ensures.bytes c.digit.ensures c.if-left-eq0.true l.invariant.digits
 
 pub returns-then-left-eq0-clause-within : goal.returns-then-left-eq0-clause-within
@@ -31,11 +33,13 @@ returns-then-left-eq0-clause-within c =
 pub loop-left-preserved : goal.loop-left-preserved
 loop-left-preserved c =
     let l = c.loop-left in
-    let base = c.from-base.ensures in
+    let d = c.divided-rest in
     record {
-      digits = put_more c.args.radix c.from-base.result c.args.upper l.left c.digit.result _ _ _ c.requires.low base
-          c.put_byte-count.ensures.bytes c.digit.ensures c.if-left-eq0.false l.invariant.digits;
-      fits = fits_more l.left c.from-base.result l.count c.put_byte-count.result _ (omega (arith, base, c.requires.low))
+      digits = put_more c.args.radix c.args.upper l.left d.result.0 d.result.1 c.digit.result _ _ _ c.requires.low
+          d.ensures.quotient d.ensures.rest c.put_byte-count.ensures.bytes c.digit.ensures c.if-left-eq0.false
+          l.invariant.digits;
+      fits = fits_more l.left d.result.0 c.args.radix l.count c.put_byte-count.result _ c.requires.low
+          d.ensures.quotient
           c.put_byte-count.ensures.end l.invariant.fits;
       some = inl (omega (arith, c.if-left-eq0.false));
       len = c.put_byte-count.ensures.len ∙ l.invariant.len;
