@@ -1,7 +1,7 @@
 -- How many hashes a raw string needs, by what follows its quotes.
 use Rattle.rl_text.proofs.Common.{◌≡◌, ℕ, zero, suc, ◌+◌, ◌<◌, ◌≤◌, ◌&&◌, Bool, true, false, cond, eqb, List, [], ◌∷◌, ◌++◌, replicate, refl, sym, ap, subst, ◌∙◌, inl, inr, arith, eqb-true, cases_Bool, cases_lt, nat_lt, lt-ltb, if◌then◌else◌}
 use Rattle.std.specs.Prelude.{max}
-use Rattle.rl_writing.specs.RawStrings.{hashes_opened}
+use Rattle.rl_writing.specs.Mirrors.RawSteps.{hashes_opened}
 
 -- the hashes in front
 abbrev pub run : List ℕ → ℕ

@@ -6,6 +6,8 @@ use Rattle.std.proofs.Math.Nat.{pow-suc, pow-zero, mod-lt, mul-le-mul_left, mul-
 use Rattle.std.specs.Prelude.{reverse}
 use Rattle.std.proofs.lemmas.List.{reverse-append}
 use Rattle.std.specs.Fmt.{digit_glyph, digits_onto}
+use Rattle.rl_text.specs.Texts.{begins_char}
+use Rattle.rl_text.proofs.Basics.{all_weaker}
 use Rattle.rl_forms.specs.Spelling.{place_value}
 use Rattle.rl_writing.specs.Integers.{numeral}
 
@@ -194,6 +196,44 @@ numeral_some base upper n =
       | inr e ↦ subst IsSome (sym (goes_on n base upper n [] e))
           (some_onto n base upper (n / base) (digit_glyph upper (n % base)) [])
     ]
+
+pub numeral_digits : (base n : ℕ) (upper : Bool) → 2 ≤ base → base ≤ 16
+    → list_all (λ c. nat_lt (digit_value c) base) (numeral base upper n) ≡ true
+numeral_digits base n upper low high =
+    all_weaker (is_glyph base) (λ c. nat_lt (digit_value c) base)
+    (λ c h. (and_parts (nat_lt c 128) (nat_lt (digit_value c) base)
+    (and_parts (nat_lt c 128 && nat_lt (digit_value c) base) (not (eqb c 95)) h).0).1) (numeral base upper n)
+    (numeral_glyphs base upper n low high)
+
+-- ---- the first of them
+
+glyph_no_zero : (upper : Bool) (d : ℕ) → d < 16 → 0 < d → eqb (digit_glyph upper d) 48 ≡ false
+glyph_no_zero upper d h some = ne_eqb (digit_glyph upper d) 48 (λ e.
+    let zero_is : digit_value (digit_glyph upper d) ≡ 0 = ap digit_value e in
+    absurd (omega (arith, glyph_value upper d h, zero_is, some)))
+
+first_no_zero : (base : ℕ) (upper : Bool) → 2 ≤ base → base ≤ 16 → (k n : ℕ) (acc : List ℕ) → n ≤ k → 0 < n
+    → begins_char 48 (digits_onto (suc k) base upper n acc) ≡ false
+first_no_zero base upper low high zero n acc h some = absurd (omega arith)
+first_no_zero base upper low high (suc k) n acc h some =
+    elim (cases_Bool (eqb (n / base) 0)) [
+      | inl e ↦
+          let none : n / base ≡ 0 = eqb-true (n / base) 0 e in
+          let last : n % base ≡ n = omega (arith, div-add-mod' n base, ap (λ q. q * base) none) in
+          let less : n % base < base = mod-lt n (omega arith) in
+          ap (begins_char 48) (ends (suc k) base upper n acc e)
+          ∙ glyph_no_zero upper (n % base) (omega (arith, less)) (omega (arith, last))
+      | inr e ↦
+          let more = eqb-false (n / base) 0 e in
+          ap (begins_char 48) (goes_on (suc k) base upper n acc e)
+          ∙ first_no_zero base upper low high k (n / base) (now base upper n acc) (omega (arith, halved n base low))
+          (omega (arith, more))
+    ]
+
+pub numeral_no_zero : (base n : ℕ) (upper : Bool) → 2 ≤ base → base ≤ 16 → 0 < n
+    → begins_char 48 (numeral base upper n) ≡ false
+unfolding numeral
+numeral_no_zero base n upper low high some = first_no_zero base upper low high n n [] (omega arith) some
 
 -- ---- how many they are
 

@@ -11,7 +11,8 @@ use Rattle.rl_forms.specs.Strict.{IsRawInside, IsStrictSuffix, Strict, StrictRaw
 use Rattle.rl_forms.proofs.Agreeing.{strict_reads}
 use Rattle.rl_forms.proofs.OneQuoted.{raw_once, same_tail}
 use Rattle.rl_forms.proofs.StrictNumbers.{same_run}
-use Rattle.rl_writing.specs.RawStrings.{raw_contents, raw_text, stands_raw, HasFewestHashes, HasNoRaw}
+use Rattle.rl_writing.specs.Mirrors.RawSteps.{stands_raw}
+use Rattle.rl_writing.specs.RawStrings.{raw_contents, raw_text, HasFewestHashes, HasNoRaw}
 use Rattle.rl_writing.proofs.AsciiLemmas.{encoded_low, is_low, framed_chars, framed_utf8, low_join}
 use Rattle.rl_writing.proofs.HashLemmas.{closes_needed, needed_closes, needed_in}
 

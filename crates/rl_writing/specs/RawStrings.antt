@@ -1,8 +1,7 @@
 -- What texts are written as in raw strings.
-use Rattle.std.specs.Prelude.{ℕ, ◌+◌, ◌<◌, ◌&&◌, ◌==◌, not, nat_lt, Bool, List, [], ◌∷◌, ◌++◌, replicate, if◌then◌else◌}
+use Rattle.std.specs.Prelude.{ℕ, ◌<◌, List, [], ◌∷◌, ◌++◌, replicate}
 use Prim.Native.Char.{code}
 use Rattle.rl_forms.specs.declared.kind.Kind.{Kind}
-use Rattle.rl_forms.specs.declared.kind.Kind.TheVariants.{ByteStr, CStr}
 use Rattle.rl_forms.specs.Quoted.{raw_opener}
 use Rattle.rl_forms.specs.Reading.{Contents, Reads, quoted_contents}
 use Rattle.rl_forms.specs.Strict.{Strict, strict_content_of}
@@ -33,15 +32,3 @@ pub record HasFewestHashes (kind : Kind) (inside : List ℕ) (hashes : ℕ) : Ty
 -- no number of hashes makes a raw literal of the kind of these characters
 abbrev pub HasNoRaw : Kind → List ℕ → Type 0
 HasNoRaw kind inside = (hashes : ℕ) → IsNoRaw kind hashes inside
-
--- the character may stand in a raw string of the kind
-abbrev pub stands_raw : Kind → ℕ → Bool
-stands_raw ByteStr c = not (c == code "\r") && nat_lt c 128
-stands_raw CStr c = not (c == code "\r") && not (c == 0)
-stands_raw _ c = not (c == code "\r")
-
--- how many hashes are needed past a quote and hashes that the characters so far end in, 0 where they
--- end in none: after one more character
-abbrev pub hashes_opened : ℕ → ℕ → ℕ
-hashes_opened opened c =
-    if c == code "\"" then 1 else (if c == code "#" && nat_lt 0 opened then opened + 1 else 0)

@@ -6,6 +6,7 @@ mod ascii;
 mod base;
 mod integer_type;
 mod integers;
+pub mod laws;
 mod numerals;
 mod raw_strings;
 

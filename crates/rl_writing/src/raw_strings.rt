@@ -5,7 +5,8 @@ ghost use Rattle.std.specs.Str.{all_scalars, chars, IsUtf8};
 ghost use Rattle.rl_text.specs.Texts.{code};
 ghost use Rattle.rl_forms.specs.Quoted.{holds_characters, is_string, raw_opener};
 ghost use Rattle.rl_forms.specs.Reading.{Bytes};
-ghost use Rattle.rl_writing.specs.RawStrings.{hashes_opened, raw_contents, raw_text, stands_raw, HasFewestHashes, HasNoRaw};
+ghost use Rattle.rl_writing.specs.Mirrors.RawSteps.{hashes_opened, stands_raw};
+ghost use Rattle.rl_writing.specs.RawStrings.{raw_contents, raw_text, HasFewestHashes, HasNoRaw};
 
 use rl_forms::Kind;
 use rl_text::room::{put_byte, put_text};

@@ -1,5 +1,5 @@
 use Rattle.rl_text.proofs.Common.{◌&&◌, ap, sym, ◌∙◌, list_all, chars}
-use Rattle.rl_writing.specs.RawStrings.{stands_raw}
+use Rattle.rl_writing.specs.Mirrors.RawSteps.{stands_raw}
 use Rattle.rl_writing.proofs.HashLemmas.{needed_end, needed_from}
 use Rattle.rl_writing.proofs.RawLaws.{fewest_hashes, none_stands, none_suffices}
 use Rattle.rl_writing.proofs.raw_strings.raw_hashes.Goals as goal

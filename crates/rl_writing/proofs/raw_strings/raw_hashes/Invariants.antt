@@ -1,6 +1,6 @@
 -- What the whole text needs is what was needed so far, and what the rest needs; all that was passed may stand there.
 use Rattle.rl_text.proofs.Common.{◌≡◌, ◌+◌, ◌≤◌, length, list_all, chars, Utf8, shadow}
-use Rattle.rl_writing.specs.RawStrings.{stands_raw}
+use Rattle.rl_writing.specs.Mirrors.RawSteps.{stands_raw}
 use Rattle.rl_writing.proofs.HashLemmas.{needed_from, needed_in}
 use Rattle.rl_writing.proofs.raw_strings.raw_hashes.Given as goal
 
