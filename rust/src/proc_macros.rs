@@ -13,7 +13,7 @@ use proc_macro::{Delimiter, Group, Ident, Literal, Punct, Spacing, Span, TokenSt
 ///
 /// ```no_run
 /// extern crate proc_macro;
-/// use navyspindle::{next_literal, Kind, Lit, MacroError};
+/// use navyspindle::{next_literal, Kind, Lit, LitStr, MacroError};
 /// use proc_macro::TokenStream;
 ///
 /// /// `shout!("a")` is `"A"`.
@@ -27,8 +27,7 @@ use proc_macro::{Delimiter, Group, Ident, Literal, Punct, Spacing, Span, TokenSt
 ///     let Lit::Str(string) = &literal else {
 ///         return Err(MacroError::expected(Kind::Str, literal.kind(), span));
 ///     };
-///     let text = navyspindle::write_str(&string.value().to_uppercase());
-///     Lit::new(text).to_token_stream(span)
+///     LitStr::new(&string.value().to_uppercase()).to_token_stream(span)
 /// }
 /// ```
 #[derive(Clone, Debug)]

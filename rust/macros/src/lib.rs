@@ -2,7 +2,7 @@
 
 mod written;
 
-use navyspindle::{next_literal, write_str, Kind, Lit, LitStr, MacroError};
+use navyspindle::{next_literal, write_str, Kind, Lit, LitInt, LitStr, MacroError};
 use proc_macro::{Span, TokenStream, TokenTree};
 use std::iter::Peekable;
 
@@ -93,7 +93,7 @@ fn sum_of(input: TokenStream) -> Result<TokenStream, MacroError> {
         let number = int.base10_parse::<i128>();
         sum += number.map_err(|error| MacroError::new(error, span))?;
     }
-    Lit::new(sum.to_string()).to_token_stream(Span::call_site())
+    LitInt::unsuffixed(sum).to_token_stream(Span::call_site())
 }
 
 /// The same literal again, by its text; `true` where the input is a truth value.
