@@ -120,8 +120,8 @@ fn raw(kind: Kind, text: &str, hashes: usize) -> String {
     })
 }
 
-/// The raw string literal that stands for the text, with the fewest `#` that hold it. `None` where none does: it would hold a CR, or need more
-/// than 255 `#`.
+/// The raw string literal that stands for the text, with the fewest `#` that hold it. `None` where none stands for it: a CR is in the
+/// text, or it needs more than 255 `#`.
 ///
 /// All stands as it is, also what turns or hides text, as in [`write_str`].
 ///
@@ -138,8 +138,8 @@ pub fn write_raw_str(value: &str) -> Option<String> {
     Some(raw(Kind::Str, value, hashes))
 }
 
-/// The raw byte string literal that stands for the bytes, with the fewest `#` that hold them. `None` where none does: they are not all
-/// ASCII, or as of [`write_raw_str`].
+/// The raw byte string literal that stands for the bytes, with the fewest `#` that hold them. `None` where none stands for them: they
+/// aren't all ASCII, or for a reason of [`write_raw_str`].
 ///
 /// ```
 /// use navyspindle::write_raw_byte_str;
@@ -153,8 +153,8 @@ pub fn write_raw_byte_str(value: &[u8]) -> Option<String> {
     Some(raw(Kind::ByteStr, text, hashes))
 }
 
-/// The raw C string literal that stands for the C string, with the fewest `#` that hold it. `None` where none does: it isn't UTF-8, or as
-/// of [`write_raw_str`].
+/// The raw C string literal that stands for the C string, with the fewest `#` that hold it. `None` where none stands for it: it isn't
+/// UTF-8, or for a reason of [`write_raw_str`].
 ///
 /// ```
 /// use navyspindle::write_raw_c_str;

@@ -30,7 +30,7 @@ fn put_ascii(out: &mut [u8], at: usize, kind: Kind, c: char) -> usize {
 }
 
 /// Writes the string literal that stands for the text, in ASCII alone: as `write_str_into` of `rl_forms`, but that each
-/// character past ASCII is `\u{..}`. It returns how many bytes that is: at most four for each byte of the text, and two.
+/// character past ASCII is `\u{..}`. Returns how many bytes it is long: at most four for each byte of the text, and two.
 pub fn write_str_ascii_into(value: &str, out: &mut [u8]) -> usize {
     let mut at = put_text(out, 0, Kind::Str.opener());
     let mut rest = value;
@@ -41,7 +41,7 @@ pub fn write_str_ascii_into(value: &str, out: &mut [u8]) -> usize {
     put_byte(out, at, b'"')
 }
 
-/// Writes the character literal that stands for the character, in ASCII alone, and returns how many bytes that is: at most
+/// Writes the character literal that stands for the character, in ASCII alone. Returns how many bytes it is long: at most
 /// twelve.
 pub fn write_char_ascii_into(value: char, out: &mut [u8]) -> usize {
     let at = put_text(out, 0, Kind::Char.opener());

@@ -25,8 +25,8 @@ fn suffix_of(suffix: Option<IntegerType>) -> &'static str {
     }
 }
 
-/// Writes the integer literal of the value, in the style and with the suffix, and returns how many bytes it is long: at
-/// most 262. A literal has no sign.
+/// Writes the integer literal of the value, in the style and with the suffix (the Rust Reference, section Integer literals). Returns
+/// how many bytes it is long: at most 262. A literal has no sign.
 pub fn write_integer_into(
     value: u128,
     style: IntegerStyle,

@@ -14,8 +14,8 @@ fn stands_raw(kind: Kind, c: char) -> bool {
     }
 }
 
-/// How many hashes a raw string needs which goes on past the characters up to this one, where they end in a quote and hashes; 0
-/// where they don't. Before it, it was `opened`.
+/// How many hashes a raw string needs that goes on after this character, if the characters up to it end in a quote and hashes;
+/// 0 if they don't. Up to the character before it, that was `opened`.
 fn hashes_opened(opened: usize, c: char) -> usize {
     match c {
         '"' => 1,
@@ -24,9 +24,12 @@ fn hashes_opened(opened: usize, c: char) -> usize {
     }
 }
 
-/// The fewest hashes with which the raw string of the kind stands for the text: as many as follow a quote in it, and one.
-/// `None` where it can't stand for it: it would hold a CR, in a byte string a character past ASCII, in a C string a NUL;
-/// or more than 255 hashes would be needed.
+/// The fewest hashes with which the raw string of the kind stands for the text: none where no quote stands in it, else one more
+/// than follow a quote, at most.
+///
+/// `None` where no raw string stands for the text: a CR stands in it, in a byte string a character past ASCII, in a C string a
+/// NUL, or it needs more than 255 hashes (the Rust Reference, sections Raw string literals, Raw byte string literals, Raw C
+/// string literals).
 pub fn raw_hashes(kind: Kind, text: &str) -> Option<usize> {
     let mut needed: usize = 0;
     let mut opened = 0;
@@ -42,9 +45,9 @@ pub fn raw_hashes(kind: Kind, text: &str) -> Option<usize> {
     if needed < 256 { Some(needed) } else { None }
 }
 
-/// The text that stands inside a raw string of the kind, which holds bytes, for these bytes, and the fewest hashes with which it
-/// does, as [`raw_hashes`] finds them. `None` where no raw string stands for them: they are no UTF-8, which is what
-/// literals are written in, or `raw_hashes` finds none.
+/// The text that stands inside the raw byte string or raw C string for these bytes, and the fewest hashes with which it does, as
+/// [`raw_hashes`] finds them. `None` where no raw string stands for them: they aren't UTF-8, which all literals are, or
+/// `raw_hashes` returns none.
 pub fn raw_form(kind: Kind, value: &[u8]) -> Option<(&str, usize)> {
     let Ok(text) = core::str::from_utf8(value) else {
         return None;
@@ -74,8 +77,8 @@ fn raw_opener(kind: Kind) -> &'static str {
     }
 }
 
-/// Writes the raw string of the kind with so many hashes, which [`raw_hashes`] finds, and the text inside, and returns how many
-/// bytes it is long: four, and those of the text and of the hashes on both sides; three of a string.
+/// Writes the raw string of the kind with this text inside and so many hashes, which [`raw_hashes`] finds. Returns how many bytes
+/// it is long: at most the bytes of the text, the hashes twice, and four.
 pub fn write_raw_into(kind: Kind, hashes: usize, text: &str, out: &mut [u8]) -> usize {
     let at = put_text(out, 0, raw_opener(kind));
     let at = put_hashes(out, at, hashes);
