@@ -1,12 +1,14 @@
 -- When a raw literal stands for its characters.
 use Rattle.rl_text.proofs.Common.{◌≡◌, ℕ, zero, suc, ◌<◌, ◌≤◌, ◌&&◌, Bool, true, false, not, eqb, List, [], ◌∷◌, ◌++◌, length, replicate, refl, sym, ap, subst, ◌∙◌, inl, inr, arith, append_assoc, append-nil, nat_lt, list_all, and_parts, and_from, both_ways, cases_lt, chars, chars_from_encodes, encodes-chars, IsUtf8}
 use Rattle.std.specs.Prelude.{encode_utf8_all}
+use Rattle.std.proofs.lemmas.Str.{chars-encodes}
+use Rattle.std.proofs.Math.Utf8.{scalars}
 use Rattle.rl_text.specs.Texts.{first_passes}
 use Rattle.rl_text.proofs.Basics.{all_weaker, hashes_all, word_without}
 use Rattle.rl_forms.specs.declared.kind.Kind.{Kind}
 use Rattle.rl_forms.specs.declared.kind.Kind.TheVariants.{Str, ByteStr, CStr}
 use Rattle.rl_forms.specs.Quoted.{holds_characters, is_raw, is_string, raw_opener, Raw}
-use Rattle.rl_forms.specs.Reading.{Bytes, Contents, Reads}
+use Rattle.rl_forms.specs.Reading.{Bytes, Characters, Contents, Reads}
 use Rattle.rl_forms.specs.Strict.{IsRawInside, IsStrictSuffix, Strict, StrictRaw, strict_closer, strict_opener, strict_raw_opener}
 use Rattle.rl_forms.proofs.Agreeing.{strict_reads}
 use Rattle.rl_forms.proofs.OneQuoted.{raw_once, same_tail}
@@ -219,6 +221,22 @@ bytes_held ByteStr n text value s h same u f =
 bytes_held CStr n text value s h same u f = ap Bytes (ap (λ z. encode_utf8_all (chars z)) same ∙ encodes-chars value u)
 bytes_held Str n text value s h same u f = absurd (cc)
 bytes_held kind n text value s h same u f = absurd (cc)
+
+-- what holds the same has the same inside
+same_characters : (a b : List ℕ) → Characters a ≡ Characters b → a ≡ b
+same_characters a b e = cc
+
+same_bytes : (a b : List ℕ) → Bytes a ≡ Bytes b → a ≡ b
+same_bytes a b e = cc
+
+pub one_inside : (k : Kind) (inside other : List ℕ) → is_string k ≡ true → scalars inside ≡ true → scalars other ≡ true
+    → raw_contents k inside ≡ raw_contents k other → inside ≡ other
+one_inside Str inside other s h l e = same_characters inside other e
+one_inside ByteStr inside other s h l e = same_bytes inside other e
+one_inside CStr inside other s h l e =
+    sym (chars-encodes inside h) ∙ ap chars (same_bytes (encode_utf8_all inside) (encode_utf8_all other) e)
+    ∙ chars-encodes other l
+one_inside kind inside other s h l e = absurd (cc)
 
 -- the same of what has these bytes
 pub no_other : (k : Kind) (text value inside : List ℕ) → text ≡ value → IsUtf8 value → HasNoRaw k (chars text)
