@@ -11,3 +11,4 @@ pub mod rl_recovery;
 pub mod rl_settings;
 pub mod rl_strict;
 pub mod rl_text;
+pub mod rl_writing;
