@@ -1,0 +1,5 @@
+pub mod WalkLemmas
+pub mod EndLemmas
+pub mod LookLemmas
+pub mod PlaceLemmas
+pub mod FlawLemmas

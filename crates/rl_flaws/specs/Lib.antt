@@ -1,0 +1,6 @@
+pub mod Looks
+pub mod BadPieces
+pub mod Inside
+pub mod Opened
+pub mod Flawed
+pub mod Left
