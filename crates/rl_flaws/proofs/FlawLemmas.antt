@@ -12,7 +12,7 @@ use Rattle.rl_reasons.specs.StrictFlaws.{ExplainsStrictly}
 use Rattle.rl_reasons.specs.StrictRead.{IsFlawAt}
 use Rattle.rl_flaws.specs.BadPieces.{after_piece, is_of_unit}
 use Rattle.rl_flaws.specs.Flawed.{EndsWhere, FlawsState, IsBadPiece, IsLeftBy, TakesFlaw, is_string_open}
-use Rattle.rl_flaws.specs.Left.{FollowsPiece, IsLeft, state_of}
+use Rattle.rl_flaws.specs.Left.{FollowsPiece, IsLeft, StaysOpen, state_of}
 use Rattle.rl_flaws.specs.Opened.{IsOpened}
 use Rattle.rl_flaws.specs.declared.bad_piece.BadPiece.{BadPiece}
 use Rattle.rl_flaws.specs.declared.flaws.Left.{Left}
@@ -118,3 +118,10 @@ inside_left o rest len closing true (Inside p r) l t inside nothing =
       subst (λ (z : Opened). IsUtf8 z.opener.now) (sym f.0) l.2,
       f.2.is_text,
     )
+
+pub stays_open : (o : Opened) (piece : List ℕ) (b : Bool) (left : Left) → (b ≡ true → FollowsPiece o piece left)
+    → (b ≡ false → left ≡ Nothing) → StaysOpen o left
+stays_open o piece false left inside nothing = subst (StaysOpen o) (sym (nothing refl)) tt
+stays_open o piece true (Whole w) inside nothing = absurd (inside refl)
+stays_open o piece true Nothing inside nothing = tt
+stays_open o piece true (Inside p r) inside nothing = (inside refl).0

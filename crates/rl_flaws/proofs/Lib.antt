@@ -3,3 +3,4 @@ pub mod EndLemmas
 pub mod LookLemmas
 pub mod PlaceLemmas
 pub mod FlawLemmas
+pub mod PieceLemmas

@@ -28,3 +28,14 @@ abbrev pub FollowsPiece : Opened → List ℕ → Left → Type 0
 FollowsPiece o piece (Inside p rest) =
     (p ≡ o) × (chars rest.now ≡ after_piece (closer o.kind) (chars piece)) × IsTail piece rest.now
 FollowsPiece o piece left = ⊥
+
+-- the literal is still open, or nothing is
+abbrev pub StaysOpen : Opened → Left → Type 0
+StaysOpen o (Inside p rest) = p ≡ o
+StaysOpen o Nothing = ⊤
+StaysOpen o (Whole text) = ⊥
+
+-- the same literal as before
+abbrev pub IsSameLiteral : Left → Left → Type 0
+IsSameLiteral (Inside o rest) new = StaysOpen o new
+IsSameLiteral old new = new ≡ Nothing

@@ -4,3 +4,5 @@ pub mod Inside
 pub mod Opened
 pub mod Flawed
 pub mod Left
+pub mod Pieces
+pub mod PiecesLeft

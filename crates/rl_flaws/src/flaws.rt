@@ -1,6 +1,6 @@
 //! A cursor over all flaws of a text.
 
-ghost use Rattle.std.specs.Prelude.{◌≡◌, ◌&&◌, length, IsTrue, IsFalse};
+ghost use Rattle.std.specs.Prelude.{◌≡◌, ◌&&◌, [], length, IsTrue, IsFalse};
 ghost use Rattle.std.specs.Str.{chars};
 ghost use Rattle.rl_text.specs.Texts.{IsTail};
 ghost use Rattle.rl_forms.specs.Quoted.{is_string};
@@ -8,7 +8,8 @@ ghost use Rattle.rl_forms.specs.Written.{closer};
 ghost use Rattle.rl_flaws.specs.BadPieces.{after_piece, is_of_unit};
 ghost use Rattle.rl_flaws.specs.declared.flaws.Left.TheVariants.{Whole, Inside, Nothing};
 ghost use Rattle.rl_flaws.specs.Flawed.{AreFlawsOf, GivesFlaw};
-ghost use Rattle.rl_flaws.specs.Left.{FollowsPiece, IsLeft, state_of};
+ghost use Rattle.rl_flaws.specs.Left.{FollowsPiece, IsLeft, IsSameLiteral, StaysOpen, state_of};
+ghost use Rattle.rl_flaws.specs.PiecesLeft.{IsGoodLeft};
 
 use crate::bad_piece::{BadPiece, placed};
 use crate::piece_ends::{after_piece, is_of_unit};
@@ -68,6 +69,8 @@ fn left_after<'t>(opened: Opened<'t>, kind: FlawKind, closing: &'t str) -> Left<
 pub struct Judged<'t> {
     /// What is good inside a quoted literal, up to the flaw or the closer.
     pub good: &'t str,
+    /// The place where that ends.
+    pub end: usize,
     pub bad: Option<BadPiece>,
     pub left: Left<'t>,
 }
@@ -77,15 +80,18 @@ fn judge_whole(text: &str) -> Judged<'_>
     ensures gives { GivesFlaw (state_of (length text.now) (Whole text.entry)) result.bad
         (state_of (length text.now) result.left) }
     ensures left { result.left ≡ Nothing }
+    ensures good { result.good.now ≡ [] }
 {
     match explain(text) {
         Some(flaw) => Judged {
             good: "",
+            end: 0,
             bad: Some(BadPiece { flaw, end: flaw.hi }),
             left: Left::Nothing,
         },
         None => Judged {
             good: "",
+            end: 0,
             bad: None,
             left: Left::Nothing,
         },
@@ -93,21 +99,26 @@ fn judge_whole(text: &str) -> Judged<'_>
 }
 
 /// The next flaw inside a literal or after it.
-fn judge_inside<'t>(len: usize, opened: Opened<'t>, rest: &'t str) -> Judged<'t>
+pub fn judge_inside<'t>(len: usize, opened: Opened<'t>, rest: &'t str) -> Judged<'t>
     requires { IsLeft len (Inside opened rest) }
     ensures gives { GivesFlaw (state_of len (Inside opened.entry rest.entry)) result.bad (state_of len result.left) }
     ensures left { IsLeft len result.left }
+    ensures same { StaysOpen opened.entry result.left }
+    ensures good { IsGoodLeft len (Inside opened.entry rest.entry) result.good.now result.end }
 {
     let stretch = walk(opened, rest);
     let good = before(rest, stretch.closing);
+    let end = len - stretch.closing.len();
     match stretch.flaw {
         Some(found) => Judged {
             good,
+            end,
             bad: Some(placed(len, quote_of(opened.kind), found)),
             left: left_after(opened, found.kind, stretch.closing),
         },
         None => Judged {
             good,
+            end,
             bad: None,
             left: Left::Nothing,
         },
@@ -119,12 +130,15 @@ pub fn judge<'t>(len: usize, left: Left<'t>) -> Judged<'t>
     requires { IsLeft len left }
     ensures gives { GivesFlaw (state_of len left.entry) result.bad (state_of len result.left) }
     ensures left { IsLeft len result.left }
+    ensures same { IsSameLiteral left.entry result.left }
+    ensures good { IsGoodLeft len left.entry result.good.now result.end }
 {
     match left {
         Left::Whole(text) => judge_whole(text),
         Left::Inside(opened, rest) => judge_inside(len, opened, rest),
         Left::Nothing => Judged {
             good: "",
+            end: 0,
             bad: None,
             left: Left::Nothing,
         },

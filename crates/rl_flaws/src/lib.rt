@@ -5,8 +5,10 @@ mod bad_piece;
 pub mod flaws;
 mod looks;
 mod piece_ends;
+pub mod pieces;
 mod walks;
 
 pub use crate::bad_piece::BadPiece;
 pub use crate::flaws::Flaws;
 pub use crate::looks::looks_like;
+pub use crate::pieces::{Piece, Pieces};
