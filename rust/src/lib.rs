@@ -40,6 +40,7 @@ mod characters;
 mod common;
 mod contents;
 mod error;
+mod flaws;
 mod kind;
 mod line_index;
 mod list;
@@ -71,18 +72,19 @@ mod write;
 #[doc(hidden)]
 pub mod rendered {
     pub use crate::proved::{
-        rl_file_reasons, rl_forms, rl_lexer, rl_parts, rl_reading, rl_reasons, rl_recovery,
-        rl_settings, rl_strict, rl_text,
+        rl_file_reasons, rl_flaws, rl_forms, rl_lexer, rl_parts, rl_reading, rl_reasons,
+        rl_recovery, rl_settings, rl_strict, rl_text,
     };
 }
 
 use proved::{
-    rl_file_reasons, rl_forms, rl_lexer, rl_parts, rl_reading, rl_reasons, rl_recovery,
+    rl_file_reasons, rl_flaws, rl_forms, rl_lexer, rl_parts, rl_reading, rl_reasons, rl_recovery,
     rl_settings, rl_strict, rl_text,
 };
 
 pub use characters::{LitByte, LitChar};
 pub use error::{ErrorKind, ListError, Part};
+pub use flaws::{flaws, looks_like, pieces, BadPiece, Flaws, Piece, Pieces};
 pub use kind::Kind;
 pub use line_index::{LineColumn, LineIndex};
 pub use list::{literals, Literals};

@@ -47,6 +47,21 @@ pub struct Segment<'t> {
     pub value: SegmentValue<'t>,
 }
 
+impl<'t> Segment<'t> {
+    pub(crate) fn of(segment: rl_reading::Segment<'t>) -> Segment<'t> {
+        let value = match segment.value {
+            rl_reading::SegmentValue::Text(text) => SegmentValue::Text(text),
+            rl_reading::SegmentValue::Char(c) => SegmentValue::Char(c),
+            rl_reading::SegmentValue::Byte(byte) => SegmentValue::Byte(byte),
+            rl_reading::SegmentValue::Nothing => SegmentValue::Nothing,
+        };
+        Segment {
+            range: segment.lo..segment.hi,
+            value,
+        }
+    }
+}
+
 /// The segments of a quoted literal, in order: see [`LitStr::segments`](crate::LitStr::segments).
 #[must_use = "an iterator does nothing until it is asked"]
 pub struct Segments<'t>(pub(crate) rl_reading::Segments<'t>);
@@ -55,17 +70,7 @@ impl<'t> Iterator for Segments<'t> {
     type Item = Segment<'t>;
 
     fn next(&mut self) -> Option<Segment<'t>> {
-        let next = self.0.next()?;
-        let value = match next.value {
-            rl_reading::SegmentValue::Text(text) => SegmentValue::Text(text),
-            rl_reading::SegmentValue::Char(c) => SegmentValue::Char(c),
-            rl_reading::SegmentValue::Byte(byte) => SegmentValue::Byte(byte),
-            rl_reading::SegmentValue::Nothing => SegmentValue::Nothing,
-        };
-        Some(Segment {
-            range: next.lo..next.hi,
-            value,
-        })
+        self.0.next().map(Segment::of)
     }
 }
 
