@@ -13,7 +13,7 @@ use Rattle.rl_reasons.specs.StrictRead.{IsFlawAt}
 use Rattle.rl_flaws.specs.BadPieces.{after_piece, is_of_unit}
 use Rattle.rl_flaws.specs.Flawed.{EndsWhere, FlawsState, IsBadPiece, IsLeftBy, TakesFlaw, is_string_open}
 use Rattle.rl_flaws.specs.Left.{FollowsPiece, IsLeft, StaysOpen, state_of}
-use Rattle.rl_flaws.specs.Opened.{IsOpened}
+use Rattle.rl_flaws.specs.Opened.{IsOpened, opened_front}
 use Rattle.rl_flaws.specs.declared.bad_piece.BadPiece.{BadPiece}
 use Rattle.rl_flaws.specs.declared.flaws.Left.{Left}
 use Rattle.rl_flaws.specs.declared.flaws.Left.TheVariants.{Whole, Inside, Nothing}
@@ -62,14 +62,14 @@ open_left o rest len piece closing (Whole t) f e = absurd f
 open_left o rest len piece closing (Inside p r) f e = (
   f.1 ∙ ap (λ z. after_piece (closer o.kind) (chars z)) (sym e),
   ap (λ (z : Opened). Some z.kind) f.0,
-  ap (λ (z : Opened). chars z.opener.now) f.0,
+  ap opened_front f.0,
   refl,
 )
 open_left o rest len piece closing Nothing f e = absurd f
 
 pub inside_takes : (o : Opened) (rest : Bor (List ℕ)) (len q : ℕ) (found : FlawAt) (closing : List ℕ) (bad : BadPiece)
     (left : Left) → IsUtf8 found.piece.now → IsUtf8 found.rest.now
-    → IsFlawAt (chars o.opener.now ++ chars rest.now) found.kind (chars found.piece.now) (chars found.rest.now)
+    → IsFlawAt (opened_front o ++ chars rest.now) found.kind (chars found.piece.now) (chars found.rest.now)
     → q ≡ closer o.kind → bad.flaw.kind ≡ found.kind → bad.flaw.from + length found.piece.now ≡ len
     → bad.flaw.lo + length found.rest.now ≡ len → bad.flaw.hi ≡ bad.flaw.lo + first_len (chars found.rest.now)
     → EndsWhere (is_of_unit bad.flaw.kind) len q (chars found.piece.now) bad.flaw.hi bad.end
@@ -82,7 +82,7 @@ inside_takes o rest len q found closing bad left up uz f quote kind from lo hi e
   piece = chars found.piece.now;
   is_bad = record {
     stop = chars found.rest.now;
-    flaw = subst (λ k. IsFlawAt (chars o.opener.now ++ chars rest.now) k (chars found.piece.now)
+    flaw = subst (λ k. IsFlawAt (opened_front o ++ chars rest.now) k (chars found.piece.now)
         (chars found.rest.now)) (sym kind) f;
     from_is = omega (arith, from, ap length (encodes-chars found.piece.now up));
     lo_is = omega (arith, lo, ap length (encodes-chars found.rest.now uz));
@@ -112,10 +112,9 @@ inside_left o rest len closing true (Inside p r) l t inside nothing =
     let f = inside refl in
     let a : length rest.now ≡ length t.front + length closing = ap length t.text_is ∙ length-append t.front closing in
     let b : length closing ≡ length f.2.front + length r.now = ap length f.2.text_is ∙ length-append f.2.front r.now in
-    let same : length p.opener.now ≡ length o.opener.now = ap (λ (z : Opened). length z.opener.now) f.0 in (
+    let same : byte_len (opened_front p) ≡ byte_len (opened_front o) = ap (λ (z : Opened). byte_len (opened_front z)) f.0 in (
       subst IsOpened (sym f.0) l.0,
       omega (arith, l.1, a, b, same),
-      subst (λ (z : Opened). IsUtf8 z.opener.now) (sym f.0) l.2,
       f.2.is_text,
     )
 

@@ -12,7 +12,7 @@ use Rattle.rl_reading.specs.declared.quoted_forms.QuotedForm.TheVariants.{Cooked
 use Rattle.rl_reasons.specs.StrictFlawKinds.{is_raw_form}
 use Rattle.rl_flaws.specs.Inside.{StandsUpTo}
 use Rattle.rl_flaws.specs.Left.{IsLeft, IsSameLiteral, StaysOpen}
-use Rattle.rl_flaws.specs.Opened.{IsOpened}
+use Rattle.rl_flaws.specs.Opened.{IsOpened, opened_front}
 use Rattle.rl_flaws.specs.PiecesLeft.{ArePiecesLeft, IsGoodLeft, IsOfKind}
 use Rattle.rl_flaws.specs.declared.flaws.Left.{Left}
 use Rattle.rl_flaws.specs.declared.flaws.Left.TheVariants.{Whole, Inside, Nothing}
@@ -66,7 +66,7 @@ good_units SingleForm kind t good closing (inr (same, none)) e =
 -- ---- what is good
 
 pub good_left : (o : Opened) (rest : Bor (List ℕ)) (len end : ℕ) (good closing : List ℕ) → IsOpened o
-    → length o.opener.now + length rest.now ≤ len → IsUtf8 good → IsUtf8 closing → rest.now ≡ good ++ closing
+    → byte_len (opened_front o) + length rest.now ≤ len → IsUtf8 good → IsUtf8 closing → rest.now ≡ good ++ closing
     → chars rest.now ≡ chars good ++ chars closing → StandsUpTo o.form o.kind (chars rest.now) (chars closing)
     → end ≡ len - length closing → IsGoodLeft len (Inside o rest) good end
 good_left o rest len end good closing opens room ug uc bytes text up_to is =
@@ -76,6 +76,7 @@ good_left o rest len end good closing opens room ug uc bytes text up_to is =
         form = o.form;
         hashes = chars o.hashes.now;
         opens = opens;
+        front_is = refl;
         closing = chars closing;
         text_is = text;
         up_to = up_to;

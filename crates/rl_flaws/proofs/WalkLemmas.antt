@@ -1,5 +1,5 @@
 -- What a walk inside a quoted literal finds.
-use Rattle.rl_text.proofs.Common.{◌≡◌, ◌≢◌, ◌≤◌, ◌<◌, ◌+◌, encode_utf8_all, encodes-append, encodes-chars, length, length-append, IsUtf8, ◌⊎◌, ◌==◌, ℕ, Bool, true, false, List, [], ◌∷◌, ◌++◌, Option, Some, None, IfNone, IfSome, option_map, refl, sym, ap, subst, ◌∙◌, inl, inr, both_ways, eqb-true, append_assoc, append_cancel_right, arith, zero, suc, replicate, drop, list_all, IsTrue, ⊤}
+use Rattle.rl_text.proofs.Common.{◌≡◌, ◌≢◌, ◌≤◌, ◌<◌, ◌+◌, encode_utf8_all, encodes-append, encodes-chars, length, length-append, IsUtf8, ◌⊎◌, ◌==◌, ℕ, Bool, true, false, List, [], ◌∷◌, ◌++◌, Option, Some, None, IfNone, IfSome, option_map, refl, sym, ap, subst, ◌∙◌, inl, inr, both_ways, eqb-true, append_assoc, arith, zero, suc, replicate, drop, list_all, IsTrue, ⊤}
 use Rattle.std.specs.Str.{chars}
 use Rattle.rl_reading.proofs.Names.{Kind, first_passes, is_single, is_string, opener, raw_opener}
 use Rattle.rl_forms.specs.Strict.{is_strict_unit}
@@ -19,7 +19,7 @@ use Rattle.rl_strict.proofs.StrictUnitLemmas.{unit_rest_complete, unit_rest_soun
 use Rattle.rl_reasons.specs.declared.flaws.FlawAt.{FlawAt}
 use Rattle.rl_reasons.specs.declared.flaws.FlawKind.{FlawKind}
 use Rattle.rl_reasons.specs.QuotedRead.{StopsIn}
-use Rattle.rl_reasons.specs.StrictFlawKinds.{SuffixFlaw, is_raw_form, suffix_piece}
+use Rattle.rl_reasons.specs.StrictFlawKinds.{SuffixFlaw, suffix_piece}
 use Rattle.rl_reasons.specs.declared.flaws.FlawKind.TheVariants.{CarriageReturn, EmptyBraces, MustEscape, NoBrace, NoHexDigit, NoUnicode, NotAscii, Nul, PastAscii, PastUnicode, Surrogate, TooManyDigits, UnknownEscape}
 use Rattle.rl_flaws.specs.BadPieces.{is_of_unit}
 use Rattle.rl_reasons.specs.StrictRead.{IsFlawAt}
@@ -33,7 +33,6 @@ use Rattle.rl_reasons.proofs.StrictCookedFlaws.{cooked_closes}
 use Rattle.rl_reasons.proofs.StrictRawFlaws.{raw_closed, raw_closes, raw_off}
 use Rattle.rl_flaws.specs.Inside.{IsUnitUpTo, StandsUpTo}
 use Rattle.rl_flaws.specs.Looks.{OpensSingle, OpensString}
-use Rattle.rl_flaws.specs.Opened.{OpensForm}
 
 -- what was found, by the texts from its places on
 abbrev pub flaw_found : FlawAt → FoundFlaw
@@ -151,23 +150,15 @@ flaw_after form k t inside (Some f) has e h = form_flaw t form k inside f.kind (
 
 -- ---- openers
 
-pub plain_opened : (form : QuotedForm) (k : Kind) (front hashes : List ℕ) → is_raw_form form ≡ false → has_form form k ≡ true
-    → front ≡ form_opener form k → OpensForm form k front hashes
-plain_opened CookedForm k front hashes n has e = (has, e)
-plain_opened SingleForm k front hashes n has e = (has, e)
-plain_opened RawForm k front hashes n has e = absurd (both_ways true n refl)
-
 pub raw_cut : (k : Kind) (front hashes rest : List ℕ) → front ≡ raw_opener k ++ (hashes ++ (34 ∷ []))
     → front ++ rest ≡ raw_opener k ++ (hashes ++ (34 ∷ rest))
 raw_cut k front hashes rest e = ap (λ z. z ++ rest) e ∙ append_assoc (raw_opener k) (hashes ++ (34 ∷ [])) rest
     ∙ ap (λ z. raw_opener k ++ z) (append_assoc hashes (34 ∷ []) rest)
 
-pub raw_front : (k : Kind) (t inside quote hashes rest front : List ℕ) → t ≡ raw_opener k ++ inside
-    → inside ≡ hashes ++ quote → quote ≡ 34 ∷ rest → t ≡ front ++ rest → front ≡ raw_opener k ++ (hashes ++ (34 ∷ []))
-raw_front k t inside quote hashes rest front a b d e =
-    let whole : t ≡ (raw_opener k ++ (hashes ++ (34 ∷ []))) ++ rest = a ∙ ap (λ z. raw_opener k ++ z)
-    (b ∙ ap (λ z. hashes ++ z) d) ∙ sym (raw_cut k (raw_opener k ++ (hashes ++ (34 ∷ []))) hashes rest refl) in
-    append_cancel_right front (raw_opener k ++ (hashes ++ (34 ∷ []))) rest (sym e ∙ whole)
+pub raw_front : (k : Kind) (t inside quote hashes rest : List ℕ) → t ≡ raw_opener k ++ inside → inside ≡ hashes ++ quote
+    → quote ≡ 34 ∷ rest → t ≡ (raw_opener k ++ (hashes ++ (34 ∷ []))) ++ rest
+raw_front k t inside quote hashes rest a b d = a ∙ ap (λ z. raw_opener k ++ z) (b ∙ ap (λ z. hashes ++ z) d)
+    ∙ sym (raw_cut k (raw_opener k ++ (hashes ++ (34 ∷ []))) hashes rest refl)
 
 -- ---- nothing is opened
 
@@ -267,17 +258,18 @@ suffix_at form suffix closing (Some f) h =
 
 -- ---- what was found stands in the text
 
-pub flaw_bytes : (k : FlawKind) (o r p z : List ℕ) → IsUtf8 o → IsUtf8 r → IsUtf8 p → IsUtf8 z
-    → IsFlawAt (chars o ++ chars r) k (chars p) (chars z) → (length p ≤ length o + length r) × (length z ≤ length o + length r)
-flaw_bytes k o r p z uo ur up uz f =
-    let whole : byte_len (chars o ++ chars r) ≡ length o + length r = ap length (encodes-append (chars o) (chars r))
-    ∙ length-append (encode_utf8_all (chars o)) (encode_utf8_all (chars r))
-    ∙ ap (λ x. length x + byte_len (chars r)) (encodes-chars o uo) ∙ ap (λ x. length o + length x) (encodes-chars r ur) in
-    let cut = piece_front k (chars o ++ chars r) (chars p) (chars z) f.stops f.says in
-    let piece = part (chars o ++ chars r) cut.0 p up cut.1 in
-    let stop = part (chars o ++ chars r) f.stops.front z uz f.stops.text_is in
+pub part : (t a b : List ℕ) → IsUtf8 b → t ≡ a ++ chars b → byte_len t ≡ byte_len a + length b
+part t a b u e = ap byte_len e ∙ ap length (encodes-append a (chars b))
+    ∙ length-append (encode_utf8_all a) (encode_utf8_all (chars b)) ∙ ap (λ x. byte_len a + length x) (encodes-chars b u)
+
+pub flaw_bytes : (k : FlawKind) (o r p z : List ℕ) → IsUtf8 r → IsUtf8 p → IsUtf8 z → IsFlawAt (o ++ chars r) k (chars p) (chars z)
+    → (length p ≤ byte_len o + length r) × (length z ≤ byte_len o + length r)
+flaw_bytes k o r p z ur up uz f =
+    let whole = part (o ++ chars r) o r ur refl in
+    let cut = piece_front k (o ++ chars r) (chars p) (chars z) f.stops f.says in
+    let piece = part (o ++ chars r) cut.0 p up cut.1 in
+    let stop = part (o ++ chars r) f.stops.front z uz f.stops.text_is in
     (omega (arith, whole, piece), omega (arith, whole, stop))
-  where
-    part : (t a b : List ℕ) → IsUtf8 b → t ≡ a ++ chars b → byte_len t ≡ byte_len a + length b
-    part t a b u e = ap byte_len e ∙ ap length (encodes-append a (chars b))
-        ∙ length-append (encode_utf8_all a) (encode_utf8_all (chars b)) ∙ ap (λ x. byte_len a + length x) (encodes-chars b u)
+
+pub opened_bytes : (t o r : List ℕ) → IsUtf8 t → IsUtf8 r → chars t ≡ o ++ chars r → byte_len o + length r ≤ length t
+opened_bytes t o r ut ur e = omega (arith, part (chars t) o r ur e, ap length (encodes-chars t ut))

@@ -4,23 +4,23 @@ use Rattle.std.specs.Str.{chars, IsUtf8}
 use Rattle.rl_flaws.specs.Flawed.{FlawsState}
 use Rattle.rl_flaws.specs.Looks.{OpensSingle, OpensString}
 use Rattle.rl_flaws.specs.BadPieces.{after_piece}
-use Rattle.rl_flaws.specs.Opened.{IsOpened}
+use Rattle.rl_flaws.specs.Opened.{IsOpened, opened_front}
 use Rattle.rl_flaws.specs.declared.walks.Opened.{Opened}
 use Rattle.rl_forms.specs.Written.{closer}
-use Rattle.rl_text.specs.Texts.{IsTail}
+use Rattle.rl_text.specs.Texts.{IsTail, byte_len}
 use Rattle.rl_flaws.specs.declared.flaws.Left.{Left}
 use Rattle.rl_flaws.specs.declared.flaws.Left.TheVariants.{Whole, Inside, Nothing}
 
 abbrev pub state_of : ℕ → Left → FlawsState
 state_of len (Whole text) = record { kind = None; front = []; rest = text.now; len = len; over = false }
 state_of len (Inside o rest) =
-    record { kind = Some o.kind; front = chars o.opener.now; rest = rest.now; len = len; over = false }
+    record { kind = Some o.kind; front = opened_front o; rest = rest.now; len = len; over = false }
 state_of len Nothing = record { kind = None; front = []; rest = []; len = len; over = true }
 
 abbrev pub IsLeft : ℕ → Left → Type 0
 IsLeft len (Whole text) = (length text.now ≡ len) × IsUtf8 text.now
 IsLeft len (Inside o rest) =
-    IsOpened o × (length o.opener.now + length rest.now ≤ len) × IsUtf8 o.opener.now × IsUtf8 rest.now
+    IsOpened o × (byte_len (opened_front o) + length rest.now ≤ len) × IsUtf8 rest.now
 IsLeft len Nothing = ⊤
 
 -- the literal is still open, and the rest follows its bad piece

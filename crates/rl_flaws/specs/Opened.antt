@@ -8,12 +8,20 @@ use Rattle.rl_reading.specs.declared.quoted_forms.QuotedForm.{QuotedForm}
 use Rattle.rl_reading.specs.declared.quoted_forms.QuotedForm.TheVariants.{Cooked as CookedForm, Raw as RawForm, Single as SingleForm}
 use Rattle.rl_flaws.specs.declared.walks.Opened.{Opened}
 
-abbrev pub OpensForm : QuotedForm → Kind → List ℕ → List ℕ → Type 0
-OpensForm CookedForm kind front hashes = IsTrue (is_string kind) × (front ≡ opener kind)
-OpensForm SingleForm kind front hashes = IsTrue (is_single kind) × (front ≡ opener kind)
-OpensForm RawForm kind front hashes =
-    IsTrue (is_string kind) × ((n : ℕ) × (n ≤ 255) × (hashes ≡ replicate n (code "#")))
-    × (front ≡ raw_opener kind ++ (hashes ++ codes "\""))
+-- what opens a literal of the form: prefix, hashes and quote
+abbrev pub front_of : QuotedForm → Kind → List ℕ → List ℕ
+front_of CookedForm kind hashes = opener kind
+front_of SingleForm kind hashes = opener kind
+front_of RawForm kind hashes = raw_opener kind ++ (hashes ++ codes "\"")
+
+-- the kind has the form, with so many hashes
+abbrev pub HasForm : QuotedForm → Kind → List ℕ → Type 0
+HasForm CookedForm kind hashes = IsTrue (is_string kind)
+HasForm SingleForm kind hashes = IsTrue (is_single kind)
+HasForm RawForm kind hashes = IsTrue (is_string kind) × ((n : ℕ) × (n ≤ 255) × (hashes ≡ replicate n (code "#")))
+
+abbrev pub opened_front : Opened → List ℕ
+opened_front o = front_of o.form o.kind (chars o.hashes.now)
 
 abbrev pub IsOpened : Opened → Type 0
-IsOpened o = OpensForm o.form o.kind (chars o.opener.now) (chars o.hashes.now)
+IsOpened o = HasForm o.form o.kind (chars o.hashes.now)

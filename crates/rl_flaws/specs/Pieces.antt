@@ -8,7 +8,7 @@ use Rattle.rl_reading.specs.declared.quoted_forms.QuotedForm.{QuotedForm}
 use Rattle.rl_reasons.specs.StrictFlawKinds.{is_raw_form}
 use Rattle.rl_flaws.specs.Flawed.{FlawsState, GivesFlaw}
 use Rattle.rl_flaws.specs.Inside.{StandsUpTo}
-use Rattle.rl_flaws.specs.Opened.{OpensForm}
+use Rattle.rl_flaws.specs.Opened.{HasForm, front_of}
 use Rattle.rl_flaws.specs.declared.bad_piece.BadPiece.{BadPiece}
 use Rattle.rl_flaws.specs.declared.pieces.Piece.{Piece}
 use Rattle.rl_flaws.specs.declared.pieces.Piece.TheVariants.{Good, Bad}
@@ -23,7 +23,8 @@ pub record PiecesState : Type 0 where
 pub record IsGoodInside (kind : Kind) (flaws : FlawsState) (s : SegmentsState) : Type 0 where
   pub form : QuotedForm
   pub hashes : List ℕ
-  pub opens : OpensForm form kind flaws.front hashes
+  pub opens : HasForm form kind hashes
+  pub front_is : flaws.front ≡ front_of form kind hashes
   pub closing : List ℕ
   pub text_is : chars flaws.rest ≡ chars s.rest ++ closing
   pub up_to : StandsUpTo form kind (chars flaws.rest) closing

@@ -8,7 +8,6 @@ ghost use Rattle.rl_forms.specs.Quoted.{is_single, is_string};
 ghost use Rattle.rl_reading.specs.Mirrors.OpenerAt.{found_opener, opener_at};
 ghost use Rattle.rl_reading.specs.declared.quoted_forms.QuotedForm.TheVariants.{Cooked as CookedForm, Raw as RawForm, Single as SingleForm};
 ghost use Rattle.rl_strict.specs.StrictShapes.{ClosesForm};
-ghost use Rattle.rl_reasons.specs.StrictFlawKinds.{is_raw_form};
 ghost use Rattle.rl_reasons.specs.QuotedRead.{StopsIn};
 ghost use Rattle.rl_strict.specs.StrictShapes.{IsToken};
 ghost use Rattle.rl_reasons.specs.Mirrors.StrictFlawAt.{raw_stop};
@@ -16,7 +15,7 @@ ghost use Rattle.rl_reasons.specs.StrictRead.{IsFlawAt};
 ghost use Rattle.rl_flaws.specs.BadPieces.{is_of_unit};
 ghost use Rattle.rl_flaws.specs.Inside.{StandsUpTo};
 ghost use Rattle.rl_flaws.specs.Looks.{OpensSingle, OpensString};
-ghost use Rattle.rl_flaws.specs.Opened.{IsOpened};
+ghost use Rattle.rl_flaws.specs.Opened.{IsOpened, opened_front};
 
 use rl_forms::Kind;
 use rl_reading::quoted_forms::{QuotedForm, after_quote, split_opener};
@@ -136,36 +135,15 @@ fn walk_raw<'t>(kind: Kind, hashes: &str, text: &'t str) -> Stretch<'t>
 pub struct Opened<'t> {
     pub form: QuotedForm,
     pub kind: Kind,
-    /// The prefix, the hashes and the quote.
-    pub opener: &'t str,
     /// The hashes of a raw string.
     pub hashes: &'t str,
-}
-
-/// The literal that the text opens, which isn't raw, by what follows its opener.
-fn open_plain<'t>(form: QuotedForm, kind: Kind, text: &'t str, inside: &'t str) -> Opened<'t>
-    requires opener { opener_at (chars text.now) ≡ found_opener form kind (chars inside.now) }
-    requires plain { IsFalse (is_raw_form form) }
-    ensures some { IsOpened result }
-    ensures bytes { text.now ≡ result.opener.now ++ inside.now }
-    ensures cut { chars text.now ≡ chars result.opener.now ++ chars inside.now }
-    ensures following { IsTail text.now inside.now }
-{
-    Opened {
-        form,
-        kind,
-        opener: before(text, inside),
-        hashes: "",
-    }
 }
 
 /// The raw string that the text opens, by what follows its `r`, and what follows its quote.
 fn open_raw<'t>(kind: Kind, text: &'t str, inside: &'t str) -> Option<(Opened<'t>, &'t str)>
     requires { opener_at (chars text.now) ≡ found_opener RawForm kind (chars inside.now) }
     ensures some { IfSome result (λ p. IsOpened p.0) }
-    ensures bytes { IfSome result (λ p. text.now ≡ p.0.opener.now ++ p.1.now) }
-    ensures cut { IfSome result (λ p. chars text.now ≡ chars p.0.opener.now ++ chars p.1.now) }
-    ensures following { IfSome result (λ p. IsTail text.now p.1.now) }
+    ensures cut { IfSome result (λ p. chars text.now ≡ opened_front p.0 ++ chars p.1.now) }
     ensures none { IfNone result ((k : AnyKind) → OpensString k (chars text.now) ⊎ OpensSingle k (chars text.now) → ⊥) }
 {
     let quote = skip_few_hashes(inside);
@@ -174,7 +152,6 @@ fn open_raw<'t>(kind: Kind, text: &'t str, inside: &'t str) -> Option<(Opened<'t
             let opened = Opened {
                 form: QuotedForm::Raw,
                 kind,
-                opener: before(text, rest),
                 hashes: before(inside, quote),
             };
             Some((opened, rest))
@@ -186,17 +163,25 @@ fn open_raw<'t>(kind: Kind, text: &'t str, inside: &'t str) -> Option<(Opened<'t
 /// The quoted literal that the text opens, and what follows its opener.
 pub fn open(text: &str) -> Option<(Opened<'_>, &str)>
     ensures some { IfSome result (λ p. IsOpened p.0) }
-    ensures bytes { IfSome result (λ p. text.now ≡ p.0.opener.now ++ p.1.now) }
-    ensures cut { IfSome result (λ p. chars text.now ≡ chars p.0.opener.now ++ chars p.1.now) }
-    ensures following { IfSome result (λ p. IsTail text.now p.1.now) }
+    ensures cut { IfSome result (λ p. chars text.now ≡ opened_front p.0 ++ chars p.1.now) }
     ensures none { IfNone result ((k : AnyKind) → OpensString k (chars text.now) ⊎ OpensSingle k (chars text.now) → ⊥) }
 {
     match split_opener(text) {
         Some((QuotedForm::Cooked, kind, inside)) => {
-            Some((open_plain(QuotedForm::Cooked, kind, text, inside), inside))
+            let opened = Opened {
+                form: QuotedForm::Cooked,
+                kind,
+                hashes: "",
+            };
+            Some((opened, inside))
         }
         Some((QuotedForm::Single, kind, inside)) => {
-            Some((open_plain(QuotedForm::Single, kind, text, inside), inside))
+            let opened = Opened {
+                form: QuotedForm::Single,
+                kind,
+                hashes: "",
+            };
+            Some((opened, inside))
         }
         Some((QuotedForm::Raw, kind, inside)) => open_raw(kind, text, inside),
         None => None,
@@ -209,8 +194,8 @@ pub fn walk<'t>(opened: Opened<'t>, text: &'t str) -> Stretch<'t>
     ensures good { StandsUpTo opened.entry.form opened.entry.kind (chars text.now) (chars result.closing.now) }
     ensures following { IsTail text.now result.closing.now }
     ensures at { IfSome result.flaw (λ f. IsTrue (is_of_unit f.kind) → f.piece.now ≡ result.closing.now) }
-    ensures token { IfNone result.flaw (IsToken (chars opened.entry.opener.now ++ chars text.now)) }
-    ensures flaw { IfSome result.flaw (λ f. IsFlawAt (chars opened.entry.opener.now ++ chars text.now) f.kind
+    ensures token { IfNone result.flaw (IsToken (opened_front opened.entry ++ chars text.now)) }
+    ensures flaw { IfSome result.flaw (λ f. IsFlawAt (opened_front opened.entry ++ chars text.now) f.kind
         (chars f.piece.now) (chars f.rest.now)) }
 {
     match opened.form {

@@ -92,20 +92,8 @@ fn walk_raw<'t>(kind: Kind, hashes: &str, text: &'t str) -> Stretch<'t> {
 pub struct Opened<'t> {
     pub form: QuotedForm,
     pub kind: Kind,
-    /// The prefix, the hashes and the quote.
-    pub opener: &'t str,
     /// The hashes of a raw string.
     pub hashes: &'t str,
-}
-
-/// The literal that the text opens, which isn't raw, by what follows its opener.
-fn open_plain<'t>(form: QuotedForm, kind: Kind, text: &'t str, inside: &'t str) -> Opened<'t> {
-    Opened {
-        form,
-        kind,
-        opener: before(text, inside),
-        hashes: "",
-    }
 }
 
 /// The raw string that the text opens, by what follows its `r`, and what follows its quote.
@@ -116,7 +104,6 @@ fn open_raw<'t>(kind: Kind, text: &'t str, inside: &'t str) -> Option<(Opened<'t
             let opened = Opened {
                 form: QuotedForm::Raw,
                 kind,
-                opener: before(text, rest),
                 hashes: before(inside, quote),
             };
             Some((opened, rest))
@@ -129,10 +116,20 @@ fn open_raw<'t>(kind: Kind, text: &'t str, inside: &'t str) -> Option<(Opened<'t
 pub fn open(text: &str) -> Option<(Opened<'_>, &str)> {
     match split_opener(text) {
         Some((QuotedForm::Cooked, kind, inside)) => {
-            Some((open_plain(QuotedForm::Cooked, kind, text, inside), inside))
+            let opened = Opened {
+                form: QuotedForm::Cooked,
+                kind,
+                hashes: "",
+            };
+            Some((opened, inside))
         }
         Some((QuotedForm::Single, kind, inside)) => {
-            Some((open_plain(QuotedForm::Single, kind, text, inside), inside))
+            let opened = Opened {
+                form: QuotedForm::Single,
+                kind,
+                hashes: "",
+            };
+            Some((opened, inside))
         }
         Some((QuotedForm::Raw, kind, inside)) => open_raw(kind, text, inside),
         None => None,

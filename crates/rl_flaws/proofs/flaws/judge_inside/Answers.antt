@@ -10,7 +10,7 @@ pub placed-requires-clause-piece : goal.placed-requires-clause-piece
 placed-requires-clause-piece c =
     let piece : IsUtf8 c.in-Some.found.piece.now = search rules in
     let rest : IsUtf8 c.in-Some.found.rest.now = search rules in
-    let within = flaw_bytes c.in-Some.found.kind _ _ _ _ c.requires.2 c.requires.3 piece rest
+    let within = flaw_bytes c.in-Some.found.kind _ _ _ _ c.requires.2 piece rest
     (some_of _ _ _ c.in-Some.is c.walk-stretch.ensures.flaw) in
     omega (arith, within.0, c.requires.1)
 
@@ -18,7 +18,7 @@ pub placed-requires-clause-rest : goal.placed-requires-clause-rest
 placed-requires-clause-rest c =
     let piece : IsUtf8 c.in-Some.found.piece.now = search rules in
     let rest : IsUtf8 c.in-Some.found.rest.now = search rules in
-    let within = flaw_bytes c.in-Some.found.kind _ _ _ _ c.requires.2 c.requires.3 piece rest
+    let within = flaw_bytes c.in-Some.found.kind _ _ _ _ c.requires.2 piece rest
     (some_of _ _ _ c.in-Some.is c.walk-stretch.ensures.flaw) in
     omega (arith, within.1, c.requires.1)
 
