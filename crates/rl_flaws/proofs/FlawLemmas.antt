@@ -24,7 +24,7 @@ some_of P r x e h = subst (λ z. IfSome z P) e h
 
 -- ---- a text as a whole
 
-cut_len : (t a b : List ℕ) → t ≡ a ++ b → byte_len t ≡ byte_len a + byte_len b
+pub cut_len : (t a b : List ℕ) → t ≡ a ++ b → byte_len t ≡ byte_len a + byte_len b
 cut_len t a b e = ap byte_len e ∙ ap length (encodes-append a b) ∙ length-append (encode_utf8_all a) (encode_utf8_all b)
 
 pub whole_takes : (text : Bor (List ℕ)) (flaw : Flaw) → IsUtf8 text.now → ExplainsStrictly (chars text.now) flaw

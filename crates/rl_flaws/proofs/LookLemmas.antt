@@ -67,7 +67,7 @@ based (z ∷ c ∷ cs) h e = go (z == 48) refl
         based_letter c cs first (named (radix_of c == 10) refl radix)
 
 -- the kind by the base and what follows the digits
-abbrev by_row : Bool → Bool → Kind
+abbrev pub by_row : Bool → Bool → Kind
 by_row base mark = cond base Int (cond mark Float Int)
 
 pub other_base : (t w : List ℕ) (r : ℕ) → ◌≡◌ {A = Read} (r, w) (radix_at t) → r ≢ 10 → Int ≡ number_kind t
@@ -100,14 +100,16 @@ pub number_some : (t d : List ℕ) (b : Bool) (k : Kind) → d ≡ after_minus t
     → k ≡ number_kind d → OpensNumber k t
 number_some t d b k e h y is = (d, minus_or t d e, sym h ∙ y, is)
 
-pub number_none : (t d : List ℕ) (b : Bool) → d ≡ after_minus t → b ≡ first_passes is_ascii_digit d → b ≡ false
-    → (k : Kind) → OpensNumber k t → ⊥
-number_none t d b e h n k (w, inl same, digit, is) =
-    both_ways (first_passes is_ascii_digit d) (sym h ∙ n) (ap (first_passes is_ascii_digit) (e ∙ ap after_minus same
-    ∙ unsigned w digit) ∙ digit)
+pub minus_past : (t d : List ℕ) → (t ≡ d) ⊎ (t ≡ 45 ∷ d) → first_passes is_ascii_digit d ≡ true → after_minus t ≡ d
+minus_past t d (inl e) h = ap after_minus e ∙ unsigned d h
   where
     unsigned : (w : List ℕ) → first_passes is_ascii_digit w ≡ true → after_minus w ≡ w
     unsigned [] h = refl
     unsigned (c ∷ cs) h = ap (λ b. cond b cs (c ∷ cs)) (apart is_ascii_digit c 45 h refl)
-number_none t d b e h n k (w, inr same, digit, is) =
-    both_ways (first_passes is_ascii_digit d) (sym h ∙ n) (ap (first_passes is_ascii_digit) (e ∙ ap after_minus same) ∙ digit)
+minus_past t d (inr e) h = ap after_minus e
+
+pub number_none : (t d : List ℕ) (b : Bool) → d ≡ after_minus t → b ≡ first_passes is_ascii_digit d → b ≡ false
+    → (k : Kind) → OpensNumber k t → ⊥
+number_none t d b e h n k (w, same, digit, is) =
+    both_ways (first_passes is_ascii_digit d) (sym h ∙ n)
+    (ap (first_passes is_ascii_digit) (e ∙ minus_past t w same digit) ∙ digit)

@@ -162,7 +162,7 @@ raw_front k t inside quote hashes rest a b d = a ∙ ap (λ z. raw_opener k ++ z
 
 -- ---- nothing is opened
 
-string_told : (t : List ℕ) (k : Kind) → OpensString k t → ((inside : List ℕ) × (opener_at t
+pub string_told : (t : List ℕ) (k : Kind) → OpensString k t → ((inside : List ℕ) × (opener_at t
     ≡ found_opener CookedForm k inside)) ⊎ ((n : ℕ) × (inside : List ℕ) × (n < 256) × (opener_at t
     ≡ found_opener RawForm k (replicate n 35 ++ (34 ∷ inside))))
 string_told t k (front, inside, (s, inl e), text) = inl (
@@ -177,7 +177,7 @@ string_told t k (front, inside, (s, inr (n, few, e)), text) = inr (
       ∙ front_complete RawForm k (replicate n 35 ++ (34 ∷ inside)) s,
 )
 
-single_told : (t : List ℕ) (k : Kind) → OpensSingle k t → (inside : List ℕ) × (opener_at t
+pub single_told : (t : List ℕ) (k : Kind) → OpensSingle k t → (inside : List ℕ) × (opener_at t
     ≡ found_opener SingleForm k inside)
 single_told t k (s, (inside, text)) = (inside, ap opener_at text ∙ front_complete SingleForm k inside s)
 

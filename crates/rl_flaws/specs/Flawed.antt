@@ -1,7 +1,7 @@
 -- All flaws of a text, one after another: the first is the text's own, and the next is what the text has that is left after that
 -- flaw's piece, where it is read after the same opener.
 use Rattle.std.specs.Prelude.{◌≡◌, ◌⊎◌, ◌+◌, ◌&&◌, ℕ, Bool, true, false, List, [], ◌∷◌, ◌++◌, length, Option, None, Some, IsFalse, IsTrue, MatchOption}
-use Rattle.std.specs.Str.{chars}
+use Rattle.std.specs.Str.{chars, IsUtf8}
 use Prim.Native.Char.{code}
 use Rattle.rl_text.specs.Texts.{byte_len}
 use Rattle.rl_forms.specs.declared.kind.Kind.{Kind}
@@ -106,7 +106,7 @@ pub record AreFlawsOf (text : List ℕ) (s : FlawsState) : Type 0 where
 -- The first flaw is the one that explains the text.
 abbrev pub FirstFlawExplains : List ℕ → Type 0
 FirstFlawExplains text =
-    (start new : FlawsState) (bad : BadPiece) → AreFlawsOf text start → TakesFlaw start bad new
+    IsUtf8 text → (start new : FlawsState) (bad : BadPiece) → AreFlawsOf text start → TakesFlaw start bad new
     → ExplainsStrictly (chars text) bad.flaw
 
 -- A token has none.

@@ -8,7 +8,8 @@ use Rattle.rl_forms.specs.declared.kind.Kind.{Kind}
 use Rattle.rl_forms.specs.declared.kind.Kind.TheVariants.{Int, Float, Bool as BoolKind}
 use Rattle.rl_forms.specs.Numbers.{Decimal, begins_base, is_digit}
 use Rattle.rl_forms.specs.Quoted.{is_single, is_string, opener, raw_opener}
-use Rattle.rl_forms.specs.Reading.{truth_text}
+use Rattle.rl_forms.specs.Reading.{Contents, truth_text}
+use Rattle.rl_forms.specs.Strict.{Strict}
 use Rattle.rl_reasons.specs.StrictNumberFlaws.{is_float_mark}
 
 -- what opens a string of the kind: its prefix and the quote, or of a raw one the hashes between them too
@@ -48,3 +49,8 @@ LooksLike text kind = OpensString kind text ⊎ (OpensSingle kind text ⊎ (Open
 -- of one kind at most
 abbrev pub LooksLikeOne : List ℕ → Type 0
 LooksLikeOne text = (kind other : Kind) → LooksLike text kind → LooksLike text other → kind ≡ other
+
+-- a token begins as its kind
+abbrev pub TokenLooks : List ℕ → Type 0
+TokenLooks text =
+    (kind : Kind) (contents : Contents) (suffix : List ℕ) → Strict text kind contents suffix → LooksLike text kind

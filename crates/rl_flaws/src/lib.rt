@@ -3,6 +3,7 @@
 
 mod bad_piece;
 pub mod flaws;
+pub mod laws;
 mod looks;
 mod piece_ends;
 pub mod pieces;

@@ -1,10 +1,12 @@
 //! What kind of literal a text begins as.
 
-ghost use Rattle.std.specs.Prelude.{◌≡◌, IfNone, IfSome, IsTrue, List, Option, Some};
+ghost use Rattle.std.specs.Prelude.{ℕ, ◌≡◌, IfNone, IfSome, IsTrue, List, Option, Some};
 ghost use Rattle.std.specs.Char.{is_ascii_digit};
 ghost use Rattle.std.specs.Str.{chars};
 ghost use Rattle.rl_text.specs.Texts.{first_passes};
 ghost use Rattle.rl_forms.specs.declared.kind.Kind.{Kind as AnyKind};
+ghost use Rattle.rl_forms.specs.Reading.{Contents};
+ghost use Rattle.rl_forms.specs.Strict.{Strict};
 ghost use Rattle.rl_reasons.specs.StrictNumberFlaws.{is_float_mark};
 ghost use Rattle.rl_flaws.specs.Looks.{LooksLike, OpensNumber, number_kind};
 
@@ -50,12 +52,8 @@ fn number_like(text: &str) -> Option<Kind>
     }
 }
 
-/// The kind of literal that the text begins as, whether or not it is one: by its prefix and quote a quoted one, and by a digit,
-/// perhaps after a minus, a number. Of the words it is `true` or `false` alone.
-///
-/// Of a literal token it is that token's kind. A number is a float where a dot or the letter of an exponent follows its decimal
-/// digits, and else an integer. A raw string begins with its hashes, 255 at most, and the quote. No memory is taken.
-pub fn looks_like(text: &str) -> Option<Kind>
+/// The kind that the text's front tells.
+fn front_kind(text: &str) -> Option<Kind>
     ensures some { IfSome result (LooksLike (chars text.now)) }
     ensures none { IfNone result ((kind : AnyKind) → LooksLike (chars text.now) kind → ⊥) }
 {
@@ -69,4 +67,18 @@ pub fn looks_like(text: &str) -> Option<Kind>
         Some(_) => Some(Kind::Bool),
         None => None,
     }
+}
+
+/// The kind of literal that the text begins as, whether or not it is one: by its prefix and quote a quoted one, and by a digit,
+/// perhaps after a minus, a number. Of the words it is `true` or `false` alone.
+///
+/// Of a literal token it is that token's kind. A number is a float where a dot or the letter of an exponent follows its decimal
+/// digits, and else an integer. A raw string begins with its hashes, 255 at most, and the quote. No memory is taken.
+pub fn looks_like(text: &str) -> Option<Kind>
+    ensures some { IfSome result (LooksLike (chars text.now)) }
+    ensures none { IfNone result ((kind : AnyKind) → LooksLike (chars text.now) kind → ⊥) }
+    ensures token { (kind : AnyKind) (contents : Contents) (suffix : List ℕ) → Strict (chars text.now) kind contents suffix
+        → result ≡ Some kind }
+{
+    front_kind(text)
 }

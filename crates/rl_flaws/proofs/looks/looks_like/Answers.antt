@@ -1,8 +1,5 @@
-use Rattle.rl_text.proofs.Common.{inl, inr}
+use Rattle.rl_flaws.proofs.LookLaws.{token_told}
 use Rattle.rl_flaws.proofs.looks.looks_like.Goals as goal
 
-pub returns-in-None-clause-none : goal.returns-in-None-clause-none
-returns-in-None-clause-none c kind (inl s) = c.in_default.ensures.none kind (inl s)
-returns-in-None-clause-none c kind (inr (inl s)) = c.in_default.ensures.none kind (inr s)
-returns-in-None-clause-none c kind (inr (inr (inl n))) = c.in_default-number_like.ensures.none kind n
-returns-in-None-clause-none c kind (inr (inr (inr (k, (b, e))))) = c.in-None.ensures.none b e
+pub returns-clause-token : goal.returns-clause-token
+returns-clause-token c = token_told _ _ c.front_kind.ensures.some c.front_kind.ensures.none
