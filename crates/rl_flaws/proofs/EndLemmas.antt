@@ -1,5 +1,5 @@
 -- Where a piece ends, step by step.
-use Rattle.rl_text.proofs.Common.{◌≡◌, ◌||◌, ℕ, Bool, true, false, List, [], ◌∷◌, refl, sym, ap, ◌∙◌, cond}
+use Rattle.rl_text.proofs.Common.{◌≡◌, ◌||◌, ℕ, true, false, List, [], ◌∷◌, sym, ap, ◌∙◌, cond}
 use Rattle.rl_forms.specs.Quoted.{is_hex_digit}
 use Rattle.rl_text.specs.Texts.{is_underscore}
 use Rattle.rl_flaws.specs.BadPieces.{after_digits, after_one}

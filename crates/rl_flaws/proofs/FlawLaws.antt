@@ -1,13 +1,11 @@
 -- The laws of flaws.
-use Rattle.rl_text.proofs.Common.{◌≡◌, ◌+◌, ℕ, List, ◌++◌, length, length-append, sym, ap, subst, ◌∙◌, arith, encode_utf8_all, encodes-append, encodes-chars, IsUtf8}
+use Rattle.rl_text.proofs.Common.{◌≡◌, ℕ, List, length, sym, ap, subst, arith, encodes-chars}
 use Rattle.std.specs.Str.{chars}
 use Rattle.rl_text.specs.Texts.{byte_len}
 use Rattle.rl_strict.specs.StrictShapes.{IsToken}
-use Rattle.rl_reasons.specs.StrictFlaws.{ExplainsStrictly}
 use Rattle.rl_reasons.specs.StrictRead.{IsFlawAt}
 use Rattle.rl_reasons.proofs.StrictExplainLemmas.{piece_front}
-use Rattle.rl_flaws.specs.Flawed.{AreFlawsOf, FirstFlawExplains, FlawsState, TakesFlaw, TokensHaveNone}
-use Rattle.rl_flaws.specs.declared.bad_piece.BadPiece.{BadPiece}
+use Rattle.rl_flaws.specs.Flawed.{FirstFlawExplains, TokensHaveNone}
 use Rattle.rl_flaws.proofs.FlawLemmas.{cut_len}
 
 pub first_explains : (text : List ℕ) → FirstFlawExplains text

@@ -1,17 +1,16 @@
 -- What the cursor gives is what the definitions say.
-use Rattle.rl_text.proofs.Common.{◌≡◌, ◌≤◌, ◌+◌, ◌&&◌, ℕ, Bool, Bor, true, false, List, ◌++◌, Some, None, Option, IfSome, length, length-append, refl, sym, ap, subst, ◌∙◌, arith, and_parts, both_ways, cases_Bool, encode_utf8_all, encodes-append, encodes-chars, IsUtf8, inr}
+use Rattle.rl_text.proofs.Common.{◌≡◌, ◌+◌, ◌&&◌, ℕ, Bool, Bor, true, false, List, ◌++◌, Some, Option, IfSome, length, length-append, refl, sym, ap, subst, ◌∙◌, arith, and_parts, encode_utf8_all, encodes-append, encodes-chars, IsUtf8}
 use Rattle.std.specs.Str.{chars}
 use Rattle.rl_text.specs.Texts.{IsTail, byte_len}
 use Rattle.rl_reading.proofs.Names.{is_string}
 use Rattle.rl_forms.specs.Written.{closer}
 use Rattle.rl_reasons.specs.declared.flaws.Flaw.{Flaw}
 use Rattle.rl_reasons.specs.declared.flaws.FlawAt.{FlawAt}
-use Rattle.rl_reasons.specs.declared.flaws.FlawKind.{FlawKind}
 use Rattle.rl_reasons.specs.Flaws.{first_len}
 use Rattle.rl_reasons.specs.StrictFlaws.{ExplainsStrictly}
 use Rattle.rl_reasons.specs.StrictRead.{IsFlawAt}
 use Rattle.rl_flaws.specs.BadPieces.{after_piece, is_of_unit}
-use Rattle.rl_flaws.specs.Flawed.{EndsWhere, FlawsState, IsBadPiece, IsLeftBy, TakesFlaw, is_string_open}
+use Rattle.rl_flaws.specs.Flawed.{EndsWhere, IsLeftBy, TakesFlaw}
 use Rattle.rl_flaws.specs.Left.{FollowsPiece, IsLeft, StaysOpen, state_of}
 use Rattle.rl_flaws.specs.Opened.{IsOpened, opened_front}
 use Rattle.rl_flaws.specs.declared.bad_piece.BadPiece.{BadPiece}

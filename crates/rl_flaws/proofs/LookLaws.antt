@@ -1,10 +1,9 @@
 -- The laws of what a text begins as.
-use Rattle.rl_text.proofs.Common.{◌≡◌, ◌⊎◌, ◌<◌, ◌≤◌, ◌==◌, ◌||◌, ℕ, Bool, true, false, not, List, [], ◌∷◌, ◌++◌, Option, Some, None, IfNone, IfSome, refl, sym, ap, subst, ◌∙◌, inl, inr, append_assoc, append-nil, and_parts, or_from, or_right, both_ways, not-true, cond, is_ascii_digit, list_all, replicate, flat_map}
-use Rattle.rl_text.specs.Classes.{after_run}
+use Rattle.rl_text.proofs.Common.{◌≡◌, ◌⊎◌, ◌==◌, ◌||◌, ℕ, Bool, true, false, not, List, [], ◌∷◌, ◌++◌, Option, Some, None, IfNone, IfSome, refl, sym, ap, subst, ◌∙◌, inl, inr, append_assoc, and_parts, or_from, or_right, both_ways, not-true, cond, is_ascii_digit, list_all, replicate, flat_map}
 use Rattle.rl_text.specs.Texts.{first_passes, is_row_part}
 use Rattle.rl_reading.proofs.Names.{Kind, Str, ByteStr, CStr, Byte, Char, Int, Float, BoolKind, Contents, is_single, is_string, opener, raw_opener, strict_text, truth_text}
 use Rattle.rl_forms.specs.Numbers.{Base, Binary, Octal, Decimal, Hexadecimal, IsAfterPrefix, begins_base, exponent_text, fraction_text, is_digit, is_exponent_letter, prefix}
-use Rattle.rl_forms.specs.Strict.{IsDecimalText, IsDigits, IsDotAlone, IsPointed, IsScientific, IsStrictExponent, Strict, StrictCooked, StrictFloat, StrictInt, StrictRaw, strict_closer, strict_opener, strict_raw_opener}
+use Rattle.rl_forms.specs.Strict.{IsDigits, IsDotAlone, IsPointed, IsScientific, IsStrictExponent, Strict, StrictCooked, StrictFloat, StrictInt, StrictRaw, strict_closer, strict_opener, strict_raw_opener}
 use Rattle.rl_forms.proofs.StrictNumbers.{digit_front as number_front, foreign_dot, letter_no_part, strict_float, strict_int, suffix_no_part, suffix_without}
 use Rattle.rl_forms.proofs.StrictQuoted.{between}
 use Rattle.rl_reading.specs.Mirrors.NumberAt.{after_digits, after_minus}

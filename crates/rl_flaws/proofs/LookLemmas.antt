@@ -1,10 +1,9 @@
 -- What a text begins as.
-use Rattle.rl_text.proofs.Common.{◌≡◌, ◌≢◌, ◌⊎◌, ◌==◌, ◌&&◌, ℕ, Bool, true, false, not, List, [], ◌∷◌, ◌++◌, refl, sym, ap, subst, ◌∙◌, inl, inr, both_ways, cases_Bool, eqb-true, cond, is_ascii_digit, ◌||◌}
+use Rattle.rl_text.proofs.Common.{◌≡◌, ◌≢◌, ◌⊎◌, ◌==◌, ◌&&◌, ℕ, Bool, true, false, not, List, [], ◌∷◌, refl, sym, ap, subst, ◌∙◌, inl, inr, both_ways, cases_Bool, eqb-true, cond, is_ascii_digit, ◌||◌}
 use Rattle.rl_text.proofs.Basics.{apart}
-use Rattle.rl_text.specs.Classes.{after_run}
-use Rattle.rl_text.specs.Texts.{begins, first_passes, is_row_part}
+use Rattle.rl_text.specs.Texts.{first_passes}
 use Rattle.rl_reading.proofs.Names.{Kind, Int, Float}
-use Rattle.rl_forms.specs.Numbers.{Decimal, begins_base, is_digit}
+use Rattle.rl_forms.specs.Numbers.{begins_base}
 use Rattle.rl_reading.specs.Mirrors.NumberAt.{after_digits, after_minus, radix_at, radix_of}
 use Rattle.rl_reading.proofs.IntegerLemmas.{not_based}
 use Rattle.rl_reasons.specs.StrictNumberFlaws.{is_float_mark}

@@ -1,12 +1,12 @@
 -- What is good inside a literal, and its segments.
-use Rattle.rl_text.proofs.Common.{◌≡◌, ◌≤◌, ◌+◌, ◌-◌, ℕ, Bool, Bor, true, false, List, [], ◌∷◌, ◌++◌, map, length, length-append, refl, sym, ap, subst, ◌∙◌, inl, inr, arith, and_from, append_cancel_right, append-nil, encode_utf8_all, encodes-chars, flat_map, IsUtf8, IsUtf8-nil, chars-nil}
+use Rattle.rl_text.proofs.Common.{◌≡◌, ◌≤◌, ◌+◌, ◌-◌, ℕ, Bool, Bor, true, false, List, [], ◌∷◌, ◌++◌, map, length, length-append, refl, sym, ap, subst, ◌∙◌, inl, inr, arith, and_from, append_cancel_right, append-nil, encodes-chars, flat_map, IsUtf8, IsUtf8-nil, chars-nil}
 use Rattle.std.specs.Str.{chars}
 use Rattle.rl_text.specs.Texts.{byte_len}
-use Rattle.rl_reading.proofs.Names.{first_passes, is_dropped_blank, is_string, Kind, Plain, QuotedUnit, StrictUnit, Itself, QuoteEscape, PlainEscape, AsciiEscape, ByteEscape, UnicodeEscape, LineBreak, strict_text, is_strict_unit}
+use Rattle.rl_reading.proofs.Names.{first_passes, is_dropped_blank, Kind, Plain, QuotedUnit, StrictUnit, Itself, QuoteEscape, PlainEscape, AsciiEscape, ByteEscape, UnicodeEscape, LineBreak, strict_text, is_strict_unit}
 use Rattle.rl_forms.specs.Strict.{BlanksEnd}
 use Rattle.rl_forms.proofs.StrictQuoted.{stand_row}
 use Rattle.rl_reading.specs.Segments.{AreUnitsIn, IsSegmentsState}
-use Rattle.rl_reading.specs.StrictUnits.{BreakEnds, BreaksEnd}
+use Rattle.rl_reading.specs.StrictUnits.{BreaksEnd}
 use Rattle.rl_reading.specs.declared.quoted_forms.QuotedForm.{QuotedForm}
 use Rattle.rl_reading.specs.declared.quoted_forms.QuotedForm.TheVariants.{Cooked as CookedForm, Raw as RawForm, Single as SingleForm}
 use Rattle.rl_reasons.specs.StrictFlawKinds.{is_raw_form}

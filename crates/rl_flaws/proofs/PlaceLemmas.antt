@@ -1,5 +1,5 @@
 -- The places of bad pieces.
-use Rattle.rl_text.proofs.Common.{◌≡◌, ◌≤◌, ◌+◌, ◌-◌, ℕ, Bool, true, false, List, ◌++◌, length, length-append, refl, sym, ap, subst, ◌∙◌, arith, encodes-chars}
+use Rattle.rl_text.proofs.Common.{◌≡◌, ◌≤◌, ◌+◌, ◌-◌, ℕ, Bool, true, List, length, length-append, sym, ap, subst, ◌∙◌, arith, encodes-chars}
 use Rattle.std.specs.Str.{chars}
 use Rattle.rl_text.specs.Texts.{IsTail, byte_len}
 use Rattle.rl_flaws.specs.BadPieces.{after_piece}

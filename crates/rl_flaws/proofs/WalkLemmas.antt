@@ -1,8 +1,7 @@
 -- What a walk inside a quoted literal finds.
-use Rattle.rl_text.proofs.Common.{◌≡◌, ◌≢◌, ◌≤◌, ◌<◌, ◌+◌, encode_utf8_all, encodes-append, encodes-chars, length, length-append, IsUtf8, ◌⊎◌, ◌==◌, ℕ, Bool, true, false, List, [], ◌∷◌, ◌++◌, Option, Some, None, IfNone, IfSome, option_map, refl, sym, ap, subst, ◌∙◌, inl, inr, both_ways, eqb-true, append_assoc, arith, zero, suc, replicate, drop, list_all, IsTrue, ⊤}
+use Rattle.rl_text.proofs.Common.{◌≡◌, ◌≢◌, ◌≤◌, ◌<◌, ◌+◌, encode_utf8_all, encodes-append, encodes-chars, length, length-append, IsUtf8, ◌⊎◌, ◌==◌, ℕ, true, false, List, [], ◌∷◌, ◌++◌, Option, Some, None, IfNone, IfSome, option_map, refl, sym, ap, ◌∙◌, inl, inr, both_ways, eqb-true, append_assoc, arith, zero, suc, replicate, drop}
 use Rattle.std.specs.Str.{chars}
-use Rattle.rl_reading.proofs.Names.{Kind, first_passes, is_single, is_string, opener, raw_opener}
-use Rattle.rl_forms.specs.Strict.{is_strict_unit}
+use Rattle.rl_reading.proofs.Names.{Kind, first_passes, is_single, is_string, raw_opener}
 use Rattle.rl_lexer.specs.Sources.{is_apostrophe}
 use Rattle.rl_reading.specs.StrictUnits.{BeginsStrictUnit, BeginsStrictUnits, HasNoStrictUnit}
 use Rattle.rl_reading.specs.declared.quoted_forms.QuotedForm.{QuotedForm}
@@ -12,7 +11,7 @@ use Rattle.rl_text.specs.Texts.{byte_len}
 use Rattle.rl_reading.specs.Forms.{form_opener, has_form}
 use Rattle.rl_reading.specs.Mirrors.OpenerAt.{FoundOpener, found_opener, opener_at}
 use Rattle.rl_reading.proofs.FormLemmas.{front_complete}
-use Rattle.rl_strict.specs.StrictShapes.{ClosesForm, ClosesUnits, ClosesRaw, IsToken}
+use Rattle.rl_strict.specs.StrictShapes.{ClosesForm, IsToken}
 use Rattle.rl_strict.specs.Mirrors.StrictAt.{unit_rest}
 use Rattle.rl_strict.proofs.StrictRowLemmas.{quoted_single}
 use Rattle.rl_strict.proofs.StrictUnitLemmas.{unit_rest_complete, unit_rest_sound}
@@ -31,7 +30,7 @@ use Rattle.rl_reasons.proofs.ReadLemmas.{form_flaw, form_token}
 use Rattle.rl_reasons.proofs.StrictExplainLemmas.{piece_front}
 use Rattle.rl_reasons.proofs.StrictCookedFlaws.{cooked_closes}
 use Rattle.rl_reasons.proofs.StrictRawFlaws.{raw_closed, raw_closes, raw_off}
-use Rattle.rl_flaws.specs.Inside.{IsUnitUpTo, StandsUpTo}
+use Rattle.rl_flaws.specs.Inside.{IsUnitUpTo}
 use Rattle.rl_flaws.specs.Looks.{OpensSingle, OpensString}
 
 -- what was found, by the texts from its places on

@@ -1,6 +1,6 @@
 -- All flaws of a text, one after another: the first is the text's own, and the next is what the text has that is left after that
 -- flaw's piece, where it is read after the same opener.
-use Rattle.std.specs.Prelude.{◌≡◌, ◌⊎◌, ◌+◌, ◌&&◌, ℕ, Bool, true, false, List, [], ◌∷◌, ◌++◌, length, Option, None, Some, IsFalse, IsTrue, MatchOption}
+use Rattle.std.specs.Prelude.{◌≡◌, ◌⊎◌, ◌+◌, ◌&&◌, ℕ, Bool, true, false, List, [], ◌++◌, length, Option, None, Some, IsFalse, IsTrue, MatchOption}
 use Rattle.std.specs.Str.{chars, IsUtf8}
 use Prim.Native.Char.{code}
 use Rattle.rl_text.specs.Texts.{byte_len}

@@ -1,12 +1,9 @@
 -- What stands inside a quoted literal up to its first flaw or its closer.
-use Rattle.std.specs.Prelude.{◌≡◌, ◌⊎◌, ◌==◌, ℕ, List, [], ◌∷◌, ◌++◌, codes, replicate, IsTrue, IsFalse}
+use Rattle.std.specs.Prelude.{◌≡◌, ◌⊎◌, ℕ, List, ◌++◌, IsTrue}
 use Rattle.std.specs.List.{list_all}
-use Prim.Native.Char.{code}
 use Rattle.rl_text.specs.Texts.{first_passes}
 use Rattle.rl_forms.specs.declared.kind.Kind.{Kind}
-use Rattle.rl_forms.specs.Quoted.{is_single, is_string}
 use Rattle.rl_lexer.specs.Sources.{is_apostrophe}
-use Rattle.rl_reading.specs.Forms.{form_opener, has_form}
 use Rattle.rl_reading.specs.StrictUnits.{BeginsStrictUnit, BeginsStrictUnits, HasNoStrictUnit}
 use Rattle.rl_reading.specs.declared.quoted_forms.QuotedForm.{QuotedForm}
 use Rattle.rl_reading.specs.declared.quoted_forms.QuotedForm.TheVariants.{Cooked as CookedForm, Raw as RawForm, Single as SingleForm}

@@ -1,8 +1,7 @@
 -- What a cursor over flaws keeps, and what it shows of that.
-use Rattle.std.specs.Prelude.{◌≡◌, ◌≤◌, ◌+◌, ℕ, Bool, true, false, List, [], Some, None, length, ⊤}
+use Rattle.std.specs.Prelude.{◌≡◌, ◌≤◌, ◌+◌, ℕ, true, false, List, [], Some, None, length, ⊤}
 use Rattle.std.specs.Str.{chars, IsUtf8}
 use Rattle.rl_flaws.specs.Flawed.{FlawsState}
-use Rattle.rl_flaws.specs.Looks.{OpensSingle, OpensString}
 use Rattle.rl_flaws.specs.BadPieces.{after_piece}
 use Rattle.rl_flaws.specs.Opened.{IsOpened, opened_front}
 use Rattle.rl_flaws.specs.declared.walks.Opened.{Opened}

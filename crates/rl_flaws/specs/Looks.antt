@@ -1,5 +1,5 @@
 -- What kind of literal a text begins as, whether or not it is one.
-use Rattle.std.specs.Prelude.{◌≡◌, ◌⊎◌, ◌<◌, ℕ, Bool, List, [], ◌∷◌, ◌++◌, codes, replicate, IsTrue, if◌then◌else◌}
+use Rattle.std.specs.Prelude.{◌≡◌, ◌⊎◌, ◌<◌, ℕ, Bool, List, ◌∷◌, ◌++◌, codes, replicate, IsTrue, if◌then◌else◌}
 use Rattle.std.specs.Char.{is_ascii_digit}
 use Prim.Native.Char.{code}
 use Rattle.rl_text.specs.Classes.{after_run}

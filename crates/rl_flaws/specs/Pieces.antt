@@ -1,5 +1,5 @@
 -- The pieces of a quoted literal, good and bad: each is a segment of what stands there up to the next flaw, or that flaw's piece.
-use Rattle.std.specs.Prelude.{◌≡◌, ◌⊎◌, ◌+◌, ℕ, Bool, List, [], ◌++◌, length, Option, None, Some, IsTrue, MatchOption}
+use Rattle.std.specs.Prelude.{◌≡◌, ◌+◌, ℕ, List, [], ◌++◌, length, Option, None, Some, MatchOption}
 use Rattle.std.specs.Str.{chars}
 use Rattle.rl_text.specs.Texts.{byte_len}
 use Rattle.rl_forms.specs.declared.kind.Kind.{Kind}

@@ -7,7 +7,7 @@ use Rattle.rl_flaws.specs.Left.{IsLeft, state_of}
 use Rattle.rl_flaws.specs.Pieces.{IsGoodInside, PiecesState}
 use Rattle.rl_flaws.specs.declared.bad_piece.BadPiece.{BadPiece}
 use Rattle.rl_flaws.specs.declared.flaws.Left.{Left}
-use Rattle.rl_flaws.specs.declared.flaws.Left.TheVariants.{Whole, Inside, Nothing}
+use Rattle.rl_flaws.specs.declared.flaws.Left.TheVariants.{Inside}
 
 -- the segments of what is good and ends at this place
 abbrev pub segments_at : Kind → Bool → ℕ → List ℕ → SegmentsState

@@ -1,7 +1,5 @@
-use Rattle.rl_text.proofs.Common.{◌||◌, ◌∙◌, ap, cond, refl, sym, rules}
-use Rattle.std.specs.Str.{chars}
+use Rattle.rl_text.proofs.Common.{◌∙◌, sym, rules}
 use Rattle.rl_text.proofs.TailLemmas.{tail_step}
-use Rattle.rl_flaws.specs.BadPieces.{after_digits}
 use Rattle.rl_flaws.proofs.EndLemmas.{digits_end, digits_halt, digits_on}
 use Rattle.rl_flaws.proofs.piece_ends.after_digits.Goals as goal
 

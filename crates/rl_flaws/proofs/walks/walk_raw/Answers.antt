@@ -1,4 +1,4 @@
-use Rattle.rl_text.proofs.Common.{◌∷◌, ◌∙◌, ap, sym}
+use Rattle.rl_text.proofs.Common.{◌∙◌, ap}
 use Rattle.std.specs.Str.{chars}
 use Rattle.rl_reading.proofs.CutLemmas.{tail_chars}
 use Rattle.rl_reasons.proofs.ReadQuoted.{raw_ending, raw_going}
