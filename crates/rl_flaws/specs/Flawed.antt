@@ -114,3 +114,8 @@ abbrev pub TokensHaveNone : List ℕ → Type 0
 TokensHaveNone text =
     (start new : FlawsState) (bad : BadPiece) → AreFlawsOf text start → TakesFlaw start bad new
     → IsToken (chars text) → ⊥
+
+-- What is left has one next flaw at most.
+abbrev pub HasOneNextFlaw : FlawsState → Type 0
+HasOneNextFlaw s =
+    (bad other : BadPiece) (new next : FlawsState) → TakesFlaw s bad new → TakesFlaw s other next → bad ≡ other

@@ -1,8 +1,6 @@
 //! A cursor over all flaws of a text.
 
 ghost use Rattle.std.specs.Prelude.{◌≡◌, ◌&&◌, [], length, IsTrue, IsFalse};
-ghost use Rattle.std.specs.Str.{chars};
-ghost use Rattle.rl_text.specs.Texts.{IsTail};
 ghost use Rattle.rl_forms.specs.Quoted.{is_string};
 ghost use Rattle.rl_forms.specs.Written.{closer};
 ghost use Rattle.rl_flaws.specs.BadPieces.{after_piece, is_of_unit};

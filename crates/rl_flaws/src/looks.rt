@@ -1,7 +1,6 @@
 //! What kind of literal a text begins as.
 
-ghost use Rattle.std.specs.Prelude.{ℕ, ◌≡◌, IfNone, IfSome, IsTrue, List, Option, Some};
-ghost use Rattle.std.specs.Char.{is_ascii_digit};
+ghost use Rattle.std.specs.Prelude.{ℕ, ◌≡◌, IfNone, IfSome, List, Option, Some};
 ghost use Rattle.std.specs.Str.{chars};
 ghost use Rattle.rl_text.specs.Texts.{first_passes};
 ghost use Rattle.rl_forms.specs.declared.kind.Kind.{Kind as AnyKind};

@@ -1,6 +1,6 @@
 //! What stands inside a quoted literal, up to its first flaw or its closer.
 
-ghost use Rattle.std.specs.Prelude.{◌≡◌, ◌∷◌, ◌++◌, ◌⊎◌, ℕ, List, None, IfNone, IfSome, IsTrue, IsFalse, ◌≤◌, replicate};
+ghost use Rattle.std.specs.Prelude.{◌≡◌, ◌∷◌, ◌++◌, ◌⊎◌, ℕ, List, None, IfNone, IfSome, IsTrue, ◌≤◌, replicate};
 ghost use Rattle.std.specs.Str.{chars};
 ghost use Rattle.rl_text.specs.Texts.{IsTail, code};
 ghost use Rattle.rl_forms.specs.declared.kind.Kind.{Kind as AnyKind};
