@@ -1,4 +1,5 @@
 pub mod WalkLemmas
+pub mod RawLemmas
 pub mod EndLemmas
 pub mod LookLemmas
 pub mod LookLaws

@@ -52,14 +52,14 @@ pub no_units : (kind : Kind) (plain : Bool) → HasUnitsIn kind plain []
 no_units kind true = ([], refl)
 no_units kind false = ([], record { each = tt; ends = tt; text_is = refl })
 
-pub good_units : (form : QuotedForm) (kind : Kind) (t good closing : List ℕ) → StandsUpTo form kind t closing
+pub good_units : (form : QuotedForm) (kind : Kind) (hashes t good closing : List ℕ) → StandsUpTo form kind hashes t closing
     → t ≡ good ++ closing → HasUnitsIn kind (is_raw_form form) good
-good_units CookedForm kind t good closing (r, none) e = strict_units kind r.units t closing good r.each r.ends r.text_is e
-good_units RawForm kind t good closing s e = (map Plain good, refl)
-good_units SingleForm kind t good closing (inl (u, q)) e = strict_units kind (u.unit ∷ []) t closing good
+good_units CookedForm kind hashes t good closing (r, none) e = strict_units kind r.units t closing good r.each r.ends r.text_is e
+good_units RawForm kind hashes t good closing s e = (map Plain good, refl)
+good_units SingleForm kind hashes t good closing (inl (u, q)) e = strict_units kind (u.unit ∷ []) t closing good
     (and_from (is_strict_unit kind u.unit) true u.is_unit refl) (u.ends, tt)
     (u.text_is ∙ ap (λ z. z ++ closing) (sym (append-nil (strict_text u.unit)))) e
-good_units SingleForm kind t good closing (inr (same, none)) e =
+good_units SingleForm kind hashes t good closing (inr (same, none)) e =
     let nothing : good ≡ [] = append_cancel_right good [] closing (sym e ∙ sym same) in
     subst (HasUnitsIn kind false) (sym nothing) (no_units kind false)
 
@@ -67,11 +67,11 @@ good_units SingleForm kind t good closing (inr (same, none)) e =
 
 pub good_left : (o : Opened) (rest : Bor (List ℕ)) (len end : ℕ) (good closing : List ℕ) → IsOpened o
     → byte_len (opened_front o) + length rest.now ≤ len → IsUtf8 good → IsUtf8 closing → rest.now ≡ good ++ closing
-    → chars rest.now ≡ chars good ++ chars closing → StandsUpTo o.form o.kind (chars rest.now) (chars closing)
+    → chars rest.now ≡ chars good ++ chars closing → StandsUpTo o.form o.kind (chars o.hashes.now) (chars rest.now) (chars closing)
     → end ≡ len - length closing → IsGoodLeft len (Inside o rest) good end
 good_left o rest len end good closing opens room ug uc bytes text up_to is =
     let long : length rest.now ≡ length good + length closing = ap length bytes ∙ length-append good closing in
-    let units = good_units o.form o.kind (chars rest.now) (chars good) (chars closing) up_to text in (
+    let units = good_units o.form o.kind (chars o.hashes.now) (chars rest.now) (chars good) (chars closing) up_to text in (
       record {
         form = o.form;
         hashes = chars o.hashes.now;

@@ -27,7 +27,7 @@ pub record IsGoodInside (kind : Kind) (flaws : FlawsState) (s : SegmentsState) :
   pub front_is : flaws.front ≡ front_of form kind hashes
   pub closing : List ℕ
   pub text_is : chars flaws.rest ≡ chars s.rest ++ closing
-  pub up_to : StandsUpTo form kind (chars flaws.rest) closing
+  pub up_to : StandsUpTo form kind hashes (chars flaws.rest) closing
   pub place : s.at + length s.rest + byte_len closing ≡ flaws.len
   pub kind_is : s.kind ≡ kind
   pub plain_is : s.plain ≡ is_raw_form form

@@ -1,6 +1,6 @@
 //! What stands inside a quoted literal, up to its first flaw or its closer.
 
-ghost use Rattle.std.specs.Prelude.{◌≡◌, ◌∷◌, ◌++◌, ◌⊎◌, ℕ, List, None, IfNone, IfSome, IsTrue, ◌≤◌, replicate};
+ghost use Rattle.std.specs.Prelude.{[], ◌≡◌, ◌∷◌, ◌++◌, ◌⊎◌, ℕ, List, None, IfNone, IfSome, IsTrue, ◌≤◌, replicate};
 ghost use Rattle.std.specs.Str.{chars};
 ghost use Rattle.rl_text.specs.Texts.{IsTail, code};
 ghost use Rattle.rl_forms.specs.declared.kind.Kind.{Kind as AnyKind};
@@ -36,7 +36,7 @@ pub struct Stretch<'t> {
 /// Inside a string with escapes.
 fn walk_cooked(kind: Kind, text: &str) -> Stretch<'_>
     requires { IsTrue (is_string kind) }
-    ensures good { StandsUpTo CookedForm kind (chars text.now) (chars result.closing.now) }
+    ensures good { StandsUpTo CookedForm kind [] (chars text.now) (chars result.closing.now) }
     ensures following { IsTail text.now result.closing.now }
     ensures at { IfSome result.flaw (λ f. IsTrue (is_of_unit f.kind) → f.piece.now ≡ result.closing.now) }
     ensures closes { IfNone result.flaw (ClosesForm CookedForm kind (chars text.now)) }
@@ -59,7 +59,7 @@ fn walk_cooked(kind: Kind, text: &str) -> Stretch<'_>
 /// Inside a character or a byte.
 fn walk_single(kind: Kind, text: &str) -> Stretch<'_>
     requires { IsTrue (is_single kind) }
-    ensures good { StandsUpTo SingleForm kind (chars text.now) (chars result.closing.now) }
+    ensures good { StandsUpTo SingleForm kind [] (chars text.now) (chars result.closing.now) }
     ensures following { IsTail text.now result.closing.now }
     ensures at { IfSome result.flaw (λ f. IsTrue (is_of_unit f.kind) → f.piece.now ≡ result.closing.now) }
     ensures closes { IfNone result.flaw (ClosesForm SingleForm kind (chars text.now)) }
@@ -104,7 +104,7 @@ fn skip_raw<'t>(kind: Kind, hashes: &str, text: &'t str) -> &'t str
 fn walk_raw<'t>(kind: Kind, hashes: &str, text: &'t str) -> Stretch<'t>
     requires string { IsTrue (is_string kind) }
     requires hashes { (n : ℕ) × (n ≤ 255) × (chars hashes.now ≡ replicate n (code "#")) }
-    ensures good { StandsUpTo RawForm kind (chars text.now) (chars result.closing.now) }
+    ensures good { StandsUpTo RawForm kind (chars hashes.now) (chars text.now) (chars result.closing.now) }
     ensures following { IsTail text.now result.closing.now }
     ensures at { IfSome result.flaw (λ f. IsTrue (is_of_unit f.kind) → f.piece.now ≡ result.closing.now) }
     ensures closes { IfNone result.flaw (ClosesForm RawForm kind (chars hashes.now ++ (code "\"" ∷ chars text.now))) }
@@ -191,7 +191,7 @@ pub fn open(text: &str) -> Option<(Opened<'_>, &str)>
 /// Inside the literal that is open.
 pub fn walk<'t>(opened: Opened<'t>, text: &'t str) -> Stretch<'t>
     requires { IsOpened opened }
-    ensures good { StandsUpTo opened.entry.form opened.entry.kind (chars text.now) (chars result.closing.now) }
+    ensures good { StandsUpTo opened.entry.form opened.entry.kind (chars opened.entry.hashes.now) (chars text.now) (chars result.closing.now) }
     ensures following { IsTail text.now result.closing.now }
     ensures at { IfSome result.flaw (λ f. IsTrue (is_of_unit f.kind) → f.piece.now ≡ result.closing.now) }
     ensures token { IfNone result.flaw (IsToken (opened_front opened.entry ++ chars text.now)) }

@@ -2,19 +2,19 @@ use Rattle.rl_text.proofs.Common.{◌∙◌, ap}
 use Rattle.std.specs.Str.{chars}
 use Rattle.rl_reading.proofs.CutLemmas.{tail_chars}
 use Rattle.rl_reasons.proofs.ReadQuoted.{raw_ending, raw_going}
-use Rattle.rl_reasons.proofs.StrictRawFlaws.{raw_body, raw_end_none, raw_ended, raw_spoiled}
+use Rattle.rl_reasons.proofs.StrictRawFlaws.{raw_end_none, raw_ended, raw_spoiled}
 use Rattle.rl_reading.specs.declared.quoted_forms.QuotedForm.TheVariants.{Raw as RawForm}
+use Rattle.rl_flaws.proofs.RawLemmas.{raw_up_to}
 use Rattle.rl_flaws.proofs.WalkLemmas.{raw_none, raw_some, suffix_at}
 use Rattle.rl_flaws.proofs.walks.walk_raw.Goals as goal
 
 pub returns-in_default-clause-good : goal.returns-in_default-clause-good
 returns-in_default-clause-good c =
-    let (n, few, e) = c.requires.hashes in
-    raw_body c.args.kind n _ _ _ e c.skip_raw-closing.ensures
+    raw_up_to _ _ _ _ c.requires.string c.skip_raw-closing.ensures
 
 pub returns-in_default-clause-following : goal.returns-in_default-clause-following
 returns-in_default-clause-following c = tail_chars _ _ _ c.utf8.text c.skip_raw-closing.utf8
-    (returns-in_default-clause-good c).1
+    (returns-in_default-clause-good c).text_is
 
 pub returns-in_default-clause-stops : goal.returns-in_default-clause-stops
 returns-in_default-clause-stops c =
@@ -26,12 +26,11 @@ returns-in_default-clause-stops c =
 
 pub returns-in-Some-after_closer-clause-good : goal.returns-in-Some-after_closer-clause-good
 returns-in-Some-after_closer-clause-good c =
-    let (n, few, e) = c.requires.hashes in
-    raw_body c.args.kind n _ _ _ e c.skip_raw-closing.ensures
+    raw_up_to _ _ _ _ c.requires.string c.skip_raw-closing.ensures
 
 pub returns-in-Some-after_closer-clause-following : goal.returns-in-Some-after_closer-clause-following
 returns-in-Some-after_closer-clause-following c = tail_chars _ _ _ c.utf8.text c.skip_raw-closing.utf8
-    (returns-in-Some-after_closer-clause-good c).1
+    (returns-in-Some-after_closer-clause-good c).text_is
 
 pub returns-in-Some-after_closer-clause-closes : goal.returns-in-Some-after_closer-clause-closes
 returns-in-Some-after_closer-clause-closes c =
@@ -49,12 +48,11 @@ returns-in-Some-after_closer-clause-stops c =
 
 pub returns-in-None-clause-good : goal.returns-in-None-clause-good
 returns-in-None-clause-good c =
-    let (n, few, e) = c.requires.hashes in
-    raw_body c.args.kind n _ _ _ e c.skip_raw-closing.ensures
+    raw_up_to _ _ _ _ c.requires.string c.skip_raw-closing.ensures
 
 pub returns-in-None-clause-following : goal.returns-in-None-clause-following
 returns-in-None-clause-following c = tail_chars _ _ _ c.utf8.text c.skip_raw-closing.utf8
-    (returns-in-None-clause-good c).1
+    (returns-in-None-clause-good c).text_is
 
 pub returns-in-None-clause-stops : goal.returns-in-None-clause-stops
 returns-in-None-clause-stops c =
