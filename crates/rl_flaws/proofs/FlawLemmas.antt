@@ -9,7 +9,7 @@ use Rattle.rl_reasons.specs.declared.flaws.FlawAt.{FlawAt}
 use Rattle.rl_reasons.specs.Flaws.{first_len}
 use Rattle.rl_reasons.specs.StrictFlaws.{ExplainsStrictly}
 use Rattle.rl_reasons.specs.StrictRead.{IsFlawAt}
-use Rattle.rl_flaws.specs.BadPieces.{after_piece, is_of_unit}
+use Rattle.rl_flaws.specs.BadPieces.{after_bad_piece, is_of_unit}
 use Rattle.rl_flaws.specs.Flawed.{EndsWhere, IsLeftBy, TakesFlaw}
 use Rattle.rl_flaws.specs.Left.{FollowsPiece, IsLeft, StaysOpen, state_of}
 use Rattle.rl_flaws.specs.Opened.{IsOpened, opened_front}
@@ -59,7 +59,7 @@ open_left : (o : Opened) (rest : Bor (List ℕ)) (len : ℕ) (piece closing : Li
     → piece ≡ closing → IsLeftBy true (state_of len (Inside o rest)) (chars piece) (state_of len left)
 open_left o rest len piece closing (Whole t) f e = absurd f
 open_left o rest len piece closing (Inside p r) f e = (
-  f.1 ∙ ap (λ z. after_piece (closer o.kind) (chars z)) (sym e),
+  f.1 ∙ ap (λ z. after_bad_piece (closer o.kind) (chars z)) (sym e),
   ap (λ (z : Opened). Some z.kind) f.0,
   ap opened_front f.0,
   refl,

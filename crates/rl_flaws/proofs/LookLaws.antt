@@ -16,7 +16,7 @@ use Rattle.std.specs.Prelude.{codes, if◌then◌else◌}
 use Rattle.rl_reasons.specs.StrictNumberFlaws.{is_float_mark}
 use Rattle.rl_reasons.proofs.StrictTokens.{digit_front}
 use Rattle.rl_text.proofs.Basics.{all_same, digit_is_ten}
-use Rattle.rl_flaws.specs.Looks.{IsTruth, LooksLike, LooksLikeOne, OpensNumber, OpensSingle, OpensString, TokenLooks, number_kind}
+use Rattle.rl_flaws.specs.Looks.{SpellsTruth, LooksLike, LooksLikeOne, OpensNumber, OpensSingle, OpensString, TokenLooks, number_kind}
 use Rattle.rl_flaws.proofs.LookLemmas.{by_row, minus_past}
 use Rattle.rl_flaws.proofs.WalkLemmas.{single_told, string_told}
 
@@ -29,7 +29,7 @@ told_kind (Some p) = Some p.1
 -- a quoted literal is told by its opener; else none is
 Told : List ℕ → Kind → Type 0
 Told t k = (told_kind (opener_at t) ≡ Some k)
-    ⊎ ((told_kind (opener_at t) ≡ None) × (OpensNumber k t ⊎ IsTruth k t))
+    ⊎ ((told_kind (opener_at t) ≡ None) × (OpensNumber k t ⊎ SpellsTruth k t))
 
 number_closed : (t : List ℕ) (k : Kind) → OpensNumber k t → opener_at t ≡ None
 number_closed t k (d, inl e, digit, is) = front_not_quoted t (digit_front t (ap (first_passes is_ascii_digit) e ∙ digit))
@@ -52,7 +52,7 @@ number_digits t k (d, e, digit, is) =
     let same : after_minus t ≡ d = minus_past t d e digit in
     (is ∙ ap number_kind (sym same), ap (first_passes is_ascii_digit) same ∙ digit)
 
-truth_no_number : (t : List ℕ) (k l : Kind) → IsTruth k t → OpensNumber l t → ⊥
+truth_no_number : (t : List ℕ) (k l : Kind) → SpellsTruth k t → OpensNumber l t → ⊥
 truth_no_number t k l (e, (b, is)) n = go b (ap (λ z. first_passes is_ascii_digit (after_minus z)) (sym is)
     ∙ (number_digits t l n).1)
   where
@@ -60,7 +60,7 @@ truth_no_number t k l (e, (b, is)) n = go b (ap (λ z. first_passes is_ascii_dig
     go true h = both_ways false refl h
     go false h = both_ways false refl h
 
-plain_once : (t : List ℕ) (k l : Kind) → OpensNumber k t ⊎ IsTruth k t → OpensNumber l t ⊎ IsTruth l t → k ≡ l
+plain_once : (t : List ℕ) (k l : Kind) → OpensNumber k t ⊎ SpellsTruth k t → OpensNumber l t ⊎ SpellsTruth l t → k ≡ l
 plain_once t k l (inl a) (inl b) = (number_digits t k a).0 ∙ sym (number_digits t l b).0
 plain_once t k l (inl a) (inr b) = absurd (truth_no_number t l k b a)
 plain_once t k l (inr a) (inl b) = absurd (truth_no_number t k l a b)

@@ -13,7 +13,7 @@ use Rattle.rl_reasons.specs.StrictFlawKinds.{is_raw_form}
 use Rattle.rl_flaws.specs.Inside.{StandsUpTo}
 use Rattle.rl_flaws.specs.Left.{IsLeft, IsSameLiteral, StaysOpen}
 use Rattle.rl_flaws.specs.Opened.{IsOpened, opened_front}
-use Rattle.rl_flaws.specs.PiecesLeft.{ArePiecesLeft, IsGoodLeft, IsOfKind}
+use Rattle.rl_flaws.specs.PiecesLeft.{ArePiecesLeft, IsGoodLeft, IsOpenAs}
 use Rattle.rl_flaws.specs.declared.flaws.Left.{Left}
 use Rattle.rl_flaws.specs.declared.flaws.Left.TheVariants.{Whole, Inside, Nothing}
 use Rattle.rl_flaws.specs.declared.walks.Opened.{Opened}
@@ -95,13 +95,13 @@ nothing_good kind plain end good e = subst (IsSegmentsState kind plain end) (sym
 -- ---- the next piece
 
 of_kind : (kind : Kind) (plain : Bool) (o : Opened) (new : Left) → o.kind ≡ kind → is_raw_form o.form ≡ plain
-    → StaysOpen o new → IsOfKind kind plain new
+    → StaysOpen o new → IsOpenAs kind plain new
 of_kind kind plain o (Inside p q) k f same =
     (ap (λ (z : Opened). z.kind) same ∙ k, ap (λ (z : Opened). is_raw_form z.form) same ∙ f)
 of_kind kind plain o Nothing k f same = tt
 of_kind kind plain o (Whole t) k f same = absurd same
 
-pub pieces_left : (kind : Kind) (plain : Bool) (len end : ℕ) (good : List ℕ) (left new : Left) → IsOfKind kind plain left
+pub pieces_left : (kind : Kind) (plain : Bool) (len end : ℕ) (good : List ℕ) (left new : Left) → IsOpenAs kind plain left
     → IsSameLiteral left new → IsGoodLeft len left good end → IsLeft len new → ArePiecesLeft kind plain end good len new
 pieces_left kind plain len end good (Inside o r) new same literal fine l = record {
   segments = subst (λ k. IsSegmentsState k plain end good) same.0
@@ -112,10 +112,10 @@ pieces_left kind plain len end good (Inside o r) new same literal fine l = recor
 pieces_left kind plain len end good (Whole t) new same literal fine l = record {
   segments = nothing_good kind plain end good fine;
   is_left = l;
-  same = subst (IsOfKind kind plain) (sym literal) tt;
+  same = subst (IsOpenAs kind plain) (sym literal) tt;
 }
 pieces_left kind plain len end good Nothing new same literal fine l = record {
   segments = nothing_good kind plain end good fine;
   is_left = l;
-  same = subst (IsOfKind kind plain) (sym literal) tt;
+  same = subst (IsOpenAs kind plain) (sym literal) tt;
 }

@@ -20,15 +20,15 @@ after_hex quote [] = []
 after_hex quote (c ∷ cs) = if is_hex_digit c then after_one quote cs else after_one quote (c ∷ cs)
 
 -- after a digit between the braces: digits and underscores, and the brace or what is none of these
-unfoldable pub after_digits : ℕ → List ℕ → List ℕ
-after_digits quote [] = []
-after_digits quote (c ∷ cs) =
-    if is_hex_digit c || is_underscore c then after_digits quote cs else after_one quote (c ∷ cs)
+unfoldable pub after_code_digits : ℕ → List ℕ → List ℕ
+after_code_digits quote [] = []
+after_code_digits quote (c ∷ cs) =
+    if is_hex_digit c || is_underscore c then after_code_digits quote cs else after_one quote (c ∷ cs)
 
 -- after the opening brace
 abbrev pub after_brace : ℕ → List ℕ → List ℕ
 after_brace quote [] = []
-after_brace quote (c ∷ cs) = if is_hex_digit c then after_digits quote cs else after_one quote (c ∷ cs)
+after_brace quote (c ∷ cs) = if is_hex_digit c then after_code_digits quote cs else after_one quote (c ∷ cs)
 
 -- after \u
 abbrev pub after_unicode : ℕ → List ℕ → List ℕ
@@ -42,9 +42,9 @@ after_escape quote (c ∷ cs) =
     if c == code "x" then after_hex quote cs else (if c == code "u" then after_unicode quote cs else cs)
 
 -- What is left after the piece at the front: after an escape, or after one character.
-abbrev pub after_piece : ℕ → List ℕ → List ℕ
-after_piece quote [] = []
-after_piece quote (c ∷ cs) = if c == code "\\" then after_escape quote cs else cs
+abbrev pub after_bad_piece : ℕ → List ℕ → List ℕ
+after_bad_piece quote [] = []
+after_bad_piece quote (c ∷ cs) = if c == code "\\" then after_escape quote cs else cs
 
 -- The flaw is of a character or an escape between the quotes, so that reading goes on after it.
 abbrev pub is_of_unit : FlawKind → Bool

@@ -11,7 +11,7 @@ use Rattle.rl_reasons.specs.Flaws.{first_len}
 use Rattle.rl_reasons.specs.StrictFlaws.{ExplainsStrictly}
 use Rattle.rl_reasons.specs.StrictRead.{IsFlawAt}
 use Rattle.rl_strict.specs.StrictShapes.{IsToken}
-use Rattle.rl_flaws.specs.BadPieces.{after_piece, is_of_unit}
+use Rattle.rl_flaws.specs.BadPieces.{after_bad_piece, is_of_unit}
 use Rattle.rl_flaws.specs.Looks.{IsStringOpener, OpensSingle, OpensString}
 use Rattle.rl_flaws.specs.declared.bad_piece.BadPiece.{BadPiece}
 
@@ -49,7 +49,7 @@ is_string_open None = false
 
 -- The piece of a character or an escape ends where reading goes on, and any other with its flaw.
 abbrev pub EndsWhere : Bool → ℕ → ℕ → List ℕ → ℕ → ℕ → Type 0
-EndsWhere true len quote piece hi end = end + byte_len (after_piece quote piece) ≡ len
+EndsWhere true len quote piece hi end = end + byte_len (after_bad_piece quote piece) ≡ len
 EndsWhere false len quote piece hi end = end ≡ hi
 
 -- The piece has the flaw of what is left, at its places in the whole text, which are counted from the text's end.
@@ -64,7 +64,7 @@ pub record IsBadPiece (s : FlawsState) (bad : BadPiece) (piece : List ℕ) : Typ
 -- In a string what follows the piece is left, and reads after the same opener; else nothing.
 abbrev pub IsLeftBy : Bool → FlawsState → List ℕ → FlawsState → Type 0
 IsLeftBy true old piece new =
-    (chars new.rest ≡ after_piece (quote_of old.kind) piece) × (new.kind ≡ old.kind) × (new.front ≡ old.front)
+    (chars new.rest ≡ after_bad_piece (quote_of old.kind) piece) × (new.kind ≡ old.kind) × (new.front ≡ old.front)
     × IsFalse new.over
 IsLeftBy false old piece new = IsTrue new.over
 

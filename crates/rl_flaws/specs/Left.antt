@@ -2,7 +2,7 @@
 use Rattle.std.specs.Prelude.{◌≡◌, ◌≤◌, ◌+◌, ℕ, true, false, List, [], Some, None, length, ⊤}
 use Rattle.std.specs.Str.{chars, IsUtf8}
 use Rattle.rl_flaws.specs.Flawed.{FlawsState}
-use Rattle.rl_flaws.specs.BadPieces.{after_piece}
+use Rattle.rl_flaws.specs.BadPieces.{after_bad_piece}
 use Rattle.rl_flaws.specs.Opened.{IsOpened, opened_front}
 use Rattle.rl_flaws.specs.declared.walks.Opened.{Opened}
 use Rattle.rl_forms.specs.Written.{closer}
@@ -25,7 +25,7 @@ IsLeft len Nothing = ⊤
 -- the literal is still open, and the rest follows its bad piece
 abbrev pub FollowsPiece : Opened → List ℕ → Left → Type 0
 FollowsPiece o piece (Inside p rest) =
-    (p ≡ o) × (chars rest.now ≡ after_piece (closer o.kind) (chars piece)) × IsTail piece rest.now
+    (p ≡ o) × (chars rest.now ≡ after_bad_piece (closer o.kind) (chars piece)) × IsTail piece rest.now
 FollowsPiece o piece left = ⊥
 
 -- the literal is still open, or nothing is

@@ -39,12 +39,12 @@ OpensNumber kind text =
     × IsTrue (first_passes is_ascii_digit digits) × (kind ≡ number_kind digits)
 
 -- the text is a truth value
-abbrev pub IsTruth : Kind → List ℕ → Type 0
-IsTruth kind text = (kind ≡ BoolKind) × ((truth : Bool) × (text ≡ truth_text truth))
+abbrev pub SpellsTruth : Kind → List ℕ → Type 0
+SpellsTruth kind text = (kind ≡ BoolKind) × ((truth : Bool) × (text ≡ truth_text truth))
 
 -- The text begins as a literal of the kind does.
 abbrev pub LooksLike : List ℕ → Kind → Type 0
-LooksLike text kind = OpensString kind text ⊎ (OpensSingle kind text ⊎ (OpensNumber kind text ⊎ IsTruth kind text))
+LooksLike text kind = OpensString kind text ⊎ (OpensSingle kind text ⊎ (OpensNumber kind text ⊎ SpellsTruth kind text))
 
 -- of one kind at most
 abbrev pub LooksLikeOne : List ℕ → Type 0

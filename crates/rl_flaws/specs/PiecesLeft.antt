@@ -25,11 +25,11 @@ pieces_of kind plain end good bad len left =
     record { segments = segments_at kind plain end good; bad = bad; flaws = state_of len left }
 
 -- the literal that is open is of this kind, and raw or not
-abbrev pub IsOfKind : Kind → Bool → Left → Type 0
-IsOfKind kind plain (Inside o rest) = (o.kind ≡ kind) × (is_raw_form o.form ≡ plain)
-IsOfKind kind plain left = ⊤
+abbrev pub IsOpenAs : Kind → Bool → Left → Type 0
+IsOpenAs kind plain (Inside o rest) = (o.kind ≡ kind) × (is_raw_form o.form ≡ plain)
+IsOpenAs kind plain left = ⊤
 
 pub record ArePiecesLeft (kind : Kind) (plain : Bool) (end : ℕ) (good : List ℕ) (len : ℕ) (left : Left) : Type 0 where
   pub segments : IsSegmentsState kind plain end good
   pub is_left : IsLeft len left
-  pub same : IsOfKind kind plain left
+  pub same : IsOpenAs kind plain left

@@ -6,7 +6,7 @@ ghost use Rattle.rl_reasons.specs.Flaws.{first_len};
 ghost use Rattle.rl_flaws.specs.BadPieces.{is_of_unit};
 ghost use Rattle.rl_flaws.specs.Flawed.{EndsWhere};
 
-use crate::piece_ends::{after_piece, is_of_unit};
+use crate::piece_ends::{after_bad_piece, is_of_unit};
 use rl_reasons::flaws::FlawAt;
 use rl_reasons::{Flaw, FlawKind};
 use rl_text::text::split_char;
@@ -38,7 +38,7 @@ fn end_of(len: usize, quote: char, kind: FlawKind, piece: &str, hi: usize) -> us
     ensures { EndsWhere (is_of_unit kind) len quote (chars piece.now) hi result }
 {
     if is_of_unit(kind) {
-        len - after_piece(quote, piece).len()
+        len - after_bad_piece(quote, piece).len()
     } else {
         hi
     }

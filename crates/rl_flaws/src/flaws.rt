@@ -3,14 +3,14 @@
 ghost use Rattle.std.specs.Prelude.{◌≡◌, ◌&&◌, [], length, IsTrue, IsFalse};
 ghost use Rattle.rl_forms.specs.Quoted.{is_string};
 ghost use Rattle.rl_forms.specs.Written.{closer};
-ghost use Rattle.rl_flaws.specs.BadPieces.{after_piece, is_of_unit};
+ghost use Rattle.rl_flaws.specs.BadPieces.{after_bad_piece, is_of_unit};
 ghost use Rattle.rl_flaws.specs.declared.flaws.Left.TheVariants.{Whole, Inside, Nothing};
 ghost use Rattle.rl_flaws.specs.Flawed.{AreFlawsOf, GivesFlaw};
 ghost use Rattle.rl_flaws.specs.Left.{FollowsPiece, IsLeft, IsSameLiteral, StaysOpen, state_of};
 ghost use Rattle.rl_flaws.specs.PiecesLeft.{IsGoodLeft};
 
 use crate::bad_piece::{BadPiece, placed};
-use crate::piece_ends::{after_piece, is_of_unit};
+use crate::piece_ends::{after_bad_piece, is_of_unit};
 use crate::walks::{Opened, open, walk};
 use rl_forms::Kind;
 use rl_reasons::{FlawKind, explain};
@@ -56,7 +56,7 @@ fn left_after<'t>(opened: Opened<'t>, kind: FlawKind, closing: &'t str) -> Left<
     ensures nothing { IsFalse (is_string opened.entry.kind && is_of_unit kind) → result ≡ Nothing }
 {
     if opened.kind.is_string() && is_of_unit(kind) {
-        Left::Inside(opened, after_piece(quote_of(opened.kind), closing))
+        Left::Inside(opened, after_bad_piece(quote_of(opened.kind), closing))
     } else {
         Left::Nothing
     }

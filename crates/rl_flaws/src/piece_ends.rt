@@ -4,7 +4,7 @@ ghost use Rattle.std.specs.Prelude.{◌≡◌, ◌||◌};
 ghost use Rattle.std.specs.Str.{chars};
 ghost use Rattle.rl_text.specs.Texts.{IsTail, is_underscore};
 ghost use Rattle.rl_forms.specs.Quoted.{is_hex_digit};
-ghost use Rattle.rl_flaws.specs.BadPieces.{after_brace, after_digits, after_escape, after_hex, after_one, after_piece, after_unicode, is_of_unit};
+ghost use Rattle.rl_flaws.specs.BadPieces.{after_brace, after_code_digits, after_escape, after_hex, after_one, after_bad_piece, after_unicode, is_of_unit};
 
 use rl_reasons::FlawKind;
 use rl_text::text::split_char;
@@ -42,8 +42,8 @@ fn is_code_part(c: char) -> bool
 
 /// What follows the digits and underscores between braces, and the character after them.
 #[tactic(auto, using(rl_text::proofs::TailLemmas::tail_self, rl_text::proofs::TailLemmas::tail_step))]
-fn after_digits(quote: char, text: &str) -> &str
-    ensures rest { chars result.now ≡ after_digits quote (chars text.now) }
+fn after_code_digits(quote: char, text: &str) -> &str
+    ensures rest { chars result.now ≡ after_code_digits quote (chars text.now) }
     ensures following { IsTail text.now result.now }
 {
     let mut rest = text;
@@ -63,7 +63,7 @@ fn after_brace(quote: char, text: &str) -> &str
     ensures following { IsTail text.now result.now }
 {
     match split_char(text) {
-        Some((c, rest)) if c.is_ascii_hexdigit() => after_digits(quote, rest),
+        Some((c, rest)) if c.is_ascii_hexdigit() => after_code_digits(quote, rest),
         _ => after_one(quote, text),
     }
 }
@@ -96,8 +96,8 @@ fn after_escape(quote: char, text: &str) -> &str
 
 /// What follows the piece at the front of the text that is no unit.
 #[tactic(auto, using(rl_text::proofs::TailLemmas::tail_self, rl_text::proofs::TailLemmas::tail_step))]
-pub fn after_piece(quote: char, text: &str) -> &str
-    ensures rest { chars result.now ≡ after_piece quote (chars text.now) }
+pub fn after_bad_piece(quote: char, text: &str) -> &str
+    ensures rest { chars result.now ≡ after_bad_piece quote (chars text.now) }
     ensures following { IsTail text.now result.now }
 {
     match split_char(text) {

@@ -1,7 +1,7 @@
 // Rendered from crates/rl_flaws/src/bad_piece.rt by tools/render, which erases contracts: change that file, and render anew.
 //! A flaw with the whole of its piece.
 
-use crate::rl_flaws::piece_ends::{after_piece, is_of_unit};
+use crate::rl_flaws::piece_ends::{after_bad_piece, is_of_unit};
 use crate::rl_reasons::flaws::FlawAt;
 use crate::rl_reasons::{Flaw, FlawKind};
 use crate::rl_text::text::split_char;
@@ -27,7 +27,7 @@ fn after_first(len: usize, rest: &str) -> usize {
 /// The place where the piece of a flaw ends, which is over at `hi`.
 fn end_of(len: usize, quote: char, kind: FlawKind, piece: &str, hi: usize) -> usize {
     if is_of_unit(kind) {
-        len - after_piece(quote, piece).len()
+        len - after_bad_piece(quote, piece).len()
     } else {
         hi
     }

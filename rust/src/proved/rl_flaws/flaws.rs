@@ -2,7 +2,7 @@
 //! A cursor over all flaws of a text.
 
 use crate::rl_flaws::bad_piece::{BadPiece, placed};
-use crate::rl_flaws::piece_ends::{after_piece, is_of_unit};
+use crate::rl_flaws::piece_ends::{after_bad_piece, is_of_unit};
 use crate::rl_flaws::walks::{Opened, open, walk};
 use crate::rl_forms::Kind;
 use crate::rl_reasons::{FlawKind, explain};
@@ -38,7 +38,7 @@ fn quote_of(kind: Kind) -> char {
 /// What follows a flaw inside a literal, whose piece it stands at where it is one of a character or an escape.
 fn left_after<'t>(opened: Opened<'t>, kind: FlawKind, closing: &'t str) -> Left<'t> {
     if opened.kind.is_string() && is_of_unit(kind) {
-        Left::Inside(opened, after_piece(quote_of(opened.kind), closing))
+        Left::Inside(opened, after_bad_piece(quote_of(opened.kind), closing))
     } else {
         Left::Nothing
     }

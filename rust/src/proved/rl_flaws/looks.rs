@@ -36,12 +36,8 @@ fn number_like(text: &str) -> Option<Kind> {
     }
 }
 
-/// The kind of literal that the text begins as, whether or not it is one: by its prefix and quote a quoted one, and by a digit,
-/// perhaps after a minus, a number. Of the words it is `true` or `false` alone.
-///
-/// Of a literal token it is that token's kind. A number is a float where a dot or the letter of an exponent follows its decimal
-/// digits, and else an integer. A raw string begins with its hashes, 255 at most, and the quote. No memory is taken.
-pub fn looks_like(text: &str) -> Option<Kind> {
+/// The kind that the text's front tells.
+fn front_kind(text: &str) -> Option<Kind> {
     if let Some((opened, _)) = open(text) {
         return Some(opened.kind);
     }
@@ -52,4 +48,13 @@ pub fn looks_like(text: &str) -> Option<Kind> {
         Some(_) => Some(Kind::Bool),
         None => None,
     }
+}
+
+/// The kind of literal that the text begins as, whether or not it is one: by its prefix and quote a quoted one, and by a digit,
+/// perhaps after a minus, a number. Of the words it is `true` or `false` alone.
+///
+/// Of a literal token it is that token's kind. A number is a float where a dot or the letter of an exponent follows its decimal
+/// digits, and else an integer. A raw string begins with its hashes, 255 at most, and the quote. No memory is taken.
+pub fn looks_like(text: &str) -> Option<Kind> {
+    front_kind(text)
 }

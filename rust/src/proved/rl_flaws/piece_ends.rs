@@ -26,7 +26,7 @@ fn is_code_part(c: char) -> bool {
 }
 
 /// What follows the digits and underscores between braces, and the character after them.
-fn after_digits(quote: char, text: &str) -> &str {
+fn after_code_digits(quote: char, text: &str) -> &str {
     let mut rest = text;
     while let Some((c, following)) = split_char(rest) {
         if !is_code_part(c) {
@@ -40,7 +40,7 @@ fn after_digits(quote: char, text: &str) -> &str {
 /// What follows `\u{` and what stands after it.
 fn after_brace(quote: char, text: &str) -> &str {
     match split_char(text) {
-        Some((c, rest)) if c.is_ascii_hexdigit() => after_digits(quote, rest),
+        Some((c, rest)) if c.is_ascii_hexdigit() => after_code_digits(quote, rest),
         _ => after_one(quote, text),
     }
 }
@@ -64,7 +64,7 @@ fn after_escape(quote: char, text: &str) -> &str {
 }
 
 /// What follows the piece at the front of the text that is no unit.
-pub fn after_piece(quote: char, text: &str) -> &str {
+pub fn after_bad_piece(quote: char, text: &str) -> &str {
     match split_char(text) {
         Some(('\\', rest)) => after_escape(quote, rest),
         Some((_, rest)) => rest,

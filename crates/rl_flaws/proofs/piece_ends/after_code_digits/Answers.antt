@@ -1,7 +1,7 @@
 use Rattle.rl_text.proofs.Common.{◌∙◌, sym, rules}
 use Rattle.rl_text.proofs.TailLemmas.{tail_step}
 use Rattle.rl_flaws.proofs.EndLemmas.{digits_end, digits_halt, digits_on}
-use Rattle.rl_flaws.proofs.piece_ends.after_digits.Goals as goal
+use Rattle.rl_flaws.proofs.piece_ends.after_code_digits.Goals as goal
 
 pub returns-then-not-is_code_part-clause-rest : goal.returns-then-not-is_code_part-clause-rest
 returns-then-not-is_code_part-clause-rest c = c.after_one.ensures.rest
