@@ -206,6 +206,31 @@ fn the_last_flaw() {
     assert_eq!(of("0b12"), [(FlawKind::DigitOfBase, 0..4)]);
 }
 
+/// The first flaw of a text without a reading is why it has none.
+#[test]
+fn texts_without_a_reading() {
+    let texts = [
+        ("word", 1),
+        ("-340282366920938463463374607431768211457", 1),
+        (r"'\q'", 1),
+        (r#""\q\y"#, 3),
+    ];
+    for (text, count) in texts {
+        let Lit::Verbatim(literal) = Lit::new(text) else {
+            panic!("{text}")
+        };
+        let all: Vec<_> = literal.flaws().take(count + 1).collect();
+        assert_eq!(all.len(), count, "{text}");
+        assert_eq!(all[0].error(), literal.explain(), "{text}");
+        assert_eq!(all[0].range(), literal.explain().piece(), "{text}");
+        assert_eq!(literal.looks_like(), looks_like(text));
+        let bad = literal
+            .pieces()
+            .map(|all| all.filter(|it| matches!(it, Piece::Bad(_))).count());
+        assert_eq!(bad, text.contains(['\'', '"']).then_some(count), "{text}");
+    }
+}
+
 /// A text of many bad escapes takes the time that its length gives.
 #[test]
 fn time_grows_with_the_text() {
