@@ -16,6 +16,15 @@ CONTROL = Wrong('settings.rs', "/// The setting that was cut off the text.", "//
                 'nothing is wrong: a comment has other words')
 
 WRONG = [Wrong(*row) for row in [
+    # flaws.rs
+    ('flaws.rs', "self.from..self.end", "self.from..self.error.range().end",
+     'the piece of a broken escape ends with its flaw'),
+    ('flaws.rs', "if rl_flaws::Pieces::of(text).is_some() {", "if rl_flaws::Pieces::of(text).is_none() {",
+     'a string without a reading has one flaw alone'),
+    ('flaws.rs', "Left::One(flaw) => flaw.take(),", "Left::One(flaw) => *flaw,",
+     'the flaw of a number comes again and again'),
+    ('kind.rs', "rl_forms::Kind::ByteStr => Kind::ByteStr,", "rl_forms::Kind::ByteStr => Kind::CStr,",
+     'a byte string begins as a C string'),
     # lit.rs
     ('lit.rs', "Lit::Byte(_) => Kind::Byte,", "Lit::Byte(_) => Kind::Char,",
      'a byte is called a character'),

@@ -41,6 +41,7 @@ mod common;
 mod config;
 mod contents;
 mod error;
+mod flaws;
 mod front;
 mod kind;
 mod line_index;
@@ -74,19 +75,20 @@ mod write;
 #[doc(hidden)]
 pub mod rendered {
     pub use crate::proved::{
-        rl_file_reasons, rl_forms, rl_leading, rl_lexer, rl_parts, rl_reading, rl_reasons,
-        rl_recovery, rl_settings, rl_strict, rl_text, rl_writing,
+        rl_file_reasons, rl_flaws, rl_forms, rl_leading, rl_lexer, rl_parts, rl_reading,
+        rl_reasons, rl_recovery, rl_settings, rl_strict, rl_text, rl_writing,
     };
 }
 
 use proved::{
-    rl_file_reasons, rl_forms, rl_leading, rl_lexer, rl_parts, rl_reading, rl_reasons, rl_recovery,
-    rl_settings, rl_strict, rl_text, rl_writing,
+    rl_file_reasons, rl_flaws, rl_forms, rl_leading, rl_lexer, rl_parts, rl_reading, rl_reasons,
+    rl_recovery, rl_settings, rl_strict, rl_text, rl_writing,
 };
 
 pub use characters::{LitByte, LitChar};
 pub use config::config;
 pub use error::{ListError, Part, SyntaxErrorKind};
+pub use flaws::{flaws, looks_like, pieces, BadPiece, Flaws, Piece, Pieces};
 pub use front::skip_blanks;
 pub use kind::Kind;
 pub use line_index::{LineColumn, LineIndex};
