@@ -1,6 +1,6 @@
 -- The literal that a text begins with.
 use Rattle.std.specs.Prelude.{◌≡◌, ◌⊎◌, ℕ, List, ◌∷◌, ◌++◌, Some}
-use Rattle.std.specs.Str.{chars}
+use Rattle.std.specs.Str.{chars, IsUtf8}
 use Prim.Native.Char.{code}
 use Rattle.rl_text.specs.Texts.{IsTail}
 use Rattle.rl_lexer.specs.Sources.{SourceKind, SourceBefore, IsLiteralText}
@@ -14,6 +14,7 @@ pub record Leads (text : List ℕ) (l : LeadingLiteral) : Type 0 where
   pub kind : SourceKind
   pub begins : SourceBefore (chars text) kind (chars l.following.now)
   pub is_literal : IsLiteralText kind (chars l.text.now)
+  pub is_text : IsUtf8 l.text.now
   pub bytes_are : text ≡ l.text.now ++ l.following.now
   pub chars_are : chars text ≡ chars l.text.now ++ chars l.following.now
   pub following : IsTail text l.following.now

@@ -1,13 +1,11 @@
 //! The literal at the front of a text, with or without a minus.
 
-ghost use Rattle.std.specs.Prelude.{◌≡◌, ◌<◌, ◌++◌, length, IfSome, IfNone};
-ghost use Rattle.std.specs.Str.{chars};
-ghost use Rattle.rl_text.specs.Texts.{IsTail};
+ghost use Rattle.std.specs.Prelude.{IfSome, IfNone};
 ghost use Rattle.rl_leading.specs.Leading.{Leads, LeadsNone, LeadsNegative, LeadsSigned, LeadsNoneSigned, LeadsNoNegative};
 
 use rl_lexer::{SourceToken, first_source};
 use rl_reading::{Found, find, find_negative};
-use rl_text::text::strip_byte;
+use rl_text::text::{before, strip_byte};
 
 /// The literal that a text begins with.
 #[derive(Clone, Copy)]
@@ -18,16 +16,6 @@ pub struct LeadingLiteral<'t> {
     pub found: Option<Found>,
     /// The text after it.
     pub following: &'t str,
-}
-
-/// The text in front of what follows there.
-#[inline(always)]
-fn before<'t>(text: &'t str, following: &str) -> &'t str
-    requires { IsTail text.now following.now }
-    ensures bytes { text.now ≡ result.now ++ following.now }
-    ensures chars { chars text.now ≡ chars result.now ++ chars following.now }
-{
-    &text[..text.len() - following.len()]
 }
 
 /// The literal token that the text begins with, as a source is cut, or the word `true` or `false`; what reading it finds, and

@@ -3,7 +3,7 @@
 
 use crate::rl_lexer::{SourceToken, first_source};
 use crate::rl_reading::{Found, find, find_negative};
-use crate::rl_text::text::strip_byte;
+use crate::rl_text::text::{before, strip_byte};
 
 /// The literal that a text begins with.
 #[derive(Clone, Copy)]
@@ -14,12 +14,6 @@ pub struct LeadingLiteral<'t> {
     pub found: Option<Found>,
     /// The text after it.
     pub following: &'t str,
-}
-
-/// The text in front of what follows there.
-#[inline(always)]
-fn before<'t>(text: &'t str, following: &str) -> &'t str {
-    &text[..text.len() - following.len()]
 }
 
 /// The literal token that the text begins with, as a source is cut, or the word `true` or `false`; what reading it finds, and
