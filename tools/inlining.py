@@ -1,7 +1,7 @@
 """Writes the attributes by which functions of the rendered core are inlined, so that what isn't optimized stays small.
 
 rustc obeys `#[inline(always)]` where nothing is optimized too, and writes the function into each of its callers. A small function
-takes no more room there than a call of it, and is faster. A large one is always inlined only where debug assertions are off, as in
+takes little more room there than a call of it, and less time. A large one is always inlined only where debug assertions are off, as in
 release builds; tools/inlining.txt lists those that the compiler inlines by itself where that is faster. No expression is changed."""
 
 import re

@@ -350,6 +350,11 @@ mod tests {
                 let in_units = counted_utf16(text, at);
                 assert_eq!(index.line_column_utf16(at), in_units, "{text:?} {at}");
                 assert_eq!(index.byte_of_utf16(in_units), Some(at), "{text:?} {at}");
+                if text[at..].starts_with('😀') {
+                    let (line, column) = (in_units.line, in_units.column + 1);
+                    let inside = index.byte_of_utf16(LineColumn { line, column });
+                    assert_eq!(inside, None, "{text:?} {at}");
+                }
             }
             // The lines of std, which has no empty one after the last LF.
             let mut lines: Vec<&str> = text.lines().collect();
