@@ -57,12 +57,13 @@ def text_of(cell):
 
 
 def rows_of_refusals():
-    """The rows of docs/REFUSALS.md: the call, which stands second, the text and the message; of a flaw its row."""
+    """The rows of docs/REFUSALS.md: the call and the text, which stand second, and the message; of a flaw its row."""
     for line in read('docs/REFUSALS.md').split('\n'):
         cells = [it.strip() for it in re.split(r'(?<!\\)\|', line)[1:-1]]
         yield from row_of_flaw(cells)
-        row = [text_of(it) for it in cells[1:4]] if len(cells) == 5 else []
-        if None not in row and row and row[0] in CALLS:
+        called = re.fullmatch(r'`([^`]+)`: (.*)', cells[1]) if len(cells) == 4 else None
+        row = [called[1], text_of(called[2]), text_of(cells[2])] if called and called[1] in CALLS else [None]
+        if None not in row:
             yield row
 
 
