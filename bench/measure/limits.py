@@ -1,17 +1,19 @@
-"""The limits: for each corpus and work of ours the instructions a byte that it may take, and the lowest that these were."""
+"""The limits: for each corpus and work of ours the instructions a byte that it may take, and the lowest that these were. Rows of
+`code` are bytes of code of the Cargo package, by what it is built for."""
 import os
 
-from measure import build, counts, sources
+from measure import build, builds, counts, sources
 
 PATH = os.path.join(build.BENCH, 'limits')
-HEAD = '# corpus, work, the instructions a byte that it may take, and the lowest that these were (bench/run --new-limits)\n'
+HEAD = '# corpus, work, the instructions a byte that it may take, and the lowest that these were; of `code` bytes (bench/run --new-limits)\n'
 # two per cent above what was reached
 ROOM = 1.02
 
 
-def write(taken, rows):
+def write(taken, rows, sizes):
     """Writes the limits anew, and prints each that rises above the lowest that it was: docs/PERFORMANCE.md has a table of these."""
-    ours, was = {(row.corpus, row.work) for row in rows if row.whose == 'ours'}, read_all()
+    taken = {**taken, **{name: [size] for name, size in sizes.items()}}
+    ours, was = {(row.corpus, row.work) for row in rows if row.whose == 'ours'} | set(sizes), read_all()
     with open(PATH, 'w') as file:
         file.write(HEAD)
         for name, found in taken.items():
@@ -42,7 +44,8 @@ def check(driver, jobs, rows, corpus):
     most = {name: limit for name, limit in read().items() if corpus in (None, name[0])}
     if sources.CORPUS not in {row.corpus for row in rows}:
         most = {name: limit for name, limit in most.items() if name[0] not in sources.CORPORA}
-    idle = [name for name in most if name not in {(row.corpus, row.work) for row in ours}]
+    sizes = {} if corpus else builds.counted()
+    idle = [name for name in most if name not in sizes and name not in {(row.corpus, row.work) for row in ours}]
     errors = ['%s, %s: a limit of no row' % name for name in idle]
     for row, (found,) in zip(ours, counts.all_of(driver, jobs, ours, counts.SIZES[:1])):
         each, limit = found.instructions / found.bytes, most.get((row.corpus, row.work))
@@ -51,5 +54,6 @@ def check(driver, jobs, rows, corpus):
         elif each > limit:
             words = '%s, %s: %.3f instructions a byte, past its limit of %.3f'
             errors.append(words % (row.corpus, row.work, each, limit))
+    errors += ['%s, %s: %d bytes of code, past their limit' % (*name, size) for name, size in sizes.items() if size > most.get(name, 0)]
     print('\n'.join(errors + ['%d rows, %d past their limit or without one' % (len(ours), len(errors))]))
     return 1 if errors else 0

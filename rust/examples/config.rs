@@ -6,18 +6,9 @@ use std::error::Error;
 use std::process::ExitCode;
 use std::{env, fs};
 
-const HOST: Setting = Setting {
-    name: "host",
-    expected: "a string",
-};
-const PORT: Setting = Setting {
-    name: "port",
-    expected: "an integer from 0 to 65535",
-};
-const VERBOSE: Setting = Setting {
-    name: "verbose",
-    expected: "true or false",
-};
+const HOST: Setting = Setting::new("host", "a string");
+const PORT: Setting = Setting::new("port", "an integer from 0 to 65535");
+const VERBOSE: Setting = Setting::new("verbose", "true or false");
 
 /// The settings, which only `Debug` reads here.
 #[allow(dead_code)]

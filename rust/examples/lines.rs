@@ -2,8 +2,8 @@
 //! and under `places` an answer of `tools/places_model.py`. So the package is held against what other programs say.
 
 use navyspindle::{
-    is_token, settings, write_byte, write_byte_str, write_char, write_str, ErrorKind, Lit, Segment,
-    SegmentValue,
+    is_token, settings, write_byte, write_byte_str, write_char, write_str, Lit, Segment,
+    SegmentValue, SyntaxErrorKind,
 };
 use std::borrow::Cow;
 use std::io::{self, BufWriter, Write};
@@ -66,17 +66,17 @@ fn settings_of(text: &str) -> String {
 }
 
 /// What the programs say of an error of the lexer, at the byte where it stands.
-fn lexer_words(kind: ErrorKind) -> Option<&'static str> {
+fn lexer_words(kind: SyntaxErrorKind) -> Option<&'static str> {
     Some(match kind {
-        ErrorKind::DocComment => "doc comment is not carried",
-        ErrorKind::UnclosedComment => "unclosed block comment",
-        ErrorKind::UnclosedQuote => "unclosed quote",
-        ErrorKind::Lifetime => "lifetime is not carried",
-        ErrorKind::RawIdentifier => "raw identifier is not carried",
-        ErrorKind::StrayCharacter => "stray character",
-        ErrorKind::UnmatchedClose => "unmatched closing delimiter",
-        ErrorKind::UnclosedGroup => "unclosed group",
-        ErrorKind::TooDeep => "groups nested too deep",
+        SyntaxErrorKind::DocComment => "doc comment is not carried",
+        SyntaxErrorKind::UnclosedComment => "unclosed block comment",
+        SyntaxErrorKind::UnclosedQuote => "unclosed quote",
+        SyntaxErrorKind::Lifetime => "lifetime is not carried",
+        SyntaxErrorKind::RawIdentifier => "raw identifier is not carried",
+        SyntaxErrorKind::StrayCharacter => "stray character",
+        SyntaxErrorKind::UnmatchedClose => "unmatched closing delimiter",
+        SyntaxErrorKind::UnclosedGroup => "unclosed group",
+        SyntaxErrorKind::TooDeep => "groups nested too deep",
         _ => return None,
     })
 }

@@ -6,7 +6,10 @@ use std::env;
 fn main() {
     for text in env::args().skip(1) {
         match Lit::parse(&text) {
-            Ok(Lit::Int(number)) => println!("{}", number.base10_digits()),
+            Ok(Lit::Int(literal)) => match literal.value::<u64>() {
+                Ok(number) => println!("{number}"),
+                Err(error) => println!("{text}: {error}"),
+            },
             Ok(literal) => println!("{}", literal.kind()),
             Err(error) => println!("{text}: {error}"),
         }

@@ -17,7 +17,7 @@ fn settings(host: &str, port: &str) -> Result<(String, u16), Box<dyn Error>> {
     let Lit::Int(port) = literal("port", port)? else {
         return Err("the port has to be an integer".into());
     };
-    let number = port.base10_parse();
+    let number = port.value();
     let number = number.map_err(|error| format!("port {port}: {error}"))?;
     Ok((host.value().into_owned(), number))
 }

@@ -5,6 +5,7 @@ use crate::places::quoted_type;
 use crate::rl_forms::Kind;
 use crate::rl_reading::Body;
 use alloc::borrow::Cow;
+use core::ops::Range;
 
 /// The struct of a kind of literals that stand for one value. `$text`, its value, where that is written and the closing apostrophe are
 /// of examples.
@@ -47,6 +48,21 @@ macro_rules! single_type {
                 }
             }
 
+            /// What stands between the quotes, as it is written.
+            #[doc = example!($name, $text, "assert_eq!(literal.body(), r\"\\n\");")]
+            #[must_use]
+            pub fn body(&self) -> &str {
+                &self.text[self.body_range()]
+            }
+
+            /// The bytes of the text between the quotes.
+            #[doc = example!($name, $text, "assert_eq!(literal.body_range(), ", $range, ");")]
+            #[must_use]
+            pub fn body_range(&self) -> Range<usize> {
+                let parts = self.parts();
+                parts.lo..parts.hi
+            }
+
             #[doc = $what]
             #[doc = example!($name, $text, "assert_eq!(literal.value(), ", stringify!($of_text), ");")]
             #[inline]
@@ -67,6 +83,7 @@ single_type! {
     /// assert_eq!(LitByte::parse(r"b'\xFF'")?.value(), 255);
     /// # Ok::<(), navyspindle::ParseError>(())
     /// ```
+    #[doc(alias = "ByteLit")]
     LitByte, Byte, u8, "The byte that the literal stands for.", r"b'\n'" == b'\n', "2..4", "4", "b'a'_s"
 }
 
@@ -79,5 +96,6 @@ single_type! {
     /// assert_eq!(LitChar::parse(r"'\u{e9}'")?.value(), 'é');
     /// # Ok::<(), navyspindle::ParseError>(())
     /// ```
+    #[doc(alias = "CharLit")]
     LitChar, Char, char, "The character that the literal stands for.", r"'\n'" == '\n', "1..3", "3", "'a'_s"
 }

@@ -2,6 +2,7 @@
 
 use alloc::borrow::Cow;
 use alloc::string::String;
+use core::ops::Range;
 
 /// The part of the text from one byte to another, in the text's own lifetime.
 pub(crate) fn part(text: Cow<'_, str>, from: usize, to: usize) -> Cow<'_, str> {
@@ -13,6 +14,11 @@ pub(crate) fn part(text: Cow<'_, str>, from: usize, to: usize) -> Cow<'_, str> {
             Cow::Owned(text)
         }
     }
+}
+
+/// The range so many bytes on.
+pub(crate) fn shifted(range: Range<usize>, by: usize) -> Range<usize> {
+    range.start + by..range.end + by
 }
 
 /// The text, owned.

@@ -1,9 +1,10 @@
 //! What is wrong with a text of literals, of settings, or of a source, and where.
 
+use crate::common::shifted;
 use crate::rl_lexer::{LexError, Sources};
 use crate::rl_reading::Rejection;
 use crate::rl_settings::{lexer_error, list_error};
-pub use crate::rl_settings::{Part, SyntaxErrorKind as ErrorKind};
+pub use crate::rl_settings::{Part, SyntaxErrorKind};
 use core::fmt;
 use core::ops::Range;
 
@@ -23,7 +24,7 @@ pub(crate) fn range_at(text: &str, at: usize) -> Range<usize> {
 /// ```
 #[derive(Clone, Debug, PartialEq, Eq, Hash)]
 pub struct ListError {
-    kind: ErrorKind,
+    kind: SyntaxErrorKind,
     range: Range<usize>,
 }
 
@@ -49,13 +50,13 @@ impl ListError {
     /// What was rejected.
     ///
     /// ```
-    /// use navyspindle::{literals, ErrorKind};
+    /// use navyspindle::{literals, SyntaxErrorKind};
     ///
     /// let error = literals("(1)").find_map(Result::err).unwrap();
-    /// assert_eq!(error.kind(), ErrorKind::Group);
+    /// assert_eq!(error.kind(), SyntaxErrorKind::Group);
     /// ```
     #[must_use]
-    pub fn kind(&self) -> ErrorKind {
+    pub fn kind(&self) -> SyntaxErrorKind {
         self.kind
     }
 
@@ -69,11 +70,26 @@ impl ListError {
         self.range.start
     }
 
+    /// The error with its place so many bytes on: in a text of which this one is a part that begins there.
+    ///
+    /// ```
+    /// let error = navyspindle::literals("1 word").find_map(Result::err).unwrap();
+    /// assert_eq!(error.shifted(100).range(), 102..106);
+    /// ```
+    #[must_use]
+    pub fn shifted(self, by: usize) -> Self {
+        ListError {
+            range: shifted(self.range, by),
+            ..self
+        }
+    }
+
     /// The bytes of the token that was rejected; of a quote or a comment that isn't closed, up to the text's end.
     ///
     /// ```
     /// assert_eq!(navyspindle::literals("1 word").find_map(Result::err).unwrap().range(), 2..6);
     /// ```
+    #[doc(alias = "span")]
     #[must_use]
     pub fn range(&self) -> Range<usize> {
         self.range.clone()

@@ -11,6 +11,7 @@ use core::fmt;
 /// assert_eq!(kind, Kind::Byte);
 /// assert_eq!(kind.to_string(), "byte literal");
 /// ```
+#[doc(alias = "LitKind")]
 #[derive(Clone, Copy, Debug, PartialEq, Eq, PartialOrd, Ord, Hash)]
 #[non_exhaustive]
 pub enum Kind {

@@ -25,7 +25,7 @@
 //! # Features
 //!
 //! - `proc-macro`: literals from and to the tokens of rustc's own crate `proc_macro`, which [`Lit`] and the structs are then made
-//!   of by `try_from`; `next_literal`, `to_token_stream`, `MacroError`. Off by default.
+//!   of by `try_from`; `next_literal`, `next_of`, `to_token_stream`, `MacroError`. Off by default.
 #![no_std]
 #![forbid(unsafe_code)]
 #![deny(missing_docs)]
@@ -40,6 +40,7 @@ mod characters;
 mod common;
 mod contents;
 mod error;
+mod front;
 mod kind;
 mod line_index;
 mod list;
@@ -71,18 +72,19 @@ mod write;
 #[doc(hidden)]
 pub mod rendered {
     pub use crate::proved::{
-        rl_file_reasons, rl_forms, rl_lexer, rl_parts, rl_reading, rl_reasons, rl_recovery,
-        rl_settings, rl_strict, rl_text,
+        rl_file_reasons, rl_forms, rl_leading, rl_lexer, rl_parts, rl_reading, rl_reasons,
+        rl_recovery, rl_settings, rl_strict, rl_text,
     };
 }
 
 use proved::{
-    rl_file_reasons, rl_forms, rl_lexer, rl_parts, rl_reading, rl_reasons, rl_recovery,
+    rl_file_reasons, rl_forms, rl_leading, rl_lexer, rl_parts, rl_reading, rl_reasons, rl_recovery,
     rl_settings, rl_strict, rl_text,
 };
 
 pub use characters::{LitByte, LitChar};
-pub use error::{ErrorKind, ListError, Part};
+pub use error::{ListError, Part, SyntaxErrorKind};
+pub use front::skip_blanks;
 pub use kind::Kind;
 pub use line_index::{LineColumn, LineIndex};
 pub use list::{literals, Literals};
@@ -91,9 +93,9 @@ pub use numbers::{Base, LitFloat, LitInt, NumberType};
 pub use parse_error::{FlawKind, ParseError, ParseErrorKind};
 pub use places::{Places, Segment, SegmentValue, Segments};
 #[cfg(feature = "proc-macro")]
-pub use proc_macros::{next_literal, MacroError};
+pub use proc_macros::{next_literal, next_of, LitOfKind, MacroError};
 pub use setting::{Setting, SettingError, SettingErrorKind, Settings};
-pub use settings::{settings, Entry, SettingsError};
+pub use settings::{settings, Entry, SettingsSyntaxError};
 pub use source::{source, Recover, Source};
 pub use strings::{LitByteStr, LitCStr, LitStr};
 pub use value::{Number, ValueError, ValueErrorKind};

@@ -115,6 +115,7 @@ impl<'t> LineIndex<'t> {
     /// assert_eq!(index.line_column(2), LineColumn { line: 1, column: 2 });
     /// assert_eq!(index.line_column(99), LineColumn { line: 2, column: 2 });
     /// ```
+    #[doc(alias = "line_col")]
     #[must_use]
     pub fn line_column(&self, at: usize) -> LineColumn {
         let (line, start, at) = self.line_of(at);
@@ -135,6 +136,40 @@ impl<'t> LineIndex<'t> {
         let (line, start, at) = self.line_of(at);
         let column = at - start + 1;
         LineColumn { line, column }
+    }
+
+    /// The line and the column, in units of UTF-16, of the character that the byte belongs to: those of editors' protocols, which
+    /// count both from 0. It walks over the line. A byte past the text's end counts as the end.
+    ///
+    /// ```
+    /// use navyspindle::{LineColumn, LineIndex};
+    ///
+    /// assert_eq!(LineIndex::new("😀b").line_column_utf16(4), LineColumn { line: 1, column: 3 });
+    /// ```
+    #[must_use]
+    pub fn line_column_utf16(&self, at: usize) -> LineColumn {
+        let (line, start, at) = self.line_of(at);
+        let units = self.text[start..at].chars().map(char::len_utf16);
+        let column = units.sum::<usize>() + 1;
+        LineColumn { line, column }
+    }
+
+    /// The text of a line, without the LF or CR LF that ends it; `None` where there is no such line.
+    ///
+    /// ```
+    /// use navyspindle::LineIndex;
+    ///
+    /// let index = LineIndex::new("a\r\nb");
+    /// assert_eq!((index.line(1), index.line(2), index.line(3)), (Some("a"), Some("b"), None));
+    /// ```
+    #[must_use]
+    pub fn line(&self, line: usize) -> Option<&'t str> {
+        let start = *self.starts.get(line.checked_sub(1)?)?;
+        let Some(&end) = self.starts.get(line) else {
+            return Some(&self.text[start..]);
+        };
+        let text = &self.text[start..end - 1];
+        Some(text.strip_suffix('\r').unwrap_or(text))
     }
 
     /// The byte of a line and a column in characters. The column after a line's last character, its LF, is no place of it;
@@ -172,6 +207,30 @@ impl<'t> LineIndex<'t> {
         let (start, end) = self.bounds(place.line)?;
         let at = start.checked_add(place.column.checked_sub(1)?)?;
         (at < end && self.text.is_char_boundary(at)).then_some(at)
+    }
+
+    /// The byte of a line and a column in units of UTF-16, where a character begins there. It walks over the line.
+    ///
+    /// ```
+    /// use navyspindle::{LineColumn, LineIndex};
+    ///
+    /// let index = LineIndex::new("😀b");
+    /// assert_eq!(index.byte_of_utf16(LineColumn { line: 1, column: 3 }), Some(4));
+    /// assert_eq!(index.byte_of_utf16(LineColumn { line: 1, column: 2 }), None);
+    /// ```
+    #[must_use]
+    pub fn byte_of_utf16(&self, place: LineColumn) -> Option<usize> {
+        let (start, end) = self.bounds(place.line)?;
+        let mut left = place.column.checked_sub(1)?;
+        let mut at = start;
+        for c in self.text[start..].chars() {
+            if left == 0 || at >= end {
+                break;
+            }
+            left = left.checked_sub(c.len_utf16())?;
+            at += c.len_utf8();
+        }
+        (left == 0 && at < end).then_some(at)
     }
 
     /// The line of a byte, from 1, the byte where it begins, and the one where the byte's character does.
@@ -249,6 +308,15 @@ mod tests {
         (of(column), of(at - start + 1))
     }
 
+    /// The place in units of UTF-16, by the text made one of UTF-16.
+    fn counted_utf16(text: &str, at: usize) -> LineColumn {
+        let before: Vec<u16> = text[..at].encode_utf16().collect();
+        let end = |unit: &u16| *unit == u16::from(b'\n');
+        let line = before.iter().filter(|unit| end(unit)).count() + 1;
+        let column = before.iter().rev().take_while(|unit| !end(unit)).count() + 1;
+        LineColumn { line, column }
+    }
+
     #[test]
     fn a_byte_order_mark_has_no_column() {
         let index = LineIndex::new("\u{feff}ab\nc");
@@ -279,7 +347,18 @@ mod tests {
                 assert_eq!(index.line_column_bytes(at), in_bytes, "{text:?} {at}");
                 assert_eq!(index.byte(place), Some(at), "{text:?} {at}");
                 assert_eq!(index.byte_of_bytes(in_bytes), Some(at), "{text:?} {at}");
+                let in_units = counted_utf16(text, at);
+                assert_eq!(index.line_column_utf16(at), in_units, "{text:?} {at}");
+                assert_eq!(index.byte_of_utf16(in_units), Some(at), "{text:?} {at}");
             }
+            // The lines of std, which has no empty one after the last LF.
+            let mut lines: Vec<&str> = text.lines().collect();
+            if text.is_empty() || text.ends_with('\n') {
+                lines.push("");
+            }
+            let found: Vec<&str> = (1..).map_while(|line| index.line(line)).collect();
+            assert_eq!(found, lines, "{text:?}");
+            assert_eq!(index.line(0), None);
             for (line, column) in [
                 (0, 1),
                 (1, 0),
@@ -289,6 +368,7 @@ mod tests {
             ] {
                 assert_eq!(index.byte(LineColumn { line, column }), None);
                 assert_eq!(index.byte_of_bytes(LineColumn { line, column }), None);
+                assert_eq!(index.byte_of_utf16(LineColumn { line, column }), None);
             }
         }
     }

@@ -23,14 +23,14 @@ pub struct Literals<'t> {
 /// A minus before a number belongs to the literal, also where something stands between them.
 ///
 /// A literal token that has no reading, as `'\q'` and an integer past 128 bits, comes as [`Lit::Verbatim`], which
-/// explains why; after a minus it is an error, [`ErrorKind::NoNumber`](crate::ErrorKind::NoNumber). [`Lit::check`] says whether Rust
+/// explains why; after a minus it is an error, [`SyntaxErrorKind::NoNumber`](crate::SyntaxErrorKind::NoNumber). [`Lit::check`] says whether Rust
 /// takes a literal too. A token that begins no literal ends the list: a word or a mark with
-/// [`ErrorKind::NoLiteral`](crate::ErrorKind::NoLiteral), an opening delimiter with
-/// [`ErrorKind::Group`](crate::ErrorKind::Group), a closing one with
-/// [`ErrorKind::UnmatchedClose`](crate::ErrorKind::UnmatchedClose).
+/// [`SyntaxErrorKind::NoLiteral`](crate::SyntaxErrorKind::NoLiteral), an opening delimiter with
+/// [`SyntaxErrorKind::Group`](crate::SyntaxErrorKind::Group), a closing one with
+/// [`SyntaxErrorKind::UnmatchedClose`](crate::SyntaxErrorKind::UnmatchedClose).
 ///
 /// ```
-/// use navyspindle::{literals, ErrorKind, Lit};
+/// use navyspindle::{literals, SyntaxErrorKind, Lit};
 ///
 /// let mut list = literals("0xFF_u8 - /* two */ 1.5 'a");
 /// let (range, literal) = list.next().unwrap()?;
@@ -39,7 +39,7 @@ pub struct Literals<'t> {
 /// let Lit::Float(float) = literal else { panic!() };
 /// assert_eq!((range, &*float.base10_digits()), (8..23, "-1.5"));
 /// let error = list.next().unwrap().unwrap_err();
-/// assert_eq!((error.kind(), error.range()), (ErrorKind::Lifetime, 24..26));
+/// assert_eq!((error.kind(), error.range()), (SyntaxErrorKind::Lifetime, 24..26));
 /// assert!(list.next().is_none());
 /// # Ok::<(), navyspindle::ListError>(())
 /// ```

@@ -16,6 +16,7 @@ use crate::{
 use alloc::borrow::Cow;
 use alloc::string::String;
 use core::fmt;
+use core::ops::Range;
 use core::str::FromStr;
 
 /// A literal of any kind. Two are equal where their texts are.
@@ -32,6 +33,7 @@ use core::str::FromStr;
 /// assert_eq!(owned.text(), "'x'");
 /// # Ok::<(), navyspindle::ParseError>(())
 /// ```
+#[doc(alias = "Literal")]
 #[derive(Clone, PartialEq, Eq, Hash)]
 #[non_exhaustive]
 pub enum Lit<'t> {
@@ -114,6 +116,7 @@ impl<'t> Lit<'t> {
     /// assert_eq!(Lit::parse("1e").unwrap_err().kind(), FlawKind::NoExponentDigit);
     /// # Ok::<(), navyspindle::ParseError>(())
     /// ```
+    #[doc(alias = "parse_str")]
     #[inline]
     pub fn parse(text: &'t str) -> Result<Lit<'t>, ParseError> {
         let borrowed = Cow::Borrowed(text);
@@ -176,7 +179,7 @@ impl<'t> Lit<'t> {
     /// ```
     #[must_use]
     pub fn segments(&self) -> Option<Segments<'_>> {
-        self.cursor().map(Segments)
+        self.cursor().map(Segments::of)
     }
 
     /// Where each byte of the value of a literal with quotes comes from; `None` of others. See
@@ -310,6 +313,9 @@ impl<'t> Lit<'t> {
     /// assert_eq!(Lit::parse("0x1F")?.text(), "0x1F");
     /// # Ok::<(), navyspindle::ParseError>(())
     /// ```
+    #[doc(alias = "raw_input")]
+    #[doc(alias = "input")]
+    #[doc(alias = "token")]
     #[inline]
     #[must_use]
     pub fn text(&self) -> &str {
@@ -342,6 +348,99 @@ impl<'t> Lit<'t> {
     #[must_use]
     pub fn suffix(&self) -> &str {
         each_kind!(self, literal => literal.suffix())
+    }
+
+    /// The bytes of the text where its suffix stands; none, at its end, where it has none; `None` of `Verbatim`.
+    ///
+    /// ```
+    /// use navyspindle::Lit;
+    ///
+    /// assert_eq!(Lit::parse("'a'_s")?.suffix_range(), Some(3..5));
+    /// assert_eq!(Lit::parse("true")?.suffix_range(), Some(4..4));
+    /// # Ok::<(), navyspindle::ParseError>(())
+    /// ```
+    #[must_use]
+    pub fn suffix_range(&self) -> Option<Range<usize>> {
+        match self {
+            Lit::Str(literal) => Some(literal.suffix_range()),
+            Lit::ByteStr(literal) => Some(literal.suffix_range()),
+            Lit::CStr(literal) => Some(literal.suffix_range()),
+            Lit::Byte(literal) => Some(literal.suffix_range()),
+            Lit::Char(literal) => Some(literal.suffix_range()),
+            Lit::Int(literal) => Some(literal.suffix_range()),
+            Lit::Float(literal) => Some(literal.suffix_range()),
+            Lit::Bool(literal) => Some(literal.suffix_range()),
+            Lit::Verbatim(_) => None,
+        }
+    }
+
+    /// The bytes of the text between the quotes; `None` of a literal without quotes.
+    ///
+    /// ```
+    /// use navyspindle::Lit;
+    ///
+    /// assert_eq!(Lit::parse("b'a'")?.body_range(), Some(2..3));
+    /// assert_eq!(Lit::parse("1")?.body_range(), None);
+    /// # Ok::<(), navyspindle::ParseError>(())
+    /// ```
+    #[must_use]
+    pub fn body_range(&self) -> Option<Range<usize>> {
+        match self {
+            Lit::Str(literal) => Some(literal.body_range()),
+            Lit::ByteStr(literal) => Some(literal.body_range()),
+            Lit::CStr(literal) => Some(literal.body_range()),
+            Lit::Byte(literal) => Some(literal.body_range()),
+            Lit::Char(literal) => Some(literal.body_range()),
+            _ => None,
+        }
+    }
+
+    /// What stands between the quotes, as it is written; `None` of a literal without quotes.
+    ///
+    /// ```
+    /// use navyspindle::Lit;
+    ///
+    /// assert_eq!(Lit::parse(r#"c"a\n""#)?.body(), Some(r"a\n"));
+    /// # Ok::<(), navyspindle::ParseError>(())
+    /// ```
+    #[must_use]
+    pub fn body(&self) -> Option<&str> {
+        self.body_range().map(|range| &self.text()[range])
+    }
+
+    /// How many `#` stand before the first quote of a raw string; `None` of one that isn't raw, and of what is no string.
+    ///
+    /// ```
+    /// use navyspindle::Lit;
+    ///
+    /// assert_eq!(Lit::parse(r##"br#"a"#"##)?.hashes(), Some(1));
+    /// assert_eq!(Lit::parse(r#"r"a""#)?.hashes(), Some(0));
+    /// assert_eq!(Lit::parse(r#""a""#)?.hashes(), None);
+    /// # Ok::<(), navyspindle::ParseError>(())
+    /// ```
+    #[must_use]
+    pub fn hashes(&self) -> Option<usize> {
+        match self {
+            Lit::Str(literal) => literal.is_raw().then(|| literal.hashes()),
+            Lit::ByteStr(literal) => literal.is_raw().then(|| literal.hashes()),
+            Lit::CStr(literal) => literal.is_raw().then(|| literal.hashes()),
+            _ => None,
+        }
+    }
+
+    /// Whether it is a raw string, of any of the three kinds.
+    ///
+    /// ```
+    /// use navyspindle::Lit;
+    ///
+    /// assert!(Lit::parse(r#"r"a""#)?.is_raw());
+    /// assert!(!Lit::parse("'a'")?.is_raw());
+    /// # Ok::<(), navyspindle::ParseError>(())
+    /// ```
+    #[doc(alias = "is_raw_string")]
+    #[must_use]
+    pub fn is_raw(&self) -> bool {
+        self.hashes().is_some()
     }
 
     /// What stands after the literal proper, in the text's own lifetime.

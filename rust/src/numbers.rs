@@ -19,6 +19,7 @@ use core::str::FromStr;
 /// assert_eq!((base, base.radix(), base.prefix()), (Base::Hexadecimal, 16, "0x"));
 /// # Ok::<(), navyspindle::ParseError>(())
 /// ```
+#[doc(alias = "IntegerBase")]
 #[derive(Clone, Copy, Debug, PartialEq, Eq, PartialOrd, Ord, Hash)]
 pub enum Base {
     /// Base two: `0b1`.
@@ -87,6 +88,8 @@ macro_rules! number_types {
         /// assert_eq!(LitInt::parse("1f64")?.type_suffix(), Some(NumberType::F64));
         /// # Ok::<(), navyspindle::ParseError>(())
         /// ```
+        #[doc(alias = "FloatType")]
+        #[doc(alias = "IntegerType")]
         #[derive(Clone, Copy, Debug, PartialEq, Eq, PartialOrd, Ord, Hash)]
         #[non_exhaustive]
         pub enum NumberType {
@@ -194,10 +197,11 @@ macro_rules! number_type {
 ///
 /// let literal = LitInt::parse("0xFF_u8")?;
 /// assert_eq!(literal.base10_digits(), "255");
-/// assert_eq!(literal.base10_parse::<u8>(), Ok(255));
+/// assert_eq!(literal.value::<u8>(), Ok(255));
 /// assert_eq!((literal.base(), literal.type_suffix()), (Base::Hexadecimal, Some(NumberType::U8)));
 /// # Ok::<(), navyspindle::ParseError>(())
 /// ```
+#[doc(alias = "IntegerLit")]
 #[derive(Clone)]
 #[repr(C)]
 pub struct LitInt<'t> {
@@ -219,11 +223,12 @@ number_type!(LitInt, "12" == 12.0, "-12");
 ///
 /// let literal = LitFloat::parse("1_0.5E+3f64")?;
 /// assert_eq!(literal.base10_digits(), "10.5e3");
-/// assert_eq!(literal.base10_parse::<f64>()?, 10500.0);
+/// assert_eq!(literal.value::<f64>()?, 10500.0);
 /// assert_eq!((literal.integer_part(), literal.fractional_part()), ("1_0", Some("5")));
 /// assert_eq!(literal.exponent_part(), Some("+3"));
 /// # Ok::<(), Box<dyn std::error::Error>>(())
 /// ```
+#[doc(alias = "FloatLit")]
 #[derive(Clone)]
 #[repr(C)]
 pub struct LitFloat<'t> {
@@ -315,6 +320,7 @@ impl<'t> LitInt<'t> {
     /// assert_eq!(LitInt::parse("-0xF_F_u8")?.digits(), "F_F_");
     /// # Ok::<(), navyspindle::ParseError>(())
     /// ```
+    #[doc(alias = "raw_main_part")]
     #[must_use]
     pub fn digits(&self) -> &str {
         integer_parts(&self.text).map_or("", |parts| parts.digits)

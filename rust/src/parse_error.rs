@@ -18,6 +18,7 @@ use core::ops::Range;
 /// let other = ParseErrorKind::Kind { expected: Kind::Int, found: Kind::Float };
 /// assert_eq!(LitInt::parse("1.5").unwrap_err().kind(), other);
 /// ```
+#[doc(alias = "Error")]
 #[derive(Clone, Copy, Debug, PartialEq, Eq, Hash)]
 #[non_exhaustive]
 pub enum ParseErrorKind {
@@ -61,6 +62,7 @@ impl fmt::Display for ParseErrorKind {
 /// assert_eq!((&text[error.range()], &text[error.piece()]), ("}", r"\u{D800}"));
 /// assert_eq!(error.to_string(), "surrogates are no characters at byte 9");
 /// ```
+#[doc(alias = "Error")]
 #[derive(Clone, Copy, Debug, PartialEq, Eq, Hash)]
 pub struct ParseError {
     kind: ParseErrorKind,
@@ -118,6 +120,37 @@ impl ParseError {
         self.kind
     }
 
+    /// The byte where [`range`](ParseError::range) begins, which its message names.
+    ///
+    /// ```
+    /// use navyspindle::Lit;
+    ///
+    /// assert_eq!(Lit::parse(r#""a\qb""#).unwrap_err().at(), 3);
+    /// ```
+    #[must_use]
+    pub fn at(&self) -> usize {
+        self.lo
+    }
+
+    /// The error with its places so many bytes on: in a text where the literal begins there.
+    ///
+    /// ```
+    /// use navyspindle::Lit;
+    ///
+    /// let error = Lit::parse(r#""a\qb""#).unwrap_err().shifted(100);
+    /// assert_eq!((error.range(), error.piece()), (103..104, 102..104));
+    /// assert_eq!(error.to_string(), "unknown escape at byte 103");
+    /// ```
+    #[must_use]
+    pub fn shifted(self, by: usize) -> Self {
+        ParseError {
+            from: self.from + by,
+            lo: self.lo + by,
+            hi: self.hi + by,
+            ..self
+        }
+    }
+
     /// The bytes of the first character that no literal goes on with; none, at the text's end, where the text is too
     /// short. What stands before it begins some literal. Of an integer past 128 bits it is where its digits end, of a literal of
     /// another kind the whole text.
@@ -128,6 +161,7 @@ impl ParseError {
     /// assert_eq!(Lit::parse(r#""a\qb""#).unwrap_err().range(), 3..4);
     /// assert_eq!(Lit::parse(r#""ab"#).unwrap_err().range(), 3..3);
     /// ```
+    #[doc(alias = "span")]
     #[must_use]
     pub fn range(&self) -> Range<usize> {
         self.lo..self.hi

@@ -35,7 +35,8 @@ pub enum SegmentValue<'t> {
 /// use navyspindle::LitStr;
 ///
 /// let literal = LitStr::parse(r#""ab\n""#)?;
-/// assert_eq!(literal.segments().last().unwrap().range, 3..5);
+/// let last = literal.segments().last().unwrap();
+/// assert_eq!((last.range, last.value_range), (3..5, 2..3));
 /// # Ok::<(), navyspindle::ParseError>(())
 /// ```
 #[derive(Clone, Debug, PartialEq, Eq, Hash)]
@@ -43,19 +44,35 @@ pub enum SegmentValue<'t> {
 pub struct Segment<'t> {
     /// Its bytes in the literal's text.
     pub range: Range<usize>,
+    /// The bytes of the literal's value that it stands for: none of a line's end that is dropped.
+    pub value_range: Range<usize>,
     /// What it stands for.
     pub value: SegmentValue<'t>,
 }
 
 /// The segments of a quoted literal, in order: see [`LitStr::segments`](crate::LitStr::segments).
+#[doc(alias = "unescape")]
 #[must_use = "an iterator does nothing until it is asked"]
-pub struct Segments<'t>(pub(crate) rl_reading::Segments<'t>);
+pub struct Segments<'t> {
+    cursor: rl_reading::Segments<'t>,
+    // How many bytes of the value those before stand for.
+    value_at: usize,
+}
+
+impl<'t> Segments<'t> {
+    pub(crate) fn of(cursor: rl_reading::Segments<'t>) -> Self {
+        let value_at = 0;
+        Segments { cursor, value_at }
+    }
+}
 
 impl<'t> Iterator for Segments<'t> {
     type Item = Segment<'t>;
 
     fn next(&mut self) -> Option<Segment<'t>> {
-        let next = self.0.next()?;
+        let next = self.cursor.next()?;
+        let value_at = self.value_at;
+        self.value_at += next.value.len();
         let value = match next.value {
             rl_reading::SegmentValue::Text(text) => SegmentValue::Text(text),
             rl_reading::SegmentValue::Char(c) => SegmentValue::Char(c),
@@ -64,6 +81,7 @@ impl<'t> Iterator for Segments<'t> {
         };
         Some(Segment {
             range: next.lo..next.hi,
+            value_range: value_at..self.value_at,
             value,
         })
     }
@@ -74,7 +92,8 @@ impl FusedIterator for Segments<'_> {}
 /// Where the next segment begins.
 impl fmt::Debug for Segments<'_> {
     fn fmt(&self, f: &mut fmt::Formatter<'_>) -> fmt::Result {
-        f.debug_tuple("Segments").field(&self.0.at()).finish()
+        let at = self.cursor.at();
+        f.debug_tuple("Segments").field(&at).finish()
     }
 }
 
@@ -151,6 +170,41 @@ impl Places {
         }
         lo..self.byte(bytes.end - 1).end
     }
+
+    /// The byte of the value that this byte of the text gives: of an escape the first that it stands for; of a line's end that is
+    /// dropped the one after it; of what stands before the contents the first, and after them the value's end.
+    ///
+    /// ```
+    /// use navyspindle::LitStr;
+    ///
+    /// let places = LitStr::parse(r#""a\x41b""#)?.places();
+    /// assert_eq!((places.value_at(1), places.value_at(4), places.value_at(6)), (0, 1, 2));
+    /// # Ok::<(), navyspindle::ParseError>(())
+    /// ```
+    #[must_use]
+    pub fn value_at(&self, at: usize) -> usize {
+        let after = self
+            .segments
+            .partition_point(|(_, range, _)| range.end <= at);
+        match self.segments.get(after) {
+            Some((begin, range, true)) => begin + at.saturating_sub(range.start),
+            Some((begin, _, false)) => *begin,
+            None => self.end.0,
+        }
+    }
+}
+
+/// The byte of the value that this byte of the text gives.
+pub(crate) fn value_at(mut segments: Segments<'_>, at: usize) -> usize {
+    match segments.find(|segment| at < segment.range.end) {
+        Some(Segment {
+            range,
+            value_range,
+            value: SegmentValue::Text(_),
+        }) => value_range.start + at.saturating_sub(range.start),
+        Some(segment) => segment.value_range.start,
+        None => segments.value_at,
+    }
 }
 
 /// The segments and the places of a struct with a `KIND` and the method `parts`. `$text` is of examples: the first byte of its value
@@ -167,7 +221,7 @@ macro_rules! quoted_type {
             /// long as it goes; an escape; or a line's end that is dropped.
             #[doc = $crate::common::example!($name, $text, "assert_eq!(literal.segments().next().unwrap().range, ", $range, ");")]
             pub fn segments(&self) -> $crate::Segments<'_> {
-                $crate::Segments(self.cursor())
+                $crate::Segments::of(self.cursor())
             }
 
             /// The byte of the literal's text where what gives this byte of the value begins: of text that stands for itself the byte
@@ -178,6 +232,16 @@ macro_rules! quoted_type {
             #[must_use]
             pub fn place_of(&self, byte: usize) -> usize {
                 self.cursor().place_of(byte)
+            }
+
+            /// The byte of the value that this byte of the literal's text gives: of an escape the first that it stands for; of a line's
+            /// end that is dropped the one after it; of what stands before the contents the first, and after them the value's end.
+            ///
+            /// It walks over the literal; [`places`](Self::places) answers many such questions.
+            #[doc = $crate::common::example!($name, $text, "assert_eq!(literal.value_at(literal.place_of(1)), 1);")]
+            #[must_use]
+            pub fn value_at(&self, at: usize) -> usize {
+                $crate::places::value_at(self.segments(), at)
             }
 
             /// The bytes of the literal's text that give these bytes of the value. Where the value's bytes are cut inside a character, so
@@ -278,6 +342,35 @@ mod tests {
                 ),
                 "{text}"
             );
+        }
+    }
+
+    /// Of each byte of the text, by a list of which byte of the value each gives.
+    #[test]
+    fn from_the_text_to_the_value() {
+        let rows: &[(&str, &[usize])] = &[
+            (r#""a\x41bé""#, &[0, 0, 1, 1, 1, 1, 2, 3, 4, 5, 5]),
+            ("\"a\\\n  b\"", &[0, 0, 1, 1, 1, 1, 1, 2, 2]),
+            ("\"\\\n\"", &[0, 0, 0, 0, 0]),
+            (r##"r#"ab"#"##, &[0, 0, 0, 0, 1, 2, 2, 2]),
+            (r#"c"\u{e9}a""#, &[0, 0, 0, 0, 0, 0, 0, 0, 2, 3, 3]),
+            (r"b'\n'", &[0, 0, 0, 0, 1, 1]),
+            (r"'\u{1F600}'", &[0, 0, 0, 0, 0, 0, 0, 0, 0, 0, 4, 4]),
+        ];
+        for (text, values) in rows {
+            let literal = Lit::new(*text);
+            let (places, segments) = (literal.places().unwrap(), || literal.segments().unwrap());
+            let by_places: Vec<usize> = (0..=text.len()).map(|at| places.value_at(at)).collect();
+            assert_eq!(by_places, *values, "{text}");
+            let by_walks = (0..=text.len()).map(|at| super::value_at(segments(), at));
+            assert_eq!(by_walks.collect::<Vec<_>>(), *values, "{text}");
+            let joined: Vec<_> = segments().map(|it| it.value_range).collect();
+            let ends = joined.iter().map(|it| it.end);
+            let starts = core::iter::once(0).chain(ends);
+            assert!(joined
+                .iter()
+                .map(|it| it.start)
+                .eq(starts.take(joined.len())));
         }
     }
 

@@ -5,6 +5,7 @@ use crate::{
 };
 use alloc::format;
 use alloc::string::{String, ToString};
+use alloc::vec::Vec;
 use core::fmt;
 use core::str::FromStr;
 use proc_macro::{Delimiter, Group, Ident, Literal, Punct, Spacing, Span, TokenStream, TokenTree};
@@ -13,7 +14,7 @@ use proc_macro::{Delimiter, Group, Ident, Literal, Punct, Spacing, Span, TokenSt
 ///
 /// ```no_run
 /// extern crate proc_macro;
-/// use navyspindle::{next_literal, Kind, Lit, MacroError};
+/// use navyspindle::{next_of, Lit, LitStr, MacroError};
 /// use proc_macro::TokenStream;
 ///
 /// /// `shout!("a")` is `"A"`.
@@ -23,18 +24,35 @@ use proc_macro::{Delimiter, Group, Ident, Literal, Punct, Spacing, Span, TokenSt
 /// }
 ///
 /// fn shouted(input: TokenStream) -> Result<TokenStream, MacroError> {
-///     let (literal, span) = next_literal(&mut input.into_iter())?;
-///     let Lit::Str(string) = &literal else {
-///         return Err(MacroError::expected(Kind::Str, literal.kind(), span));
-///     };
+///     let (string, span) = next_of::<LitStr>(&mut input.into_iter())?;
 ///     let text = navyspindle::write_str(&string.value().to_uppercase());
 ///     Lit::new(text).to_token_stream(span)
 /// }
 /// ```
 #[derive(Clone, Debug)]
 pub struct MacroError {
-    message: String,
-    span: Span,
+    first: Message,
+    others: Vec<Message>,
+}
+
+/// What one error says, and where the tokens begin and end that it is of.
+#[derive(Clone, Debug)]
+struct Message {
+    text: String,
+    first: Span,
+    last: Span,
+}
+
+impl Message {
+    /// The call of `compile_error!` at the place, which the compiler takes to be from its first token to its last.
+    fn to_compile_error(&self) -> TokenStream {
+        let path: TokenStream = "::core::compile_error!".parse().expect("tokens");
+        let text = TokenTree::from(Literal::string(&self.text));
+        let group = Group::new(Delimiter::Brace, spanned(text, self.last).into());
+        let path = path.into_iter().map(|tree| spanned(tree, self.first));
+        let group = spanned(TokenTree::Group(group), self.last);
+        path.chain([group]).collect()
+    }
 }
 
 impl MacroError {
@@ -47,8 +65,49 @@ impl MacroError {
     /// ```
     #[must_use]
     pub fn new(message: impl fmt::Display, span: Span) -> Self {
-        let message = message.to_string();
-        MacroError { message, span }
+        MacroError::between(message, span, span)
+    }
+
+    /// An error with this message at tokens that stand side by side, from the first one's place to the last one's.
+    ///
+    /// ```no_run
+    /// extern crate proc_macro;
+    /// use navyspindle::MacroError;
+    /// use proc_macro::TokenTree;
+    ///
+    /// fn unexpected(minus: &TokenTree, number: &TokenTree) -> MacroError {
+    ///     MacroError::between("negative number", minus.span(), number.span())
+    /// }
+    /// ```
+    #[must_use]
+    pub fn between(message: impl fmt::Display, first: Span, last: Span) -> Self {
+        let text = message.to_string();
+        MacroError {
+            first: Message { text, first, last },
+            others: Vec::new(),
+        }
+    }
+
+    /// Puts another error after those that it is, so that the compiler reports all of them.
+    ///
+    /// ```no_run
+    /// extern crate proc_macro;
+    /// use navyspindle::{LitInt, MacroError};
+    /// use proc_macro::TokenStream;
+    ///
+    /// /// That each token is an integer, or an error for each that isn't.
+    /// fn integers(input: TokenStream) -> Result<(), MacroError> {
+    ///     let errors = input.into_iter().filter_map(|tree| LitInt::try_from(&tree).err());
+    ///     let all = errors.reduce(|mut all, error| {
+    ///         all.combine(error);
+    ///         all
+    ///     });
+    ///     all.map_or(Ok(()), Err)
+    /// }
+    /// ```
+    pub fn combine(&mut self, other: MacroError) {
+        self.others.push(other.first);
+        self.others.extend(other.others);
     }
 
     /// That a literal of one kind was expected, and one of another found: `expected string literal, found byte literal`.
@@ -62,10 +121,10 @@ impl MacroError {
     /// ```
     #[must_use]
     pub fn expected(expected: Kind, found: Kind, span: Span) -> Self {
-        MacroError::new(format_args!("expected {expected}, found {found}"), span)
+        MacroError::new(Mismatch(expected, found), span)
     }
 
-    /// Where it is.
+    /// Where it is: of several tokens where the first one is, of several errors the first one's.
     ///
     /// ```no_run
     /// extern crate proc_macro;
@@ -74,10 +133,10 @@ impl MacroError {
     /// ```
     #[must_use]
     pub fn span(&self) -> Span {
-        self.span
+        self.first.first
     }
 
-    /// The call of `compile_error!` with the message, at the place: what a macro returns for it.
+    /// The call of `compile_error!` with the message, at the place, or one for each error: what a macro returns for it.
     ///
     /// ```no_run
     /// extern crate proc_macro;
@@ -86,17 +145,15 @@ impl MacroError {
     /// ```
     #[must_use]
     pub fn to_compile_error(&self) -> TokenStream {
-        let path: TokenStream = "::core::compile_error!".parse().expect("tokens");
-        let message = TokenTree::from(Literal::string(&self.message));
-        let group = Group::new(Delimiter::Brace, spanned(message, self.span).into());
-        let trees = path.into_iter().chain([TokenTree::Group(group)]);
-        trees.map(|tree| spanned(tree, self.span)).collect()
+        let messages = core::iter::once(&self.first).chain(&self.others);
+        messages.map(Message::to_compile_error).collect()
     }
 }
 
+/// The message; of several errors the first one's.
 impl fmt::Display for MacroError {
     fn fmt(&self, f: &mut fmt::Formatter<'_>) -> fmt::Result {
-        f.pad(&self.message)
+        f.pad(&self.first.text)
     }
 }
 
@@ -137,6 +194,99 @@ fn parsed(text: String, span: Span) -> Result<Lit<'static>, MacroError> {
 pub fn next_literal(
     tokens: &mut impl Iterator<Item = TokenTree>,
 ) -> Result<(Lit<'static>, Span), MacroError> {
+    next_placed(tokens).map(|placed| (placed.literal, placed.span))
+}
+
+/// Takes the next literal of a macro's input, which has to be of one kind, with its place: as [`next_literal`].
+///
+/// # Errors
+///
+/// No literal stands next, or one of another kind, or an integer past 128 bits. The token is taken then, and of a number its minus;
+/// the error is at both.
+///
+/// ```no_run
+/// extern crate proc_macro;
+/// use navyspindle::{next_of, LitInt, LitStr, MacroError};
+///
+/// /// A string and a number.
+/// fn read(input: proc_macro::TokenStream) -> Result<(String, u8), MacroError> {
+///     let mut tokens = input.into_iter();
+///     let (name, _) = next_of::<LitStr>(&mut tokens)?;
+///     let (number, span) = next_of::<LitInt>(&mut tokens)?;
+///     let number = number.value::<u8>().map_err(|error| MacroError::new(error, span))?;
+///     Ok((name.value().into_owned(), number))
+/// }
+/// ```
+pub fn next_of<L: LitOfKind>(
+    tokens: &mut impl Iterator<Item = TokenTree>,
+) -> Result<(L, Span), MacroError> {
+    let placed = next_placed(tokens)?;
+    let (first, span) = (placed.first, placed.span);
+    let literal = L::try_from(placed.literal).map_err(|other| {
+        let found = other.kind();
+        MacroError::between(Mismatch(L::KIND, found), first, span)
+    });
+    Ok((literal?, span))
+}
+
+/// The words for a literal of one kind where one of another was expected.
+struct Mismatch(Kind, Kind);
+
+impl fmt::Display for Mismatch {
+    fn fmt(&self, f: &mut fmt::Formatter<'_>) -> fmt::Result {
+        let Mismatch(expected, found) = self;
+        write!(f, "expected {expected}, found {found}")
+    }
+}
+
+mod sealed {
+    use crate::Kind;
+
+    /// What `next_of` asks of a struct.
+    pub trait Kinded {
+        const KIND: Kind;
+    }
+}
+
+/// The struct of one kind of literals, which [`next_of`] takes.
+///
+/// ```no_run
+/// extern crate proc_macro;
+/// use navyspindle::{next_of, LitOfKind, MacroError};
+/// use proc_macro::TokenStream;
+///
+/// /// All literals, of one kind.
+/// fn all<L: LitOfKind>(input: TokenStream) -> Result<Vec<L>, MacroError> {
+///     let (mut tokens, mut all) = (input.into_iter().peekable(), Vec::new());
+///     while tokens.peek().is_some() {
+///         all.push(next_of::<L>(&mut tokens)?.0);
+///     }
+///     Ok(all)
+/// }
+/// ```
+pub trait LitOfKind: sealed::Kinded + TryFrom<Lit<'static>, Error = Lit<'static>> {}
+
+/// A literal, where it begins, with its minus, and where its own token stands.
+struct Placed {
+    literal: Lit<'static>,
+    first: Span,
+    span: Span,
+}
+
+impl Placed {
+    /// A literal without a minus.
+    fn at(literal: Lit<'static>, span: Span) -> Placed {
+        let first = span;
+        Placed {
+            literal,
+            first,
+            span,
+        }
+    }
+}
+
+/// Takes the next literal.
+fn next_placed(tokens: &mut impl Iterator<Item = TokenTree>) -> Result<Placed, MacroError> {
     let Some(tree) = tokens.next() else {
         return Err(MacroError::new(
             "unexpected end of input, expected literal",
@@ -150,29 +300,35 @@ pub fn next_literal(
 }
 
 /// The literal of a minus, which stands there, and the tree after it.
-fn negative(tree: Option<TokenTree>, minus: Span) -> Result<(Lit<'static>, Span), MacroError> {
+fn negative(tree: Option<TokenTree>, minus: Span) -> Result<Placed, MacroError> {
     let tree = tree.ok_or_else(|| MacroError::new("expected literal", minus))?;
-    let (number, span) = literal_of(&tree)?;
-    match number {
-        Lit::Int(_) | Lit::Float(_) | Lit::Verbatim(_) if !number.text().starts_with('-') => {
-            Ok((parsed(format!("-{number}"), span)?, span))
+    let Placed { literal, span, .. } = literal_of(&tree)?;
+    let error = |message: &dyn fmt::Display| MacroError::between(message, minus, span);
+    match literal {
+        Lit::Int(_) | Lit::Float(_) | Lit::Verbatim(_) if !literal.text().starts_with('-') => {
+            let literal = Lit::try_from(format!("-{literal}")).map_err(|it| error(&it.kind()))?;
+            Ok(Placed {
+                literal,
+                first: minus,
+                span,
+            })
         }
-        _ => Err(MacroError::new("expected a number after the minus", span)),
+        _ => Err(error(&"expected a number after the minus")),
     }
 }
 
 /// The literal that the tree is, and its place: that of its token, where it stands in a group.
-fn literal_of(tree: &TokenTree) -> Result<(Lit<'static>, Span), MacroError> {
+fn literal_of(tree: &TokenTree) -> Result<Placed, MacroError> {
     let expected = || MacroError::new("expected literal", tree.span());
     match tree {
-        TokenTree::Literal(literal) => Ok((Lit::try_from(literal)?, literal.span())),
+        TokenTree::Literal(literal) => Ok(Placed::at(Lit::try_from(literal)?, literal.span())),
         TokenTree::Ident(word) => {
             let literal = LitBool::try_from(word.to_string()).map_err(|_| expected())?;
-            Ok((Lit::Bool(literal), word.span()))
+            Ok(Placed::at(Lit::Bool(literal), word.span()))
         }
         TokenTree::Group(group) if group.delimiter() == Delimiter::None => {
             let mut inside = group.stream().into_iter();
-            let literal = next_literal(&mut inside)?;
+            let literal = next_placed(&mut inside)?;
             match inside.next() {
                 Some(tree) => Err(MacroError::new("expected literal", tree.span())),
                 None => Ok(literal),
@@ -197,7 +353,7 @@ impl TryFrom<&TokenTree> for Lit<'static> {
     type Error = MacroError;
 
     fn try_from(tree: &TokenTree) -> Result<Self, MacroError> {
-        literal_of(tree).map(|(literal, _)| literal)
+        literal_of(tree).map(|placed| placed.literal)
     }
 }
 
@@ -243,6 +399,12 @@ macro_rules! of_kinds {
     ($($name:ident $variant:ident)*) => {$(
         of_tree!(Literal, $name, $variant);
         of_tree!(TokenTree, $name, $variant);
+
+        impl sealed::Kinded for $name<'static> {
+            const KIND: Kind = Kind::$variant;
+        }
+
+        impl LitOfKind for $name<'static> {}
 
         impl $name<'_> {
             /// The literal as tokens at this place: see [`Lit::to_token_stream`].

@@ -1,30 +1,47 @@
 //! Settings that a reader knows, asked for by name.
 
-use crate::error::ErrorKind;
+use crate::common::shifted;
+use crate::error::SyntaxErrorKind;
 use crate::lit::Lit;
-use crate::parse_error::{ParseError, ParseErrorKind};
-use crate::settings::{settings, Entry, SettingsError};
+use crate::parse_error::ParseError;
+use crate::settings::{settings, Entry, SettingsSyntaxError};
+use crate::value::{Number, ValueError};
 use alloc::borrow::Cow;
 use alloc::string::{String, ToString};
 use alloc::vec::Vec;
 use core::fmt;
 use core::ops::Range;
-use core::str::FromStr;
 
 /// A setting that a reader knows. Its two texts are what messages say of it.
 ///
 /// ```
 /// use navyspindle::Setting;
 ///
-/// let port = Setting { name: "port", expected: "an integer from 0 to 65535" };
-/// assert_eq!(port.to_string(), "port: expected an integer from 0 to 65535");
+/// const PORT: Setting = Setting::new("port", "an integer from 0 to 65535");
+/// assert_eq!(PORT.to_string(), "port: expected an integer from 0 to 65535");
 /// ```
 #[derive(Clone, Copy, Debug, PartialEq, Eq, Hash)]
+#[non_exhaustive]
 pub struct Setting {
     /// The name.
     pub name: &'static str,
     /// What its value has to be, such as `an integer from 0 to 65535`.
     pub expected: &'static str,
+}
+
+impl Setting {
+    /// The setting of this name, whose value has to be what is said.
+    ///
+    /// ```
+    /// use navyspindle::Setting;
+    ///
+    /// const HOST: Setting = Setting::new("host", "a string");
+    /// assert_eq!((HOST.name, HOST.expected), ("host", "a string"));
+    /// ```
+    #[must_use]
+    pub const fn new(name: &'static str, expected: &'static str) -> Self {
+        Setting { name, expected }
+    }
 }
 
 /// The name, and what was expected of its value.
@@ -39,7 +56,7 @@ impl fmt::Display for Setting {
 /// ```
 /// use navyspindle::{Setting, SettingErrorKind, Settings};
 ///
-/// let port = Setting { name: "port", expected: "an integer from 0 to 65535" };
+/// let port = Setting::new("port", "an integer from 0 to 65535");
 /// let read = Settings::read("port = true")?;
 /// assert_eq!(*read.number::<u16>(port).unwrap_err().kind(), SettingErrorKind::Kind(port));
 /// # Ok::<(), navyspindle::SettingError>(())
@@ -48,19 +65,19 @@ impl fmt::Display for Setting {
 #[non_exhaustive]
 pub enum SettingErrorKind {
     /// The text is no settings.
-    Text(ErrorKind),
+    Text(SyntaxErrorKind),
     /// This name stood before.
     Repeated(String),
     /// This name is none of the known ones.
     Unknown(String),
-    /// Rust rejects the value: it is no literal, or only `syn` reads it as one.
-    Literal(Setting, ParseErrorKind),
-    /// The value has a suffix.
+    /// Rust rejects the value: it is no literal, or only `syn` reads it as one. The error's places are in the value's own text.
+    Literal(Setting, ParseError),
+    /// The value of a string has a suffix.
     Suffix(Setting),
     /// The value is a literal of another kind than was expected.
     Kind(Setting),
-    /// The value was rejected by the type that it was to become, which says this.
-    Value(Setting, String),
+    /// The number is none of the type that it was to become. The error's place is in the value's own text.
+    Value(Setting, ValueError),
     /// The setting isn't set.
     Missing(Setting),
 }
@@ -69,12 +86,15 @@ impl fmt::Display for SettingErrorKind {
     fn fmt(&self, f: &mut fmt::Formatter<'_>) -> fmt::Result {
         match self {
             SettingErrorKind::Text(kind) => kind.fmt(f),
-            SettingErrorKind::Repeated(name) => write!(f, "{} `{name}`", ErrorKind::Repeated),
+            SettingErrorKind::Repeated(name) => write!(f, "{} `{name}`", SyntaxErrorKind::Repeated),
             SettingErrorKind::Unknown(name) => write!(f, "unknown name `{name}`"),
-            SettingErrorKind::Literal(setting, kind) => write!(f, "{setting}: {kind}"),
+            SettingErrorKind::Literal(setting, error) => write!(f, "{setting}: {}", error.kind()),
             SettingErrorKind::Suffix(setting) => write!(f, "{setting}: unexpected suffix"),
             SettingErrorKind::Kind(setting) => setting.fmt(f),
-            SettingErrorKind::Value(setting, reason) => write!(f, "{setting}: {reason}"),
+            SettingErrorKind::Value(setting, error) => {
+                write!(f, "{setting}: ")?;
+                error.write_reason(f)
+            }
             SettingErrorKind::Missing(setting) => write!(f, "missing {setting}"),
         }
     }
@@ -85,10 +105,10 @@ impl fmt::Display for SettingErrorKind {
 /// ```
 /// use navyspindle::{Setting, Settings};
 ///
-/// let port = Setting { name: "port", expected: "an integer from 0 to 65535" };
+/// let port = Setting::new("port", "an integer from 0 to 65535");
 /// let error = Settings::read("port = 70000")?.number::<u16>(port).unwrap_err();
 /// assert_eq!(error.range(), 7..12);
-/// let words = "port: expected an integer from 0 to 65535: number too large to fit in target type at byte 7";
+/// let words = "port: expected an integer from 0 to 65535: number that u16 doesn't hold at byte 7";
 /// assert_eq!(error.to_string(), words);
 /// # Ok::<(), navyspindle::SettingError>(())
 /// ```
@@ -119,13 +139,33 @@ impl SettingError {
     /// ```
     /// use navyspindle::{Setting, Settings};
     ///
-    /// let host = Setting { name: "host", expected: "a string" };
+    /// let host = Setting::new("host", "a string");
     /// assert_eq!(Settings::read(r#"host = "a\qb""#)?.string(host).unwrap_err().range(), 10..11);
     /// # Ok::<(), navyspindle::SettingError>(())
     /// ```
+    #[doc(alias = "span")]
     #[must_use]
     pub fn range(&self) -> Range<usize> {
         self.range.clone()
+    }
+}
+
+impl SettingError {
+    /// The error with its place so many bytes on: in a text of which this one is a part that begins there.
+    ///
+    /// ```
+    /// use navyspindle::Settings;
+    ///
+    /// let error = Settings::read("prt = 1")?.check(&[]).unwrap_err();
+    /// assert_eq!(error.shifted(100).range(), 100..103);
+    /// # Ok::<(), navyspindle::SettingError>(())
+    /// ```
+    #[must_use]
+    pub fn shifted(self, by: usize) -> Self {
+        SettingError {
+            range: shifted(self.range, by),
+            ..self
+        }
     }
 }
 
@@ -135,11 +175,20 @@ impl fmt::Display for SettingError {
     }
 }
 
-impl core::error::Error for SettingError {}
+/// Its source is the error of the literal, or of the value.
+impl core::error::Error for SettingError {
+    fn source(&self) -> Option<&(dyn core::error::Error + 'static)> {
+        match &self.kind {
+            SettingErrorKind::Literal(_, error) => Some(error),
+            SettingErrorKind::Value(_, error) => Some(error),
+            _ => None,
+        }
+    }
+}
 
 /// As `Repeated` or `Text`.
-impl From<SettingsError> for SettingError {
-    fn from(error: SettingsError) -> Self {
+impl From<SettingsSyntaxError> for SettingError {
+    fn from(error: SettingsSyntaxError) -> Self {
         let (kind, range) = (error.kind(), error.range());
         let kind = match error.into_name() {
             Some(name) => SettingErrorKind::Repeated(name),
@@ -157,8 +206,8 @@ impl From<SettingsError> for SettingError {
 /// ```
 /// use navyspindle::{Setting, SettingError, Settings};
 ///
-/// const HOST: Setting = Setting { name: "host", expected: "a string" };
-/// const PORT: Setting = Setting { name: "port", expected: "an integer from 0 to 65535" };
+/// const HOST: Setting = Setting::new("host", "a string");
+/// const PORT: Setting = Setting::new("port", "an integer from 0 to 65535");
 ///
 /// fn server(text: &str) -> Result<(String, u16), SettingError> {
 ///     let read = Settings::read(text)?;
@@ -184,10 +233,10 @@ impl<'t> Settings<'t> {
     /// `Text` and `Repeated`: those of [`settings`].
     ///
     /// ```
-    /// use navyspindle::{ErrorKind, Part, SettingErrorKind, Settings};
+    /// use navyspindle::{Part, SettingErrorKind, Settings, SyntaxErrorKind};
     ///
     /// assert_eq!(Settings::read("a = 1, b = 2")?.entries().len(), 2);
-    /// let kind = SettingErrorKind::Text(ErrorKind::Expected(Part::Comma));
+    /// let kind = SettingErrorKind::Text(SyntaxErrorKind::Expected(Part::Comma));
     /// assert_eq!(*Settings::read("a = 1 a").unwrap_err().kind(), kind);
     /// # Ok::<(), navyspindle::SettingError>(())
     /// ```
@@ -233,7 +282,7 @@ impl<'t> Settings<'t> {
     /// ```
     /// use navyspindle::{Setting, Settings};
     ///
-    /// let port = Setting { name: "port", expected: "an integer" };
+    /// let port = Setting::new("port", "an integer");
     /// let error = Settings::read("port = 1, prt = 2")?.check(&[port]).unwrap_err();
     /// assert_eq!(error.to_string(), "unknown name `prt` at byte 10");
     /// # Ok::<(), navyspindle::SettingError>(())
@@ -258,7 +307,7 @@ impl<'t> Settings<'t> {
     /// ```
     /// use navyspindle::{Setting, Settings};
     ///
-    /// let host = Setting { name: "host", expected: "a string" };
+    /// let host = Setting::new("host", "a string");
     /// assert_eq!(Settings::read(r#"host = "a\x2eb""#)?.string(host)?.as_deref(), Some("a.b"));
     /// assert_eq!(Settings::read("")?.string(host)?, None);
     /// let error = Settings::read("host = 1")?.string(host).unwrap_err();
@@ -266,41 +315,48 @@ impl<'t> Settings<'t> {
     /// # Ok::<(), navyspindle::SettingError>(())
     /// ```
     pub fn string(&self, setting: Setting) -> Result<Option<Cow<'_, str>>, SettingError> {
-        self.value_of(setting, |value| match value {
+        self.value_of(setting, |entry| match &entry.value {
+            Lit::Str(literal) if !literal.suffix().is_empty() => {
+                let suffix = literal.suffix_range();
+                Err((SettingErrorKind::Suffix(setting), range_in(entry, suffix)))
+            }
             Lit::Str(literal) => Ok(literal.value()),
-            _ => Err(SettingErrorKind::Kind(setting)),
+            _ => Err(no_such(setting, entry)),
         })
     }
 
-    /// The number that an integer or a float is, as its type reads its digits in base ten; `None` where the setting isn't set.
+    /// The number that an integer or a float is, as Rust takes the literal for the type ([`LitInt::value`](crate::LitInt::value),
+    /// [`LitFloat::value`](crate::LitFloat::value)); `None` where the setting isn't set.
     ///
     /// # Errors
     ///
-    /// The value is no number (`Kind`), Rust rejects it (`Literal`), it has a suffix, or the type rejects it (`Value`): a float where
-    /// the type is of integers, or a number that it doesn't hold.
+    /// The value is no number (`Kind`), Rust rejects it (`Literal`), or it is none of the type (`Value`): its suffix is another one's, it
+    /// is a float where the type is of integers, or an integer without a suffix where it is of floats, or the type doesn't hold it.
     ///
     /// ```
     /// use navyspindle::{Setting, Settings};
     ///
-    /// let port = Setting { name: "port", expected: "an integer from 0 to 65535" };
+    /// let port = Setting::new("port", "an integer from 0 to 65535");
     /// assert_eq!(Settings::read("port = 0x1F_90")?.number::<u16>(port)?, Some(8080));
     /// assert_eq!(Settings::read("")?.number::<u16>(port)?, None);
+    /// assert_eq!(Settings::read("port = 80u16")?.number::<u16>(port)?, Some(80));
     /// assert_eq!(Settings::read("port = -1.5")?.number::<f64>(port)?, Some(-1.5));
     /// assert!(Settings::read("port = -1")?.number::<u16>(port).is_err());
+    /// assert!(Settings::read("port = 80u8")?.number::<u16>(port).is_err());
+    /// assert!(Settings::read("port = 1e400")?.number::<f64>(port).is_err());
     /// # Ok::<(), navyspindle::SettingError>(())
     /// ```
-    pub fn number<N: FromStr>(&self, setting: Setting) -> Result<Option<N>, SettingError>
-    where
-        N::Err: fmt::Display,
-    {
-        self.value_of(setting, |value| {
-            let digits = match value {
-                Lit::Int(literal) => literal.base10_digits(),
-                Lit::Float(literal) => literal.base10_digits(),
-                _ => return Err(SettingErrorKind::Kind(setting)),
+    pub fn number<N: Number>(&self, setting: Setting) -> Result<Option<N>, SettingError> {
+        self.value_of(setting, |entry| {
+            let number = match &entry.value {
+                Lit::Int(literal) => literal.value(),
+                Lit::Float(literal) => literal.value(),
+                _ => return Err(no_such(setting, entry)),
             };
-            let number = digits.parse();
-            number.map_err(|error: N::Err| SettingErrorKind::Value(setting, error.to_string()))
+            number.map_err(|error| {
+                let range = range_in(entry, error.range());
+                (SettingErrorKind::Value(setting, error), range)
+            })
         })
     }
 
@@ -313,16 +369,16 @@ impl<'t> Settings<'t> {
     /// ```
     /// use navyspindle::{Setting, Settings};
     ///
-    /// let verbose = Setting { name: "verbose", expected: "true or false" };
+    /// let verbose = Setting::new("verbose", "true or false");
     /// assert_eq!(Settings::read("verbose = true")?.truth(verbose)?, Some(true));
     /// assert_eq!(Settings::read("")?.truth(verbose)?, None);
     /// assert!(Settings::read("verbose = 1")?.truth(verbose).is_err());
     /// # Ok::<(), navyspindle::SettingError>(())
     /// ```
     pub fn truth(&self, setting: Setting) -> Result<Option<bool>, SettingError> {
-        self.value_of(setting, |value| match value {
+        self.value_of(setting, |entry| match &entry.value {
             Lit::Bool(literal) => Ok(literal.value()),
-            _ => Err(SettingErrorKind::Kind(setting)),
+            _ => Err(no_such(setting, entry)),
         })
     }
 
@@ -331,7 +387,7 @@ impl<'t> Settings<'t> {
     /// ```
     /// use navyspindle::{Setting, SettingErrorKind, Settings};
     ///
-    /// let host = Setting { name: "host", expected: "a string" };
+    /// let host = Setting::new("host", "a string");
     /// let read = Settings::read("port = 1")?;
     /// let error = read.string(host)?.ok_or_else(|| read.missing(host)).unwrap_err();
     /// assert_eq!((error.kind(), error.range()), (&SettingErrorKind::Missing(host), 8..8));
@@ -346,49 +402,40 @@ impl<'t> Settings<'t> {
         }
     }
 
-    /// What a setting's value is taken as, which Rust takes and which has no suffix; `None` where the setting isn't set.
+    /// What a setting is taken as, whose value Rust takes; `None` where it isn't set.
     fn value_of<'s, V>(
         &'s self,
         setting: Setting,
-        take: impl FnOnce(&'s Lit<'t>) -> Result<V, SettingErrorKind>,
+        take: impl FnOnce(&'s Entry<'t>) -> Result<V, (SettingErrorKind, Range<usize>)>,
     ) -> Result<Option<V>, SettingError> {
         let Some(entry) = self.get(setting.name) else {
             return Ok(None);
         };
-        check_value(setting, entry)?;
-        let range = entry.value_range.clone();
-        match take(&entry.value) {
+        let taken = match entry.value.check() {
+            Ok(()) => take(entry),
+            Err(error) => {
+                let range = range_in(entry, error.range());
+                Err((SettingErrorKind::Literal(setting, error), range))
+            }
+        };
+        match taken {
             Ok(value) => Ok(Some(value)),
-            Err(kind) => Err(SettingError { kind, range }),
+            Err((kind, range)) => Err(SettingError { kind, range }),
         }
     }
 }
 
-/// That Rust takes the setting's value, and that it has no suffix.
-fn check_value(setting: Setting, entry: &Entry<'_>) -> Result<(), SettingError> {
-    if let Err(error) = entry.value.check() {
-        return Err(SettingError {
-            kind: SettingErrorKind::Literal(setting, error.kind()),
-            range: range_in(entry, error),
-        });
-    }
-    let suffix = entry.value.suffix().len();
-    if suffix == 0 {
-        return Ok(());
-    }
-    let end = entry.value_range.end;
-    Err(SettingError {
-        kind: SettingErrorKind::Suffix(setting),
-        range: end - suffix..end,
-    })
+/// That the entry's value is a literal of another kind than was expected.
+fn no_such(setting: Setting, entry: &Entry<'_>) -> (SettingErrorKind, Range<usize>) {
+    (SettingErrorKind::Kind(setting), entry.value_range.clone())
 }
 
-/// Where an error of the entry's value stands in the text of the settings: all of the value where white space or a comment stands
+/// Where bytes of the entry's value stand in the text of the settings: all of the value where white space or a comment stands
 /// after its minus, which is none of the literal's text.
-fn range_in(entry: &Entry<'_>, error: ParseError) -> Range<usize> {
-    let (value, range) = (entry.value_range.clone(), error.range());
+fn range_in(entry: &Entry<'_>, bytes: Range<usize>) -> Range<usize> {
+    let value = entry.value_range.clone();
     if value.len() == entry.value.text().len() {
-        value.start + range.start..value.start + range.end
+        shifted(bytes, value.start)
     } else {
         value
     }
@@ -397,12 +444,10 @@ fn range_in(entry: &Entry<'_>, error: ParseError) -> Range<usize> {
 #[cfg(test)]
 mod tests {
     use super::*;
-    use crate::FlawKind;
+    use crate::{FlawKind, ParseErrorKind, ValueErrorKind};
+    use core::error::Error;
 
-    const PORT: Setting = Setting {
-        name: "port",
-        expected: "an integer",
-    };
+    const PORT: Setting = Setting::new("port", "an integer");
 
     fn rejected(text: &str) -> (SettingErrorKind, Range<usize>) {
         let read = Settings::read(text).expect("settings");
@@ -412,20 +457,45 @@ mod tests {
 
     #[test]
     fn errors_say_what_is_wrong_with_a_value_and_where() {
+        let flaw = |text| {
+            let (kind, range) = rejected(text);
+            let SettingErrorKind::Literal(PORT, error) = kind else {
+                panic!("{text}: {kind:?}")
+            };
+            (error.kind(), range)
+        };
+        let digit = ParseErrorKind::Flaw(FlawKind::DigitOfBase);
+        assert_eq!(flaw("a = 1, port = 0b12"), (digit, 17..18));
+        let exponent = ParseErrorKind::Flaw(FlawKind::NoExponentDigit);
+        assert_eq!(flaw("port = - 1e"), (exponent, 7..11));
+        let kind = SettingErrorKind::Kind(PORT);
+        assert_eq!(rejected("port = 'a'"), (kind, 7..10));
+        let read = Settings::read("port = \"a\"b").expect("settings");
+        let error = read.string(PORT).expect_err("a suffix");
         let suffix = SettingErrorKind::Suffix(PORT);
-        assert_eq!(rejected("port = 1u8"), (suffix, 8..10));
-        let flaw = |kind| SettingErrorKind::Literal(PORT, ParseErrorKind::Flaw(kind));
-        let digit = flaw(FlawKind::DigitOfBase);
-        assert_eq!(rejected("a = 1, port = 0b12"), (digit, 17..18));
-        let exponent = flaw(FlawKind::NoExponentDigit);
-        assert_eq!(rejected("port = - 1e"), (exponent, 7..11));
-        assert_eq!(
-            rejected("port = 'a'"),
-            (SettingErrorKind::Kind(PORT), 7..10)
-        );
-        let (kind, range) = rejected("port = 256");
-        assert!(matches!(kind, SettingErrorKind::Value(PORT, _)));
-        assert_eq!(range, 7..10);
+        assert_eq!((error.kind(), error.range()), (&suffix, 10..11));
+    }
+
+    #[test]
+    fn numbers_are_judged_as_the_types_own_literals() {
+        let value = |text| {
+            let (kind, range) = rejected(text);
+            let SettingErrorKind::Value(PORT, error) = kind else {
+                panic!("{text}: {kind:?}")
+            };
+            (error.kind(), range)
+        };
+        assert_eq!(value("port = 256"), (ValueErrorKind::OutOfRange, 7..10));
+        assert_eq!(value("port = 1u16"), (ValueErrorKind::Suffix, 8..11));
+        assert_eq!(value("port = -1"), (ValueErrorKind::Minus, 7..8));
+        assert_eq!(value("port = - 1"), (ValueErrorKind::Minus, 7..10));
+        assert_eq!(value("port = 1.5"), (ValueErrorKind::Form, 7..10));
+        let read = Settings::read("port = 1e400").expect("settings");
+        let error = read.number::<f64>(PORT).expect_err("an infinity");
+        let source = error.source().expect("the value's error").to_string();
+        assert_eq!(source, "number that f64 doesn't hold at byte 0");
+        let words = "port: expected an integer: number that f64 doesn't hold at byte 7";
+        assert_eq!(error.to_string(), words);
     }
 
     #[test]

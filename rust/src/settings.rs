@@ -1,6 +1,7 @@
 //! Settings: names that are set to literals, with commas between.
 
-use crate::error::{range_at, ErrorKind};
+use crate::common::shifted;
+use crate::error::{range_at, SyntaxErrorKind};
 use crate::list::placed;
 use crate::lit::Lit;
 use crate::rl_lexer::{LexError, Lexeme, Tokens};
@@ -36,17 +37,17 @@ pub struct Entry<'t> {
 /// assert_eq!(error.to_string(), "repeated name `port` at byte 10");
 /// ```
 #[derive(Clone, Debug, PartialEq, Eq, Hash)]
-pub struct SettingsError {
-    kind: ErrorKind,
+pub struct SettingsSyntaxError {
+    kind: SyntaxErrorKind,
     range: Range<usize>,
     name: Option<String>,
 }
 
-impl SettingsError {
+impl SettingsSyntaxError {
     /// The lexer's error, at its token.
     #[cold]
-    fn of_lexer(text: &str, error: LexError) -> SettingsError {
-        SettingsError {
+    fn of_lexer(text: &str, error: LexError) -> SettingsSyntaxError {
+        SettingsSyntaxError {
             kind: lexer_error(error.kind),
             range: range_at(text, error.at),
             name: None,
@@ -55,9 +56,9 @@ impl SettingsError {
 
     /// That the name stood before.
     #[cold]
-    fn repeated(name: Lexeme<'_>) -> SettingsError {
-        SettingsError {
-            kind: ErrorKind::Repeated,
+    fn repeated(name: Lexeme<'_>) -> SettingsSyntaxError {
+        SettingsSyntaxError {
+            kind: SyntaxErrorKind::Repeated,
             range: name.lo..name.hi,
             name: Some(String::from(name.text)),
         }
@@ -66,13 +67,13 @@ impl SettingsError {
     /// What is wrong.
     ///
     /// ```
-    /// use navyspindle::{settings, ErrorKind, Part};
+    /// use navyspindle::{settings, SyntaxErrorKind, Part};
     ///
-    /// assert_eq!(settings("a = 1 b").unwrap_err().kind(), ErrorKind::Expected(Part::Comma));
-    /// assert_eq!(settings("a =").unwrap_err().kind(), ErrorKind::EndOfInput(Part::Literal));
+    /// assert_eq!(settings("a = 1 b").unwrap_err().kind(), SyntaxErrorKind::Expected(Part::Comma));
+    /// assert_eq!(settings("a =").unwrap_err().kind(), SyntaxErrorKind::EndOfInput(Part::Literal));
     /// ```
     #[must_use]
-    pub fn kind(&self) -> ErrorKind {
+    pub fn kind(&self) -> SyntaxErrorKind {
         self.kind
     }
 
@@ -83,9 +84,24 @@ impl SettingsError {
     /// assert_eq!(navyspindle::settings("a = 1 b").unwrap_err().range(), 6..7);
     /// assert_eq!(navyspindle::settings("a = 'b").unwrap_err().range(), 4..6);
     /// ```
+    #[doc(alias = "span")]
     #[must_use]
     pub fn range(&self) -> Range<usize> {
         self.range.clone()
+    }
+
+    /// The error with its place so many bytes on: in a text of which this one is a part that begins there.
+    ///
+    /// ```
+    /// let error = navyspindle::settings("a = 1 b").unwrap_err();
+    /// assert_eq!(error.shifted(100).range(), 106..107);
+    /// ```
+    #[must_use]
+    pub fn shifted(self, by: usize) -> Self {
+        SettingsSyntaxError {
+            range: shifted(self.range, by),
+            ..self
+        }
     }
 
     /// The name that stood before.
@@ -94,7 +110,7 @@ impl SettingsError {
     }
 }
 
-impl fmt::Display for SettingsError {
+impl fmt::Display for SettingsSyntaxError {
     fn fmt(&self, f: &mut fmt::Formatter<'_>) -> fmt::Result {
         let at = self.range.start;
         match &self.name {
@@ -104,7 +120,7 @@ impl fmt::Display for SettingsError {
     }
 }
 
-impl core::error::Error for SettingsError {}
+impl core::error::Error for SettingsSyntaxError {}
 
 /// The settings of a text, in their order: each a name, `=` and a literal, with a comma between two and perhaps after the last.
 /// White space and plain comments may stand anywhere between. No two have one name.
@@ -120,13 +136,13 @@ impl core::error::Error for SettingsError {}
 /// let text = "host = \"a\", // the server\nport = 8080,";
 /// let entries = settings(text)?;
 /// let Lit::Int(port) = &entries[1].value else { panic!() };
-/// assert_eq!((entries[1].name, port.base10_parse::<u16>()), ("port", Ok(8080)));
+/// assert_eq!((entries[1].name, port.value::<u16>()), ("port", Ok(8080)));
 /// assert_eq!(LineIndex::new(text).line_column(entries[1].value_range.start).to_string(), "2:8");
-/// # Ok::<(), navyspindle::SettingsError>(())
+/// # Ok::<(), navyspindle::SettingsSyntaxError>(())
 /// ```
-pub fn settings(text: &str) -> Result<Vec<Entry<'_>>, SettingsError> {
+pub fn settings(text: &str) -> Result<Vec<Entry<'_>>, SettingsSyntaxError> {
     if let Some(error) = first_error(text) {
-        return Err(SettingsError::of_lexer(text, error));
+        return Err(SettingsSyntaxError::of_lexer(text, error));
     }
     let mut tokens = Tokens::new(text);
     let (mut entries, mut names) = (Vec::new(), BTreeSet::new());
@@ -135,7 +151,7 @@ pub fn settings(text: &str) -> Result<Vec<Entry<'_>>, SettingsError> {
             SettingStep::End => return Ok(entries),
             SettingStep::Setting(next) => {
                 if !names.insert(next.name.text) {
-                    return Err(SettingsError::repeated(next.name));
+                    return Err(SettingsSyntaxError::repeated(next.name));
                 }
                 entries.push(entry_of(text, next));
             }
@@ -158,10 +174,10 @@ fn entry_of<'t>(text: &'t str, next: NextSetting<'t>) -> Entry<'t> {
 
 /// Why no setting stands next, after these names: its own stood before, or what the step returns.
 #[cold]
-fn rejected(names: &BTreeSet<&str>, rejection: SettingRejection<'_>) -> SettingsError {
+fn rejected(names: &BTreeSet<&str>, rejection: SettingRejection<'_>) -> SettingsSyntaxError {
     match rejection.name {
-        Some(name) if names.contains(name.text) => SettingsError::repeated(name),
-        _ => SettingsError {
+        Some(name) if names.contains(name.text) => SettingsSyntaxError::repeated(name),
+        _ => SettingsSyntaxError {
             kind: rejection.error.kind,
             range: rejection.error.lo..rejection.error.hi,
             name: None,

@@ -2,7 +2,8 @@
 //!
 //! There are two of it, with the same names and answers. In `words` eight lanes are a number. Of the arrays in `vectors` the
 //! compiler makes vector instructions; but where nothing is optimized, as in procedural macros, they cost many times as much. So
-//! the programs have these, where the target has vectors, and all else has numbers.
+//! literals are read by numbers. Whole sources are passed over by vectors where the target has some, but not where debug
+//! assertions tell that nothing is optimized, nor with the feature `proc-macro`. The programs have vectors for all.
 
 /// The types of one of the two, over arrays of these items, and the operators that `$each` makes of theirs.
 macro_rules! lane_types {
@@ -48,23 +49,42 @@ macro_rules! lane_types {
     };
 }
 
-// With the feature the target decides which one is used.
-#[cfg(any(test, feature = "rendered"))]
-#[cfg_attr(feature = "rendered", allow(dead_code))]
+// The target and the features decide which one is used.
+#[allow(dead_code)]
 mod vectors;
-#[cfg_attr(feature = "rendered", allow(dead_code))]
+#[allow(dead_code)]
 mod words;
 
 #[cfg(all(
     feature = "rendered",
     any(target_feature = "sse2", target_feature = "neon")
 ))]
-pub(crate) use vectors::{u8x16, Simd};
+pub(crate) use vectors::Simd;
 #[cfg(not(all(
     feature = "rendered",
     any(target_feature = "sse2", target_feature = "neon")
 )))]
-pub(crate) use words::{u8x16, Simd};
+pub(crate) use words::Simd;
+
+/// The lanes of what passes over whole sources.
+pub(crate) mod wide {
+    #[cfg(all(
+        any(
+            feature = "rendered",
+            not(any(debug_assertions, feature = "proc-macro"))
+        ),
+        any(target_feature = "sse2", target_feature = "neon")
+    ))]
+    pub(crate) use super::vectors::u8x16;
+    #[cfg(not(all(
+        any(
+            feature = "rendered",
+            not(any(debug_assertions, feature = "proc-macro"))
+        ),
+        any(target_feature = "sse2", target_feature = "neon")
+    )))]
+    pub(crate) use super::words::u8x16;
+}
 
 /// The lowest bit of each of eight bytes.
 const LOWEST: u64 = 0x0101_0101_0101_0101;

@@ -104,6 +104,7 @@ string_type! {
     /// assert_eq!((literal.body(), literal.suffix()), (r"a\x41\n", "q"));
     /// # Ok::<(), navyspindle::ParseError>(())
     /// ```
+    #[doc(alias = "StringLit")]
     LitStr, Str, r#""a"_s"#, r##"r#"a\n"#"##, r#""a\x41""#, "1..2", "2"
 }
 
@@ -116,6 +117,7 @@ string_type! {
     /// assert_eq!(*LitByteStr::parse(r#"b"a\xFF""#)?.value(), *b"a\xFF");
     /// # Ok::<(), navyspindle::ParseError>(())
     /// ```
+    #[doc(alias = "ByteStringLit")]
     LitByteStr, ByteStr, r#"b"a"_s"#, r##"br#"a\n"#"##, r#"b"a\x41""#, "2..3", "3"
 }
 
@@ -128,6 +130,7 @@ string_type! {
     /// assert_eq!(LitCStr::parse(r#"c"a\n""#)?.c_string().as_c_str(), c"a\n");
     /// # Ok::<(), navyspindle::ParseError>(())
     /// ```
+    #[doc(alias = "CStringLit")]
     LitCStr, CStr, r#"c"a"_s"#, r##"cr#"a\n"#"##, r#"c"a\x41""#, "2..3", "3"
 }
 

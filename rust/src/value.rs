@@ -1,5 +1,6 @@
 //! Numbers as values of Rust's types.
 
+use crate::common::shifted;
 use crate::numbers::{Base, LitFloat, LitInt, NumberType};
 use core::fmt;
 use core::ops::Range;
@@ -118,26 +119,45 @@ impl ValueError {
     /// ```
     /// assert_eq!(navyspindle::LitInt::parse("10k").unwrap().value::<u8>().unwrap_err().range(), 2..3);
     /// ```
+    #[doc(alias = "span")]
     #[must_use]
     pub fn range(&self) -> Range<usize> {
         self.range.clone()
+    }
+
+    /// The error with its place so many bytes on: in a text where the literal begins there.
+    ///
+    /// ```
+    /// let error = navyspindle::LitInt::parse("10k").unwrap().value::<u8>().unwrap_err();
+    /// assert_eq!(error.shifted(100).range(), 102..103);
+    /// ```
+    #[must_use]
+    pub fn shifted(self, by: usize) -> Self {
+        ValueError {
+            range: shifted(self.range, by),
+            ..self
+        }
+    }
+
+    /// What is wrong, in words without the place.
+    pub(crate) fn write_reason(&self, f: &mut fmt::Formatter<'_>) -> fmt::Result {
+        let wanted = self.wanted;
+        match self.kind {
+            ValueErrorKind::Suffix => write!(f, "suffix that isn't {wanted}"),
+            ValueErrorKind::Form if wanted.is_float() => {
+                write!(f, "integer where {wanted} is wanted")
+            }
+            ValueErrorKind::Form => write!(f, "float where {wanted} is wanted"),
+            ValueErrorKind::Minus => write!(f, "minus before a number of {wanted}"),
+            ValueErrorKind::OutOfRange => write!(f, "number that {wanted} doesn't hold"),
+        }
     }
 }
 
 impl fmt::Display for ValueError {
     fn fmt(&self, f: &mut fmt::Formatter<'_>) -> fmt::Result {
-        let (wanted, at) = (self.wanted, self.range.start);
-        match self.kind {
-            ValueErrorKind::Suffix => write!(f, "suffix that isn't {wanted} at byte {at}"),
-            ValueErrorKind::Form if wanted.is_float() => {
-                write!(f, "integer where {wanted} is wanted at byte {at}")
-            }
-            ValueErrorKind::Form => write!(f, "float where {wanted} is wanted at byte {at}"),
-            ValueErrorKind::Minus => write!(f, "minus before a number of {wanted} at byte {at}"),
-            ValueErrorKind::OutOfRange => {
-                write!(f, "number that {wanted} doesn't hold at byte {at}")
-            }
-        }
+        self.write_reason(f)?;
+        write!(f, " at byte {}", self.range.start)
     }
 }
 

@@ -12,6 +12,7 @@ use alloc::borrow::Cow;
 /// assert!(LitBool::parse("true")?.value());
 /// # Ok::<(), navyspindle::ParseError>(())
 /// ```
+#[doc(alias = "BoolLit")]
 #[derive(Clone)]
 #[repr(C)]
 pub struct LitBool<'t> {

@@ -34,6 +34,8 @@ fn written(len: usize, write: impl FnOnce(&mut [u8]) -> usize) -> String {
 /// ```
 /// assert_eq!(navyspindle::write_str("a\t\"é\u{1}"), r#""a\t\"é\x01""#);
 /// ```
+#[doc(alias = "escape_default")]
+#[doc(alias = "string")]
 #[must_use]
 pub fn write_str(value: &str) -> String {
     written(value.len(), |out| write_str_into(value, out))
@@ -44,6 +46,7 @@ pub fn write_str(value: &str) -> String {
 /// ```
 /// assert_eq!(navyspindle::write_byte_str(b"a\n\xff"), r#"b"a\n\xFF""#);
 /// ```
+#[doc(alias = "byte_string")]
 #[must_use]
 pub fn write_byte_str(value: &[u8]) -> String {
     written(value.len(), |out| {
@@ -56,6 +59,7 @@ pub fn write_byte_str(value: &[u8]) -> String {
 /// ```
 /// assert_eq!(navyspindle::write_c_str(c"a\n"), r#"c"a\n""#);
 /// ```
+#[doc(alias = "c_string")]
 #[must_use]
 pub fn write_c_str(value: &CStr) -> String {
     let bytes = value.to_bytes();
@@ -67,6 +71,7 @@ pub fn write_c_str(value: &CStr) -> String {
 /// ```
 /// assert_eq!(navyspindle::write_byte(b'\''), r"b'\''");
 /// ```
+#[doc(alias = "byte_character")]
 #[must_use]
 pub fn write_byte(value: u8) -> String {
     written(1, |out| write_bytes_into(Kind::Byte, &[value], out))
@@ -77,6 +82,7 @@ pub fn write_byte(value: u8) -> String {
 /// ```
 /// assert_eq!(navyspindle::write_char('\n'), r"'\n'");
 /// ```
+#[doc(alias = "character")]
 #[must_use]
 pub fn write_char(value: char) -> String {
     written(1, |out| write_char_into(value, out))

@@ -1,6 +1,6 @@
 //! How sources are cut at quotes: the bytes of their literals, and the byte of the first quote that isn't closed.
 
-use navyspindle::{source, ErrorKind};
+use navyspindle::{source, SyntaxErrorKind};
 
 type Row = (&'static str, &'static [(usize, usize)], Option<usize>);
 
@@ -79,7 +79,7 @@ fn quotes_in_sources() {
                 Err(it) => error = Some((it.kind(), it.at())),
             }
         }
-        let expected = unclosed.map(|at| (ErrorKind::UnclosedQuote, at));
+        let expected = unclosed.map(|at| (SyntaxErrorKind::UnclosedQuote, at));
         assert_eq!((&*found, error), (literals, expected), "{text:?}");
     }
 }

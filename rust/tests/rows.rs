@@ -1,8 +1,8 @@
 //! Rows of texts and what they stand for.
 
 use navyspindle::{
-    is_token, literals, settings, source, write_str, ErrorKind, FlawKind, Kind, Lit, LitBool,
-    LitByte, LitByteStr, LitChar, LitFloat, LitInt, LitStr, NumberType, ParseErrorKind,
+    is_token, literals, settings, source, write_str, FlawKind, Kind, Lit, LitBool, LitByte,
+    LitByteStr, LitChar, LitFloat, LitInt, LitStr, NumberType, ParseErrorKind, SyntaxErrorKind,
 };
 use std::borrow::Cow;
 use std::collections::HashSet;
@@ -305,23 +305,26 @@ fn each_kind() {
 #[test]
 fn each_error() {
     let rows = [
-        ("word", ErrorKind::NoLiteral),
-        ("-word", ErrorKind::NoNumber),
-        ("/// d", ErrorKind::DocComment),
-        ("/* ", ErrorKind::UnclosedComment),
-        ("\"a", ErrorKind::UnclosedQuote),
-        ("'a", ErrorKind::Lifetime),
-        ("r#a", ErrorKind::RawIdentifier),
-        ("\u{0}", ErrorKind::StrayCharacter),
-        (")", ErrorKind::UnmatchedClose),
-        ("(", ErrorKind::Group),
+        ("word", SyntaxErrorKind::NoLiteral),
+        ("-word", SyntaxErrorKind::NoNumber),
+        ("/// d", SyntaxErrorKind::DocComment),
+        ("/* ", SyntaxErrorKind::UnclosedComment),
+        ("\"a", SyntaxErrorKind::UnclosedQuote),
+        ("'a", SyntaxErrorKind::Lifetime),
+        ("r#a", SyntaxErrorKind::RawIdentifier),
+        ("\u{0}", SyntaxErrorKind::StrayCharacter),
+        (")", SyntaxErrorKind::UnmatchedClose),
+        ("(", SyntaxErrorKind::Group),
     ];
     for (text, kind) in rows {
         let text = format!("1 {text}");
         let error = literals(&text).nth(1).unwrap().unwrap_err();
         assert_eq!((error.kind(), error.at()), (kind, 2), "{text}");
         let in_source = source(&text).find_map(Result::err);
-        let stays = matches!(kind, ErrorKind::UnclosedComment | ErrorKind::UnclosedQuote);
+        let stays = matches!(
+            kind,
+            SyntaxErrorKind::UnclosedComment | SyntaxErrorKind::UnclosedQuote
+        );
         assert_eq!(in_source, stays.then_some(error), "{text}");
     }
     assert_eq!(HashSet::from(rows.map(|row| row.1)).len(), 10);
@@ -355,7 +358,7 @@ fn plain_bodies_are_borrowed() {
 
 #[test]
 fn a_list() {
-    type Read = Result<Vec<(usize, usize, String)>, (ErrorKind, usize)>;
+    type Read = Result<Vec<(usize, usize, String)>, (SyntaxErrorKind, usize)>;
     let read = |text: &str| -> Read {
         literals(text)
             .map(|item| match item {
@@ -380,21 +383,21 @@ fn a_list() {
         read("-1 - 2.5f32 -/**/3"),
         Ok(vec![of(0, 2, "-1"), of(3, 11, "-2.5f32"), of(12, 18, "-3")])
     );
-    assert_eq!(read("1, 2"), Err((ErrorKind::NoLiteral, 1)));
-    assert_eq!(read("1 word"), Err((ErrorKind::NoLiteral, 2)));
-    assert_eq!(read("1 -"), Err((ErrorKind::NoNumber, 2)));
-    assert_eq!(read("1 (2)"), Err((ErrorKind::Group, 2)));
-    assert_eq!(read("[1"), Err((ErrorKind::Group, 0)));
-    assert_eq!(read("1 -{"), Err((ErrorKind::NoNumber, 2)));
-    assert_eq!(read("1 @"), Err((ErrorKind::NoLiteral, 2)));
-    assert_eq!(read("1 )"), Err((ErrorKind::UnmatchedClose, 2)));
-    assert_eq!(read("]"), Err((ErrorKind::UnmatchedClose, 0)));
-    assert_eq!(read("1 /* "), Err((ErrorKind::UnclosedComment, 2)));
-    assert_eq!(read("1 /// d"), Err((ErrorKind::DocComment, 2)));
-    assert_eq!(read("1 \"a"), Err((ErrorKind::UnclosedQuote, 2)));
-    assert_eq!(read("1 'a"), Err((ErrorKind::Lifetime, 2)));
-    assert_eq!(read("1 r#a"), Err((ErrorKind::RawIdentifier, 2)));
-    assert_eq!(read("1 \u{0}"), Err((ErrorKind::StrayCharacter, 2)));
+    assert_eq!(read("1, 2"), Err((SyntaxErrorKind::NoLiteral, 1)));
+    assert_eq!(read("1 word"), Err((SyntaxErrorKind::NoLiteral, 2)));
+    assert_eq!(read("1 -"), Err((SyntaxErrorKind::NoNumber, 2)));
+    assert_eq!(read("1 (2)"), Err((SyntaxErrorKind::Group, 2)));
+    assert_eq!(read("[1"), Err((SyntaxErrorKind::Group, 0)));
+    assert_eq!(read("1 -{"), Err((SyntaxErrorKind::NoNumber, 2)));
+    assert_eq!(read("1 @"), Err((SyntaxErrorKind::NoLiteral, 2)));
+    assert_eq!(read("1 )"), Err((SyntaxErrorKind::UnmatchedClose, 2)));
+    assert_eq!(read("]"), Err((SyntaxErrorKind::UnmatchedClose, 0)));
+    assert_eq!(read("1 /* "), Err((SyntaxErrorKind::UnclosedComment, 2)));
+    assert_eq!(read("1 /// d"), Err((SyntaxErrorKind::DocComment, 2)));
+    assert_eq!(read("1 \"a"), Err((SyntaxErrorKind::UnclosedQuote, 2)));
+    assert_eq!(read("1 'a"), Err((SyntaxErrorKind::Lifetime, 2)));
+    assert_eq!(read("1 r#a"), Err((SyntaxErrorKind::RawIdentifier, 2)));
+    assert_eq!(read("1 \u{0}"), Err((SyntaxErrorKind::StrayCharacter, 2)));
 }
 
 #[test]
@@ -449,7 +452,7 @@ fn what_has_no_reading() {
     assert!(Lit::parse(past).is_err());
     let negative = format!("-{past}");
     let error = literals(&negative).next().unwrap().unwrap_err();
-    assert_eq!((error.kind(), error.at()), (ErrorKind::NoNumber, 0));
+    assert_eq!((error.kind(), error.at()), (SyntaxErrorKind::NoNumber, 0));
 }
 
 #[test]

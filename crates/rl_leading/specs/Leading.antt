@@ -2,7 +2,7 @@
 use Rattle.std.specs.Prelude.{◌≡◌, ◌⊎◌, ℕ, List, ◌∷◌, ◌++◌, Some}
 use Rattle.std.specs.Str.{chars}
 use Prim.Native.Char.{code}
-use Rattle.rl_forms.specs.Reading.{HasNoReading}
+use Rattle.rl_text.specs.Texts.{IsTail}
 use Rattle.rl_lexer.specs.Sources.{SourceKind, SourceBefore, IsLiteralText}
 use Rattle.rl_reading.specs.declared.found.Found.{Found}
 use Rattle.rl_reading.specs.Founds.{IsFound}
@@ -14,10 +14,12 @@ pub record Leads (text : List ℕ) (l : LeadingLiteral) : Type 0 where
   pub kind : SourceKind
   pub begins : SourceBefore (chars text) kind (chars l.following.now)
   pub is_literal : IsLiteralText kind (chars l.text.now)
-  pub text_is : text ≡ l.text.now ++ l.following.now
+  pub bytes_are : text ≡ l.text.now ++ l.following.now
+  pub chars_are : chars text ≡ chars l.text.now ++ chars l.following.now
+  pub following : IsTail text l.following.now
   pub reading : FindsReading l.text.now l.found
 
--- no literal is the first token of the text, whatever follows
+-- no literal is the first token of the text
 abbrev pub LeadsNone : List ℕ → Type 0
 LeadsNone text = (l : LeadingLiteral) → Leads text l → ⊥
 
@@ -33,8 +35,11 @@ pub record LeadsNegative (text : List ℕ) (l : LeadingLiteral) : Type 0 where
   pub is_found : IsFound l.text.now found
   pub found_is : l.found ≡ Some found
 
+abbrev pub LeadsNoNegative : List ℕ → Type 0
+LeadsNoNegative text = (l : LeadingLiteral) → LeadsNegative text l → ⊥
+
 abbrev pub LeadsSigned : List ℕ → LeadingLiteral → Type 0
 LeadsSigned text l = Leads text l ⊎ LeadsNegative text l
 
 abbrev pub LeadsNoneSigned : List ℕ → Type 0
-LeadsNoneSigned text = (l : LeadingLiteral) → LeadsSigned text l → ⊥
+LeadsNoneSigned text = LeadsNone text × LeadsNoNegative text

@@ -1,10 +1,13 @@
 //! The literal at the front of a text, with or without a minus.
 
-ghost use Rattle.std.specs.Prelude.{◌≡◌, IfSome, IfNone};
-ghost use Rattle.rl_leading.specs.Leading.{Leads, LeadsNone, LeadsSigned, LeadsNoneSigned};
+ghost use Rattle.std.specs.Prelude.{◌≡◌, ◌<◌, ◌++◌, length, IfSome, IfNone};
+ghost use Rattle.std.specs.Str.{chars};
+ghost use Rattle.rl_text.specs.Texts.{IsTail};
+ghost use Rattle.rl_leading.specs.Leading.{Leads, LeadsNone, LeadsNegative, LeadsSigned, LeadsNoneSigned, LeadsNoNegative};
 
-use rl_lexer::Sources;
+use rl_lexer::{SourceToken, first_source};
 use rl_reading::{Found, find, find_negative};
+use rl_text::text::strip_byte;
 
 /// The literal that a text begins with.
 #[derive(Clone, Copy)]
@@ -17,18 +20,34 @@ pub struct LeadingLiteral<'t> {
     pub following: &'t str,
 }
 
+/// The text in front of what follows there.
+#[inline(always)]
+fn before<'t>(text: &'t str, following: &str) -> &'t str
+    requires { IsTail text.now following.now }
+    ensures bytes { text.now ≡ result.now ++ following.now }
+    ensures chars { chars text.now ≡ chars result.now ++ chars following.now }
+{
+    &text[..text.len() - following.len()]
+}
+
 /// The literal token that the text begins with, as a source is cut, or the word `true` or `false`; what reading it finds, and
 /// what follows it. `None` where another token begins the text, or none, or white space or a comment. It takes time by the
 /// token's length.
 pub fn leading_literal(text: &str) -> Option<LeadingLiteral<'_>>
-    ensures leads { IfSome result (Leads text.now) }
+    ensures leads { IfSome result (λ l. Leads text.now l) }
     ensures none { IfNone result (LeadsNone text.now) }
 {
-    let token = Sources::resume(text, text).next()?;
+    let (form, following) = first_source(text)?;
+    let literal = before(text, following);
+    let token = SourceToken {
+        form,
+        text: literal,
+        lo: 0,
+        hi: literal.len(),
+    };
     if !token.is_literal() {
         return None;
     }
-    let (literal, following) = text.split_at(token.text.len());
     Some(LeadingLiteral {
         text: literal,
         found: find(literal),
@@ -36,20 +55,28 @@ pub fn leading_literal(text: &str) -> Option<LeadingLiteral<'_>>
     })
 }
 
-/// What [`leading_literal`] returns, and also a minus and the number right after it, where they read together.
-pub fn leading_signed(text: &str) -> Option<LeadingLiteral<'_>>
-    ensures leads { IfSome result (LeadsSigned text.now) }
-    ensures none { IfNone result (LeadsNoneSigned text.now) }
+/// A minus and the number right after it, where they begin the text and read together.
+fn leading_negative(text: &str) -> Option<LeadingLiteral<'_>>
+    ensures leads { IfSome result (λ l. LeadsNegative text.now l) }
+    ensures none { IfNone result (LeadsNoNegative text.now) }
 {
-    let Some(unsigned) = text.strip_prefix('-') else {
-        return leading_literal(text);
-    };
+    let unsigned = strip_byte(text, b'-')?;
     let number = leading_literal(unsigned)?;
     let found = find_negative(number.text)?;
-    let (literal, following) = text.split_at(number.text.len() + 1);
     Some(LeadingLiteral {
-        text: literal,
+        text: before(text, number.following),
         found: Some(found),
-        following,
+        following: number.following,
     })
+}
+
+/// What [`leading_literal`] returns, or a minus and the number right after it, where they read together.
+pub fn leading_signed(text: &str) -> Option<LeadingLiteral<'_>>
+    ensures leads { IfSome result (λ l. LeadsSigned text.now l) }
+    ensures none { IfNone result (LeadsNoneSigned text.now) }
+{
+    match leading_literal(text) {
+        Some(literal) => Some(literal),
+        None => leading_negative(text),
+    }
 }

@@ -1,6 +1,6 @@
 //! Procedural macros that read literals, for the tests.
 
-use navyspindle::{next_literal, write_str, Kind, Lit, LitStr, MacroError};
+use navyspindle::{next_literal, next_of, write_str, Lit, LitInt, LitStr, MacroError};
 use proc_macro::{Span, TokenStream, TokenTree};
 use std::iter::Peekable;
 
@@ -83,13 +83,12 @@ pub fn sum(input: TokenStream) -> TokenStream {
 }
 
 fn sum_of(input: TokenStream) -> Result<TokenStream, MacroError> {
-    let mut sum = 0_i128;
-    for (literal, span) in literals_of(input)? {
-        let Lit::Int(int) = &literal else {
-            return Err(MacroError::expected(Kind::Int, literal.kind(), span));
-        };
+    let (mut tokens, mut sum) = (input.into_iter().peekable(), 0_i128);
+    while tokens.peek().is_some() {
+        let (int, span) = next_of::<LitInt>(&mut tokens)?;
         let number = int.base10_parse::<i128>();
         sum += number.map_err(|error| MacroError::new(error, span))?;
+        take_comma(&mut tokens)?;
     }
     Lit::new(sum.to_string()).to_token_stream(Span::call_site())
 }
@@ -117,4 +116,41 @@ pub fn sum_error(input: TokenStream) -> TokenStream {
             tokens_of(&write_str(&error.to_string()))
         }
     }
+}
+
+/// The error of each literal of the input that is no string, commas between them; none where all are.
+fn no_strings(input: TokenStream) -> Result<(), MacroError> {
+    let (mut tokens, mut errors) = (input.into_iter().peekable(), Vec::new());
+    while tokens.peek().is_some() {
+        errors.extend(next_of::<LitStr>(&mut tokens).err());
+        take_comma(&mut tokens)?;
+    }
+    let all = errors.into_iter().reduce(|mut all, error| {
+        all.combine(error);
+        all
+    });
+    all.map_or(Ok(()), Err)
+}
+
+/// Nothing where each literal of the input is a string, or the errors of the others.
+#[proc_macro]
+pub fn strings(input: TokenStream) -> TokenStream {
+    or_error(no_strings(input).map(|()| TokenStream::new()))
+}
+
+/// The calls of `compile_error!` that the macro `strings` returns: of each the message, and the tokens of the input where its place
+/// begins and ends, as an array of triples.
+#[proc_macro]
+pub fn strings_errors(input: TokenStream) -> TokenStream {
+    let trees: Vec<TokenTree> = strings(input).into_iter().collect();
+    let source = |tree: &TokenTree| write_str(&tree.span().source_text().expect("a source"));
+    // `::core::compile_error!{..}` has eight trees.
+    let shown = trees.chunks(8).map(|call| match call {
+        [first, .., TokenTree::Group(message)] => {
+            let (first, last) = (source(first), source(&call[7]));
+            format!("({}, {first}, {last}),", message.stream())
+        }
+        _ => panic!("no call of compile_error"),
+    });
+    tokens_of(&format!("[{}]", shown.collect::<String>()))
 }

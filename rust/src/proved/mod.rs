@@ -2,6 +2,7 @@
 
 pub mod rl_file_reasons;
 pub mod rl_forms;
+pub mod rl_leading;
 pub mod rl_lexer;
 pub mod rl_parts;
 pub mod rl_reading;

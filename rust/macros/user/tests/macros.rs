@@ -1,6 +1,6 @@
 //! Literals as rustc hands them to procedural macros.
 
-use navyspindle_macros::{again, hex_bytes, literals, sum, sum_error};
+use navyspindle_macros::{again, hex_bytes, literals, strings, strings_errors, sum, sum_error};
 
 /// Passes a literal on, in a group without delimiters.
 macro_rules! passed {
@@ -98,5 +98,47 @@ fn errors() {
     assert_eq!(
         sum_error!(340282366920938463463374607431768211455),
         "number too large to fit in target type"
+    );
+}
+
+#[test]
+fn several_errors() {
+    strings!("a", r"b", "c");
+    let errors = strings_errors!("a", 1u8, "b", -0x10, 'c');
+    let expected = [
+        (
+            "expected string literal, found integer literal",
+            "1u8",
+            "1u8",
+        ),
+        (
+            "expected string literal, found integer literal",
+            "-",
+            "0x10",
+        ),
+        (
+            "expected string literal, found character literal",
+            "'c'",
+            "'c'",
+        ),
+    ];
+    assert_eq!(errors, expected);
+    let none: [(&str, &str, &str); 0] = strings_errors!("a");
+    assert_eq!(none, []);
+}
+
+#[test]
+fn errors_after_a_minus_have_its_place_too() {
+    let [(message, first, last)] = strings_errors!(-"a");
+    assert_eq!(message, "expected a number after the minus");
+    assert_eq!((first, last), ("-", "\"a\""));
+    // The number is no literal by itself.
+    let [(_, first, last)] = strings_errors!(-340282366920938463463374607431768211456);
+    assert_eq!(
+        (first, last),
+        (
+            "340282366920938463463374607431768211456",
+            "340282366920938463463374607431768211456"
+        )
     );
 }

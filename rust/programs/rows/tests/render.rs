@@ -29,6 +29,8 @@ fn copy_of_sources(to: &Path) {
         "crates.txt".into(),
         "tools/render".into(),
         "tools/std_methods.txt".into(),
+        "tools/inlining.py".into(),
+        "tools/inlining.txt".into(),
         "tools/uncalled.py".into(),
         "tools/uncalled.txt".into(),
         "rust/src/simd".into(),
@@ -139,5 +141,36 @@ fn what_names_nothing() {
         assert!(words.contains(said), "{new}: {words}");
     }
     assert_eq!(rejected(&folder, list, "body_unit", "body_unit"), None);
+    fs::remove_dir_all(&folder).unwrap();
+}
+
+/// An entry of what the compiler inlines by itself, whose file or function isn't there, or isn't always inlined; and a line that is none.
+#[test]
+fn what_is_inlined_nowhere() {
+    let folder = folder_for("inlining");
+    let list = "tools/inlining.txt";
+    for (old, new, said) in [
+        (
+            "strict.rs skip_inside",
+            "strictly.rs skip_inside",
+            "strictly.rs",
+        ),
+        (
+            "strict.rs skip_inside",
+            "strict.rs skip_outside",
+            "skip_outside",
+        ),
+        (
+            "strict.rs skip_inside",
+            "strict.rs skip_units",
+            "skip_units",
+        ),
+        ("skip_inside: ", "skip_inside ", "no entry"),
+    ] {
+        let words =
+            rejected(&folder, list, old, new).unwrap_or_else(|| panic!("{new} is rendered"));
+        assert!(words.contains(said), "{new}: {words}");
+    }
+    assert_eq!(rejected(&folder, list, "skip_inside", "skip_inside"), None);
     fs::remove_dir_all(&folder).unwrap();
 }

@@ -37,7 +37,8 @@ fn skip_blanks(text: &str) -> &str {
 }
 
 /// The text after an escape, by the text after its backslash.
-#[inline(always)]
+#[cfg_attr(debug_assertions, inline)]
+#[cfg_attr(not(debug_assertions), inline(always))]
 fn skip_escape(kind: Kind, following: &str) -> Option<&str> {
     let (first, after) = split_char(following)?;
     if first == '\n' {
@@ -52,7 +53,8 @@ fn skip_escape(kind: Kind, following: &str) -> Option<&str> {
 }
 
 /// The text after the unit at the front, which isn't a character that stands for itself: `None` where no unit stands there.
-#[inline(always)]
+#[cfg_attr(debug_assertions, inline)]
+#[cfg_attr(not(debug_assertions), inline(always))]
 fn skip_escaped(kind: Kind, text: &str) -> Option<&str> {
     let (first, after) = split_char(text)?;
     if first == '\\' {

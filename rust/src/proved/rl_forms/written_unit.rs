@@ -20,7 +20,8 @@ fn escaped_closer(kind: Kind) -> &'static str {
 }
 
 /// What a character or a byte is written as in a literal of the kind, where that is a backslash and one character.
-#[inline(always)]
+#[cfg_attr(debug_assertions, inline)]
+#[cfg_attr(not(debug_assertions), inline(always))]
 fn named_escape(kind: Kind, c: char) -> Option<&'static str> {
     match c {
         '\0' => Some("\\0"),

@@ -30,7 +30,8 @@ pub enum Form {
 
 /// The form of the lexeme that the text begins with, and the rest after it. `None` where there is no such lexeme. Most tokens
 /// of a list are numbers, words and marks, which are recognized without a call.
-#[inline(always)]
+#[cfg_attr(debug_assertions, inline)]
+#[cfg_attr(not(debug_assertions), inline(always))]
 pub(crate) fn first_lexeme(text: &str) -> Option<(Form, &str)> {
     if let Some(following) = after_number(text) {
         return Some((Form::Literal, following));
@@ -119,7 +120,8 @@ fn literal_or_identifier(letter: char, text: &str) -> Option<(Form, &str)> {
 
 /// The form of the lexeme that the text begins with, and the rest after it, where the first byte of ASCII decides it, or that
 /// and the next: an identifier that begins as no literal does, a delimiter, or a mark that begins no comment. `None` says nothing.
-#[inline(always)]
+#[cfg_attr(debug_assertions, inline)]
+#[cfg_attr(not(debug_assertions), inline(always))]
 pub(crate) fn word_or_mark(text: &str) -> Option<(Form, &str)> {
     let (byte, following) = split_ascii(text)?;
     match lead_of(byte) {
@@ -149,7 +151,8 @@ enum Lead {
 }
 
 /// What begins with a character of ASCII. A bit for each of 64 says whether it is one of a class.
-#[inline(always)]
+#[cfg_attr(debug_assertions, inline)]
+#[cfg_attr(not(debug_assertions), inline(always))]
 fn lead_of(byte: u8) -> Lead {
     if byte < 64 {
         if has_bit(LOW_MARKS, byte) {

@@ -15,7 +15,8 @@ pub struct LineColumn {
 }
 
 /// The place after a character that stands at a place.
-#[inline(always)]
+#[cfg_attr(debug_assertions, inline)]
+#[cfg_attr(not(debug_assertions), inline(always))]
 fn next_place(place: LineColumn, c: char) -> LineColumn {
     if c == '\n' {
         return LineColumn {

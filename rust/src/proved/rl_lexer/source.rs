@@ -31,9 +31,11 @@ pub enum SourceForm {
     Stray,
 }
 
-/// The form of the token that the text begins with, and the rest after it. `None` where none does.
+/// What the token is that a text begins with, as a source is cut, and the rest of the text after it. `None` where no token begins
+/// it: at its end, and where a comment or a quoted literal is opened that isn't closed. White space and plain comments are no
+/// tokens; [`skip`](crate::rl_lexer::whitespace::skip) passes them.
 #[inline(always)]
-pub(crate) fn first_source(text: &str) -> Option<(SourceForm, &str)> {
+pub fn first_source(text: &str) -> Option<(SourceForm, &str)> {
     if let Some((form, following)) = word_or_mark(text) {
         return Some((SourceForm::Token(form), following));
     }
@@ -148,7 +150,8 @@ fn ended(form: SourceForm, following: Option<&str>) -> Option<(SourceForm, &str)
 }
 
 /// What follows a doc comment, by what stands after its first slash: of a line its LF.
-#[inline(always)]
+#[cfg_attr(debug_assertions, inline)]
+#[cfg_attr(not(debug_assertions), inline(always))]
 fn after_doc(text: &str) -> Option<&str> {
     let Some((second, following)) = split_ascii(text) else {
         return None;

@@ -34,7 +34,8 @@ fn skip_comments(text: &str) -> &str {
 }
 
 /// What follows a plain comment, by what stands after its first slash.
-#[inline(always)]
+#[cfg_attr(debug_assertions, inline)]
+#[cfg_attr(not(debug_assertions), inline(always))]
 fn after_comment(text: &str) -> Option<&str> {
     let Some((second, following)) = split_ascii(text) else {
         return None;
@@ -79,7 +80,8 @@ pub(crate) fn after_line(text: &str) -> &str {
 
 /// What follows a block comment, by what stands after its `/*`. It is a loop over bytes, from mark
 /// to mark, with the number of blocks that are open inside it.
-#[inline(always)]
+#[cfg_attr(debug_assertions, inline)]
+#[cfg_attr(not(debug_assertions), inline(always))]
 pub(crate) fn after_block(text: &str) -> Option<&str> {
     let bytes = text.as_bytes();
     let mut depth: usize = 0;

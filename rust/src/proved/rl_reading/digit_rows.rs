@@ -46,7 +46,8 @@ struct FirstDigits {
 }
 
 /// The digits at the front of the text, as far as 64 bits surely hold what they spell.
-#[inline(always)]
+#[cfg_attr(debug_assertions, inline)]
+#[cfg_attr(not(debug_assertions), inline(always))]
 fn first_digits(text: &str, radix: u32) -> FirstDigits {
     let bytes = text.as_bytes();
     let mut spelled = 0_u64;
@@ -65,7 +66,8 @@ fn first_digits(text: &str, radix: u32) -> FirstDigits {
 /// The digits and underscores at the front of the text.
 ///
 /// It is written into its callers, so that a base that is known there costs no multiplication in full.
-#[inline(always)]
+#[cfg_attr(debug_assertions, inline)]
+#[cfg_attr(not(debug_assertions), inline(always))]
 fn read_row_in(text: &str, radix: u32) -> DigitRow<'_> {
     let bytes = text.as_bytes();
     let first = first_digits(text, radix);
@@ -112,7 +114,8 @@ fn digits_len(text: &str) -> usize {
 }
 
 /// The decimal digits and underscores at the front of the text, with no magnitude.
-#[inline(always)]
+#[cfg_attr(debug_assertions, inline)]
+#[cfg_attr(not(debug_assertions), inline(always))]
 pub fn skip_row(text: &str) -> Skipped<'_> {
     let bytes = text.as_bytes();
     let mut at = digits_len(text);
@@ -194,7 +197,8 @@ impl Tally {
     }
 
     /// With one more digit.
-    #[inline(always)]
+    #[cfg_attr(debug_assertions, inline)]
+    #[cfg_attr(not(debug_assertions), inline(always))]
     pub(crate) fn append_digit(self, radix: u32, digit: u32) -> Tally {
         match self.scale.checked_mul(u64::from(radix)) {
             Some(scale) => Tally {

@@ -203,7 +203,8 @@ pub fn found_in(text: &str) -> Found {
 /// memory is taken.
 ///
 /// It is the reading of [`shape`](crate::rl_reading::shape), with all that was learned on the way.
-#[inline(always)]
+#[cfg_attr(debug_assertions, inline)]
+#[cfg_attr(not(debug_assertions), inline(always))]
 pub fn find(text: &str) -> Option<Found> {
     if begins_character(text) {
         // A bare one is found here, since a call costs as much as its reading.

@@ -60,7 +60,8 @@ fn alone<'t>(token: Lexeme<'t>, found: Option<Found>) -> NextLiteral<'t> {
 }
 
 /// Cuts off the next tokens where they are a literal. `None` where they are none; tokens may be cut off then too.
-#[inline(always)]
+#[cfg_attr(debug_assertions, inline)]
+#[cfg_attr(not(debug_assertions), inline(always))]
 fn take_literal<'t>(tokens: &mut Tokens<'t>) -> Option<NextLiteral<'t>> {
     let token = tokens.next()?;
     match token.form {

@@ -10,7 +10,8 @@ use crate::rl_text::classes::{CharClass, skip_class};
 use crate::rl_text::text::{split_ascii, split_char};
 
 /// The base, and what follows its prefix.
-#[inline(always)]
+#[cfg_attr(debug_assertions, inline)]
+#[cfg_attr(not(debug_assertions), inline(always))]
 pub fn split_radix(text: &str) -> (u32, &str) {
     if let Some((b'0', letter)) = split_ascii(text) {
         match split_ascii(letter) {
@@ -58,7 +59,8 @@ pub struct Integer<'t> {
 }
 
 /// The integer that begins so, if what follows its row may be its suffix.
-#[inline(always)]
+#[cfg_attr(debug_assertions, inline)]
+#[cfg_attr(not(debug_assertions), inline(always))]
 pub(crate) fn integer_of(head: Head<'_>) -> Option<Integer<'_>> {
     let suffix = head.row.rest;
     let is_integer = head.row.has_digit

@@ -49,7 +49,8 @@ fn split_byte_opener(text: &str) -> Option<(QuotedForm, Kind, &str)> {
 }
 
 /// The one form and the one kind that a text can have by its opener, and the text after the opener.
-#[inline(always)]
+#[cfg_attr(debug_assertions, inline)]
+#[cfg_attr(not(debug_assertions), inline(always))]
 pub fn split_opener(text: &str) -> Option<(QuotedForm, Kind, &str)> {
     let (first, rest) = split_ascii(text)?;
     if first == first_of(Kind::Char) {
@@ -189,7 +190,8 @@ pub(crate) fn begins_character(text: &str) -> bool {
 }
 
 /// A character of ASCII between single quotes, which isn't a backslash: `'a'`. It stands for itself.
-#[inline(always)]
+#[cfg_attr(debug_assertions, inline)]
+#[cfg_attr(not(debug_assertions), inline(always))]
 pub(crate) fn find_bare_character(text: &str) -> Option<Found> {
     let bytes = text.as_bytes();
     if bytes[2] != quote_of(Kind::Char) || bytes[1] == b'\\' || bytes[1] >= 128 {

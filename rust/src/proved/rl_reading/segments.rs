@@ -96,7 +96,8 @@ fn value_of<'t>(kind: Kind, piece: Piece) -> SegmentValue<'t> {
 }
 
 /// What the segment at the front of a body is, and the text after it. A plain body is one.
-#[inline(always)]
+#[cfg_attr(debug_assertions, inline)]
+#[cfg_attr(not(debug_assertions), inline(always))]
 fn split_segment(kind: Kind, plain: bool, text: &str) -> (SegmentValue<'_>, &str) {
     if plain {
         return (SegmentValue::Text(text), "");
@@ -162,7 +163,8 @@ impl<'t> Segments<'t> {
 
     /// The segment that gives the byte of the contents that is this far from the next segment on, and which byte it is of
     /// what the segment stands for: `None` where the contents end before it.
-    #[inline(always)]
+    #[cfg_attr(debug_assertions, inline)]
+    #[cfg_attr(not(debug_assertions), inline(always))]
     fn giving(mut self, at: usize) -> Option<(Segment<'t>, usize)> {
         let mut left = at;
         while let Some(segment) = self.next() {

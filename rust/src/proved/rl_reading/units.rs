@@ -125,7 +125,8 @@ pub struct CodeDigits {
 
 /// The digits of a number up to the sixth, and underscores: `first` stands at the place `from`, the others from the place after
 /// it on.
-#[inline(always)]
+#[cfg_attr(debug_assertions, inline)]
+#[cfg_attr(not(debug_assertions), inline(always))]
 fn more_digits(first: u32, text: &str, from: usize, after: usize) -> CodeDigits {
     let mut value = first;
     let mut count = 1_u32;
@@ -169,7 +170,8 @@ fn closed_code(text: &str, digits: CodeDigits) -> Option<(char, usize)> {
 }
 
 /// The character of `\u{..}` from its brace on, and the place after it.
-#[inline(always)]
+#[cfg_attr(debug_assertions, inline)]
+#[cfg_attr(not(debug_assertions), inline(always))]
 fn unicode_escape(kind: Kind, text: &str, at: usize) -> Option<(char, usize)> {
     let Some((b'{', inside)) = ascii_at(text, at) else {
         return None;
@@ -188,7 +190,8 @@ fn skip_blanks(text: &str) -> &str {
 }
 
 /// What the escape stands for whose backslash stands before the place, and the text after it.
-#[inline(always)]
+#[cfg_attr(debug_assertions, inline)]
+#[cfg_attr(not(debug_assertions), inline(always))]
 pub fn escape(kind: Kind, text: &str, at: usize) -> Option<(Piece, &str)> {
     let (letter, after) = ascii_at(text, at)?;
     match letter {
@@ -248,7 +251,8 @@ pub(crate) fn is_ascii(text: &str) -> bool {
 }
 
 /// The characters of ASCII that a string of the kind doesn't take as they are.
-#[inline(always)]
+#[cfg_attr(debug_assertions, inline)]
+#[cfg_attr(not(debug_assertions), inline(always))]
 fn ends_of_runs(kind: Kind) -> Marks {
     let fourth = match kind {
         Kind::CStr => 0,

@@ -56,7 +56,8 @@ fn is_ascii_word(text: &str) -> bool {
 }
 
 /// The suffix that all of the text is.
-#[inline(always)]
+#[cfg_attr(debug_assertions, inline)]
+#[cfg_attr(not(debug_assertions), inline(always))]
 fn read_suffix(text: &str) -> Result<&str, Stop<'_>> {
     if text.is_empty() {
         return Ok(text);
@@ -86,7 +87,8 @@ fn after_sign(text: &str) -> &str {
 }
 
 /// The suffix of the float, from what follows the letter of its exponent.
-#[inline(always)]
+#[cfg_attr(debug_assertions, inline)]
+#[cfg_attr(not(debug_assertions), inline(always))]
 fn read_power(text: &str) -> Result<&str, Stop<'_>> {
     let row = skip_row(after_sign(text));
     if row.has_digit {
@@ -109,7 +111,8 @@ fn read_exponent(text: &str) -> Result<&str, Stop<'_>> {
 }
 
 /// The suffix of the float, from what follows its dot.
-#[inline(always)]
+#[cfg_attr(debug_assertions, inline)]
+#[cfg_attr(not(debug_assertions), inline(always))]
 fn read_fraction(text: &str) -> Result<&str, Stop<'_>> {
     if text.is_empty() {
         Ok(text)
@@ -164,7 +167,7 @@ fn read_based(radix: u32, text: &str) -> Result<Number<'_>, Stop<'_>> {
 }
 
 /// The number that a text that begins with a digit is, all of it.
-#[inline(always)]
+#[inline]
 pub fn read_digits(text: &str) -> Result<Number<'_>, Stop<'_>> {
     let (radix, digits) = split_radix(text);
     if radix == 10 {

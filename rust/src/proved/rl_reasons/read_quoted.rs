@@ -55,7 +55,8 @@ pub fn suffix_flaw<'t>(form: QuotedForm, closing: &'t str, suffix: &'t str) -> O
 }
 
 /// The reading of the text as a string with escapes, by the text after its opener.
-#[inline(always)]
+#[cfg_attr(debug_assertions, inline)]
+#[cfg_attr(not(debug_assertions), inline(always))]
 pub(crate) fn read_cooked<'t>(
     kind: Kind,
     text: &'t str,
@@ -86,7 +87,8 @@ pub struct Single {
 }
 
 /// What the unit of a character or a byte at the front stands for, and the text after it.
-#[inline(always)]
+#[cfg_attr(debug_assertions, inline)]
+#[cfg_attr(not(debug_assertions), inline(always))]
 pub fn split_unit(kind: Kind, text: &str) -> Option<(Piece, &str)> {
     match split_char(text) {
         None => None,
@@ -102,7 +104,8 @@ pub fn split_unit(kind: Kind, text: &str) -> Option<(Piece, &str)> {
 }
 
 /// The reading of the text as a character or a byte, by the text after its opener.
-#[inline(always)]
+#[cfg_attr(debug_assertions, inline)]
+#[cfg_attr(not(debug_assertions), inline(always))]
 pub(crate) fn read_single<'t>(
     kind: Kind,
     text: &'t str,
@@ -148,7 +151,8 @@ fn read_opened<'t>(
 }
 
 /// The reading of the text as a raw string, by the text from its hashes on.
-#[inline(always)]
+#[cfg_attr(debug_assertions, inline)]
+#[cfg_attr(not(debug_assertions), inline(always))]
 pub(crate) fn read_raw<'t>(kind: Kind, text: &'t str, inside: &'t str) -> Result<Body, FlawAt<'t>> {
     let rest = skip_few_hashes(inside);
     let Some((first, opened)) = split_char(rest) else {

@@ -43,7 +43,8 @@ pub enum Front<'t> {
 }
 
 /// The character, where the text is one of ASCII between single quotes that stands for itself: `'a'`.
-#[inline(always)]
+#[cfg_attr(debug_assertions, inline)]
+#[cfg_attr(not(debug_assertions), inline(always))]
 fn bare_of(text: &str) -> Option<u8> {
     let bytes = text.as_bytes();
     if bytes.len() != 3 || bytes[0] != b'\'' || bytes[2] != b'\'' || bytes[1] >= 128 {
@@ -57,7 +58,8 @@ fn bare_of(text: &str) -> Option<u8> {
 }
 
 /// How the text begins.
-#[inline(always)]
+#[cfg_attr(debug_assertions, inline)]
+#[cfg_attr(not(debug_assertions), inline(always))]
 pub fn front_of(text: &str) -> Front<'_> {
     match ascii_at(text, 0) {
         Some((b'"', at)) => Front::Quote(&text[at..]),
@@ -142,7 +144,7 @@ fn read_rare(text: &str) -> Result<Reading, FlawAt<'_>> {
 }
 
 /// The token that the text is, or the flaw by the texts from its places on.
-#[inline(always)]
+#[inline]
 fn read_at(text: &str) -> Result<Reading, FlawAt<'_>> {
     match front_of(text) {
         Front::Quote(inside) => text_at(Kind::Str, text, inside),
@@ -211,7 +213,8 @@ pub fn read(text: &str) -> Result<Reading, Flaw> {
 }
 
 /// The number that stands after a minus; or else why none does, and the text from there on.
-#[inline(always)]
+#[cfg_attr(debug_assertions, inline)]
+#[cfg_attr(not(debug_assertions), inline(always))]
 fn read_minus(number: &str) -> Result<Number<'_>, Stop<'_>> {
     if begins_digit(number) {
         match read_number(number) {
@@ -228,7 +231,8 @@ fn read_minus(number: &str) -> Result<Number<'_>, Stop<'_>> {
 }
 
 /// A minus and the number after it, or why they are none.
-#[inline(always)]
+#[cfg_attr(debug_assertions, inline)]
+#[cfg_attr(not(debug_assertions), inline(always))]
 fn read_negative(text: &str, number: &str) -> Result<Reading, Flaw> {
     match read_minus(number) {
         Ok(read) => Ok(placed(text, read)),

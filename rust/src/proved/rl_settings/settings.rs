@@ -112,7 +112,8 @@ fn is_mark(form: Form, mark: char) -> bool {
 }
 
 /// Cuts off the next token where it is this mark. Where it is another, it may be cut off too.
-#[inline(always)]
+#[cfg_attr(debug_assertions, inline)]
+#[cfg_attr(not(debug_assertions), inline(always))]
 fn take_mark(tokens: &mut Tokens<'_>, end: usize, mark: char, part: Part) -> Result<(), SyntaxError> {
     let before = tokens.fork();
     match tokens.next() {
@@ -155,7 +156,8 @@ fn take_value<'t>(tokens: &mut Tokens<'t>, end: usize) -> Result<NextLiteral<'t>
 }
 
 /// Cuts off the setting that stands next. Where none does, tokens may be cut off too.
-#[inline(always)]
+#[cfg_attr(debug_assertions, inline)]
+#[cfg_attr(not(debug_assertions), inline(always))]
 fn take_setting<'t>(
     tokens: &mut Tokens<'t>,
     end: usize,

@@ -18,7 +18,8 @@ const INSIDE_C_STRING: Marks = Marks {
 /// The text after an escape, by the place after its backslash.
 ///
 /// But for line breaks the lenient escapes are the strict ones.
-#[inline(always)]
+#[cfg_attr(debug_assertions, inline)]
+#[cfg_attr(not(debug_assertions), inline(always))]
 fn skip_escape(kind: Kind, text: &str, at: usize) -> Option<&str> {
     match ascii_at(text, at) {
         Some((b'\n', after)) if kind.is_string() => {
@@ -87,7 +88,7 @@ pub fn after_closer<'t>(hashes: &str, c: char, after: &'t str) -> Option<&'t str
 }
 
 /// The text after characters at its front that a raw string of the kind holds and that close none.
-#[inline(always)]
+#[inline]
 pub fn skip_inside(kind: Kind, text: &str) -> &str {
     match kind {
         Kind::Str => split_before(Marks::two(b'"', b'\r'), text).1,

@@ -34,7 +34,8 @@ pub enum CharClass {
 }
 
 /// Whether the character is of the class.
-#[inline(always)]
+#[cfg_attr(debug_assertions, inline)]
+#[cfg_attr(not(debug_assertions), inline(always))]
 fn is_of(class: CharClass, c: char) -> bool {
     match class {
         CharClass::Continue => is_continue(c),
@@ -100,7 +101,8 @@ pub fn skip_word(text: &str) -> &str {
 }
 
 /// What follows the white space at the front. Most tokens have none before them, or one space.
-#[inline(always)]
+#[cfg_attr(debug_assertions, inline)]
+#[cfg_attr(not(debug_assertions), inline(always))]
 pub fn skip_white(text: &str) -> &str {
     if begins_nonblank(text) {
         return text;

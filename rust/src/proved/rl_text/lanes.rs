@@ -1,13 +1,14 @@
 // Rendered from crates/rl_text/src/lanes.rt by tools/render, which erases contracts: change that file, and render anew.
 //! Runs of ASCII, of words or of white space, and bytes at which a literal may begin, sixteen bytes at a time.
 
-use crate::simd::*;
+use crate::simd::wide::*;
 
 /// How many bytes are looked at at once.
 const LANES: usize = 16;
 
 /// A bit for each of sixteen bytes from a place on, set where the byte is no part of the run.
-#[inline(always)]
+#[cfg_attr(debug_assertions, inline)]
+#[cfg_attr(not(debug_assertions), inline(always))]
 fn ends_among<const WORD: bool>(bytes: &[u8], at: usize) -> u64 {
     let lanes = u8x16::from_slice(&bytes[at..]);
     if WORD {
@@ -66,7 +67,7 @@ fn run_end<const WORD: bool>(bytes: &[u8], from: usize) -> usize {
 }
 
 /// How many bytes the run at the front holds, perhaps none. Most runs end within sixteen bytes.
-#[inline(always)]
+#[inline]
 pub(crate) fn run_len<const WORD: bool>(bytes: &[u8]) -> usize {
     if bytes.len() >= LANES {
         let found = ends_among::<WORD>(bytes, 0);
@@ -148,7 +149,8 @@ fn is_likely_place(bytes: &[u8], at: usize) -> bool {
 
 /// The first place among sixteen at which a literal or a comment may begin. `None` where there is none. A bit is set for each
 /// at which one may by its byte and the one before.
-#[inline(always)]
+#[cfg_attr(debug_assertions, inline)]
+#[cfg_attr(not(debug_assertions), inline(always))]
 fn first_likely(bytes: &[u8], from: usize, found: u64) -> Option<usize> {
     let mut at = from;
     let mut left = found;

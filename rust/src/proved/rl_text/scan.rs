@@ -33,7 +33,8 @@ impl Marks {
 
 /// A bit for each of the N bytes from a place on, set where the walk stops: at a mark, and where HIGH is said, at what is
 /// past ASCII too.
-#[inline(always)]
+#[cfg_attr(debug_assertions, inline)]
+#[cfg_attr(not(debug_assertions), inline(always))]
 fn stops_among<const HIGH: bool, const N: usize>(marks: Marks, bytes: &[u8], at: usize) -> u64 {
     let lanes = Simd::<u8, N>::from_slice(&bytes[at..]);
     let first = lanes.simd_eq(Simd::splat(marks.first));
@@ -68,7 +69,7 @@ fn stop_slowly<const HIGH: bool>(marks: Marks, bytes: &[u8], from: usize) -> usi
 }
 
 /// Where the walk stops, from a place on, found N bytes at a time; an error is the place from which fewer are left.
-#[inline(always)]
+#[inline]
 fn stop_by<const HIGH: bool, const N: usize>(
     marks: Marks,
     bytes: &[u8],

@@ -3,7 +3,7 @@
 use crate::flaws::proved_flaw_in_file;
 use crate::lists::{range_at, words_of};
 use crate::literals::{check_same, Proved};
-use navyspindle::{settings, Setting, SettingError, Settings};
+use navyspindle::{settings, Lit, Number, Setting, SettingError, Settings};
 use navyspindle_programs::rattle_std::alloc::Global;
 use navyspindle_programs::rl_attributes::{self, Attrs};
 use navyspindle_programs::rl_tokens::{parse_all, Error, ErrorKind};
@@ -59,43 +59,81 @@ fn proved_told<T: Display>(answer: Result<Option<T>, rl_attributes::SettingError
     }
 }
 
-/// Why the package's reader rejects a value before it is looked at: Rust does, or it has a suffix.
+/// Why the package's reader rejects a value before it is looked at: Rust does.
 fn rejection_of(value: &Proved, setting: Setting) -> Option<(String, Range<usize>)> {
-    let (span, text) = (value.span(), value.text());
-    if let Some(flaw) = proved_flaw_in_file(text) {
-        // What stands after a minus is none of the text.
-        let range = if span.hi - span.lo == text.len() {
-            span.lo + flaw.lo..span.lo + flaw.hi
-        } else {
-            span.lo..span.hi
-        };
-        return Some((format!("{setting}: {}", flaw.kind.words()), range));
+    let text = value.text();
+    let flaw = proved_flaw_in_file(text)?;
+    let words = format!("{setting}: {}", flaw.kind.words());
+    Some((words, range_in(value, flaw.lo..flaw.hi)))
+}
+
+/// Where bytes of the value stand: all of it where something stands after its minus, which is none of the text.
+fn range_in(value: &Proved, bytes: Range<usize>) -> Range<usize> {
+    let span = value.span();
+    if span.hi - span.lo == value.text().len() {
+        span.lo + bytes.start..span.lo + bytes.end
+    } else {
+        span.lo..span.hi
     }
-    if value.suffix().is_empty() {
-        return None;
+}
+
+/// A string's value, or that it has a suffix.
+fn string_told(value: &Proved, setting: Setting, answer: Told) -> Told {
+    let suffix = value.suffix().len();
+    if !matches!(value, Proved::Str(_)) || suffix == 0 {
+        return answer;
     }
+    let end = value.text().len();
     let words = format!("{setting}: unexpected suffix");
-    Some((words, span.hi - value.suffix().len()..span.hi))
+    Err((words, range_in(value, end - suffix..end)))
+}
+
+/// A number as the package's own literal of the value's text has it, which is what the proved reader makes of its digits, where its
+/// suffix is none and the number no infinity.
+fn number_told<N: Number + Display>(value: &Proved, setting: Setting, answer: Told) -> Told {
+    let number = match Lit::new(value.text()) {
+        Lit::Int(literal) => literal.value::<N>(),
+        Lit::Float(literal) => literal.value::<N>(),
+        _ => return answer,
+    };
+    number.map_or_else(
+        |error| {
+            let words = error.to_string();
+            let (reason, _) = words.rsplit_once(" at byte ").unwrap();
+            let words = format!("{setting}: {reason}");
+            Err((words, range_in(value, error.range())))
+        },
+        |number| {
+            if value.suffix().is_empty() {
+                assert_eq!(answer, Ok(Some(number.to_string())));
+            }
+            Ok(Some(number.to_string()))
+        },
+    )
 }
 
 fn check_name(text: &str, ours: &Settings, proved: &Attrs, name: &'static str) {
     let expected = EXPECTED;
-    let a = Setting { name, expected };
+    let a = Setting::new(name, expected);
     let b = rl_attributes::Setting { name, expected };
     let value = proved.get(name);
     assert_eq!(ours.get(name).is_some(), value.is_some(), "{text:?} {name}");
-    let rejection = value.and_then(|value| rejection_of(value, a));
-    let expect = |answer: Told| match &rejection {
-        Some(rejection) => Err(rejection.clone()),
+    let expect = |answer: Told, taken: fn(&Proved, Setting, Told) -> Told| match value {
+        Some(value) => match rejection_of(value, a) {
+            Some(rejection) => Err(rejection),
+            None => taken(value, a, answer),
+        },
         None => answer,
     };
-    let string = expect(proved_told(proved.string(Global, b)));
+    let string = expect(proved_told(proved.string(Global, b)), string_told);
     assert_eq!(told(ours.string(a)), string, "{text:?} {name}");
-    let truth = expect(proved_told(proved.truth(b)));
+    let truth = expect(proved_told(proved.truth(b)), |_, _, answer| answer);
     assert_eq!(told(ours.truth(a)), truth, "{text:?} {name}");
-    let number = expect(proved_told(proved.number::<u16>(Global, b)));
+    let number = proved_told(proved.number::<u16>(Global, b));
+    let number = expect(number, number_told::<u16>);
     assert_eq!(told(ours.number::<u16>(a)), number, "{text:?} {name}");
-    let number = expect(proved_told(proved.number::<f64>(Global, b)));
+    let number = proved_told(proved.number::<f64>(Global, b));
+    let number = expect(number, number_told::<f64>);
     assert_eq!(told(ours.number::<f64>(a)), number, "{text:?} {name}");
     let missing = proved_told::<u8>(Err(proved.missing(b)));
     assert_eq!(told::<u8>(Err(ours.missing(a))), missing, "{text:?} {name}");
@@ -106,7 +144,7 @@ fn check_known(text: &str, ours: &Settings, proved: &Attrs, known: &[&'static st
     let expected = EXPECTED;
     let settings: Vec<_> = known
         .iter()
-        .map(|&name| Setting { name, expected })
+        .map(|&name| Setting::new(name, expected))
         .collect();
     let unknown = proved
         .entries()

@@ -66,7 +66,7 @@ fn line_of(text: &str) -> String {
 
 #[test]
 fn stored_cases() {
-    let stored = concat!(env!("CARGO_MANIFEST_DIR"), "/../tools/sample.jsonl");
+    let stored = concat!(env!("CARGO_MANIFEST_DIR"), "/../../../tools/sample.jsonl");
     let (mut tried, mut wrong) = (0, Vec::new());
     for line in fs::read_to_string(stored)
         .expect("the stored cases")
@@ -106,7 +106,7 @@ fn stored_cases() {
 fn the_words_are_the_programs() {
     let path = concat!(
         env!("CARGO_MANIFEST_DIR"),
-        "/../crates/rl_reasons/specs/FlawWords.antt"
+        "/../../../crates/rl_reasons/specs/FlawWords.antt"
     );
     let table = fs::read_to_string(path).expect("the table of words");
     let rows = table

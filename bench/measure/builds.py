@@ -1,0 +1,125 @@
+"""What building a program that reads a literal takes by each library: processor time, and bytes of code."""
+import glob
+import os
+import resource
+import shutil
+import subprocess
+import sys
+
+from measure import build, text
+
+TABLE = 'Builds'
+FOLDER = os.path.join(build.BUILD, 'builds')
+# how often times are taken
+ROUNDS = 3
+# the package, and the other libraries, each with how Cargo takes it and what reads a literal
+OURS = 'package'
+LIBRARIES = {
+    OURS: ('navyspindle = { path = "%s" }' % os.path.join(build.TOP, 'rust'), """
+use navyspindle::Lit;
+match Lit::parse(&text) {
+    Ok(Lit::Int(literal)) => println!("{:?}", literal.value::<u64>().ok()),
+    Ok(Lit::Str(literal)) => println!("{}", literal.value()),
+    Ok(literal) => println!("{}", literal.suffix()),
+    Err(error) => println!("{error}"),
+}"""),
+    'litrs': ('litrs = { version = "0.2", default-features = false }', """
+use litrs::Literal;
+match Literal::parse(&*text) {
+    Ok(Literal::Integer(literal)) => println!("{:?}", literal.value::<u64>()),
+    Ok(Literal::String(literal)) => println!("{}", literal.value()),
+    Ok(literal) => println!("{literal}"),
+    Err(error) => println!("{error}"),
+}"""),
+    'syn': ('syn = { version = "1", default-features = false, features = ["parsing"] }', """
+use syn::Lit;
+match syn::parse_str::<Lit>(&text) {
+    Ok(Lit::Int(literal)) => println!("{:?}", literal.base10_parse::<u64>().ok()),
+    Ok(Lit::Str(literal)) => println!("{}", literal.value()),
+    Ok(literal) => println!("{}", literal.suffix()),
+    Err(error) => println!("{error}"),
+}"""),
+}
+PROGRAM = """fn main() {
+    let text = std::env::args().nth(1).unwrap_or_default();
+%s
+}
+"""
+MANIFEST = """[package]
+name = "program"
+version = "0.1.0"
+edition = "2021"
+[dependencies]
+%s
+[workspace]
+"""
+# how each way of building is named, what Cargo is told besides, and its folder; a macro of a release build isn't optimized either
+WAYS = {
+    'dev': ([], {}, 'debug'),
+    'macros of a release build': ([], {'CARGO_PROFILE_DEV_DEBUG_ASSERTIONS': 'false', 'CARGO_PROFILE_DEV_OVERFLOW_CHECKS': 'false'}, 'debug'),
+    'release': (['--release'], {}, 'release'),
+}
+
+
+def program(name):
+    """The folder of the program by this library."""
+    folder = os.path.join(FOLDER, name)
+    dependency, body = LIBRARIES[name]
+    os.makedirs(os.path.join(folder, 'src'), exist_ok=True)
+    with open(os.path.join(folder, 'Cargo.toml'), 'w') as file:
+        file.write(MANIFEST % dependency)
+    with open(os.path.join(folder, 'src/main.rs'), 'w') as file:
+        file.write(PROGRAM % body.replace('\n', '\n    ').strip('\n'))
+    return folder
+
+
+def built(name, way):
+    """The processor time of building the program and its libraries from nothing, and the libraries' bytes of code."""
+    words, environment, profile = WAYS[way]
+    target = os.path.join(program(name), 'target')
+    shutil.rmtree(target, ignore_errors=True)
+    before = resource.getrusage(resource.RUSAGE_CHILDREN).ru_utime
+    command = ['cargo', 'build', '--offline', '--quiet', *words]
+    subprocess.run(command, cwd=program(name), check=True, env={**os.environ, **environment})
+    spent = resource.getrusage(resource.RUSAGE_CHILDREN).ru_utime - before
+    # Of build scripts nothing is counted.
+    return spent, sum(map(code_of, glob.glob(os.path.join(target, profile, 'deps/*.rlib'))))
+
+
+def code_of(path):
+    """The bytes of code of a library, as `size` counts its objects' texts."""
+    lines = build.output(['size', path]).splitlines()[1:]
+    return sum(int(line.split()[0]) for line in lines)
+
+
+def there():
+    """The libraries that can be had here."""
+    found = []
+    for name in LIBRARIES:
+        command = ['cargo', 'metadata', '--offline', '--quiet', '--format-version', '1']
+        if subprocess.run(command, cwd=program(name), capture_output=True).returncode:
+            print('bench/run: %s is left out: Cargo has no package of it' % name, file=sys.stderr)
+        else:
+            found.append(name)
+    return found
+
+
+def print_table():
+    note = 'Processor seconds of a program that reads a literal and of its libraries, from nothing, the least of %d rounds in '
+    note += 'which they take turns; bytes of code of the libraries.'
+    text.begin(TABLE, ('Library', 'built for', 'seconds', 'bytes'), note % ROUNDS)
+    names = there()
+    for way in WAYS:
+        rounds = [{name: built(name, way) for name in names} for _ in range(ROUNDS)]
+        for name in names:
+            text.row(name, way, '%.1f' % min(each[name][0] for each in rounds), str(rounds[0][name][1]))
+
+
+def sizes(rows):
+    """The package's bytes of code by way, of the table's rows."""
+    return {('code', way): int(size) for name, way, _, size in rows if name == OURS}
+
+
+def counted():
+    """The same, counted now."""
+    return {('code', way): built(OURS, way)[1] for way in WAYS}

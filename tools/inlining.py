@@ -1,0 +1,61 @@
+"""Writes the attributes by which functions of the rendered core are inlined, so that what isn't optimized stays small.
+
+rustc obeys `#[inline(always)]` where nothing is optimized too, and writes the function into each of its callers. A small function
+takes no more room there than a call of it, and is faster. A large one is always inlined only where debug assertions are off, as in
+release builds; tools/inlining.txt lists those that the compiler inlines by itself where that is faster. No expression is changed."""
+
+import re
+import sys
+from pathlib import Path
+
+LIST = Path(__file__).resolve().parent / "inlining.txt"
+ENTRY = re.compile(r"(\S+) (\w+): (\S.*)")
+
+# How many lines the body of a small function has at most: docs/PERFORMANCE.md compares others.
+SMALL = 8
+
+ALWAYS = re.compile(r"^( *)#\[inline\(always\)\]\n", re.M)
+WHERE_RELEASED = "{0}#[cfg_attr(debug_assertions, inline)]\n{0}#[cfg_attr(not(debug_assertions), inline(always))]\n"
+BY_ITSELF = "{0}#[inline]\n"
+
+
+def fail(what):
+    sys.exit(f"render: tools/inlining.txt: {what}")
+
+
+def listed():
+    """The functions of the list, each as its file and its name."""
+    lines = [line for line in LIST.read_text().split("\n") if line and not line.startswith("#")]
+    entries = [ENTRY.fullmatch(line) or fail(f"no entry: {line}") for line in lines]
+    return {(entry[1], entry[2]) for entry in entries}
+
+
+def body_lines(text, at, indent):
+    """How many lines the body has of the function whose attribute ends here, by the layout of its file."""
+    begin = text.index("{", text.index("fn ", at)) + 1
+    end = re.compile(rf"^{indent}\}}", re.M).search(text, begin).start()
+    return text.count("\n", begin, end) - 1 if text[begin] == "\n" else 0
+
+
+class Inlining:
+    """The list, and what it makes of rendered files, which are given by name."""
+
+    def __init__(self):
+        self.left = listed()
+
+    def attribute(self, name, text, found):
+        """What stands for an `#[inline(always)]` in the file."""
+        indent = found[1]
+        function = (name, re.compile(r"\bfn (\w+)").search(text, found.end())[1])
+        if function in self.left:
+            self.left.discard(function)
+            return BY_ITSELF.format(indent)
+        is_small = body_lines(text, found.end(), indent) <= SMALL
+        return found[0] if is_small else WHERE_RELEASED.format(indent)
+
+    def core(self, files):
+        """The files of the core, which have to hold each function that is listed."""
+        files = {name: ALWAYS.sub(lambda found: self.attribute(name, text, found), text) for name, text in files.items()}
+        for name, function in sorted(self.left):
+            fail(f"{name} has no function {function} that is always inlined")
+        return files
