@@ -1,4 +1,4 @@
-//! Reads a server's settings from a file `NAME = LITERAL, ..`, of the names `host`, `port` and `verbose`:
+//! Reads a server's settings from a file of lines `NAME = LITERAL`, of the names `host`, `port` and `verbose`:
 //! `cargo run --example config FILE`
 
 use navyspindle::{LineIndex, Setting, SettingError, Settings};
@@ -21,7 +21,7 @@ struct Config {
 
 /// The settings of a text, of which the host has to be set.
 fn read(text: &str) -> Result<Config, SettingError> {
-    let settings = Settings::read(text)?;
+    let settings = Settings::read_config(text)?;
     settings.check(&[HOST, PORT, VERBOSE])?;
     let host = settings.string(HOST)?;
     Ok(Config {

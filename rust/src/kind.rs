@@ -1,5 +1,6 @@
 //! What a literal is.
 
+use crate::rl_forms;
 use core::fmt;
 
 /// What a literal is.
@@ -33,6 +34,21 @@ pub enum Kind {
     Bool,
     /// A text without a reading: `'\q'`, or an integer past 128 bits.
     Verbatim,
+}
+
+impl Kind {
+    pub(crate) fn of(kind: rl_forms::Kind) -> Kind {
+        match kind {
+            rl_forms::Kind::Str => Kind::Str,
+            rl_forms::Kind::ByteStr => Kind::ByteStr,
+            rl_forms::Kind::CStr => Kind::CStr,
+            rl_forms::Kind::Byte => Kind::Byte,
+            rl_forms::Kind::Char => Kind::Char,
+            rl_forms::Kind::Int => Kind::Int,
+            rl_forms::Kind::Float => Kind::Float,
+            rl_forms::Kind::Bool => Kind::Bool,
+        }
+    }
 }
 
 /// The words of messages, those of `syn`: `string literal`, `integer literal`, ...

@@ -1,8 +1,8 @@
 //! Reads and writes Rust's literals: kinds, values, suffixes, the places of what they hold, and why a text is none.
 //!
-//! [`Lit::parse`] reads one literal, [`source`] those of a whole file, [`literals`] and [`settings`] lists, [`Settings`] what a
-//! reader of settings asks for; [`write_str`] and its siblings write values. Places are byte offsets; [`LineIndex`] makes lines and
-//! columns of them.
+//! [`Lit::parse`] reads one literal, [`source`] those of a whole file, [`literals`] and [`settings`] lists, [`config`] a
+//! configuration file, [`Settings`] what a reader of settings asks for; [`write_str`] and its siblings write values, and
+//! [`LitStr::new`] and its like make literals of them. Places are byte offsets; [`LineIndex`] makes lines and columns of them.
 //!
 //! The code in `proved` is rendered from sources in Rattle, which is Rust with contracts: each function is proved there to do what
 //! its contract says, against a written grammar, and the contracts are erased. So every text has one reading, and that is the
@@ -38,13 +38,16 @@ extern crate std;
 
 mod characters;
 mod common;
+mod config;
 mod contents;
 mod error;
+mod flaws;
 mod front;
 mod kind;
 mod line_index;
 mod list;
 mod lit;
+mod made;
 mod numbers;
 mod parse_error;
 mod places;
@@ -72,18 +75,20 @@ mod write;
 #[doc(hidden)]
 pub mod rendered {
     pub use crate::proved::{
-        rl_file_reasons, rl_forms, rl_leading, rl_lexer, rl_parts, rl_reading, rl_reasons,
-        rl_recovery, rl_settings, rl_strict, rl_text,
+        rl_file_reasons, rl_flaws, rl_forms, rl_leading, rl_lexer, rl_parts, rl_reading,
+        rl_reasons, rl_recovery, rl_settings, rl_strict, rl_text, rl_writing,
     };
 }
 
 use proved::{
-    rl_file_reasons, rl_forms, rl_leading, rl_lexer, rl_parts, rl_reading, rl_reasons, rl_recovery,
-    rl_settings, rl_strict, rl_text,
+    rl_file_reasons, rl_flaws, rl_forms, rl_leading, rl_lexer, rl_parts, rl_reading, rl_reasons,
+    rl_recovery, rl_settings, rl_strict, rl_text, rl_writing,
 };
 
 pub use characters::{LitByte, LitChar};
+pub use config::config;
 pub use error::{ListError, Part, SyntaxErrorKind};
+pub use flaws::{flaws, looks_like, pieces, BadPiece, Flaws, Piece, Pieces};
 pub use front::skip_blanks;
 pub use kind::Kind;
 pub use line_index::{LineColumn, LineIndex};
@@ -98,9 +103,12 @@ pub use setting::{Setting, SettingError, SettingErrorKind, Settings};
 pub use settings::{settings, Entry, SettingsSyntaxError};
 pub use source::{source, Recover, Source};
 pub use strings::{LitByteStr, LitCStr, LitStr};
-pub use value::{Number, ValueError, ValueErrorKind};
+pub use value::{Float, Integer, Number, ValueError, ValueErrorKind};
 pub use words::{LitBool, LitVerbatim};
-pub use write::{write_byte, write_byte_str, write_c_str, write_char, write_str};
+pub use write::{
+    write_byte, write_byte_str, write_c_str, write_char, write_char_ascii, write_integer,
+    write_raw_byte_str, write_raw_c_str, write_raw_str, write_str, write_str_ascii, IntegerStyle,
+};
 
 /// Whether the text is a literal token of the Rust Reference.
 ///

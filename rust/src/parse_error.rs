@@ -71,15 +71,20 @@ pub struct ParseError {
     hi: usize,
 }
 
+/// The flaw of a text that has no reading.
+pub(crate) fn flaw_of(text: &str) -> Flaw {
+    match read_signed(text) {
+        Err(flaw) => flaw,
+        Ok(Reading::Integer(None, suffix_at)) => limit_flaw(text, suffix_at),
+        Ok(_) => unreachable!("the text has no reading"),
+    }
+}
+
 impl ParseError {
     /// Why a text has no reading, which it hasn't.
     #[cold]
     pub(crate) fn of(text: &str) -> ParseError {
-        ParseError::of_flaw(match read_signed(text) {
-            Err(flaw) => flaw,
-            Ok(Reading::Integer(None, suffix_at)) => limit_flaw(text, suffix_at),
-            Ok(_) => unreachable!("the text has no reading"),
-        })
+        ParseError::of_flaw(flaw_of(text))
     }
 
     /// The flaw as an error.

@@ -50,6 +50,24 @@ pub struct Segment<'t> {
     pub value: SegmentValue<'t>,
 }
 
+impl<'t> Segment<'t> {
+    /// A segment before which so many bytes of the value are stood for.
+    pub(crate) fn of(segment: rl_reading::Segment<'t>, value_at: usize) -> Segment<'t> {
+        let value_range = value_at..value_at + segment.value.len();
+        let value = match segment.value {
+            rl_reading::SegmentValue::Text(text) => SegmentValue::Text(text),
+            rl_reading::SegmentValue::Char(c) => SegmentValue::Char(c),
+            rl_reading::SegmentValue::Byte(byte) => SegmentValue::Byte(byte),
+            rl_reading::SegmentValue::Nothing => SegmentValue::Nothing,
+        };
+        Segment {
+            range: segment.lo..segment.hi,
+            value_range,
+            value,
+        }
+    }
+}
+
 /// The segments of a quoted literal, in order: see [`LitStr::segments`](crate::LitStr::segments).
 #[doc(alias = "unescape")]
 #[must_use = "an iterator does nothing until it is asked"]
@@ -70,20 +88,9 @@ impl<'t> Iterator for Segments<'t> {
     type Item = Segment<'t>;
 
     fn next(&mut self) -> Option<Segment<'t>> {
-        let next = self.cursor.next()?;
-        let value_at = self.value_at;
-        self.value_at += next.value.len();
-        let value = match next.value {
-            rl_reading::SegmentValue::Text(text) => SegmentValue::Text(text),
-            rl_reading::SegmentValue::Char(c) => SegmentValue::Char(c),
-            rl_reading::SegmentValue::Byte(byte) => SegmentValue::Byte(byte),
-            rl_reading::SegmentValue::Nothing => SegmentValue::Nothing,
-        };
-        Some(Segment {
-            range: next.lo..next.hi,
-            value_range: value_at..self.value_at,
-            value,
-        })
+        let segment = Segment::of(self.cursor.next()?, self.value_at);
+        self.value_at = segment.value_range.end;
+        Some(segment)
     }
 }
 

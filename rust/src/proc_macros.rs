@@ -14,7 +14,7 @@ use proc_macro::{Delimiter, Group, Ident, Literal, Punct, Spacing, Span, TokenSt
 ///
 /// ```no_run
 /// extern crate proc_macro;
-/// use navyspindle::{next_of, Lit, LitStr, MacroError};
+/// use navyspindle::{next_of, LitStr, MacroError};
 /// use proc_macro::TokenStream;
 ///
 /// /// `shout!("a")` is `"A"`.
@@ -25,8 +25,7 @@ use proc_macro::{Delimiter, Group, Ident, Literal, Punct, Spacing, Span, TokenSt
 ///
 /// fn shouted(input: TokenStream) -> Result<TokenStream, MacroError> {
 ///     let (string, span) = next_of::<LitStr>(&mut input.into_iter())?;
-///     let text = navyspindle::write_str(&string.value().to_uppercase());
-///     Lit::new(text).to_token_stream(span)
+///     LitStr::new(&string.value().to_uppercase()).to_token_stream(span)
 /// }
 /// ```
 #[derive(Clone, Debug)]

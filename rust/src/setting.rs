@@ -72,7 +72,7 @@ pub enum SettingErrorKind {
     Unknown(String),
     /// Rust rejects the value: it is no literal, or only `syn` reads it as one. The error's places are in the value's own text.
     Literal(Setting, ParseError),
-    /// The value of a string has a suffix.
+    /// The value has a suffix, and is no number.
     Suffix(Setting),
     /// The value is a literal of another kind than was expected.
     Kind(Setting),
@@ -241,8 +241,12 @@ impl<'t> Settings<'t> {
     /// # Ok::<(), navyspindle::SettingError>(())
     /// ```
     pub fn read(text: &'t str) -> Result<Self, SettingError> {
-        let entries = settings(text)?;
-        Ok(Settings { text, entries })
+        Ok(Settings::of_entries(text, settings(text)?))
+    }
+
+    /// These settings, which were read of the text.
+    pub(crate) fn of_entries(text: &'t str, entries: Vec<Entry<'t>>) -> Self {
+        Settings { text, entries }
     }
 
     /// All of them, in their order.
@@ -316,11 +320,7 @@ impl<'t> Settings<'t> {
     /// ```
     pub fn string(&self, setting: Setting) -> Result<Option<Cow<'_, str>>, SettingError> {
         self.value_of(setting, |entry| match &entry.value {
-            Lit::Str(literal) if !literal.suffix().is_empty() => {
-                let suffix = literal.suffix_range();
-                Err((SettingErrorKind::Suffix(setting), range_in(entry, suffix)))
-            }
-            Lit::Str(literal) => Ok(literal.value()),
+            Lit::Str(literal) => without_suffix(setting, entry, literal.value()),
             _ => Err(no_such(setting, entry)),
         })
     }
@@ -403,7 +403,7 @@ impl<'t> Settings<'t> {
     }
 
     /// What a setting is taken as, whose value Rust takes; `None` where it isn't set.
-    fn value_of<'s, V>(
+    pub(crate) fn value_of<'s, V>(
         &'s self,
         setting: Setting,
         take: impl FnOnce(&'s Entry<'t>) -> Result<V, (SettingErrorKind, Range<usize>)>,
@@ -425,8 +425,22 @@ impl<'t> Settings<'t> {
     }
 }
 
+/// What the entry's value stands for, which has no suffix.
+pub(crate) fn without_suffix<V>(
+    setting: Setting,
+    entry: &Entry<'_>,
+    value: V,
+) -> Result<V, (SettingErrorKind, Range<usize>)> {
+    match entry.value.suffix_range() {
+        Some(suffix) if !suffix.is_empty() => {
+            Err((SettingErrorKind::Suffix(setting), range_in(entry, suffix)))
+        }
+        _ => Ok(value),
+    }
+}
+
 /// That the entry's value is a literal of another kind than was expected.
-fn no_such(setting: Setting, entry: &Entry<'_>) -> (SettingErrorKind, Range<usize>) {
+pub(crate) fn no_such(setting: Setting, entry: &Entry<'_>) -> (SettingErrorKind, Range<usize>) {
     (SettingErrorKind::Kind(setting), entry.value_range.clone())
 }
 

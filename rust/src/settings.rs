@@ -4,9 +4,11 @@ use crate::common::shifted;
 use crate::error::{range_at, SyntaxErrorKind};
 use crate::list::placed;
 use crate::lit::Lit;
-use crate::rl_lexer::{LexError, Lexeme, Tokens};
+use crate::rl_lexer::{LexError, Tokens};
+use crate::rl_reading::NextLiteral;
 use crate::rl_settings::{
     first_error, lexer_error, settings_step, NextSetting, SettingRejection, SettingStep,
+    SyntaxError,
 };
 use alloc::collections::BTreeSet;
 use alloc::string::String;
@@ -14,7 +16,7 @@ use alloc::vec::Vec;
 use core::fmt;
 use core::ops::Range;
 
-/// A setting: a name, and the literal that it is set to. See [`settings`].
+/// A setting: a name, and the literal that it is set to. See [`settings`] and [`config`](crate::config).
 #[derive(Clone, Debug, PartialEq, Eq, Hash)]
 #[non_exhaustive]
 pub struct Entry<'t> {
@@ -46,7 +48,7 @@ pub struct SettingsSyntaxError {
 impl SettingsSyntaxError {
     /// The lexer's error, at its token.
     #[cold]
-    fn of_lexer(text: &str, error: LexError) -> SettingsSyntaxError {
+    pub(crate) fn of_lexer(text: &str, error: LexError) -> SettingsSyntaxError {
         SettingsSyntaxError {
             kind: lexer_error(error.kind),
             range: range_at(text, error.at),
@@ -54,13 +56,13 @@ impl SettingsSyntaxError {
         }
     }
 
-    /// That the name stood before.
+    /// That the name of these bytes stood before.
     #[cold]
-    fn repeated(name: Lexeme<'_>) -> SettingsSyntaxError {
+    pub(crate) fn repeated(name: &str, range: Range<usize>) -> SettingsSyntaxError {
         SettingsSyntaxError {
             kind: SyntaxErrorKind::Repeated,
-            range: name.lo..name.hi,
-            name: Some(String::from(name.text)),
+            range,
+            name: Some(String::from(name)),
         }
     }
 
@@ -149,37 +151,49 @@ pub fn settings(text: &str) -> Result<Vec<Entry<'_>>, SettingsSyntaxError> {
     loop {
         match settings_step(&mut tokens, text.len()) {
             SettingStep::End => return Ok(entries),
-            SettingStep::Setting(next) => {
-                if !names.insert(next.name.text) {
-                    return Err(SettingsSyntaxError::repeated(next.name));
+            SettingStep::Setting(NextSetting { name, value }) => {
+                let range = name.lo..name.hi;
+                if !names.insert(name.text) {
+                    return Err(SettingsSyntaxError::repeated(name.text, range));
                 }
-                entries.push(entry_of(text, next));
+                entries.push(entry_of(text, name.text, range, value));
             }
-            SettingStep::Rejected(rejection) => return Err(rejected(&names, rejection)),
+            SettingStep::Rejected(SettingRejection { name, error }) => {
+                let name = name.map(|name| (name.text, name.lo..name.hi));
+                return Err(rejected(&names, name, error));
+            }
         }
     }
 }
 
-/// The setting that was cut off the text.
-fn entry_of<'t>(text: &'t str, next: NextSetting<'t>) -> Entry<'t> {
-    let name = next.name;
-    let (value_range, value) = placed(text, next.value);
+/// The setting that was cut off the text, whose name stands at these bytes.
+pub(crate) fn entry_of<'t>(
+    text: &'t str,
+    name: &'t str,
+    name_range: Range<usize>,
+    value: NextLiteral<'t>,
+) -> Entry<'t> {
+    let (value_range, value) = placed(text, value);
     Entry {
-        name: name.text,
-        name_range: name.lo..name.hi,
+        name,
+        name_range,
         value,
         value_range,
     }
 }
 
-/// Why no setting stands next, after these names: its own stood before, or what the step returns.
+/// Why no setting stands next, after these names: its own, which stands at these bytes, stood before, or what the step returns.
 #[cold]
-fn rejected(names: &BTreeSet<&str>, rejection: SettingRejection<'_>) -> SettingsSyntaxError {
-    match rejection.name {
-        Some(name) if names.contains(name.text) => SettingsSyntaxError::repeated(name),
+pub(crate) fn rejected(
+    names: &BTreeSet<&str>,
+    name: Option<(&str, Range<usize>)>,
+    error: SyntaxError,
+) -> SettingsSyntaxError {
+    match name {
+        Some((name, range)) if names.contains(name) => SettingsSyntaxError::repeated(name, range),
         _ => SettingsSyntaxError {
-            kind: rejection.error.kind,
-            range: rejection.error.lo..rejection.error.hi,
+            kind: error.kind,
+            range: error.lo..error.hi,
             name: None,
         },
     }

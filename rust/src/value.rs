@@ -2,11 +2,14 @@
 
 use crate::common::shifted;
 use crate::numbers::{Base, LitFloat, LitInt, NumberType};
+use crate::rl_writing::IntegerType;
 use core::fmt;
 use core::ops::Range;
 
 mod sealed {
     use crate::numbers::NumberType;
+    use crate::rl_writing::IntegerType;
+    use core::fmt::Debug;
     use core::str::FromStr;
 
     /// What `value` asks of a type.
@@ -16,6 +19,20 @@ mod sealed {
         /// Whether it is a number, and no infinity.
         fn is_number(&self) -> bool;
     }
+
+    /// What writers ask of a type of integers.
+    pub trait Whole: Typed {
+        const SUFFIX: IntegerType;
+
+        /// Whether it is below 0.
+        fn is_negative(&self) -> bool;
+
+        /// The number without its sign.
+        fn magnitude(&self) -> u128;
+    }
+
+    /// What writers ask of a type of floats.
+    pub trait Real: Typed + Debug {}
 }
 
 /// One of Rust's types of numbers: what [`LitInt::value`] and [`LitFloat::value`] return.
@@ -30,6 +47,31 @@ mod sealed {
 /// # Ok::<(), ValueError>(())
 /// ```
 pub trait Number: sealed::Typed {}
+
+/// One of Rust's types of integers: what [`write_integer`](crate::write_integer) and [`LitInt::suffixed`] take.
+///
+/// ```
+/// use navyspindle::{Integer, LitInt};
+///
+/// fn all<N: Integer>(numbers: &[N]) -> Vec<LitInt<'static>> {
+///     numbers.iter().map(|number| LitInt::suffixed(*number)).collect()
+/// }
+/// assert_eq!(all(&[1u8, 2])[1].text(), "2u8");
+/// ```
+pub trait Integer: Number + Copy + sealed::Whole {}
+
+/// One of Rust's two types of floats: what [`LitFloat::suffixed`] takes.
+///
+/// ```
+/// use navyspindle::{Float, LitFloat};
+///
+/// fn all<N: Float>(numbers: &[N]) -> Option<Vec<LitFloat<'static>>> {
+///     numbers.iter().map(|number| LitFloat::suffixed(*number)).collect()
+/// }
+/// assert_eq!(all(&[0.5f32, 1.0]).unwrap()[1].text(), "1.0f32");
+/// assert!(all(&[f64::NAN]).is_none());
+/// ```
+pub trait Float: Number + Copy + sealed::Real {}
 
 macro_rules! numbers {
     ($($name:ident $variant:ident),* => $is_number:expr) => {$(
@@ -49,6 +91,45 @@ macro_rules! numbers {
 numbers!(u8 U8, u16 U16, u32 U32, u64 U64, u128 U128, usize Usize => |_| true);
 numbers!(i8 I8, i16 I16, i32 I32, i64 I64, i128 I128, isize Isize => |_| true);
 numbers!(f32 F32, f64 F64 => |number| number.is_finite());
+
+macro_rules! integers {
+    ($($name:ident $variant:ident),* => $is_negative:expr, $magnitude:ident) => {$(
+        impl sealed::Whole for $name {
+            const SUFFIX: IntegerType = IntegerType::$variant;
+
+            fn is_negative(&self) -> bool {
+                let is_negative: fn($name) -> bool = $is_negative;
+                is_negative(*self)
+            }
+
+            fn magnitude(&self) -> u128 {
+                $magnitude!(*self) as u128
+            }
+        }
+
+        impl Integer for $name {}
+    )*};
+}
+
+macro_rules! itself {
+    ($number:expr) => {
+        $number
+    };
+}
+
+macro_rules! without_sign {
+    ($number:expr) => {
+        ($number).unsigned_abs()
+    };
+}
+
+integers!(u8 U8, u16 U16, u32 U32, u64 U64, u128 U128, usize Usize => |_| false, itself);
+integers!(i8 I8, i16 I16, i32 I32, i64 I64, i128 I128, isize Isize => |number| number < 0, without_sign);
+
+impl sealed::Real for f32 {}
+impl Float for f32 {}
+impl sealed::Real for f64 {}
+impl Float for f64 {}
 
 /// Why a literal is no value of a type, and where.
 ///

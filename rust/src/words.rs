@@ -1,6 +1,8 @@
 //! Truth values, and texts that are no literals.
 
 use crate::common::{literal_type, text_type};
+use crate::flaws::{looks_like, pieces, Flaws, Pieces};
+use crate::kind::Kind;
 use crate::parse_error::ParseError;
 use alloc::borrow::Cow;
 
@@ -102,5 +104,47 @@ impl<'t> LitVerbatim<'t> {
     #[must_use]
     pub fn explain(&self) -> ParseError {
         ParseError::of(&self.text)
+    }
+
+    /// The kind of literal that it begins as; see [`looks_like`](crate::looks_like).
+    ///
+    /// ```
+    /// use navyspindle::{Kind, Lit};
+    ///
+    /// let Lit::Verbatim(literal) = Lit::new(r"b'\q'") else { panic!() };
+    /// assert_eq!(literal.looks_like(), Some(Kind::Byte));
+    /// ```
+    #[must_use]
+    pub fn looks_like(&self) -> Option<Kind> {
+        looks_like(&self.text)
+    }
+
+    /// All its flaws, in order; see [`flaws`](crate::flaws()). The first is that of [`explain`](LitVerbatim::explain); a text that
+    /// doesn't begin as a quoted literal has no other.
+    ///
+    /// ```
+    /// use navyspindle::{FlawKind, Lit};
+    ///
+    /// let Lit::Verbatim(literal) = Lit::new(r#""\q \u{d800}""#) else { panic!() };
+    /// let kinds: Vec<_> = literal.flaws().map(|bad| bad.kind()).collect();
+    /// assert_eq!(kinds, [FlawKind::UnknownEscape, FlawKind::Surrogate]);
+    /// ```
+    pub fn flaws(&self) -> Flaws<'_> {
+        Flaws::of_unread(&self.text)
+    }
+
+    /// What stands between its quotes, piece by piece, good and bad; `None` where none is opened. See
+    /// [`pieces`](crate::pieces).
+    ///
+    /// ```
+    /// use navyspindle::{Lit, Piece};
+    ///
+    /// let Lit::Verbatim(literal) = Lit::new(r#""\q\n\y""#) else { panic!() };
+    /// let bad = literal.pieces().unwrap().filter(|it| matches!(it, Piece::Bad(_)));
+    /// assert_eq!(bad.count(), 2);
+    /// ```
+    #[must_use]
+    pub fn pieces(&self) -> Option<Pieces<'_>> {
+        pieces(&self.text)
     }
 }

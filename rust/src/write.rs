@@ -1,6 +1,13 @@
-//! Values written as literals. Each text is a token of the Rust Reference, and reads as the value, with no suffix.
+//! Values written as literals. Each text is a token of the Rust Reference, after a minus where a number is negative, and reads as the
+//! value.
 
+use crate::numbers::Base;
 use crate::rl_forms::{write_bytes_into, write_char_into, write_str_into, Kind};
+use crate::rl_writing::{
+    self, raw_form, raw_hashes, write_char_ascii_into, write_integer_into, write_raw_into,
+    write_str_ascii_into,
+};
+use crate::value::Integer;
 use alloc::string::String;
 use alloc::vec;
 use core::ffi::CStr;
@@ -8,11 +15,8 @@ use core::ffi::CStr;
 /// How much room on the stack a literal is written into, where it needs no more.
 const SHORT: usize = 256;
 
-/// The literal of so many bytes, or of one character, in no more room than it takes. It is written to the front of what has room: four
-/// bytes for each, and three; seven for a character.
-fn written(len: usize, write: impl FnOnce(&mut [u8]) -> usize) -> String {
-    let room = len.checked_mul(4).and_then(|len| len.checked_add(3));
-    let room = room.expect("no value is that long");
+/// The literal that is written to the front of what has so much room, in no more room than it takes.
+fn written_within(room: usize, write: impl FnOnce(&mut [u8]) -> usize) -> String {
     if room <= SHORT {
         let mut out = [0; SHORT];
         let len = write(&mut out);
@@ -24,6 +28,12 @@ fn written(len: usize, write: impl FnOnce(&mut [u8]) -> usize) -> String {
     out.truncate(len);
     out.shrink_to_fit();
     String::from_utf8(out).expect("literals are UTF-8")
+}
+
+/// The same of so many bytes, or of one character: there is room of four bytes for each, and three; seven for a character.
+fn written(len: usize, write: impl FnOnce(&mut [u8]) -> usize) -> String {
+    let room = len.checked_mul(4).and_then(|len| len.checked_add(3));
+    written_within(room.expect("no value is that long"), write)
 }
 
 /// The string literal that stands for the text.
@@ -86,6 +96,217 @@ pub fn write_byte(value: u8) -> String {
 #[must_use]
 pub fn write_char(value: char) -> String {
     written(1, |out| write_char_into(value, out))
+}
+
+/// The string literal that stands for the text, in ASCII alone: as [`write_str`], but that each character past ASCII is `\u{..}`.
+///
+/// ```
+/// assert_eq!(navyspindle::write_str_ascii("a\t\u{e9}\u{1F600}"), r#""a\t\u{e9}\u{1f600}""#);
+/// ```
+#[must_use]
+pub fn write_str_ascii(value: &str) -> String {
+    written(value.len(), |out| write_str_ascii_into(value, out))
+}
+
+/// The character literal that stands for the character, in ASCII alone: as [`write_char`], but that one past ASCII is `\u{..}`.
+///
+/// ```
+/// assert_eq!(navyspindle::write_char_ascii('é'), r"'\u{e9}'");
+/// ```
+#[must_use]
+pub fn write_char_ascii(value: char) -> String {
+    written_within(12, |out| write_char_ascii_into(value, out))
+}
+
+/// The raw literal of the kind, with this text inside and so many hashes.
+fn raw(kind: Kind, text: &str, hashes: usize) -> String {
+    let room = text.len().checked_add(2 * hashes + 4);
+    written_within(room.expect("no text is that long"), |out| {
+        write_raw_into(kind, hashes, text, out)
+    })
+}
+
+/// The raw string literal that stands for the text, with the fewest `#` that hold it. `None` where none stands for it: a CR is in the
+/// text, or it needs more than 255 `#`.
+///
+/// All stands as it is, also what turns or hides text, as in [`write_str`].
+///
+/// ```
+/// use navyspindle::write_raw_str;
+///
+/// assert_eq!(write_raw_str(r"a\b").as_deref(), Some(r#"r"a\b""#));
+/// assert_eq!(write_raw_str("\"#").as_deref(), Some("r##\"\"#\"##"));
+/// assert_eq!(write_raw_str("\r\n"), None);
+/// ```
+#[must_use]
+pub fn write_raw_str(value: &str) -> Option<String> {
+    let hashes = raw_hashes(Kind::Str, value)?;
+    Some(raw(Kind::Str, value, hashes))
+}
+
+/// The raw byte string literal that stands for the bytes, with the fewest `#` that hold them. `None` where none stands for them: they
+/// aren't all ASCII, or for a reason of [`write_raw_str`].
+///
+/// ```
+/// use navyspindle::write_raw_byte_str;
+///
+/// assert_eq!(write_raw_byte_str(b"a\\b").as_deref(), Some(r#"br"a\b""#));
+/// assert_eq!(write_raw_byte_str(b"\xff"), None);
+/// ```
+#[must_use]
+pub fn write_raw_byte_str(value: &[u8]) -> Option<String> {
+    let (text, hashes) = raw_form(Kind::ByteStr, value)?;
+    Some(raw(Kind::ByteStr, text, hashes))
+}
+
+/// The raw C string literal that stands for the C string, with the fewest `#` that hold it. `None` where none stands for it: it isn't
+/// UTF-8, or for a reason of [`write_raw_str`].
+///
+/// ```
+/// use navyspindle::write_raw_c_str;
+///
+/// assert_eq!(write_raw_c_str(c"a\\b").as_deref(), Some(r#"cr"a\b""#));
+/// assert_eq!(write_raw_c_str(c"\xff"), None);
+/// ```
+#[must_use]
+pub fn write_raw_c_str(value: &CStr) -> Option<String> {
+    let (text, hashes) = raw_form(Kind::CStr, value.to_bytes())?;
+    Some(raw(Kind::CStr, text, hashes))
+}
+
+/// How [`write_integer`] writes an integer: in which base, in which case, in which groups, and whether with its type.
+///
+/// ```
+/// use navyspindle::{write_integer, Base, IntegerStyle};
+///
+/// const ADDRESS: IntegerStyle = IntegerStyle::new().base(Base::Hexadecimal).upper(true).group(4);
+/// assert_eq!(write_integer(0xB8000, ADDRESS), "0xB_8000");
+/// assert_eq!(write_integer(0xB8000u32, ADDRESS.suffixed(true)), "0xB_8000u32");
+/// ```
+#[derive(Clone, Copy, Debug, PartialEq, Eq, Hash)]
+pub struct IntegerStyle {
+    base: Base,
+    upper: bool,
+    group: usize,
+    suffixed: bool,
+}
+
+impl IntegerStyle {
+    /// In base ten, without underscores and without a suffix.
+    ///
+    /// ```
+    /// use navyspindle::{write_integer, IntegerStyle};
+    ///
+    /// assert_eq!(write_integer(-1_000, IntegerStyle::new()), "-1000");
+    /// ```
+    #[must_use]
+    pub const fn new() -> Self {
+        IntegerStyle {
+            base: Base::Decimal,
+            upper: false,
+            group: 0,
+            suffixed: false,
+        }
+    }
+
+    /// The same in this base.
+    ///
+    /// ```
+    /// use navyspindle::{write_integer, Base, IntegerStyle};
+    ///
+    /// assert_eq!(write_integer(10, IntegerStyle::new().base(Base::Binary)), "0b1010");
+    /// ```
+    #[must_use]
+    pub const fn base(self, base: Base) -> Self {
+        IntegerStyle { base, ..self }
+    }
+
+    /// The same with the letters among hexadecimal digits in upper case, or in lower case.
+    ///
+    /// ```
+    /// use navyspindle::{write_integer, Base, IntegerStyle};
+    ///
+    /// let style = IntegerStyle::new().base(Base::Hexadecimal);
+    /// assert_eq!(write_integer(255, style), "0xff");
+    /// assert_eq!(write_integer(255, style.upper(true)), "0xFF");
+    /// ```
+    #[must_use]
+    pub const fn upper(self, upper: bool) -> Self {
+        IntegerStyle { upper, ..self }
+    }
+
+    /// The same with an underscore after each group of so many digits, counted from the last digit; of 0 with none.
+    ///
+    /// ```
+    /// use navyspindle::{write_integer, IntegerStyle};
+    ///
+    /// assert_eq!(write_integer(1234567, IntegerStyle::new().group(3)), "1_234_567");
+    /// ```
+    #[must_use]
+    pub const fn group(self, digits: usize) -> Self {
+        IntegerStyle {
+            group: digits,
+            ..self
+        }
+    }
+
+    /// The same with the name of the number's type as the suffix, or with none.
+    ///
+    /// ```
+    /// use navyspindle::{write_integer, IntegerStyle};
+    ///
+    /// assert_eq!(write_integer(10u8, IntegerStyle::new().suffixed(true)), "10u8");
+    /// ```
+    #[must_use]
+    pub const fn suffixed(self, suffixed: bool) -> Self {
+        IntegerStyle { suffixed, ..self }
+    }
+
+    /// The proved style.
+    fn proved(self) -> rl_writing::IntegerStyle {
+        let base = match self.base {
+            Base::Binary => rl_writing::Base::Binary,
+            Base::Octal => rl_writing::Base::Octal,
+            Base::Decimal => rl_writing::Base::Decimal,
+            Base::Hexadecimal => rl_writing::Base::Hexadecimal,
+        };
+        rl_writing::IntegerStyle {
+            base,
+            upper: self.upper,
+            group: self.group,
+        }
+    }
+}
+
+/// As [`IntegerStyle::new`].
+impl Default for IntegerStyle {
+    fn default() -> Self {
+        IntegerStyle::new()
+    }
+}
+
+/// The longest integer literal: two bytes of a prefix, 128 digits, an underscore after each but the last, and five of a suffix.
+const LONGEST_INTEGER: usize = 262;
+
+/// The integer literal that stands for the number, in this style; of a negative one a minus and the literal.
+///
+/// ```
+/// use navyspindle::{write_integer, Base, IntegerStyle, LitInt};
+///
+/// assert_eq!(write_integer(u64::MAX, IntegerStyle::new().group(3)), "18_446_744_073_709_551_615");
+/// let text = write_integer(i8::MIN, IntegerStyle::new().base(Base::Hexadecimal).suffixed(true));
+/// assert_eq!(text, "-0x80i8");
+/// assert_eq!(LitInt::parse(&text)?.value::<i8>(), Ok(i8::MIN));
+/// # Ok::<(), navyspindle::ParseError>(())
+/// ```
+#[must_use]
+pub fn write_integer<N: Integer>(value: N, style: IntegerStyle) -> String {
+    let mut out = [0; LONGEST_INTEGER];
+    let suffix = style.suffixed.then_some(N::SUFFIX);
+    let len = write_integer_into(value.magnitude(), style.proved(), suffix, &mut out);
+    let text = core::str::from_utf8(&out[..len]).expect("literals are ASCII");
+    let sign = if value.is_negative() { "-" } else { "" };
+    [sign, text].concat()
 }
 
 #[cfg(test)]

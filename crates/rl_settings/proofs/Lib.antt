@@ -1,2 +1,3 @@
 pub mod GroupLemmas
 pub mod SettingLemmas
+pub mod EntryLemmas

@@ -2,3 +2,4 @@ pub mod SyntaxErrors
 pub mod WholeCuts
 pub mod Groups
 pub mod SettingSteps
+pub mod EntrySteps

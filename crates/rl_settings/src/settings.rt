@@ -88,7 +88,7 @@ fn tree_end(form: Form, hi: usize, following: &Tokens<'_>) -> usize
 
 /// The error of what is left, where this part was expected. The text ends at the byte `end`.
 #[inline(never)]
-fn missed(tokens: &Tokens<'_>, end: usize, part: Part) -> SyntaxError
+pub(crate) fn missed(tokens: &Tokens<'_>, end: usize, part: Part) -> SyntaxError
     requires { end ≡ length tokens.now.text }
     ensures { Misses tokens.now part result }
 {
@@ -121,7 +121,7 @@ fn missed(tokens: &Tokens<'_>, end: usize, part: Part) -> SyntaxError
 
 /// Cuts off the next token where it is an identifier. Where it is none, it may be cut off too.
 #[inline(always)]
-fn take_name<'t>(tokens: &mut Tokens<'t>, end: usize) -> Result<Lexeme<'t>, SyntaxError>
+pub(crate) fn take_name<'t>(tokens: &mut Tokens<'t>, end: usize) -> Result<Lexeme<'t>, SyntaxError>
     requires { end ≡ length tokens.old.text }
     ensures taken { IfOk result (λ name. TakesName tokens.old name tokens.new) }
     ensures shorter { OnOk result (length tokens.new.rest < length tokens.old.rest) }
@@ -138,7 +138,7 @@ fn take_name<'t>(tokens: &mut Tokens<'t>, end: usize) -> Result<Lexeme<'t>, Synt
 }
 
 /// Whether a form is that of this mark.
-fn is_mark(form: Form, mark: char) -> bool
+pub(crate) fn is_mark(form: Form, mark: char) -> bool
     ensures { MatchBool result (form_view form ≡ MarkForm mark) (form_view form ≢ MarkForm mark) }
 {
     match form {
@@ -149,7 +149,12 @@ fn is_mark(form: Form, mark: char) -> bool
 
 /// Cuts off the next token where it is this mark. Where it is another, it may be cut off too.
 #[inline(always)]
-fn take_mark(tokens: &mut Tokens<'_>, end: usize, mark: char, part: Part) -> Result<(), SyntaxError>
+pub(crate) fn take_mark(
+    tokens: &mut Tokens<'_>,
+    end: usize,
+    mark: char,
+    part: Part,
+) -> Result<(), SyntaxError>
     requires { end ≡ length tokens.old.text }
     ensures taken { OnOk result (TakesMark mark tokens.old tokens.new) }
     ensures shorter { OnOk result (length tokens.new.rest < length tokens.old.rest) }
@@ -170,7 +175,10 @@ fn take_mark(tokens: &mut Tokens<'_>, end: usize, mark: char, part: Part) -> Res
 
 /// Cuts off the literal that stands next.
 #[inline(always)]
-fn take_literal<'t>(tokens: &mut Tokens<'t>, end: usize) -> Result<NextLiteral<'t>, SyntaxError>
+pub(crate) fn take_literal<'t>(
+    tokens: &mut Tokens<'t>,
+    end: usize,
+) -> Result<NextLiteral<'t>, SyntaxError>
     requires { end ≡ length tokens.old.text }
     ensures taken { IfOk result (λ literal. TakesNextLiteral tokens.old literal tokens.new) }
     ensures shorter { OnOk result (length tokens.new.rest < length tokens.old.rest) }

@@ -1,5 +1,7 @@
 //! Procedural macros that read literals, for the tests.
 
+mod written;
+
 use navyspindle::{next_literal, next_of, write_str, Lit, LitInt, LitStr, MacroError};
 use proc_macro::{Span, TokenStream, TokenTree};
 use std::iter::Peekable;
@@ -90,7 +92,7 @@ fn sum_of(input: TokenStream) -> Result<TokenStream, MacroError> {
         sum += number.map_err(|error| MacroError::new(error, span))?;
         take_comma(&mut tokens)?;
     }
-    Lit::new(sum.to_string()).to_token_stream(Span::call_site())
+    LitInt::unsuffixed(sum).to_token_stream(Span::call_site())
 }
 
 /// The same literal again, by its text; `true` where the input is a truth value.
@@ -153,4 +155,16 @@ pub fn strings_errors(input: TokenStream) -> TokenStream {
         _ => panic!("no call of compile_error"),
     });
     tokens_of(&format!("[{}]", shown.collect::<String>()))
+}
+
+/// Pairs of literals that stand for the same values, as a slice: as the compiler's own writers write them, and as the package does. The
+/// input names the kind or the type.
+#[proc_macro]
+pub fn written(input: TokenStream) -> TokenStream {
+    let name = input.to_string();
+    let pairs = written::written(&name).ok_or_else(|| {
+        let message = format!("no literals of {name}");
+        MacroError::new(message, Span::call_site())
+    });
+    or_error(pairs.map(|pairs| tokens_of(&pairs)))
 }

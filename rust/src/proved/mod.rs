@@ -1,6 +1,7 @@
 //! What `tools/render` makes of the core crates: their functions without the contracts.
 
 pub mod rl_file_reasons;
+pub mod rl_flaws;
 pub mod rl_forms;
 pub mod rl_leading;
 pub mod rl_lexer;
@@ -11,3 +12,4 @@ pub mod rl_recovery;
 pub mod rl_settings;
 pub mod rl_strict;
 pub mod rl_text;
+pub mod rl_writing;

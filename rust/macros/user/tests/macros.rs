@@ -1,6 +1,10 @@
 //! Literals as rustc hands them to procedural macros.
 
-use navyspindle_macros::{again, hex_bytes, literals, strings, strings_errors, sum, sum_error};
+use navyspindle_macros::{
+    again, hex_bytes, literals, strings, strings_errors, sum, sum_error, written,
+};
+use std::ffi::CStr;
+use std::fmt::Debug;
 
 /// Passes a literal on, in a group without delimiters.
 macro_rules! passed {
@@ -141,4 +145,30 @@ fn errors_after_a_minus_have_its_place_too() {
             "340282366920938463463374607431768211456"
         )
     );
+}
+
+/// What is written for values, as rustc reads it: the same as what its own writers write.
+#[test]
+#[allow(clippy::all, clippy::pedantic)]
+fn written_values() {
+    fn same<T: PartialEq + Debug>(pairs: &[(T, T)], least: usize) {
+        assert!(pairs.len() >= least, "{}", pairs.len());
+        for (theirs, ours) in pairs {
+            assert_eq!(theirs, ours);
+        }
+    }
+    same::<&str>(written!(str), 900);
+    same::<&[u8]>(written!(byte_str), 600);
+    same::<&CStr>(written!(c_str), 600);
+    same::<char>(written!(char), 30);
+    same::<u8>(written!(byte), 256);
+    macro_rules! numbers {
+        ($($type:ident $least:literal)*) => {
+            $(same::<$type>(written!($type), $least);)*
+        };
+    }
+    numbers!(u8 4000 u16 7000 u32 14000 u64 28000 u128 50000 usize 28000);
+    numbers!(i8 4000 i16 7000 i32 14000 i64 28000 i128 50000 isize 28000);
+    same::<u32>(written!(f32), 150);
+    same::<u64>(written!(f64), 150);
 }

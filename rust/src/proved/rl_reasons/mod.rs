@@ -19,6 +19,5 @@ pub use crate::rl_reasons::limits::{explain_limit, explain_value};
 pub use crate::rl_reasons::read_numbers::Number;
 #[cfg(feature = "rendered")]
 pub use crate::rl_reasons::signed_flaws::explain_signed;
-#[cfg(feature = "rendered")]
 pub use crate::rl_reasons::strict_flaws::explain;
 pub use crate::rl_reasons::strict_reading::{Reading, read, read_signed};

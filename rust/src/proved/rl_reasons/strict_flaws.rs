@@ -1,10 +1,7 @@
 // Rendered from crates/rl_reasons/src/strict_flaws.rt by tools/render, which erases contracts: change that file, and render anew.
 //! Why a text is no literal token of the strict grammar, and where.
 
-use crate::rl_reasons::flaws::{FlawAt, FlawKind, first_flaw, make_flaw};
-#[cfg(feature = "rendered")]
-use crate::rl_reasons::flaws::Flaw;
-#[cfg(feature = "rendered")]
+use crate::rl_reasons::flaws::{Flaw, FlawAt, FlawKind, first_flaw, make_flaw};
 use crate::rl_reasons::strict_reading::read;
 use crate::rl_text::text::split_char;
 
@@ -28,7 +25,6 @@ pub(crate) fn word_flaw(text: &str) -> FlawAt<'_> {
 /// with the text's next character it can't become one. A minus is a token of its own, so the text of a negative number has a
 /// flaw; [`explain_signed`](crate::rl_reasons::explain_signed) takes a minus too. An integer past 128 bits is a token:
 /// [`explain_limit`](crate::rl_reasons::explain_limit).
-#[cfg(feature = "rendered")]
 pub fn explain(text: &str) -> Option<Flaw> {
     match read(text) {
         Ok(_) => None,

@@ -62,7 +62,7 @@ fn tree_end(form: Form, hi: usize, following: &Tokens<'_>) -> usize {
 
 /// The error of what is left, where this part was expected. The text ends at the byte `end`.
 #[inline(never)]
-fn missed(tokens: &Tokens<'_>, end: usize, part: Part) -> SyntaxError {
+pub(crate) fn missed(tokens: &Tokens<'_>, end: usize, part: Part) -> SyntaxError {
     if tokens.rest().is_empty() {
         let kind = SyntaxErrorKind::EndOfInput(part);
         return SyntaxError {
@@ -92,7 +92,7 @@ fn missed(tokens: &Tokens<'_>, end: usize, part: Part) -> SyntaxError {
 
 /// Cuts off the next token where it is an identifier. Where it is none, it may be cut off too.
 #[inline(always)]
-fn take_name<'t>(tokens: &mut Tokens<'t>, end: usize) -> Result<Lexeme<'t>, SyntaxError> {
+pub(crate) fn take_name<'t>(tokens: &mut Tokens<'t>, end: usize) -> Result<Lexeme<'t>, SyntaxError> {
     let before = tokens.fork();
     match tokens.next() {
         Some(token) => match token.form {
@@ -104,7 +104,7 @@ fn take_name<'t>(tokens: &mut Tokens<'t>, end: usize) -> Result<Lexeme<'t>, Synt
 }
 
 /// Whether a form is that of this mark.
-fn is_mark(form: Form, mark: char) -> bool {
+pub(crate) fn is_mark(form: Form, mark: char) -> bool {
     match form {
         Form::Mark(c) => c == mark,
         _ => false,
@@ -114,7 +114,12 @@ fn is_mark(form: Form, mark: char) -> bool {
 /// Cuts off the next token where it is this mark. Where it is another, it may be cut off too.
 #[cfg_attr(debug_assertions, inline)]
 #[cfg_attr(not(debug_assertions), inline(always))]
-fn take_mark(tokens: &mut Tokens<'_>, end: usize, mark: char, part: Part) -> Result<(), SyntaxError> {
+pub(crate) fn take_mark(
+    tokens: &mut Tokens<'_>,
+    end: usize,
+    mark: char,
+    part: Part,
+) -> Result<(), SyntaxError> {
     let before = tokens.fork();
     match tokens.next() {
         Some(token) => {
@@ -130,7 +135,10 @@ fn take_mark(tokens: &mut Tokens<'_>, end: usize, mark: char, part: Part) -> Res
 
 /// Cuts off the literal that stands next.
 #[inline(always)]
-fn take_literal<'t>(tokens: &mut Tokens<'t>, end: usize) -> Result<NextLiteral<'t>, SyntaxError> {
+pub(crate) fn take_literal<'t>(
+    tokens: &mut Tokens<'t>,
+    end: usize,
+) -> Result<NextLiteral<'t>, SyntaxError> {
     match next_literal(tokens) {
         Some(literal) => Ok(literal),
         None => Err(missed(tokens, end, Part::Literal)),

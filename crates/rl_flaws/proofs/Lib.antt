@@ -1,0 +1,9 @@
+pub mod WalkLemmas
+pub mod RawLemmas
+pub mod EndLemmas
+pub mod LookLemmas
+pub mod LookLaws
+pub mod PlaceLemmas
+pub mod FlawLemmas
+pub mod FlawLaws
+pub mod PieceLemmas

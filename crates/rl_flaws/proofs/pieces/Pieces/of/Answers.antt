@@ -1,0 +1,8 @@
+use Rattle.rl_text.proofs.Common.{rules, IsUtf8}
+use Rattle.rl_flaws.proofs.WalkLemmas.{opened_bytes}
+use Rattle.rl_flaws.proofs.pieces.Pieces.of.Goals as goal
+
+pub judge_inside-judged-requires : goal.judge_inside-judged-requires
+judge_inside-judged-requires c =
+    let inside : IsUtf8 c.in-Some.inside.now = search rules in
+    (c.in-Some.ensures.some, opened_bytes _ _ _ c.utf8.text inside c.in-Some.ensures.cut, inside)

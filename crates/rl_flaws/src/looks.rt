@@ -1,0 +1,83 @@
+//! What kind of literal a text begins as.
+
+ghost use Rattle.std.specs.Prelude.{ℕ, ◌≡◌, IfNone, IfSome, List, Option, Some};
+ghost use Rattle.std.specs.Str.{chars};
+ghost use Rattle.rl_text.specs.Texts.{first_passes};
+ghost use Rattle.rl_forms.specs.declared.kind.Kind.{Kind as AnyKind};
+ghost use Rattle.rl_forms.specs.Reading.{Contents};
+ghost use Rattle.rl_forms.specs.Strict.{Strict};
+ghost use Rattle.rl_reasons.specs.StrictNumberFlaws.{is_float_mark};
+ghost use Rattle.rl_flaws.specs.Looks.{LooksLike, OpensNumber, number_kind};
+
+use crate::walks::open;
+use rl_forms::Kind;
+use rl_reading::digit_rows::{after_minus, begins_digit, skip_row};
+use rl_reading::number_forms::split_radix;
+use rl_reading::truth_of;
+use rl_text::text::split_char;
+
+/// Whether the text goes on as a float alone does: with a dot, or the letter of an exponent.
+fn begins_float(text: &str) -> bool
+    ensures { result ≡ first_passes is_float_mark (chars text.now) }
+{
+    matches!(split_char(text), Some(('.' | 'e' | 'E', _)))
+}
+
+/// The kind of a number by its front, which is a digit.
+fn number_kind(digits: &str) -> Kind
+    ensures { result ≡ number_kind (chars digits.now) }
+{
+    let (radix, row) = split_radix(digits);
+    if radix != 10 {
+        return Kind::Int;
+    }
+    if begins_float(skip_row(row).rest) {
+        Kind::Float
+    } else {
+        Kind::Int
+    }
+}
+
+/// The kind of number that the text begins as.
+fn number_like(text: &str) -> Option<Kind>
+    ensures some { IfSome result (λ k. OpensNumber k (chars text.now)) }
+    ensures none { IfNone result ((k : AnyKind) → OpensNumber k (chars text.now) → ⊥) }
+{
+    let digits = after_minus(text);
+    if begins_digit(digits) {
+        Some(number_kind(digits))
+    } else {
+        None
+    }
+}
+
+/// The kind that the text's front tells.
+fn front_kind(text: &str) -> Option<Kind>
+    ensures some { IfSome result (LooksLike (chars text.now)) }
+    ensures none { IfNone result ((kind : AnyKind) → LooksLike (chars text.now) kind → ⊥) }
+{
+    if let Some((opened, _)) = open(text) {
+        return Some(opened.kind);
+    }
+    if let Some(kind) = number_like(text) {
+        return Some(kind);
+    }
+    match truth_of(text) {
+        Some(_) => Some(Kind::Bool),
+        None => None,
+    }
+}
+
+/// The kind of literal that the text begins as, whether or not it is one: by its prefix and quote a quoted one, and by a digit,
+/// perhaps after a minus, a number. Of the words it is `true` or `false` alone.
+///
+/// Of a literal token it is that token's kind. A number is a float where a dot or the letter of an exponent follows its decimal
+/// digits, and else an integer. A raw string begins with its hashes, 255 at most, and the quote. No memory is taken.
+pub fn looks_like(text: &str) -> Option<Kind>
+    ensures some { IfSome result (LooksLike (chars text.now)) }
+    ensures none { IfNone result ((kind : AnyKind) → LooksLike (chars text.now) kind → ⊥) }
+    ensures token { (kind : AnyKind) (contents : Contents) (suffix : List ℕ) → Strict (chars text.now) kind contents suffix
+        → result ≡ Some kind }
+{
+    front_kind(text)
+}

@@ -1,0 +1,131 @@
+-- How many hashes a raw string needs, by what follows its quotes.
+use Rattle.rl_text.proofs.Common.{◌≡◌, ℕ, zero, suc, ◌+◌, ◌<◌, ◌≤◌, ◌&&◌, Bool, true, false, cond, eqb, List, [], ◌∷◌, ◌++◌, replicate, refl, sym, ap, subst, ◌∙◌, inl, inr, arith, eqb-true, cases_Bool, cases_lt, nat_lt, lt-ltb, if◌then◌else◌}
+use Rattle.std.specs.Prelude.{max}
+use Rattle.rl_writing.specs.Mirrors.RawSteps.{hashes_opened}
+
+-- the hashes in front
+abbrev pub run : List ℕ → ℕ
+run [] = 0
+run (c ∷ t) = cond (eqb c 35) (suc (run t)) 0
+
+-- one more than the hashes after a quote, at most
+abbrev pub needed_in : List ℕ → ℕ
+needed_in [] = 0
+needed_in (c ∷ t) = cond (eqb c 34) (max (suc (run t)) (needed_in t)) (needed_in t)
+
+-- ---- a quote and as many hashes stand there
+
+run_more : (n : ℕ) (t : List ℕ) → n ≤ run (replicate n 35 ++ t)
+run_more zero t = omega arith
+run_more (suc n) t = omega (arith, run_more n t)
+
+pub closes_needed : (n : ℕ) (front rest : List ℕ) → n < needed_in ((front ++ (34 ∷ replicate n 35)) ++ rest)
+closes_needed n [] rest = omega (arith, run_more n rest)
+closes_needed n (c ∷ front) rest = wider (eqb c 34) ((front ++ (34 ∷ replicate n 35)) ++ rest)
+    (closes_needed n front rest)
+  where
+    wider : (b : Bool) (t : List ℕ) → n < needed_in t → n < cond b (max (suc (run t)) (needed_in t)) (needed_in t)
+    wider true t h = omega (arith, h)
+    wider false t h = h
+
+run_front : (n : ℕ) (t : List ℕ) → n ≤ run t → (rest : List ℕ) × (t ≡ replicate n 35 ++ rest)
+run_front zero t h = (t, refl)
+run_front (suc n) [] h = absurd (omega (arith, h))
+run_front (suc n) (c ∷ t) h =
+    elim (cases_Bool (eqb c 35)) [
+      | inl e ↦
+          let same : run (c ∷ t) ≡ suc (run t) = ap (λ b. cond b (suc (run t)) 0) e in
+          let more = run_front n t (omega (arith, h, same)) in
+          (more.0, ap (λ z. z ∷ t) (eqb-true c 35 e) ∙ ap (λ z. 35 ∷ z) more.1)
+      | inr e ↦
+          let same : run (c ∷ t) ≡ 0 = ap (λ b. cond b (suc (run t)) 0) e in
+          absurd (omega (arith, h, same))
+    ]
+
+-- a quote and so many hashes stand in the text
+abbrev pub Closes : ℕ → List ℕ → Type 0
+Closes n t = (front : List ℕ) × (rest : List ℕ) × (t ≡ (front ++ (34 ∷ replicate n 35)) ++ rest)
+
+closes_after : (n c : ℕ) (t : List ℕ) → Closes n t → Closes n (c ∷ t)
+closes_after n c t (front, rest, e) = (c ∷ front, rest, ap (λ z. c ∷ z) e)
+
+pub needed_closes : (n : ℕ) (t : List ℕ) → n < needed_in t → Closes n t
+needed_closes n [] h = absurd (omega (arith, h))
+needed_closes n (c ∷ t) h =
+    elim (cases_Bool (eqb c 34)) [
+      | inl e ↦
+          let same : needed_in (c ∷ t) ≡ max (suc (run t)) (needed_in t) = ap
+          (λ b. cond b (max (suc (run t)) (needed_in t)) (needed_in t)) e in
+          elim (cases_lt n (needed_in t)) [
+            | inl a ↦ closes_after n c t (needed_closes n t a)
+            | inr a ↦
+                let front = run_front n t (omega (arith, h, same, a)) in
+                ([], front.0, ap (λ z. z ∷ t) (eqb-true c 34 e) ∙ ap (λ z. 34 ∷ z) front.1)
+          ]
+      | inr e ↦
+          let same : needed_in (c ∷ t) ≡ needed_in t = ap (λ b. cond b (max (suc (run t)) (needed_in t)) (needed_in t))
+          e in
+          closes_after n c t (needed_closes n t (omega (arith, h, same)))
+    ]
+
+-- ---- one character after another
+
+-- what a quote and hashes at the end of what was passed need, with the hashes that follow
+abbrev pub pending : ℕ → List ℕ → ℕ
+pending zero t = 0
+pending (suc k) t = suc k + run t
+
+-- what is needed, by what was needed so far
+abbrev pub needed_from : ℕ → ℕ → List ℕ → ℕ
+needed_from needed opened t = max needed (max (pending opened t) (needed_in t))
+
+pub needed_end : (needed opened : ℕ) → opened ≤ needed → needed_from needed opened [] ≡ needed
+needed_end needed zero h = omega arith
+needed_end needed (suc k) h = omega (arith, h)
+
+step_quote : (needed opened : ℕ) (t : List ℕ) → opened ≤ needed
+    → needed_from needed opened (34 ∷ t) ≡ needed_from (max needed 1) 1 t
+step_quote needed zero t h = omega arith
+step_quote needed (suc k) t h = omega (arith, h)
+
+step_hash : (needed opened : ℕ) (t : List ℕ) → opened ≤ needed
+    → needed_from needed opened (35 ∷ t)
+    ≡ needed_from (max needed (hashes_opened opened 35)) (hashes_opened opened 35) t
+step_hash needed zero t h = omega arith
+step_hash needed (suc k) t h =
+    let one : suc k + 1 ≡ suc (suc k) = omega arith in
+    let more : hashes_opened (suc k) 35 ≡ suc (suc k) =
+    ap (λ b. if b then suc k + 1 else 0) (lt-ltb 0 (suc k) (omega arith)) ∙ one in
+    let step : needed_from needed (suc k) (35 ∷ t) ≡ needed_from (max needed (suc (suc k))) (suc (suc k)) t =
+    omega (arith, h) in
+    step ∙ ap (λ z. needed_from (max needed z) z t) (sym more)
+
+step_other : (needed opened c : ℕ) (t : List ℕ) → opened ≤ needed → eqb c 34 ≡ false → eqb c 35 ≡ false
+    → needed_from needed opened (c ∷ t) ≡ needed_from (max needed 0) 0 t
+step_other needed opened c t h q s =
+    let none : run (c ∷ t) ≡ 0 = ap (λ b. cond b (suc (run t)) 0) s in
+    let same : needed_in (c ∷ t) ≡ needed_in t =
+    ap (λ b. cond b (max (suc (run t)) (needed_in t)) (needed_in t)) q in
+    closed opened h none same
+  where
+    closed : (opened : ℕ) → opened ≤ needed → run (c ∷ t) ≡ 0 → needed_in (c ∷ t) ≡ needed_in t
+        → needed_from needed opened (c ∷ t) ≡ needed_from (max needed 0) 0 t
+    closed zero h none same = omega (arith, same)
+    closed (suc k) h none same = omega (arith, h, none, same)
+
+pub needed_step : (needed opened c : ℕ) (t : List ℕ) → opened ≤ needed
+    → needed_from needed opened (c ∷ t) ≡ needed_from (max needed (hashes_opened opened c)) (hashes_opened opened c) t
+needed_step needed opened c t h =
+    let Step : ℕ → Type 0 = λ z. needed_from needed opened (z ∷ t)
+    ≡ needed_from (max needed (hashes_opened opened z)) (hashes_opened opened z) t in
+    elim (cases_Bool (eqb c 34)) [
+      | inl q ↦ subst Step (sym (eqb-true c 34 q)) (step_quote needed opened t h)
+      | inr q ↦ elim (cases_Bool (eqb c 35)) [
+        | inl s ↦ subst Step (sym (eqb-true c 35 s)) (step_hash needed opened t h)
+        | inr s ↦
+            let closed : hashes_opened opened c ≡ 0 =
+            ap (λ b. if b then 1 else (if eqb c 35 && nat_lt 0 opened then opened + 1 else 0)) q
+            ∙ ap (λ b. if b && nat_lt 0 opened then opened + 1 else 0) s in
+            step_other needed opened c t h q s ∙ ap (λ z. needed_from (max needed z) z t) (sym closed)
+      ]
+    ]

@@ -1,0 +1,11 @@
+-- As many hashes as were counted stand there.
+use Rattle.rl_text.proofs.Common.{◌≡◌, ◌+◌, ◌++◌, length, replicate, take}
+use Rattle.rl_text.specs.Texts.{code}
+use Rattle.rl_writing.proofs.raw_strings.put_hashes.Given as goal
+
+abbrev pub invariant-loop : goal.invariant-loop
+invariant-loop l = record {
+  end : l.end ≡ l.at + l.counter;
+  bytes : take l.end l.out ≡ take l.at l.initial.out ++ replicate l.counter (code "#");
+  len : length l.out ≡ length l.initial.out;
+}

@@ -1,0 +1,17 @@
+-- What the whole text needs is what was needed so far, and what the rest needs; all that was passed may stand there.
+use Rattle.rl_text.proofs.Common.{◌≡◌, ◌+◌, ◌≤◌, length, list_all, chars, Utf8, shadow}
+use Rattle.rl_writing.specs.Mirrors.RawSteps.{stands_raw}
+use Rattle.rl_writing.proofs.HashLemmas.{needed_from, needed_in}
+use Rattle.rl_writing.proofs.raw_strings.raw_hashes.Given as goal
+
+abbrev pub invariant-loop-c : goal.invariant-loop-c
+invariant-loop-c l = record {
+  utf8 : shadow (Utf8 l.rest);
+  needed : needed_in (chars l.text) ≡ needed_from l.needed l.opened (chars l.rest);
+  stand : list_all (stands_raw l.kind) (chars l.text) ≡ list_all (stands_raw l.kind) (chars l.rest);
+  opened : l.opened ≤ l.needed;
+  short : l.opened + length l.rest ≤ length l.text;
+}
+
+abbrev pub decreases-loop-c : goal.decreases-loop-c
+decreases-loop-c l = length l.rest

@@ -1,0 +1,76 @@
+//! How strings and characters are written in ASCII alone.
+
+ghost use Rattle.std.specs.Prelude.{◌≡◌, ◌+◌, ◌*◌, ◌∷◌, ◌++◌, ◌≤◌, [], IsTrue, length, take};
+ghost use Rattle.std.specs.Str.{chars, IsUtf8};
+ghost use Rattle.rl_forms.specs.declared.kind.Kind.TheVariants.{Char, Str};
+ghost use Rattle.rl_forms.specs.Quoted.{holds_characters};
+ghost use Rattle.rl_writing.specs.AsciiStrings.{ascii_text, unicode_escape, IsAsciiForm};
+
+use crate::numerals::{put_grouped, put_reversed};
+use rl_forms::Kind;
+use rl_forms::written_unit::escape;
+use rl_text::room::{put, put_byte, put_text};
+use rl_text::text::split_char;
+
+/// Puts `\u{..}` after the first `at` bytes of the slice, with the number of the character in base 16, in lower case, and
+/// returns where it ends.
+fn put_unicode(out: &mut [u8], at: usize, c: char) -> usize
+    requires { at + length (unicode_escape c) ≤ length out.old }
+    ensures end { result ≡ at + length (unicode_escape c) }
+    ensures bytes { take result out.new ≡ take at out.old ++ unicode_escape c }
+    ensures len { length out.new ≡ length out.old }
+{
+    let mut room = [0; 21];
+    let count = put_reversed(u128::from(c), 16, false, &mut room);
+    let at = put(out, at, b"\\u{");
+    let at = put_grouped(out, at, &room[..count], 0);
+    put_byte(out, at, b'}')
+}
+
+/// Puts a character after the first `at` bytes of the slice, as it stands in a literal of the kind in ASCII, and returns
+/// where it ends.
+fn put_ascii(out: &mut [u8], at: usize, kind: Kind, c: char) -> usize
+    requires kind { IsTrue (holds_characters kind) }
+    requires room { at + length (ascii_text kind c) ≤ length out.old }
+    ensures end { result ≡ at + length (ascii_text kind c) }
+    ensures bytes { take result out.new ≡ take at out.old ++ ascii_text kind c }
+    ensures len { length out.new ≡ length out.old }
+{
+    if c >= '\u{80}' {
+        return put_unicode(out, at, c);
+    }
+    match escape(kind, c, &mut [0; 4]) {
+        Some(text) => put_text(out, at, text),
+        None => put_byte(out, at, c as u8),
+    }
+}
+
+/// Writes the string literal that stands for the text, in ASCII alone: as `write_str_into` of `rl_forms`, but that each
+/// character past ASCII is `\u{..}`. Returns how many bytes it is long: at most four for each byte of the text, and two.
+pub fn write_str_ascii_into(value: &str, out: &mut [u8]) -> usize
+    requires { 4 * length value.now + 2 ≤ length out.old }
+    ensures written { IsAsciiForm Str (chars value.now) (chars (take result out.new)) }
+    ensures utf8 { IsUtf8 (take result out.new) }
+    ensures within { result ≤ 4 * length value.now + 2 }
+{
+    let mut at = put_text(out, 0, Kind::Str.opener());
+    let mut rest = value;
+    while let Some((c, after)) = split_char(rest) {
+        at = put_ascii(out, at, Kind::Str, c);
+        rest = after;
+    }
+    put_byte(out, at, b'"')
+}
+
+/// Writes the character literal that stands for the character, in ASCII alone. Returns how many bytes it is long: at most
+/// twelve.
+pub fn write_char_ascii_into(value: char, out: &mut [u8]) -> usize
+    requires { 12 ≤ length out.old }
+    ensures written { IsAsciiForm Char (value ∷ []) (chars (take result out.new)) }
+    ensures utf8 { IsUtf8 (take result out.new) }
+    ensures within { result ≤ 12 }
+{
+    let at = put_text(out, 0, Kind::Char.opener());
+    let at = put_ascii(out, at, Kind::Char, value);
+    put_byte(out, at, b'\'')
+}

@@ -1,0 +1,53 @@
+//! How integers are written.
+
+ghost use Rattle.std.specs.Prelude.{◌≡◌, ◌≤◌, length, take};
+ghost use Rattle.std.specs.Str.{chars, IsUtf8};
+ghost use Rattle.rl_writing.specs.Integers.{suffix_text};
+ghost use Rattle.rl_writing.specs.WrittenIntegers.{IsWrittenInteger};
+
+use crate::base::Base;
+use crate::integer_type::IntegerType;
+use crate::numerals::{put_grouped, put_reversed};
+use rl_text::room::put_text;
+
+/// How an integer is written.
+#[derive(Clone, Copy)]
+pub struct IntegerStyle {
+    /// The base of its digits, which tells what stands before them.
+    pub base: Base,
+    /// Whether the letters among its digits are in upper case: `0xFF`, and not `0xff`.
+    pub upper: bool,
+    /// How many digits stand between two underscores, counted from the last digit: of 3 in `1_000`. Of 0 is no underscore.
+    pub group: usize,
+}
+
+/// The suffix that names the type, or none.
+fn suffix_of(suffix: Option<IntegerType>) -> &'static str
+    ensures text { result.now ≡ suffix_text suffix }
+    ensures short { length result.now ≤ 5 }
+{
+    match suffix {
+        Some(name) => name.name(),
+        None => "",
+    }
+}
+
+/// Writes the integer literal of the value, in the style and with the suffix (the Rust Reference, section Integer literals). Returns
+/// how many bytes it is long: at most 262. A literal has no sign.
+pub fn write_integer_into(
+    value: u128,
+    style: IntegerStyle,
+    suffix: Option<IntegerType>,
+    out: &mut [u8],
+) -> usize
+    requires { 262 ≤ length out.old }
+    ensures written { IsWrittenInteger value style suffix (chars (take result out.new)) }
+    ensures utf8 { IsUtf8 (take result out.new) }
+    ensures within { result ≤ 262 }
+{
+    let mut room = [0; 128];
+    let count = put_reversed(value, style.base.radix(), style.upper, &mut room);
+    let at = put_text(out, 0, style.base.prefix());
+    let at = put_grouped(out, at, &room[..count], style.group);
+    put_text(out, at, suffix_of(suffix))
+}

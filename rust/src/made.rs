@@ -1,0 +1,134 @@
+//! Literals made of values.
+
+use crate::value::{Float, Integer};
+use crate::{
+    write_byte, write_byte_str, write_c_str, write_char, write_integer, write_str, IntegerStyle,
+    LitBool, LitByte, LitByteStr, LitCStr, LitChar, LitFloat, LitInt, LitStr,
+};
+use alloc::borrow::Cow;
+use alloc::format;
+use core::ffi::CStr;
+
+/// Why no reading of what was written fails.
+const WRITTEN: &str = "what is written for a value is a literal of its kind";
+
+/// The literal of a value, by the writer of its kind. In an example, that of `$value` is `$text`.
+macro_rules! made {
+    ($(#[$doc:meta])* $name:ident($of:ty) by $write:ident, $value:literal == $text:literal) => {
+        impl $name<'static> {
+            $(#[$doc])*
+            ///
+            /// ```
+            #[doc = concat!("use navyspindle::", stringify!($name), ";\n")]
+            #[doc = concat!("let literal = ", stringify!($name), "::new(", stringify!($value), ");")]
+            #[doc = concat!("assert_eq!(literal.text(), ", stringify!($text), ");")]
+            /// ```
+            #[must_use]
+            pub fn new(value: $of) -> Self {
+                $name::try_from($write(value)).expect(WRITTEN)
+            }
+        }
+    };
+}
+
+made! {
+    /// The literal that stands for the text, without a suffix, as [`write_str`] writes it.
+    LitStr(&str) by write_str, "a\t" == r#""a\t""#
+}
+made! {
+    /// The literal that stands for the bytes, without a suffix, as [`write_byte_str`] writes it.
+    LitByteStr(&[u8]) by write_byte_str, b"a\xff" == r#"b"a\xFF""#
+}
+made! {
+    /// The literal that stands for the C string, without a suffix, as [`write_c_str`] writes it.
+    LitCStr(&CStr) by write_c_str, c"a\n" == r#"c"a\n""#
+}
+made! {
+    /// The literal that stands for the byte, without a suffix, as [`write_byte`] writes it.
+    LitByte(u8) by write_byte, b'\n' == r"b'\n'"
+}
+made! {
+    /// The literal that stands for the character, without a suffix, as [`write_char`] writes it.
+    LitChar(char) by write_char, '\n' == r"'\n'"
+}
+
+impl LitBool<'static> {
+    /// The literal that stands for the truth value.
+    ///
+    /// ```
+    /// use navyspindle::LitBool;
+    ///
+    /// assert_eq!(LitBool::new(true).text(), "true");
+    /// ```
+    #[must_use]
+    pub fn new(value: bool) -> Self {
+        let word = if value { "true" } else { "false" };
+        LitBool::of(Cow::Borrowed(word), value)
+    }
+}
+
+impl LitInt<'static> {
+    /// The literal that stands for the number in base ten, with its type as the suffix; of a negative one after a minus.
+    /// [`write_integer`] has other styles.
+    ///
+    /// ```
+    /// use navyspindle::LitInt;
+    ///
+    /// assert_eq!(LitInt::suffixed(10u8).text(), "10u8");
+    /// assert_eq!(LitInt::suffixed(-1i64).text(), "-1i64");
+    /// ```
+    #[must_use]
+    pub fn suffixed<N: Integer>(value: N) -> Self {
+        let text = write_integer(value, IntegerStyle::new().suffixed(true));
+        LitInt::try_from(text).expect(WRITTEN)
+    }
+
+    /// The same without a suffix.
+    ///
+    /// ```
+    /// use navyspindle::LitInt;
+    ///
+    /// assert_eq!(LitInt::unsuffixed(10u8).text(), "10");
+    /// ```
+    #[must_use]
+    pub fn unsuffixed<N: Integer>(value: N) -> Self {
+        let text = write_integer(value, IntegerStyle::new());
+        LitInt::try_from(text).expect(WRITTEN)
+    }
+}
+
+impl LitFloat<'static> {
+    /// The literal that stands for the number, with its type as the suffix; of a negative one, and of `-0.0`, after a minus.
+    /// `None` of an infinity and of what is no number, which have no literals. std's `{:?}` writes the digits: the fewest that
+    /// stand for the number.
+    ///
+    /// ```
+    /// use navyspindle::LitFloat;
+    ///
+    /// assert_eq!(LitFloat::suffixed(0.1f32).unwrap().text(), "0.1f32");
+    /// assert_eq!(LitFloat::suffixed(-1e300).unwrap().text(), "-1e300f64");
+    /// assert!(LitFloat::suffixed(f64::INFINITY).is_none());
+    /// ```
+    #[must_use]
+    pub fn suffixed<N: Float>(value: N) -> Option<Self> {
+        let text = format!("{value:?}{}", N::TYPE);
+        value
+            .is_number()
+            .then(|| LitFloat::try_from(text).expect(WRITTEN))
+    }
+
+    /// The same without a suffix.
+    ///
+    /// ```
+    /// use navyspindle::LitFloat;
+    ///
+    /// assert_eq!(LitFloat::unsuffixed(1.0).unwrap().text(), "1.0");
+    /// ```
+    #[must_use]
+    pub fn unsuffixed<N: Float>(value: N) -> Option<Self> {
+        let text = format!("{value:?}");
+        value
+            .is_number()
+            .then(|| LitFloat::try_from(text).expect(WRITTEN))
+    }
+}

@@ -1,0 +1,240 @@
+//! Every flaw of a literal, held against rustc's errors: `every_flaw.txt`, which `tools/flaws_rustc.py` writes of rustc's answers.
+
+use navyspindle::FlawKind::{
+    self, CarriageReturn, EmptyBraces, NoBrace, NoHexDigit, NoUnicode, NotAscii, Nul, PastAscii,
+    PastUnicode, Surrogate, TooManyDigits, UnknownEscape,
+};
+use navyspindle::{flaws, is_token, looks_like, pieces, BadPiece, Kind, Lit, Piece};
+
+const TABLE: &str = include_str!("every_flaw.txt");
+
+/// By the beginning of rustc's message, the kinds that say the same. In bytes `\u` alone is the flaw, and of a number that is too
+/// large it is its sixth digit, whatever follows.
+const SAME: &[(&str, &[FlawKind])] = &[
+    ("bare CR not allowed in", &[CarriageReturn]),
+    ("unknown character escape", &[UnknownEscape, CarriageReturn]),
+    ("unknown byte escape", &[UnknownEscape, CarriageReturn]),
+    ("invalid character in numeric", &[NoHexDigit, PastAscii]),
+    ("numeric character escape is", &[NoHexDigit]),
+    ("out of range hex escape", &[PastAscii]),
+    ("incorrect unicode escape", &[NoBrace, NoUnicode]),
+    ("empty unicode escape", &[EmptyBraces, NoUnicode]),
+    ("invalid start of unicode", &[NoHexDigit, NoUnicode]),
+    ("invalid character in unicode", &[NoHexDigit, NoUnicode]),
+    ("unterminated unicode escape", &[NoHexDigit, NoUnicode]),
+    ("overlong unicode escape", &[TooManyDigits, PastUnicode]),
+    ("invalid unicode character", &[PastUnicode, Surrogate]),
+    ("unicode escape in byte string", &[NoUnicode]),
+    ("non-ASCII character in", &[NotAscii]),
+    ("null characters in C string", &[Nul]),
+];
+
+fn decoded(digits: &str) -> String {
+    let byte = |at| u8::from_str_radix(&digits[at..at + 2], 16).unwrap();
+    String::from_utf8((0..digits.len()).step_by(2).map(byte).collect()).unwrap()
+}
+
+/// Whether an error of rustc's is this flaw: it says so, and marks the whole piece or the piece's last character.
+fn is_same(error: &str, bad: &BadPiece, text: &str) -> bool {
+    let (place, message) = error.split_once(' ').unwrap();
+    let (low, high) = place.split_once("..").unwrap();
+    let (low, high): (usize, usize) = (low.parse().unwrap(), high.parse().unwrap());
+    let kinds = SAME.iter().find(|(said, _)| message.starts_with(said));
+    let last = text[bad.range()].char_indices().last().unwrap().0;
+    kinds.unwrap().1.contains(&bad.kind())
+        && high == bad.range().end
+        && (low == bad.range().start || low == bad.range().start + last)
+}
+
+#[test]
+fn rustc_names_the_same_flaws() {
+    let (mut literals, mut errors) = (0, 0);
+    for line in TABLE.lines() {
+        let mut fields = line.split('\t');
+        let text = decoded(fields.next().unwrap());
+        let theirs: Vec<_> = fields.collect();
+        let ours: Vec<_> = flaws(&text).collect();
+        assert_eq!(ours.len(), theirs.len(), "{text:?}: {ours:?}, {theirs:?}");
+        for (bad, error) in ours.iter().zip(&theirs) {
+            assert!(is_same(error, bad, &text), "{text:?}: {bad:?}, {error}");
+        }
+        literals += 1;
+        errors += ours.len();
+    }
+    assert_eq!((literals, errors), (318, 1114));
+}
+
+/// What stands between the quotes is its pieces, without a gap, and the bad ones are the flaws.
+#[test]
+fn pieces_fill_the_literal() {
+    for text in TABLE
+        .lines()
+        .map(|line| decoded(line.split('\t').next().unwrap()))
+    {
+        let all: Vec<_> = pieces(&text).unwrap().collect();
+        let range = |piece: &Piece| match piece {
+            Piece::Good(segment) => segment.range.clone(),
+            Piece::Bad(bad) => bad.range(),
+        };
+        assert!(
+            all.windows(2)
+                .all(|it| range(&it[0]).end == range(&it[1]).start),
+            "{text:?}"
+        );
+        let bad = all.iter().filter_map(|piece| match piece {
+            Piece::Bad(bad) => Some(*bad),
+            Piece::Good(_) => None,
+        });
+        assert!(bad.eq(flaws(&text)), "{text:?}");
+        let hashes = text.bytes().rev().take_while(|byte| *byte == b'#').count();
+        let opener = text.find('"').unwrap() + 1;
+        assert_eq!(range(&all[0]).start, opener);
+        assert_eq!(range(all.last().unwrap()).end, text.len() - 1 - hashes);
+    }
+}
+
+/// Of a token the pieces are its segments, and it begins as its kind.
+#[test]
+fn tokens_have_no_flaws() {
+    let tokens = [
+        (r#""é\n\x41\u{e9}""#, Kind::Str),
+        ("r#\"a\"\\q\"#suffix", Kind::Str),
+        ("b\"\\xff\\\n  a\"", Kind::ByteStr),
+        ("br\"\\q\"", Kind::ByteStr),
+        ("c\"é\\xff\"", Kind::CStr),
+        ("cr##\"\"#\"##", Kind::CStr),
+        (r"'\u{1F600}'", Kind::Char),
+        ("'a'", Kind::Char),
+        (r"b'\\'", Kind::Byte),
+        ("1_000u8", Kind::Int),
+        ("0x1e5", Kind::Int),
+        ("0b1", Kind::Int),
+        ("1f32", Kind::Int),
+        ("1.", Kind::Float),
+        ("1_.5", Kind::Float),
+        ("1e5", Kind::Float),
+        ("true", Kind::Bool),
+    ];
+    for (text, kind) in tokens {
+        assert!(is_token(text));
+        assert_eq!(flaws(text).next(), None, "{text}");
+        assert_eq!(looks_like(text), Some(kind), "{text}");
+        let literal = Lit::new(text);
+        let Some(segments) = literal.segments() else {
+            assert!(pieces(text).is_none());
+            continue;
+        };
+        assert!(
+            pieces(text).unwrap().eq(segments.map(Piece::Good)),
+            "{text}"
+        );
+    }
+}
+
+/// What a text begins as.
+#[test]
+fn begins_as() {
+    let texts = [
+        ("\"", Some(Kind::Str)),
+        ("r\"", Some(Kind::Str)),
+        ("r##\"a", Some(Kind::Str)),
+        ("r#a", None),
+        ("r", None),
+        ("b\"\\q", Some(Kind::ByteStr)),
+        ("br#\"", Some(Kind::ByteStr)),
+        ("b'", Some(Kind::Byte)),
+        ("b", None),
+        ("c\"\\0\"", Some(Kind::CStr)),
+        ("cr#\"a\"", Some(Kind::CStr)),
+        ("'ab", Some(Kind::Char)),
+        ("0b12", Some(Kind::Int)),
+        ("0x", Some(Kind::Int)),
+        ("1e", Some(Kind::Float)),
+        ("1.5.2", Some(Kind::Float)),
+        ("-1z-", Some(Kind::Int)),
+        ("-1.5z-", Some(Kind::Float)),
+        ("-", None),
+        ("--1", None),
+        ("false", Some(Kind::Bool)),
+        ("falsely", None),
+        ("word", None),
+        ("", None),
+    ];
+    for (text, kind) in texts {
+        assert_eq!(looks_like(text), kind, "{text}");
+    }
+}
+
+/// A broken escape ends before a backslash, which begins the next one: there rustc takes the backslash for the digit.
+#[test]
+fn a_backslash_begins_the_next_escape() {
+    let bad = |text| {
+        flaws(text)
+            .map(|bad| &text[bad.range()])
+            .collect::<Vec<_>>()
+    };
+    assert_eq!(bad(r#""\x\n""#), [r"\x"]);
+    assert_eq!(bad(r#""\x\"a\u\\""#), [r"\x", r"\u"]);
+    assert_eq!(bad(r#""\u{1\q""#), [r"\u{1", r"\q"]);
+}
+
+/// What isn't of a character or an escape is the last flaw.
+#[test]
+fn the_last_flaw() {
+    let of = |text| {
+        flaws(text)
+            .map(|bad| (bad.kind(), bad.range()))
+            .collect::<Vec<_>>()
+    };
+    assert_eq!(
+        of(r#""\q"#),
+        [(UnknownEscape, 1..3), (FlawKind::Unclosed, 3..3)]
+    );
+    assert_eq!(
+        of(r#""\q"b"c""#),
+        [(UnknownEscape, 1..3), (FlawKind::EarlyQuote, 3..6)]
+    );
+    assert_eq!(
+        of(r#""\q"_"#),
+        [(UnknownEscape, 1..3), (FlawKind::UnderscoreSuffix, 4..5)]
+    );
+    assert_eq!(
+        of("r#\"a\r\"##"),
+        [(CarriageReturn, 4..5), (FlawKind::ExtraHash, 5..8)]
+    );
+    assert_eq!(of(r"'\qa'"), [(UnknownEscape, 1..3)]);
+    assert_eq!(of("0b12"), [(FlawKind::DigitOfBase, 0..4)]);
+}
+
+/// The first flaw of a text without a reading is why it has none.
+#[test]
+fn texts_without_a_reading() {
+    let texts = [
+        ("word", 1),
+        ("-340282366920938463463374607431768211457", 1),
+        (r"'\q'", 1),
+        (r#""\q\y"#, 3),
+    ];
+    for (text, count) in texts {
+        let Lit::Verbatim(literal) = Lit::new(text) else {
+            panic!("{text}")
+        };
+        let all: Vec<_> = literal.flaws().take(count + 1).collect();
+        assert_eq!(all.len(), count, "{text}");
+        assert_eq!(all[0].error(), literal.explain(), "{text}");
+        assert_eq!(all[0].range(), literal.explain().piece(), "{text}");
+        assert_eq!(literal.looks_like(), looks_like(text));
+        let bad = literal
+            .pieces()
+            .map(|all| all.filter(|it| matches!(it, Piece::Bad(_))).count());
+        assert_eq!(bad, text.contains(['\'', '"']).then_some(count), "{text}");
+    }
+}
+
+/// A text of many bad escapes takes the time that its length gives.
+#[test]
+fn time_grows_with_the_text() {
+    let text = format!("\"{}", r"\q\u{d800}\xé".repeat(100_000));
+    assert_eq!(flaws(&text).count(), 300_001);
+    assert_eq!(pieces(&text).unwrap().count(), 300_001);
+}

@@ -1,0 +1,236 @@
+//! What is written for values, beside std's formatting and rustc's own tokens.
+
+use navyspindle::{
+    is_token, write_char, write_char_ascii, write_integer, write_raw_byte_str, write_raw_c_str,
+    write_raw_str, write_str, write_str_ascii, Base, Integer, IntegerStyle, LitBool, LitByte,
+    LitByteStr, LitCStr, LitChar, LitFloat, LitInt, LitStr,
+};
+use std::ffi::CString;
+use std::fmt;
+
+const HEX: IntegerStyle = IntegerStyle::new().base(Base::Hexadecimal);
+
+/// Digits in groups, counted from the last.
+fn grouped(digits: &str, size: usize) -> String {
+    let mut groups: Vec<&str> = Vec::new();
+    let mut rest = digits;
+    while size > 0 && rest.len() > size {
+        let (front, last) = rest.split_at(rest.len() - size);
+        groups.insert(0, last);
+        rest = front;
+    }
+    groups.insert(0, rest);
+    groups.join("_")
+}
+
+/// Checks what is written for a number, whose magnitude is given, in each base, with groups of each size.
+fn check_integer<N: Integer + fmt::Display>(value: N, magnitude: u128, name: &str) {
+    let sign = if value.to_string().starts_with('-') {
+        "-"
+    } else {
+        ""
+    };
+    let rows = [
+        (IntegerStyle::new(), format!("{magnitude}")),
+        (
+            IntegerStyle::new().base(Base::Binary),
+            format!("{magnitude:#b}"),
+        ),
+        (
+            IntegerStyle::new().base(Base::Octal),
+            format!("{magnitude:#o}"),
+        ),
+        (HEX, format!("{magnitude:#x}")),
+        (HEX.upper(true), format!("{magnitude:#X}")),
+    ];
+    for (style, text) in rows {
+        let at = if text.starts_with("0b") || text.starts_with("0o") || text.starts_with("0x") {
+            2
+        } else {
+            0
+        };
+        let (prefix, digits) = text.split_at(at);
+        for size in [0, 1, 2, 3, 4, 5, 8, 16, 63, 127, 128, usize::MAX] {
+            let literal = format!("{prefix}{}", grouped(digits, size));
+            let style = style.group(size);
+            assert_eq!(write_integer(value, style), format!("{sign}{literal}"));
+            let suffixed = write_integer(value, style.suffixed(true));
+            assert_eq!(suffixed, format!("{sign}{literal}{name}"));
+            assert!(is_token(&literal), "{literal}");
+            let read = LitInt::parse(&suffixed).unwrap();
+            assert_eq!((read.magnitude(), read.suffix()), (magnitude, name));
+            assert_eq!(read.base10_digits(), value.to_string());
+        }
+    }
+}
+
+#[test]
+fn integers_as_std_formats_them() {
+    let mut unsigned: Vec<u128> = (0..300).collect();
+    for bit in 0..128 {
+        let power = 1_u128 << bit;
+        unsigned.extend([power - 1, power, power + 1, power | 0xA5, u128::MAX >> bit]);
+    }
+    unsigned.extend((0..39).map(|power| 10_u128.pow(power)));
+    for value in unsigned {
+        check_integer(value, value, "u128");
+        if let Ok(value) = u64::try_from(value) {
+            check_integer(value, u128::from(value), "u64");
+        }
+        let negative = 0_i128.wrapping_sub_unsigned(value);
+        check_integer(negative, negative.unsigned_abs(), "i128");
+    }
+    check_integer(u8::MAX, 255, "u8");
+    check_integer(i8::MIN, 128, "i8");
+    check_integer(u16::MAX, 65_535, "u16");
+    check_integer(i16::MIN, 32_768, "i16");
+    check_integer(u32::MAX, 4_294_967_295, "u32");
+    check_integer(i32::MIN, 2_147_483_648, "i32");
+    check_integer(i64::MIN, 9_223_372_036_854_775_808, "i64");
+    check_integer(7_usize, 7, "usize");
+    check_integer(-7_isize, 7, "isize");
+}
+
+/// rustc reads the token as a value, for which the same text is written.
+macro_rules! written_back {
+    ($($written:expr => $($literal:literal)*;)*) => {$($(
+        let write = $written;
+        assert_eq!(write($literal), stringify!($literal));
+    )*)*};
+}
+
+#[test]
+fn as_rustc_has_them() {
+    let upper = HEX.upper(true).group(4);
+    written_back! {
+        |value: u32| write_integer(value, IntegerStyle::new().group(3)) => 0 999 1_000 4_294_967_295;
+        |value: u8| write_integer(value, IntegerStyle::new().suffixed(true)) => 0u8 255u8;
+        |value: u64| write_integer(value, upper) => 0x0 0xFFFF 0x1_0000 0xFFFF_FFFF_FFFF_FFFF;
+        |value: i16| write_integer(value, IntegerStyle::new().base(Base::Binary).group(4)) => 0b0 0b1010_0101;
+        |value: i32| write_integer(value, IntegerStyle::new().base(Base::Octal)) => 0o0 0o777;
+        |value: &str| write_raw_str(value).unwrap() => r"" r"a\b" r#"""# r#"a"b"# r##""#"## r##"a"#b"## r###""##"###;
+        |value: &[u8]| write_raw_byte_str(value).unwrap() => br"" br"\" br#"a"b"# br##""#"##;
+        |value: &std::ffi::CStr| write_raw_c_str(value).unwrap() => cr"" cr"é\" cr#"a"b"#;
+        |value: &str| write_str_ascii(value) => "" "a'\"\\" "\u{e9}\u{1f600}" "\0\t\n\r\x7F" "\u{80}\u{10ffff}";
+        |value: char| write_char_ascii(value) => 'a' '"' '\'' '\u{e9}' '\u{10ffff}' '\x1F' '\n';
+    }
+}
+
+#[test]
+fn in_ascii_as_std_escapes() {
+    let inside = |literal: &str| literal[1..literal.len() - 1].to_owned();
+    let mut all = String::new();
+    let mut expected = String::new();
+    for c in '\0'..=char::MAX {
+        let text = c.to_string();
+        let (in_string, in_char) = if c.is_ascii() {
+            (inside(&write_str(&text)), inside(&write_char(c)))
+        } else {
+            let escape = c.escape_unicode().to_string();
+            (escape.clone(), escape)
+        };
+        assert_eq!(write_char_ascii(c), format!("'{in_char}'"));
+        all.push(c);
+        expected.push_str(&in_string);
+    }
+    assert_eq!(write_str_ascii(&all), format!("\"{expected}\""));
+    assert_eq!(
+        LitStr::parse(&format!("\"{expected}\"")).unwrap().value(),
+        all
+    );
+}
+
+/// All texts of up to so many of these characters.
+fn texts(characters: &str, most: usize) -> Vec<String> {
+    let mut texts = vec![String::new()];
+    let mut last = texts.clone();
+    for _ in 0..most {
+        let more = last
+            .iter()
+            .flat_map(|text| characters.chars().map(move |c| format!("{text}{c}")));
+        last = more.collect();
+        texts.extend_from_slice(&last);
+    }
+    texts
+}
+
+/// The first literal with hashes, from none on, that reads as these bytes.
+fn first_raw(opener: &str, text: &str, reads: impl Fn(&str) -> bool) -> Option<String> {
+    let literal = |count: usize| {
+        let hashes = "#".repeat(count);
+        format!("{opener}{hashes}\"{text}\"{hashes}")
+    };
+    // More hashes than characters help no text.
+    (0..=text.len() + 1)
+        .map(literal)
+        .find(|literal| reads(literal))
+}
+
+#[test]
+fn raw_with_the_fewest_hashes() {
+    let mut all = texts("\"#a\r\né\0", 5);
+    for count in [253, 254, 255, 256] {
+        let hashes = "#".repeat(count);
+        all.extend([
+            format!("\"{hashes}"),
+            format!("{hashes}\""),
+            format!("a{hashes}"),
+        ]);
+    }
+    let mut held = [0; 3];
+    for text in &all {
+        let expected = first_raw("r", text, |it| {
+            LitStr::parse(it).is_ok_and(|it| it.value() == *text)
+        });
+        assert_eq!(write_raw_str(text), expected, "{text:?}");
+        held[0] += usize::from(expected.is_some());
+        let bytes = text.as_bytes();
+        let expected = first_raw("br", text, |it| {
+            LitByteStr::parse(it).is_ok_and(|it| *it.value() == *bytes)
+        });
+        assert_eq!(write_raw_byte_str(bytes), expected, "{text:?}");
+        held[1] += usize::from(expected.is_some());
+        if let Ok(value) = CString::new(bytes) {
+            let expected = first_raw("cr", text, |it| {
+                LitCStr::parse(it).is_ok_and(|it| it.c_string() == value)
+            });
+            assert_eq!(write_raw_c_str(&value), expected, "{text:?}");
+            held[2] += usize::from(expected.is_some());
+        }
+    }
+    assert!(held.iter().all(|count| *count > 1_000), "{held:?}");
+    for byte in 128..=255 {
+        assert_eq!(write_raw_byte_str(&[byte]), None);
+        assert_eq!(write_raw_c_str(&CString::new([b'a', byte]).unwrap()), None);
+    }
+}
+
+#[test]
+fn made_of_values() {
+    let strings = ["", "a\"b", "\u{e9}\n"];
+    assert!(strings
+        .iter()
+        .all(|text| LitStr::new(text).value() == *text));
+    assert_eq!(*LitByteStr::new(b"\xff\"\\").value(), *b"\xff\"\\");
+    assert_eq!(LitCStr::new(c"\xff\"").c_string().as_c_str(), c"\xff\"");
+    assert!((0..=255).all(|byte| LitByte::new(byte).value() == byte));
+    assert!("a'\\\u{10ffff}"
+        .chars()
+        .all(|c| LitChar::new(c).value() == c));
+    assert!([false, true]
+        .iter()
+        .all(|truth| LitBool::new(*truth).value() == *truth));
+    assert_eq!(LitInt::suffixed(i128::MIN).value::<i128>(), Ok(i128::MIN));
+    assert_eq!(LitInt::unsuffixed(u128::MAX).value::<u128>(), Ok(u128::MAX));
+    assert_eq!(LitInt::unsuffixed(-1).base10_digits(), "-1");
+    assert_eq!(LitFloat::suffixed(-0.0_f64).unwrap().text(), "-0.0f64");
+    for value in [1.5, f64::MAX, f64::MIN_POSITIVE, 5e-324, 1e16, 0.1] {
+        let (with, without) = (LitFloat::suffixed(value), LitFloat::unsuffixed(value));
+        assert_eq!(with.unwrap().value::<f64>(), Ok(value));
+        assert_eq!(without.unwrap().text(), format!("{value:?}"));
+    }
+    for value in [f32::INFINITY, f32::NEG_INFINITY, f32::NAN] {
+        assert!(LitFloat::suffixed(value).is_none());
+        assert!(LitFloat::unsuffixed(value).is_none());
+    }
+}
