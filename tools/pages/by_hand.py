@@ -7,6 +7,7 @@ import programs
 
 from .items import TOP, libraries, public_items, read
 from .pieces import paste
+from .words import words
 
 
 def tried(name, words, given):
@@ -41,6 +42,8 @@ CALLS = {
     'read_config': ('rl_rows', 'config'),
     'LitInt': ('rl_rows', 'LitInt'), 'LitStr': ('rl_rows', 'LitStr'),
 }
+# The kinds of flaws that `explain` doesn't return.
+OF_VALUES = ('NoNumber', 'TooLarge')
 # A call behind each row of rl_rows, and the line that it prints.
 MARK, LINE = 'skipped', '===\n'
 
@@ -54,12 +57,22 @@ def text_of(cell):
 
 
 def rows_of_refusals():
-    """The rows of docs/REFUSALS.md: the call, which stands second, the text and the message."""
+    """The rows of docs/REFUSALS.md: the call and the text, which stand second, and the message; of a flaw its row."""
     for line in read('docs/REFUSALS.md').split('\n'):
         cells = [it.strip() for it in re.split(r'(?<!\\)\|', line)[1:-1]]
-        row = [text_of(it) for it in cells[1:4]] if len(cells) == 5 else []
-        if None not in row and row and row[0] in CALLS:
+        yield from row_of_flaw(cells)
+        called = re.fullmatch(r'`([^`]+)`: (.*)', cells[1]) if len(cells) == 4 else None
+        row = [called[1], text_of(called[2]), text_of(cells[2])] if called and called[1] in CALLS else [None]
+        if None not in row:
             yield row
+
+
+def row_of_flaw(cells):
+    """The call, the text and the message of a row of a kind of flaws: the text, the piece and the place stand third."""
+    kind = re.match(r'`(\w+)`:', cells[0]) if len(cells) == 4 else None
+    shown = re.fullmatch(r'(.*) (\d+ \d+\.\.\d+)', cells[2]) if kind and kind[1] in words() else None
+    if shown and (text := text_of(shown[1])) is not None:
+        yield 'explain-value' if kind[1] in OF_VALUES else 'explain', text, f'{kind[1]} {shown[2]}'
 
 
 def answers_of(crate, rows):

@@ -176,14 +176,6 @@ def check_paths(tell):
                 tell(f'{page}: no file {name}')
 
 
-def check_lengths(tell):
-    """Where a row of a table gives a file of definitions and how many lines it has, it has as many."""
-    for page in pages():
-        for path, lines in re.findall(r'(?m)^\| `(crates/\S+\.antt)` \| (\d+) \|', read(page)):
-            if is_there(path, page) and read(path).count('\n') != int(lines):
-                tell(f"{page}: {path} has {read(path).count(chr(10))} lines, and not {lines}")
-
-
 def check_words(tell):
     """Each word in code font that is written as definitions and types are stands in a source."""
     known = set()
@@ -312,5 +304,5 @@ def check_diagrams(tell):
 
 
 OF_PAGES = (
-    check_core, check_paths, check_pieces, check_definitions, check_names, check_lengths, check_words, check_owners,
+    check_core, check_paths, check_pieces, check_definitions, check_names, check_words, check_owners,
     check_refusals, check_diagrams, check_limits, check_terms)
