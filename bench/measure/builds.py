@@ -12,17 +12,21 @@ TABLE = 'Builds'
 FOLDER = os.path.join(build.BUILD, 'builds')
 # how often times are taken
 ROUNDS = 3
-# the package, and the other libraries, each with how Cargo takes it and what reads a literal
-OURS = 'package'
-LIBRARIES = {
-    OURS: ('navyspindle = { path = "%s" }' % os.path.join(build.TOP, 'rust'), """
+# the package, with its default features and without, under the names of bench/limits, and the other libraries, each with how Cargo
+# takes it and what reads a literal
+OURS = {'package': 'code', 'package, no features': 'code, no features'}
+PATH = os.path.join(build.TOP, 'rust')
+READ = """
 use navyspindle::Lit;
 match Lit::parse(&text) {
     Ok(Lit::Int(literal)) => println!("{:?}", literal.value::<u64>().ok()),
     Ok(Lit::Str(literal)) => println!("{}", literal.value()),
     Ok(literal) => println!("{}", literal.suffix()),
     Err(error) => println!("{error}"),
-}"""),
+}"""
+LIBRARIES = {
+    'package': ('navyspindle = { path = "%s" }' % PATH, READ),
+    'package, no features': ('navyspindle = { path = "%s", default-features = false }' % PATH, READ),
     'litrs': ('litrs = { version = "0.2", default-features = false }', """
 use litrs::Literal;
 match Literal::parse(&*text) {
@@ -117,9 +121,9 @@ def print_table():
 
 def sizes(rows):
     """The package's bytes of code by way, of the table's rows."""
-    return {('code', way): int(size) for name, way, _, size in rows if name == OURS}
+    return {(OURS[name], way): int(size) for name, way, _, size in rows if name in OURS}
 
 
 def counted():
     """The same, counted now."""
-    return {('code', way): built(OURS, way)[1] for way in WAYS}
+    return {(work, way): built(name, way)[1] for name, work in OURS.items() for way in WAYS}

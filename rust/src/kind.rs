@@ -1,5 +1,6 @@
 //! What a literal is.
 
+#[cfg(feature = "flaws")]
 use crate::rl_forms;
 use core::fmt;
 
@@ -36,6 +37,7 @@ pub enum Kind {
     Verbatim,
 }
 
+#[cfg(feature = "flaws")]
 impl Kind {
     pub(crate) fn of(kind: rl_forms::Kind) -> Kind {
         match kind {

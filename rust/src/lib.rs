@@ -24,6 +24,9 @@
 //!
 //! # Features
 //!
+//! - `sources`: [`source`], [`literals`], [`Lit::take_front`], [`skip_blanks`], [`LineIndex`]; `settings`: [`settings`], [`config`],
+//!   [`Settings`]; `flaws`: [`flaws`], [`pieces`], [`looks_like`]. On by default. Macros that read single literals build without them
+//!   in half the time.
 //! - `proc-macro`: literals from and to the tokens of rustc's own crate `proc_macro`, which [`Lit`] and the structs are then made
 //!   of by `try_from`; `next_literal`, `next_of`, `to_token_stream`, `MacroError`. Off by default.
 #![no_std]
@@ -38,13 +41,19 @@ extern crate std;
 
 mod characters;
 mod common;
+#[cfg(feature = "settings")]
 mod config;
 mod contents;
+#[cfg(feature = "sources")]
 mod error;
+#[cfg(feature = "flaws")]
 mod flaws;
+#[cfg(feature = "sources")]
 mod front;
 mod kind;
+#[cfg(feature = "sources")]
 mod line_index;
+#[cfg(feature = "sources")]
 mod list;
 mod lit;
 mod made;
@@ -57,12 +66,20 @@ mod proc_macros;
 // The sources give out names that the package reaches by other ways, and have parameters of which contracts alone speak.
 #[allow(unused_imports, unused_variables)]
 #[allow(clippy::style, clippy::complexity, clippy::pedantic)]
+// Without a feature what it needs is called by nothing.
+#[cfg_attr(
+    not(all(feature = "sources", feature = "settings", feature = "flaws")),
+    allow(dead_code)
+)]
 #[rustfmt::skip]
 mod proved;
+#[cfg(feature = "settings")]
 mod setting;
+#[cfg(feature = "settings")]
 mod settings;
 mod simd;
 mod slices;
+#[cfg(feature = "sources")]
 mod source;
 mod strings;
 mod unicode;
@@ -80,18 +97,28 @@ pub mod rendered {
     };
 }
 
+#[cfg_attr(
+    not(all(feature = "sources", feature = "settings", feature = "flaws")),
+    allow(unused_imports)
+)]
 use proved::{
     rl_file_reasons, rl_flaws, rl_forms, rl_leading, rl_lexer, rl_parts, rl_reading, rl_reasons,
     rl_recovery, rl_settings, rl_strict, rl_text, rl_writing,
 };
 
 pub use characters::{LitByte, LitChar};
+#[cfg(feature = "settings")]
 pub use config::config;
+#[cfg(feature = "sources")]
 pub use error::{ListError, Part, SyntaxErrorKind};
+#[cfg(feature = "flaws")]
 pub use flaws::{flaws, looks_like, pieces, BadPiece, Flaws, Piece, Pieces};
+#[cfg(feature = "sources")]
 pub use front::skip_blanks;
 pub use kind::Kind;
+#[cfg(feature = "sources")]
 pub use line_index::{LineColumn, LineIndex};
+#[cfg(feature = "sources")]
 pub use list::{literals, Literals};
 pub use lit::Lit;
 pub use numbers::{Base, LitFloat, LitInt, NumberType};
@@ -99,8 +126,11 @@ pub use parse_error::{FlawKind, ParseError, ParseErrorKind};
 pub use places::{Places, Segment, SegmentValue, Segments};
 #[cfg(feature = "proc-macro")]
 pub use proc_macros::{next_literal, next_of, LitOfKind, MacroError};
+#[cfg(feature = "settings")]
 pub use setting::{Setting, SettingError, SettingErrorKind, Settings};
+#[cfg(feature = "settings")]
 pub use settings::{settings, Entry, SettingsSyntaxError};
+#[cfg(feature = "sources")]
 pub use source::{source, Recover, Source};
 pub use strings::{LitByteStr, LitCStr, LitStr};
 pub use value::{Float, Integer, Number, ValueError, ValueErrorKind};

@@ -1,7 +1,9 @@
 //! Truth values, and texts that are no literals.
 
 use crate::common::{literal_type, text_type};
+#[cfg(feature = "flaws")]
 use crate::flaws::{looks_like, pieces, Flaws, Pieces};
+#[cfg(feature = "flaws")]
 use crate::kind::Kind;
 use crate::parse_error::ParseError;
 use alloc::borrow::Cow;
@@ -105,7 +107,10 @@ impl<'t> LitVerbatim<'t> {
     pub fn explain(&self) -> ParseError {
         ParseError::of(&self.text)
     }
+}
 
+#[cfg(feature = "flaws")]
+impl LitVerbatim<'_> {
     /// The kind of literal that it begins as; see [`looks_like`](crate::looks_like).
     ///
     /// ```
