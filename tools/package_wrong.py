@@ -173,8 +173,8 @@ WRONG = [Wrong(*row) for row in [
      'the magnitude of a negative integer is what is left of 128 bits'),
     ('made.rs', "LitBool::of(Cow::Borrowed(word), value)", "LitBool::of(Cow::Borrowed(word), !value)",
      'a truth value that was made has the other value'),
-    ('made.rs', "        let text = format!(\"{value:?}{}\", N::TYPE);", "        let text = format!(\"{value}{}\", N::TYPE);",
-     'a float without a fraction is written as an integer'),
+    ('made.rs', "        let text = format!(\"{value:?}\");", "        let text = format!(\"{value:.1?}\");",
+     'a float is written with one digit after its dot'),
     # settings.rs
     ('settings.rs', "if !names.insert(name.text) {", "if !names.insert(name.text.get(..8).unwrap_or(name.text)) {",
      'names are told apart by their first eight bytes'),
