@@ -10,7 +10,7 @@ from pathlib import Path
 from typing import NamedTuple
 
 LIST = Path(__file__).resolve().parent / "uncalled.txt"
-ENTRY = re.compile(r"(- )?(\S+) (\*|\w+|\w+::\w+|\w+::\{\w+(?:, \w+)*\}): (\S.*)")
+ENTRY = re.compile(r"(- )?(\S+) (\*|impl \w+ for \w+|\w+|\w+::\w+|\w+::\{\w+(?:, \w+)*\}): (\S.*)")
 
 # What is written before an item, and before an enum.
 ATTRIBUTE = '#[cfg(feature = "rendered")]\n'
@@ -53,7 +53,13 @@ def front_of(text, at, form):
 
 
 def span_of(text, entry):
-    """Where the entry's function or struct begins, with its attributes, and where it ends, by the layout of its file."""
+    """Where the entry's function, struct or impl begins, with its attributes, and where it ends, by the layout of its file."""
+    trait = re.fullmatch(r"impl (\w+) for (\w+)", entry.item)
+    if trait:
+        found = re.search(rf"^impl(?:<[^{{]*?>)? {trait[1]} for {trait[2]}(?:<[^{{]*?>)? \{{\n", text, re.M)
+        if not found:
+            fail(f"{entry.file} has no {entry.item}")
+        return front_of(text, found.start(), r"#\[.*\]"), re.compile(r"^\}\n", re.M).search(text, found.end()).end()
     owner, _, name = entry.item.rpartition("::")
     indent = " " * 4 * bool(owner)
     impl = rf"^impl(?:<[^{{]*?>)? {owner}(?:<[^{{]*?>)? \{{\n(?:(?!\}}).*\n)*?" * bool(owner)

@@ -203,7 +203,10 @@ macro_rules! literal_type {
             type Err = $crate::ParseError;
 
             fn from_str(text: &str) -> Result<Self, $crate::ParseError> {
-                $name::try_from(text).map($name::into_owned)
+                match text.parse()? {
+                    $crate::Lit::$variant(literal) => Ok(literal),
+                    other => Err($crate::ParseError::of_kind($crate::Kind::$variant, &other)),
+                }
             }
         }
 

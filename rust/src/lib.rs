@@ -24,9 +24,9 @@
 //!
 //! # Features
 //!
-//! - `sources`: [`source`], [`literals`], [`Lit::take_front`], [`skip_blanks`], [`LineIndex`]; `settings`: [`settings`], [`config`],
-//!   [`Settings`]; `flaws`: [`flaws`], [`pieces`], [`looks_like`]. On by default. Macros that read single literals build without them
-//!   in half the time.
+//! - On by default: `sources` ([`source`], [`literals`], [`Lit::take_front`], [`skip_blanks`], [`LineIndex`]), `settings`
+//!   ([`settings`], [`config`], [`Settings`]), `flaws` ([`flaws`], [`pieces`], [`looks_like`]), `writers` ([`write_str`] and its
+//!   siblings, [`LitStr::new`] and its like). A macro that only reads single literals builds without them in two thirds of the time.
 //! - `proc-macro`: literals from and to the tokens of rustc's own crate `proc_macro`, which [`Lit`] and the structs are then made
 //!   of by `try_from`; `next_literal`, `next_of`, `to_token_stream`, `MacroError`. Off by default.
 #![no_std]
@@ -56,6 +56,7 @@ mod line_index;
 #[cfg(feature = "sources")]
 mod list;
 mod lit;
+#[cfg(feature = "writers")]
 mod made;
 mod numbers;
 mod parse_error;
@@ -68,7 +69,12 @@ mod proc_macros;
 #[allow(clippy::style, clippy::complexity, clippy::pedantic)]
 // Without a feature what it needs is called by nothing.
 #[cfg_attr(
-    not(all(feature = "sources", feature = "settings", feature = "flaws")),
+    not(all(
+        feature = "sources",
+        feature = "settings",
+        feature = "flaws",
+        feature = "writers"
+    )),
     allow(dead_code)
 )]
 #[rustfmt::skip]
@@ -85,6 +91,7 @@ mod strings;
 mod unicode;
 mod value;
 mod words;
+#[cfg(feature = "writers")]
 mod write;
 
 /// The core as it is rendered, for the programs of this repository. Its names may change with each version.
@@ -98,7 +105,12 @@ pub mod rendered {
 }
 
 #[cfg_attr(
-    not(all(feature = "sources", feature = "settings", feature = "flaws")),
+    not(all(
+        feature = "sources",
+        feature = "settings",
+        feature = "flaws",
+        feature = "writers"
+    )),
     allow(unused_imports)
 )]
 use proved::{
@@ -135,6 +147,7 @@ pub use source::{source, Recover, Source};
 pub use strings::{LitByteStr, LitCStr, LitStr};
 pub use value::{Float, Integer, Number, ValueError, ValueErrorKind};
 pub use words::{LitBool, LitVerbatim};
+#[cfg(feature = "writers")]
 pub use write::{
     write_byte, write_byte_str, write_c_str, write_char, write_char_ascii, write_integer,
     write_raw_byte_str, write_raw_c_str, write_raw_str, write_str, write_str_ascii, IntegerStyle,

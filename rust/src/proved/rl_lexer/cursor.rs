@@ -84,6 +84,7 @@ impl<'t> Tokens<'t> {
 }
 
 /// The tokens up to the first place where none begins; [`Tokens::error`] then says why.
+#[cfg(feature = "rendered")]
 impl<'t> Iterator for Tokens<'t> {
     type Item = Lexeme<'t>;
 

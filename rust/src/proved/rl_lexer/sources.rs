@@ -115,6 +115,7 @@ impl<'t> Sources<'t> {
 }
 
 /// The tokens up to the first place where none begins; [`Sources::error`] then says why.
+#[cfg(feature = "rendered")]
 impl<'t> Iterator for Sources<'t> {
     type Item = SourceToken<'t>;
 
