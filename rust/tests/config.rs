@@ -261,6 +261,8 @@ fn dots() {
             "{text:?}"
         );
     }
+    // Names that end alike are two.
+    assert_eq!(config("a.x = 1\nb.x = 2").expect("two").len(), 2);
     // A name that a dot goes on with is another one.
     assert_eq!(config("a = 1\na.b = 2\na.b.c = 3").expect("three").len(), 3);
     assert_eq!(config("é.ß = 1").expect("one")[0].name, "é.ß");
@@ -322,6 +324,21 @@ fn a_byte_order_mark_is_passed_and_counted() {
         .expect("one")
         .missing(value("b"));
     assert_eq!(missing.range(), 8..8);
+}
+
+/// Whether each group is closed is asked first, of the whole text, as of settings.
+#[test]
+fn groups_are_asked_first() {
+    for text in [")", "a = 1\nb c )", "(a = 1", "a b (]", "a = [1"] {
+        let (found, wanted) = (
+            config(text).expect_err(text),
+            settings(text).expect_err(text),
+        );
+        assert_eq!(found, wanted, "{text:?}");
+    }
+    assert_eq!(error_of(")"), (SyntaxErrorKind::UnmatchedClose, 0));
+    assert_eq!(error_of("(a = 1"), (SyntaxErrorKind::UnclosedGroup, 0));
+    assert_eq!(error_of("a b (]"), (SyntaxErrorKind::UnmatchedClose, 5));
 }
 
 /// Each text of settings is a configuration, of the same entries.
