@@ -28,7 +28,7 @@
 //!   ([`settings`], [`config`], [`Settings`]), `flaws` ([`flaws`], [`pieces`], [`looks_like`]), `writers` ([`write_str`] and its
 //!   siblings, [`LitStr::new`] and its like). A macro that only reads single literals builds without them in two thirds of the time.
 //! - `proc-macro`: literals from and to the tokens of rustc's own crate `proc_macro`, which [`Lit`] and the structs are then made
-//!   of by `try_from`; `next_literal`, `next_of`, `to_token_stream`, `MacroError`. Off by default.
+//!   of by `try_from`; `next_literal`, `next_of`, `macro_settings`, `to_token_stream`, `MacroError`. Off by default.
 #![no_std]
 #![forbid(unsafe_code)]
 #![deny(missing_docs)]
@@ -56,6 +56,8 @@ mod line_index;
 #[cfg(feature = "sources")]
 mod list;
 mod lit;
+#[cfg(all(feature = "proc-macro", feature = "settings"))]
+mod macro_settings;
 #[cfg(feature = "writers")]
 mod made;
 mod numbers;
@@ -133,6 +135,8 @@ pub use line_index::{LineColumn, LineIndex};
 #[cfg(feature = "sources")]
 pub use list::{literals, Literals};
 pub use lit::Lit;
+#[cfg(all(feature = "proc-macro", feature = "settings"))]
+pub use macro_settings::{macro_settings, MacroEntry};
 pub use numbers::{Base, LitFloat, LitInt, NumberType};
 pub use parse_error::{FlawKind, ParseError, ParseErrorKind};
 pub use places::{Places, Segment, SegmentValue, Segments};

@@ -2,7 +2,9 @@
 
 mod written;
 
-use navyspindle::{next_literal, next_of, write_str, Lit, LitInt, LitStr, MacroError};
+use navyspindle::{
+    macro_settings, next_literal, next_of, write_str, Lit, LitInt, LitStr, MacroError,
+};
 use proc_macro::{Span, TokenStream, TokenTree};
 use std::iter::Peekable;
 
@@ -167,4 +169,27 @@ pub fn written(input: TokenStream) -> TokenStream {
         MacroError::new(message, Span::call_site())
     });
     or_error(pairs.map(|pairs| tokens_of(&pairs)))
+}
+
+/// The settings of the input, as an array: of each its name, its value, and the tokens of the input where the two stand. In place of an
+/// error its message, and the tokens where it begins and ends.
+#[proc_macro]
+pub fn settings(input: TokenStream) -> TokenStream {
+    let shown = |text: &str| write_str(text);
+    let source = |span: Span| shown(&span.source_text().expect("a source"));
+    match macro_settings(input) {
+        Ok(entries) => {
+            let entries = entries.iter().map(|entry| {
+                let (name, value) = (shown(&entry.name), shown(entry.value.text()));
+                let (name_at, value_at) = (source(entry.name_span), source(entry.value_span));
+                format!("({name}, {value}, {name_at}, {value_at}),")
+            });
+            tokens_of(&format!("[{}]", entries.collect::<String>()))
+        }
+        Err(error) => {
+            let trees: Vec<TokenTree> = error.to_compile_error().into_iter().collect();
+            let (first, last) = (source(trees[0].span()), source(trees[7].span()));
+            tokens_of(&format!("({}, {first}, {last})", shown(&error.to_string())))
+        }
+    }
 }

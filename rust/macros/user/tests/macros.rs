@@ -1,7 +1,7 @@
 //! Literals as rustc hands them to procedural macros.
 
 use navyspindle_macros::{
-    again, hex_bytes, literals, strings, strings_errors, sum, sum_error, written,
+    again, hex_bytes, literals, settings, strings, strings_errors, sum, sum_error, written,
 };
 use std::ffi::CStr;
 use std::fmt::Debug;
@@ -171,4 +171,38 @@ fn written_values() {
     numbers!(i8 4000 i16 7000 i32 14000 i64 28000 i128 50000 isize 28000);
     same::<u32>(written!(f32), 150);
     same::<u64>(written!(f64), 150);
+}
+
+#[test]
+fn settings_of_a_macro() {
+    let entries = settings!(name = "x", size = -0x10u8, r#"a"# = 1);
+    assert_eq!(
+        entries,
+        ("expected identifier", r##"r#"a"#"##, r##"r#"a"#"##)
+    );
+    let entries = settings! { name = "x", size = -0x10i8, on = true, };
+    assert_eq!(entries[0], ("name", r#""x""#, "name", r#""x""#));
+    assert_eq!(entries[1], ("size", "-0x10i8", "size", "0x10i8"));
+    assert_eq!(entries[2], ("on", "true", "on", "true"));
+    let none: [(&str, &str, &str, &str); 0] = settings!();
+    assert_eq!(none, []);
+    macro_rules! passed {
+        ($value:literal) => {
+            settings!(value = $value)
+        };
+    }
+    assert_eq!(passed!(-1.5)[0].1, "-1.5");
+}
+
+#[test]
+fn errors_of_settings() {
+    assert_eq!(settings!(a = 1, b = 2, a = 3).0, "repeated name `a`");
+    assert_eq!(settings!(a = 1 b = 2), ("expected `,`", "b", "b"));
+    assert_eq!(settings!(a = (1, [2])), ("expected literal", "(", ")"));
+    assert_eq!(settings!(a == 1), ("expected literal", "=", "="));
+    assert_eq!(settings!(a = 'b).0, "lifetime");
+    assert_eq!(
+        settings!(a),
+        ("unexpected end of input, expected `=`", "a", "a")
+    );
 }
