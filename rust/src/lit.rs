@@ -145,6 +145,12 @@ impl<'t> Lit<'t> {
         }
     }
 
+    /// As [`Lit::parse`], by one copy of its code.
+    fn parse_apart(text: Cow<'t, str>) -> Result<Lit<'t>, ParseError> {
+        let reading = read_signed(&text).map_err(ParseError::of_flaw)?;
+        Lit::read(text, reading)
+    }
+
     /// That Rust takes the literal where it stands in a file: as [`Lit::parse`] of its text, but that a CR LF counts as an LF, which
     /// rustc makes of it before it reads a file. So it judges what [`source`](crate::source) and [`settings`](crate::settings)
     /// return, which are literals as `syn` reads them.
@@ -510,8 +516,7 @@ impl TryFrom<String> for Lit<'static> {
     type Error = ParseError;
 
     fn try_from(text: String) -> Result<Self, ParseError> {
-        let reading = read_signed(&text).map_err(ParseError::of_flaw)?;
-        Lit::read(Cow::Owned(text), reading)
+        Lit::parse_apart(Cow::Owned(text))
     }
 }
 
@@ -520,7 +525,7 @@ impl FromStr for Lit<'static> {
     type Err = ParseError;
 
     fn from_str(text: &str) -> Result<Self, ParseError> {
-        Lit::parse(text).map(Lit::into_owned)
+        Lit::parse_apart(Cow::Borrowed(text)).map(Lit::into_owned)
     }
 }
 
