@@ -28,7 +28,7 @@
 //!   ([`settings`], [`config`], [`Settings`]), `flaws` ([`flaws`], [`pieces`], [`looks_like`]), `writers` ([`write_str`] and its
 //!   siblings, [`LitStr::new`] and its like). A macro that only reads single literals builds without them in two thirds of the time.
 //! - `proc-macro`: literals from and to the tokens of rustc's own crate `proc_macro`, which [`Lit`] and the structs are then made
-//!   of by `try_from`; `next_literal`, `next_of`, `macro_settings`, `to_token_stream`, `MacroError`. Off by default.
+//!   of by `try_from`; `next_literal`, `next_of`, `to_token_stream`, with `settings` also `macro_settings`, `MacroError`. Off by default.
 #![no_std]
 #![forbid(unsafe_code)]
 #![deny(missing_docs)]

@@ -155,6 +155,10 @@ impl<'t> Lit<'t> {
     /// rustc makes of it before it reads a file. So it judges what [`source`](crate::source) and [`settings`](crate::settings)
     /// return, which are literals as `syn` reads them.
     ///
+    /// A token may have any suffix, which macros see: of `1u9`, `0XFF` and `"a"q` it is `Ok`, though rustc rejects them where no
+    /// macro takes them. [`LitInt::value`] and [`LitFloat::value`] judge the suffixes of numbers; of other literals as an expression
+    /// it has to be empty ([`Lit::suffix`]).
+    ///
     /// # Errors
     ///
     /// Rust rejects the text: why, and where in it.

@@ -19,6 +19,8 @@ pub struct MacroEntry {
     pub value: Lit<'static>,
     /// Where its own token stands: of a negative number that after the minus.
     pub value_span: Span,
+    /// Where the minus stands, of a negative number. [`MacroError::between`] takes both.
+    pub minus_span: Option<Span>,
 }
 
 /// The text of tokens, and which bytes of it each token has.
@@ -94,7 +96,7 @@ impl Written {
 }
 
 /// The settings in the input of a procedural macro, or in an attribute's, `name = "x", size = 10`, in their order: as [`settings`]
-/// reads them of a text, with the places of the tokens.
+/// reads them of a text, with the places of the tokens. It needs the feature `settings` too.
 ///
 /// # Errors
 ///
@@ -109,7 +111,7 @@ impl Written {
 ///     for entry in macro_settings(input)? {
 ///         if let ("size", Lit::Int(size)) = (&*entry.name, &entry.value) {
 ///             let size = size.value::<u32>();
-///             return size.map(Some).map_err(|error| MacroError::new(error, entry.value_span));
+///             return size.map(Some).map_err(|error| MacroError::new(error.reason(), entry.value_span));
 ///         }
 ///     }
 ///     Ok(None)
@@ -122,8 +124,13 @@ pub fn macro_settings(input: TokenStream) -> Result<Vec<MacroEntry>, MacroError>
     let entries = entries.into_iter().map(|entry| MacroEntry {
         name: entry.name.into(),
         name_span: written.spans(&entry.name_range).0,
-        value: entry.value.into_owned(),
         value_span: written.spans(&entry.value_range).1,
+        minus_span: entry
+            .value
+            .text()
+            .starts_with('-')
+            .then(|| written.spans(&entry.value_range).0),
+        value: entry.value.into_owned(),
     });
     Ok(entries.collect())
 }

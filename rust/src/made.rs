@@ -53,7 +53,7 @@ made! {
 }
 
 impl LitBool<'static> {
-    /// The literal that stands for the truth value.
+    /// The literal that stands for the truth value. It needs the feature `writers`.
     ///
     /// ```
     /// use navyspindle::LitBool;
@@ -69,7 +69,7 @@ impl LitBool<'static> {
 
 impl LitInt<'static> {
     /// The literal that stands for the number in base ten, with its type as the suffix; of a negative one after a minus.
-    /// [`write_integer`] has other styles.
+    /// [`write_integer`] has other styles. It needs the feature `writers`.
     ///
     /// ```
     /// use navyspindle::LitInt;
@@ -100,7 +100,7 @@ impl LitInt<'static> {
 impl LitFloat<'static> {
     /// The literal that stands for the number, with its type as the suffix; of a negative one, and of `-0.0`, after a minus.
     /// `None` of an infinity and of what is no number, which have no literals. std's `{:?}` writes the digits: the fewest that
-    /// stand for the number.
+    /// stand for the number. It needs the feature `writers`.
     ///
     /// ```
     /// use navyspindle::LitFloat;

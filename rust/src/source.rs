@@ -28,6 +28,8 @@ pub struct Source<'t> {
 
 /// Every literal of a whole Rust source, in order, up to the first error: a quote or a comment that isn't closed.
 ///
+/// A field of a tuple is a literal too, as to lexers: `t.0.1` has the float `0.1`. Who writes numbers anew looks at the dot before.
+///
 /// What stands in comments is no literal, a minus is no part of one, and the words `true` and `false` are literals. A
 /// token that is a literal by its form and has no reading comes as [`Lit::Verbatim`], as `'\q'` does. Literals are read as `syn`
 /// does; [`Lit::check`] says whether Rust takes one too.

@@ -220,7 +220,18 @@ impl ValueError {
         }
     }
 
-    /// What is wrong, in words without the place.
+    /// What is wrong, in words without the place: for a message that stands at one, as that of a macro.
+    ///
+    /// ```
+    /// let error = navyspindle::LitInt::parse("10k").unwrap().value::<u8>().unwrap_err();
+    /// assert_eq!(error.reason().to_string(), "suffix that isn't u8");
+    /// ```
+    #[must_use]
+    pub fn reason(&self) -> impl fmt::Display + '_ {
+        Reason(self)
+    }
+
+    /// The same, written.
     pub(crate) fn write_reason(&self, f: &mut fmt::Formatter<'_>) -> fmt::Result {
         let wanted = self.wanted;
         match self.kind {
@@ -243,6 +254,15 @@ impl fmt::Display for ValueError {
 }
 
 impl core::error::Error for ValueError {}
+
+/// The words of an error without its place.
+struct Reason<'e>(&'e ValueError);
+
+impl fmt::Display for Reason<'_> {
+    fn fmt(&self, f: &mut fmt::Formatter<'_>) -> fmt::Result {
+        self.0.write_reason(f)
+    }
+}
 
 /// The number that these digits in base ten are, of a literal whose suffix begins there.
 fn number_of<N: Number>(

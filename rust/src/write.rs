@@ -290,6 +290,8 @@ const LONGEST_INTEGER: usize = 262;
 
 /// The integer literal that stands for the number, in this style; of a negative one a minus and the literal.
 ///
+/// It writes a number, and keeps nothing of the form of a literal that stood there: `007` is the number 7.
+///
 /// ```
 /// use navyspindle::{write_integer, Base, IntegerStyle, LitInt};
 ///

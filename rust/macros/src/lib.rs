@@ -171,8 +171,8 @@ pub fn written(input: TokenStream) -> TokenStream {
     or_error(pairs.map(|pairs| tokens_of(&pairs)))
 }
 
-/// The settings of the input, as an array: of each its name, its value, and the tokens of the input where the two stand. In place of an
-/// error its message, and the tokens where it begins and ends.
+/// The settings of the input, as an array: of each its name, its value, and the tokens of the input where the name, the minus and the
+/// value stand. In place of an error its message, and the tokens where it begins and ends.
 #[proc_macro]
 pub fn settings(input: TokenStream) -> TokenStream {
     let shown = |text: &str| write_str(text);
@@ -182,7 +182,8 @@ pub fn settings(input: TokenStream) -> TokenStream {
             let entries = entries.iter().map(|entry| {
                 let (name, value) = (shown(&entry.name), shown(entry.value.text()));
                 let (name_at, value_at) = (source(entry.name_span), source(entry.value_span));
-                format!("({name}, {value}, {name_at}, {value_at}),")
+                let minus_at = entry.minus_span.map_or("\"\"".into(), source);
+                format!("({name}, {value}, {name_at}, {minus_at}, {value_at}),")
             });
             tokens_of(&format!("[{}]", entries.collect::<String>()))
         }

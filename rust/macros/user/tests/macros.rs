@@ -181,10 +181,10 @@ fn settings_of_a_macro() {
         ("expected identifier", r##"r#"a"#"##, r##"r#"a"#"##)
     );
     let entries = settings! { name = "x", size = -0x10i8, on = true, };
-    assert_eq!(entries[0], ("name", r#""x""#, "name", r#""x""#));
-    assert_eq!(entries[1], ("size", "-0x10i8", "size", "0x10i8"));
-    assert_eq!(entries[2], ("on", "true", "on", "true"));
-    let none: [(&str, &str, &str, &str); 0] = settings!();
+    assert_eq!(entries[0], ("name", r#""x""#, "name", "", r#""x""#));
+    assert_eq!(entries[1], ("size", "-0x10i8", "size", "-", "0x10i8"));
+    assert_eq!(entries[2], ("on", "true", "on", "", "true"));
+    let none: [(&str, &str, &str, &str, &str); 0] = settings!();
     assert_eq!(none, []);
     macro_rules! passed {
         ($value:literal) => {
