@@ -63,6 +63,16 @@ impl BadPiece {
         self.from..self.end
     }
 
+    /// The byte where [`range`](BadPiece::range) begins.
+    ///
+    /// ```
+    /// assert_eq!(navyspindle::flaws(r#""a\q""#).next().unwrap().at(), 2);
+    /// ```
+    #[must_use]
+    pub fn at(&self) -> usize {
+        self.from
+    }
+
     /// The flaw as an error, with the character that no literal goes on with.
     ///
     /// ```
@@ -178,6 +188,22 @@ pub enum Piece<'t> {
     Good(Segment<'t>),
     /// A flaw, with its piece.
     Bad(BadPiece),
+}
+
+impl Piece<'_> {
+    /// Its bytes in the text.
+    ///
+    /// ```
+    /// let ranges: Vec<_> = navyspindle::pieces(r#""a\q""#).unwrap().map(|piece| piece.range()).collect();
+    /// assert_eq!(ranges, [1..2, 2..4]);
+    /// ```
+    #[must_use]
+    pub fn range(&self) -> Range<usize> {
+        match self {
+            Piece::Good(segment) => segment.range.clone(),
+            Piece::Bad(bad) => bad.range(),
+        }
+    }
 }
 
 /// The pieces of a quoted literal, in order: see [`pieces`].

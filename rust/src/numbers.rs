@@ -325,6 +325,18 @@ impl<'t> LitInt<'t> {
     pub fn digits(&self) -> &str {
         integer_parts(&self.text).map_or("", |parts| parts.digits)
     }
+
+    /// The bytes of the text where its digits stand: up to the suffix.
+    ///
+    /// ```
+    /// let literal = navyspindle::LitInt::parse("-0xF_F_u8")?;
+    /// assert_eq!((literal.digits_range(), &literal.text()[literal.digits_range()]), (3..7, literal.digits()));
+    /// # Ok::<(), navyspindle::ParseError>(())
+    /// ```
+    #[must_use]
+    pub fn digits_range(&self) -> core::ops::Range<usize> {
+        self.suffix_at - self.digits().len()..self.suffix_at
+    }
 }
 
 /// The bytes of a float's numeral that its digits don't keep as they are: `numeral_into` leaves out two, and changes one.

@@ -148,6 +148,20 @@ impl SettingError {
     pub fn range(&self) -> Range<usize> {
         self.range.clone()
     }
+
+    /// The byte where [`range`](SettingError::range) begins.
+    ///
+    /// ```
+    /// use navyspindle::{Setting, Settings};
+    ///
+    /// let port = Setting::new("port", "a number");
+    /// assert_eq!(Settings::read("port = -1")?.number::<u16>(port).unwrap_err().at(), 7);
+    /// # Ok::<(), navyspindle::SettingError>(())
+    /// ```
+    #[must_use]
+    pub fn at(&self) -> usize {
+        self.range.start
+    }
 }
 
 impl SettingError {

@@ -92,6 +92,16 @@ impl SettingsSyntaxError {
         self.range.clone()
     }
 
+    /// The byte where [`range`](SettingsSyntaxError::range) begins, which its message names.
+    ///
+    /// ```
+    /// assert_eq!(navyspindle::settings("a = 1 b").unwrap_err().at(), 6);
+    /// ```
+    #[must_use]
+    pub fn at(&self) -> usize {
+        self.range.start
+    }
+
     /// The error with its place so many bytes on: in a text of which this one is a part that begins there.
     ///
     /// ```

@@ -206,6 +206,16 @@ impl ValueError {
         self.range.clone()
     }
 
+    /// The byte where [`range`](ValueError::range) begins, which its message names.
+    ///
+    /// ```
+    /// assert_eq!(navyspindle::LitInt::parse("10k").unwrap().value::<u8>().unwrap_err().at(), 2);
+    /// ```
+    #[must_use]
+    pub fn at(&self) -> usize {
+        self.range.start
+    }
+
     /// The error with its place so many bytes on: in a text where the literal begins there.
     ///
     /// ```

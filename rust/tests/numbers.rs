@@ -21,6 +21,7 @@ fn check_integer(integer: &LitInt) {
         _ => (Base::Decimal, unsigned),
     };
     assert_eq!((integer.base(), integer.digits()), (base, digits), "{text}");
+    assert_eq!(&text[integer.digits_range()], digits, "{text}");
 }
 
 fn check_float(float: &LitFloat) {
