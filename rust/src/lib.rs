@@ -28,7 +28,7 @@
 //!   ([`settings`], [`config`], [`Settings`]), `flaws` ([`flaws`], [`pieces`], [`looks_like`]), `writers` ([`write_str`] and its
 //!   siblings, [`LitStr::new`] and its like). A macro that only reads single literals builds without them in two thirds of the time.
 //! - `proc-macro`: literals from and to the tokens of rustc's own crate `proc_macro`, which [`Lit`] and the structs are then made
-//!   of by `try_from`; `next_literal`, `next_of`, `to_token_stream`, with `settings` also `macro_settings`, `MacroError`. Off by default.
+//!   of by `try_from`; `next_literal`, `next_of`, `to_token_stream`, with `settings` also `MacroText`, `macro_settings`, `MacroError`. Off by default.
 #![no_std]
 #![forbid(unsafe_code)]
 #![deny(missing_docs)]
@@ -136,7 +136,7 @@ pub use line_index::{LineColumn, LineIndex};
 pub use list::{literals, Literals};
 pub use lit::Lit;
 #[cfg(all(feature = "proc-macro", feature = "settings"))]
-pub use macro_settings::{macro_settings, MacroEntry};
+pub use macro_settings::{macro_settings, MacroEntry, MacroText};
 pub use numbers::{Base, LitFloat, LitInt, NumberType};
 pub use parse_error::{FlawKind, ParseError, ParseErrorKind};
 pub use places::{Places, Segment, SegmentValue, Segments};

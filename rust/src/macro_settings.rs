@@ -1,7 +1,6 @@
 //! Settings of procedural macros and attributes.
 
-use crate::{settings, Lit, MacroError, SettingsSyntaxError};
-use alloc::format;
+use crate::{settings, Lit, MacroError, SettingError, Settings, SettingsSyntaxError};
 use alloc::string::{String, ToString};
 use alloc::vec::Vec;
 use core::ops::Range;
@@ -23,14 +22,34 @@ pub struct MacroEntry {
     pub minus_span: Option<Span>,
 }
 
-/// The text of tokens, and which bytes of it each token has.
-#[derive(Default)]
-struct Written {
+/// The text of a macro's tokens, and which bytes of it each token has: so what reads texts reads macros' input, and its places become
+/// those of the tokens.
+///
+/// ```no_run
+/// extern crate proc_macro;
+/// use navyspindle::{MacroError, MacroText, Setting};
+///
+/// const NAME: Setting = Setting::new("name", "a string");
+/// const SIZE: Setting = Setting::new("size", "an integer from 0 to 255");
+///
+/// /// `name = "x", size = 10`: the name has to be set, the size is 1 where it isn't.
+/// fn read(input: proc_macro::TokenStream) -> Result<(String, u8), MacroError> {
+///     let text = MacroText::of(input);
+///     let settings = text.settings()?;
+///     settings.check(&[NAME, SIZE]).map_err(|error| text.error(&error))?;
+///     let name = settings.string(NAME).map_err(|error| text.error(&error))?;
+///     let name = name.ok_or_else(|| text.error(&settings.missing(NAME)))?;
+///     let size = settings.number(SIZE).map_err(|error| text.error(&error))?;
+///     Ok((name.into_owned(), size.unwrap_or(1)))
+/// }
+/// ```
+#[derive(Clone, Debug, Default)]
+pub struct MacroText {
     text: String,
     places: Vec<(Range<usize>, Span)>,
 }
 
-impl Written {
+impl MacroText {
     fn push(&mut self, token: &str, span: Span) {
         let start = self.text.len();
         self.text.push_str(token);
@@ -68,8 +87,74 @@ impl Written {
         }
     }
 
-    /// Where the tokens of these bytes begin and end; at the text's end, where the last token is.
-    fn spans(&self, bytes: &Range<usize>) -> (Span, Span) {
+    /// The text of these tokens: each as it prints, with a space between two that aren't joined.
+    ///
+    /// ```no_run
+    /// extern crate proc_macro;
+    /// let text = navyspindle::MacroText::of("a = 1".parse().unwrap());
+    /// assert_eq!(text.text(), "a = 1 ");
+    /// ```
+    #[must_use]
+    pub fn of(input: TokenStream) -> Self {
+        let mut text = MacroText::default();
+        text.push_all(input);
+        text
+    }
+
+    /// The text. Places that it is read with are turned by [`spans`](MacroText::spans).
+    ///
+    /// ```no_run
+    /// extern crate proc_macro;
+    /// let text = navyspindle::MacroText::of("'a' 1u8".parse().unwrap());
+    /// assert_eq!(navyspindle::literals(text.text()).count(), 2);
+    /// ```
+    #[must_use]
+    pub fn text(&self) -> &str {
+        &self.text
+    }
+
+    /// The settings of the tokens, asked for by name.
+    ///
+    /// # Errors
+    ///
+    /// Those of [`Settings::read`], at the tokens. See the example of [`MacroText`].
+    ///
+    /// ```no_run
+    /// extern crate proc_macro;
+    /// let text = navyspindle::MacroText::of("a = 1, b = 2".parse().unwrap());
+    /// assert_eq!(text.settings()?.entries().len(), 2);
+    /// # Ok::<(), navyspindle::MacroError>(())
+    /// ```
+    pub fn settings(&self) -> Result<Settings<'_>, MacroError> {
+        Settings::read(&self.text).map_err(|error| self.error(&error))
+    }
+
+    /// The error of a setting, at its tokens.
+    ///
+    /// ```no_run
+    /// extern crate proc_macro;
+    /// use navyspindle::{MacroText, Setting};
+    ///
+    /// let text = MacroText::of("a = 1".parse().unwrap());
+    /// let error = text.settings()?.string(Setting::new("a", "a string")).unwrap_err();
+    /// assert_eq!(text.error(&error).to_string(), "a: expected a string");
+    /// # Ok::<(), navyspindle::MacroError>(())
+    /// ```
+    #[must_use]
+    pub fn error(&self, error: &SettingError) -> MacroError {
+        let (first, last) = self.spans(error.range());
+        MacroError::between(error.kind(), first, last)
+    }
+
+    /// Where the first and the last token stand that have some of these bytes; where none has, the token after them, or the last one.
+    ///
+    /// ```no_run
+    /// extern crate proc_macro;
+    /// let text = navyspindle::MacroText::of("a = -1".parse().unwrap());
+    /// let (minus, number) = text.spans(4..7);
+    /// ```
+    #[must_use]
+    pub fn spans(&self, bytes: Range<usize>) -> (Span, Span) {
         let from = self
             .places
             .iter()
@@ -84,19 +169,10 @@ impl Written {
             (None, None) => (Span::call_site(), Span::call_site()),
         }
     }
-
-    fn error(&self, error: SettingsSyntaxError) -> MacroError {
-        let (first, last) = self.spans(&error.range());
-        let kind = error.kind();
-        match error.into_name() {
-            Some(name) => MacroError::between(format!("{kind} `{name}`"), first, last),
-            None => MacroError::between(kind, first, last),
-        }
-    }
 }
 
 /// The settings in the input of a procedural macro, or in an attribute's, `name = "x", size = 10`, in their order: as [`settings`]
-/// reads them of a text, with the places of the tokens. It needs the feature `settings` too.
+/// reads them of a text, with the places of the tokens. [`MacroText`] has readers by name and kind. It needs the feature `settings` too.
 ///
 /// # Errors
 ///
@@ -118,18 +194,18 @@ impl Written {
 /// }
 /// ```
 pub fn macro_settings(input: TokenStream) -> Result<Vec<MacroEntry>, MacroError> {
-    let mut written = Written::default();
-    written.push_all(input);
-    let entries = settings(&written.text).map_err(|error| written.error(error))?;
+    let written = MacroText::of(input);
+    let error = |error: SettingsSyntaxError| written.error(&error.into());
+    let entries = settings(&written.text).map_err(error)?;
     let entries = entries.into_iter().map(|entry| MacroEntry {
         name: entry.name.into(),
-        name_span: written.spans(&entry.name_range).0,
-        value_span: written.spans(&entry.value_range).1,
+        name_span: written.spans(entry.name_range).0,
+        value_span: written.spans(entry.value_range.clone()).1,
         minus_span: entry
             .value
             .text()
             .starts_with('-')
-            .then(|| written.spans(&entry.value_range).0),
+            .then(|| written.spans(entry.value_range).0),
         value: entry.value.into_owned(),
     });
     Ok(entries.collect())

@@ -3,7 +3,8 @@
 mod written;
 
 use navyspindle::{
-    macro_settings, next_literal, next_of, write_str, Lit, LitInt, LitStr, MacroError,
+    macro_settings, next_literal, next_of, write_str, Lit, LitInt, LitStr, MacroError, MacroText,
+    Setting,
 };
 use proc_macro::{Span, TokenStream, TokenTree};
 use std::iter::Peekable;
@@ -187,10 +188,38 @@ pub fn settings(input: TokenStream) -> TokenStream {
             });
             tokens_of(&format!("[{}]", entries.collect::<String>()))
         }
-        Err(error) => {
-            let trees: Vec<TokenTree> = error.to_compile_error().into_iter().collect();
-            let (first, last) = (source(trees[0].span()), source(trees[7].span()));
-            tokens_of(&format!("({}, {first}, {last})", shown(&error.to_string())))
-        }
+        Err(error) => shown_error(&error),
+    }
+}
+
+/// The message of an error, and the tokens where it begins and ends.
+fn shown_error(error: &MacroError) -> TokenStream {
+    let source = |span: Span| write_str(&span.source_text().expect("a source"));
+    let trees: Vec<TokenTree> = error.to_compile_error().into_iter().collect();
+    let (first, last) = (source(trees[0].span()), source(trees[7].span()));
+    let message = write_str(&error.to_string());
+    tokens_of(&format!("({message}, {first}, {last})"))
+}
+
+const NAME: Setting = Setting::new("name", "a string");
+const SIZE: Setting = Setting::new("size", "an integer from 0 to 255");
+
+fn named_size(input: TokenStream) -> Result<(String, u8), MacroError> {
+    let text = MacroText::of(input);
+    let settings = text.settings()?;
+    let error = |error| text.error(&error);
+    settings.check(&[NAME, SIZE]).map_err(error)?;
+    let name = settings.string(NAME).map_err(error)?;
+    let name = name.ok_or_else(|| error(settings.missing(NAME)))?;
+    let size = settings.number(SIZE).map_err(error)?;
+    Ok((name.into_owned(), size.unwrap_or(1)))
+}
+
+/// The name and the size that are set, or the error as of `settings`.
+#[proc_macro]
+pub fn named(input: TokenStream) -> TokenStream {
+    match named_size(input) {
+        Ok((name, size)) => tokens_of(&format!("({}, {size}u8)", write_str(&name))),
+        Err(error) => shown_error(&error),
     }
 }

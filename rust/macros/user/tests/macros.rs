@@ -1,7 +1,7 @@
 //! Literals as rustc hands them to procedural macros.
 
 use navyspindle_macros::{
-    again, hex_bytes, literals, settings, strings, strings_errors, sum, sum_error, written,
+    again, hex_bytes, literals, named, settings, strings, strings_errors, sum, sum_error, written,
 };
 use std::ffi::CStr;
 use std::fmt::Debug;
@@ -204,5 +204,24 @@ fn errors_of_settings() {
     assert_eq!(
         settings!(a),
         ("unexpected end of input, expected `=`", "a", "a")
+    );
+}
+
+#[test]
+fn settings_by_name() {
+    assert_eq!(named!(name = "a\x41", size = 0x10u8), ("aA", 16));
+    assert_eq!(named!(name = r"a"), ("a", 1));
+    let message = "size: expected an integer from 0 to 255: minus before a number of u8";
+    assert_eq!(named!(name = "a", size = -1), (message, "-", "1"));
+    let message = "size: expected an integer from 0 to 255: number that u8 doesn't hold";
+    assert_eq!(named!(size = 256, name = "a"), (message, "256", "256"));
+    assert_eq!(named!(nme = "a"), ("unknown name `nme`", "nme", "nme"));
+    assert_eq!(
+        named!(name = b"a"),
+        ("name: expected a string", "b\"a\"", "b\"a\"")
+    );
+    assert_eq!(
+        named!(size = 1),
+        ("missing name: expected a string", "1", "1")
     );
 }
