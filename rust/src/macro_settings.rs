@@ -4,7 +4,7 @@ use crate::{settings, Lit, MacroError, SettingError, Settings, SettingsSyntaxErr
 use alloc::string::{String, ToString};
 use alloc::vec::Vec;
 use core::ops::Range;
-use proc_macro::{Delimiter, Group, Spacing, Span, TokenStream, TokenTree};
+use proc_macro::{Delimiter, Group, Span, TokenStream, TokenTree};
 
 /// A setting in the input of a procedural macro. See [`macro_settings`].
 #[derive(Clone, Debug)]
@@ -56,7 +56,7 @@ impl MacroText {
         self.places.push((start..self.text.len(), span));
     }
 
-    /// Tokens have a space between them, unless they are joined, as `'` and a name are.
+    /// A token, and a space after it.
     fn push_apart(&mut self, token: &str, span: Span) {
         self.push(token, span);
         self.text.push(' ');
@@ -79,15 +79,14 @@ impl MacroText {
         for tree in tokens {
             match &tree {
                 TokenTree::Group(group) => self.push_group(group),
-                TokenTree::Punct(mark) if mark.spacing() == Spacing::Joint => {
-                    self.push(mark.as_char().encode_utf8(&mut [0; 4]), mark.span());
-                }
+                // The apostrophe of a lifetime. Other marks stand apart: two slashes would begin a comment.
+                TokenTree::Punct(mark) if mark.as_char() == '\'' => self.push("'", mark.span()),
                 _ => self.push_apart(&tree.to_string(), tree.span()),
             }
         }
     }
 
-    /// The text of these tokens: each as it prints, with a space between two that aren't joined.
+    /// The text of these tokens: each as it prints, with a space after it, but for the apostrophe of a lifetime.
     ///
     /// ```no_run
     /// extern crate proc_macro;

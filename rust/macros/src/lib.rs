@@ -6,7 +6,7 @@ use navyspindle::{
     macro_settings, next_literal, next_of, write_str, Lit, LitInt, LitStr, MacroError, MacroText,
     Setting,
 };
-use proc_macro::{Span, TokenStream, TokenTree};
+use proc_macro::{Punct, Spacing, Span, TokenStream, TokenTree};
 use std::iter::Peekable;
 
 /// What a macro makes of its input, or the call of `compile_error!`.
@@ -222,4 +222,14 @@ pub fn named(input: TokenStream) -> TokenStream {
         Ok((name, size)) => tokens_of(&format!("({}, {size}u8)", write_str(&name))),
         Err(error) => shown_error(&error),
     }
+}
+
+/// The message for settings with two joined slashes among them, as no source has but a macro may make.
+#[proc_macro]
+pub fn joined_slashes(_: TokenStream) -> TokenStream {
+    let slash = |spacing| TokenTree::from(Punct::new('/', spacing));
+    let slashes = [slash(Spacing::Joint), slash(Spacing::Alone)];
+    let input = tokens_of("a = 1,").into_iter().chain(slashes);
+    let input = input.chain(tokens_of("b = 2")).collect();
+    tokens_of(&write_str(&macro_settings(input).unwrap_err().to_string()))
 }

@@ -1,7 +1,8 @@
 //! Literals as rustc hands them to procedural macros.
 
 use navyspindle_macros::{
-    again, hex_bytes, literals, named, settings, strings, strings_errors, sum, sum_error, written,
+    again, hex_bytes, joined_slashes, literals, named, settings, strings, strings_errors, sum,
+    sum_error, written,
 };
 use std::ffi::CStr;
 use std::fmt::Debug;
@@ -200,6 +201,8 @@ fn errors_of_settings() {
     assert_eq!(settings!(a = 1 b = 2), ("expected `,`", "b", "b"));
     assert_eq!(settings!(a = (1, [2])), ("expected literal", "(", ")"));
     assert_eq!(settings!(a == 1), ("expected literal", "=", "="));
+    // They are no comment: nothing after them is lost.
+    assert_eq!(joined_slashes!(), "expected identifier");
     assert_eq!(settings!(a = 'b).0, "lifetime");
     assert_eq!(
         settings!(a),
