@@ -1,14 +1,14 @@
 //! Reads a server's settings from a file of lines `NAME = LITERAL`, of the names `host`, `port` and `verbose`:
 //! `cargo run --example config FILE`
 
-use navyspindle::{LineIndex, Setting, SettingError, Settings};
+use navyspindle::{LineIndex, Key, SettingError, Settings};
 use std::error::Error;
 use std::process::ExitCode;
 use std::{env, fs};
 
-const HOST: Setting = Setting::new("host", "a string");
-const PORT: Setting = Setting::new("port", "an integer from 0 to 65535");
-const VERBOSE: Setting = Setting::new("verbose", "true or false");
+const HOST: Key = Key::new("host", "a string");
+const PORT: Key = Key::new("port", "an integer from 0 to 65535");
+const VERBOSE: Key = Key::new("verbose", "true or false");
 
 /// The settings, which only `Debug` reads here.
 #[allow(dead_code)]

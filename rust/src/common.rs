@@ -8,11 +8,7 @@ use core::ops::Range;
 pub(crate) fn part(text: Cow<'_, str>, from: usize, to: usize) -> Cow<'_, str> {
     match text {
         Cow::Borrowed(text) => Cow::Borrowed(&text[from..to]),
-        Cow::Owned(mut text) => {
-            text.truncate(to);
-            text.drain(..from);
-            Cow::Owned(text)
-        }
+        Cow::Owned(text) => Cow::Owned(String::from(&text[from..to])),
     }
 }
 
@@ -181,7 +177,7 @@ macro_rules! literal_type {
             fn try_from(text: &'t str) -> Result<Self, $crate::ParseError> {
                 match $crate::Lit::try_from(text)? {
                     $crate::Lit::$variant(literal) => Ok(literal),
-                    other => Err($crate::ParseError::of_kind($crate::Kind::$variant, &other)),
+                    other => Err($crate::ParseError::of_kind($crate::Kind::$variant, other)),
                 }
             }
         }
@@ -193,7 +189,7 @@ macro_rules! literal_type {
             fn try_from(text: alloc::string::String) -> Result<Self, $crate::ParseError> {
                 match $crate::Lit::try_from(text)? {
                     $crate::Lit::$variant(literal) => Ok(literal),
-                    other => Err($crate::ParseError::of_kind($crate::Kind::$variant, &other)),
+                    other => Err($crate::ParseError::of_kind($crate::Kind::$variant, other)),
                 }
             }
         }
@@ -205,7 +201,7 @@ macro_rules! literal_type {
             fn from_str(text: &str) -> Result<Self, $crate::ParseError> {
                 match text.parse()? {
                     $crate::Lit::$variant(literal) => Ok(literal),
-                    other => Err($crate::ParseError::of_kind($crate::Kind::$variant, &other)),
+                    other => Err($crate::ParseError::of_kind($crate::Kind::$variant, other)),
                 }
             }
         }

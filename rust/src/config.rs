@@ -6,7 +6,7 @@ use crate::rl_lexer::Tokens;
 use crate::rl_settings::{
     entry_step, first_error, without_mark, EntryRejection, EntryStep, NextEntry,
 };
-use crate::setting::{no_such, without_suffix, Setting, SettingError, Settings};
+use crate::setting::{no_such, without_suffix, Key, SettingError, Settings};
 use crate::settings::{entry_of, rejected, Entry, SettingsSyntaxError};
 use alloc::borrow::Cow;
 use alloc::collections::BTreeSet;
@@ -94,9 +94,9 @@ impl<'t> Settings<'t> {
     /// `Text` and `Repeated`: those of [`config`].
     ///
     /// ```
-    /// use navyspindle::{Setting, Settings};
+    /// use navyspindle::{Key, Settings};
     ///
-    /// const PORT: Setting = Setting::new("server.port", "an integer from 0 to 65535");
+    /// const PORT: Key = Key::new("server.port", "an integer from 0 to 65535");
     /// let read = Settings::read_config("title = \"a\"\nserver.port = 8080\n")?;
     /// assert_eq!(read.number::<u16>(PORT)?, Some(8080));
     /// # Ok::<(), navyspindle::SettingError>(())
@@ -112,19 +112,19 @@ impl<'t> Settings<'t> {
     /// The value is no character (`Kind`), Rust rejects it (`Literal`), or it has a suffix.
     ///
     /// ```
-    /// use navyspindle::{Setting, Settings};
+    /// use navyspindle::{Key, Settings};
     ///
-    /// const QUOTE: Setting = Setting::new("quote", "a character");
+    /// const QUOTE: Key = Key::new("quote", "a character");
     /// assert_eq!(Settings::read_config(r"quote = '\u{ab}'")?.character(QUOTE)?, Some('«'));
     /// assert_eq!(Settings::read_config("")?.character(QUOTE)?, None);
     /// let error = Settings::read_config(r#"quote = "a""#)?.character(QUOTE).unwrap_err();
     /// assert_eq!(error.to_string(), "quote: expected a character at byte 8");
     /// # Ok::<(), navyspindle::SettingError>(())
     /// ```
-    pub fn character(&self, setting: Setting) -> Result<Option<char>, SettingError> {
-        self.value_of(setting, |entry| match &entry.value {
-            Lit::Char(literal) => without_suffix(setting, entry, literal.value()),
-            _ => Err(no_such(setting, entry)),
+    pub fn character(&self, key: Key) -> Result<Option<char>, SettingError> {
+        self.value_of(key, |entry| match &entry.value {
+            Lit::Char(literal) => without_suffix(key, entry, literal.value()),
+            _ => Err(no_such(key, entry)),
         })
     }
 
@@ -135,18 +135,18 @@ impl<'t> Settings<'t> {
     /// The value is no byte (`Kind`), Rust rejects it (`Literal`), or it has a suffix.
     ///
     /// ```
-    /// use navyspindle::{Setting, Settings};
+    /// use navyspindle::{Key, Settings};
     ///
-    /// const END: Setting = Setting::new("end", "a byte");
+    /// const END: Key = Key::new("end", "a byte");
     /// assert_eq!(Settings::read_config(r"end = b'\n'")?.byte(END)?, Some(10));
     /// assert_eq!(Settings::read_config("")?.byte(END)?, None);
     /// assert!(Settings::read_config("end = 10")?.byte(END).is_err());
     /// # Ok::<(), navyspindle::SettingError>(())
     /// ```
-    pub fn byte(&self, setting: Setting) -> Result<Option<u8>, SettingError> {
-        self.value_of(setting, |entry| match &entry.value {
-            Lit::Byte(literal) => without_suffix(setting, entry, literal.value()),
-            _ => Err(no_such(setting, entry)),
+    pub fn byte(&self, key: Key) -> Result<Option<u8>, SettingError> {
+        self.value_of(key, |entry| match &entry.value {
+            Lit::Byte(literal) => without_suffix(key, entry, literal.value()),
+            _ => Err(no_such(key, entry)),
         })
     }
 
@@ -157,19 +157,19 @@ impl<'t> Settings<'t> {
     /// The value is no byte string (`Kind`), Rust rejects it (`Literal`), or it has a suffix.
     ///
     /// ```
-    /// use navyspindle::{Setting, Settings};
+    /// use navyspindle::{Key, Settings};
     ///
-    /// const MAGIC: Setting = Setting::new("magic", "a byte string");
+    /// const MAGIC: Key = Key::new("magic", "a byte string");
     /// let read = Settings::read_config(r#"magic = b"\x89PNG""#)?;
     /// assert_eq!(read.byte_string(MAGIC)?.as_deref(), Some(&b"\x89PNG"[..]));
     /// assert_eq!(Settings::read_config("")?.byte_string(MAGIC)?, None);
     /// assert!(Settings::read_config(r#"magic = "PNG""#)?.byte_string(MAGIC).is_err());
     /// # Ok::<(), navyspindle::SettingError>(())
     /// ```
-    pub fn byte_string(&self, setting: Setting) -> Result<Option<Cow<'_, [u8]>>, SettingError> {
-        self.value_of(setting, |entry| match &entry.value {
-            Lit::ByteStr(literal) => without_suffix(setting, entry, literal.value()),
-            _ => Err(no_such(setting, entry)),
+    pub fn byte_string(&self, key: Key) -> Result<Option<Cow<'_, [u8]>>, SettingError> {
+        self.value_of(key, |entry| match &entry.value {
+            Lit::ByteStr(literal) => without_suffix(key, entry, literal.value()),
+            _ => Err(no_such(key, entry)),
         })
     }
 
@@ -180,19 +180,19 @@ impl<'t> Settings<'t> {
     /// The value is no C string (`Kind`), Rust rejects it (`Literal`), or it has a suffix.
     ///
     /// ```
-    /// use navyspindle::{Setting, Settings};
+    /// use navyspindle::{Key, Settings};
     ///
-    /// const LIBRARY: Setting = Setting::new("library", "a C string");
+    /// const LIBRARY: Key = Key::new("library", "a C string");
     /// let read = Settings::read_config(r#"library = c"libé.so""#)?;
     /// assert_eq!(read.c_string(LIBRARY)?.as_deref(), Some(c"libé.so"));
     /// assert_eq!(Settings::read_config("")?.c_string(LIBRARY)?, None);
     /// assert!(Settings::read_config(r#"library = "lib.so""#)?.c_string(LIBRARY).is_err());
     /// # Ok::<(), navyspindle::SettingError>(())
     /// ```
-    pub fn c_string(&self, setting: Setting) -> Result<Option<CString>, SettingError> {
-        self.value_of(setting, |entry| match &entry.value {
-            Lit::CStr(literal) => without_suffix(setting, entry, literal.c_string()),
-            _ => Err(no_such(setting, entry)),
+    pub fn c_string(&self, key: Key) -> Result<Option<CString>, SettingError> {
+        self.value_of(key, |entry| match &entry.value {
+            Lit::CStr(literal) => without_suffix(key, entry, literal.c_string()),
+            _ => Err(no_such(key, entry)),
         })
     }
 }

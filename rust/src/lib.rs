@@ -143,7 +143,7 @@ pub use places::{Places, Segment, SegmentValue, Segments};
 #[cfg(feature = "proc-macro")]
 pub use proc_macros::{next_literal, next_of, LitOfKind, MacroError};
 #[cfg(feature = "settings")]
-pub use setting::{Setting, SettingError, SettingErrorKind, Settings};
+pub use setting::{Key, SettingError, SettingErrorKind, Settings};
 #[cfg(feature = "settings")]
 pub use settings::{settings, Entry, SettingsSyntaxError};
 #[cfg(feature = "sources")]

@@ -27,10 +27,10 @@ pub struct MacroEntry {
 ///
 /// ```no_run
 /// extern crate proc_macro;
-/// use navyspindle::{MacroError, MacroText, Setting};
+/// use navyspindle::{MacroError, MacroText, Key};
 ///
-/// const NAME: Setting = Setting::new("name", "a string");
-/// const SIZE: Setting = Setting::new("size", "an integer from 0 to 255");
+/// const NAME: Key = Key::new("name", "a string");
+/// const SIZE: Key = Key::new("size", "an integer from 0 to 255");
 ///
 /// /// `name = "x", size = 10`: the name has to be set, the size is 1 where it isn't.
 /// fn read(input: proc_macro::TokenStream) -> Result<(String, u8), MacroError> {
@@ -132,10 +132,10 @@ impl MacroText {
     ///
     /// ```no_run
     /// extern crate proc_macro;
-    /// use navyspindle::{MacroText, Setting};
+    /// use navyspindle::{MacroText, Key};
     ///
     /// let text = MacroText::of("a = 1".parse().unwrap());
-    /// let error = text.settings()?.string(Setting::new("a", "a string")).unwrap_err();
+    /// let error = text.settings()?.string(Key::new("a", "a string")).unwrap_err();
     /// assert_eq!(text.error(&error).to_string(), "a: expected a string");
     /// # Ok::<(), navyspindle::MacroError>(())
     /// ```

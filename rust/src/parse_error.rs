@@ -100,7 +100,7 @@ impl ParseError {
 
     /// Why a literal isn't of the kind that was asked for: it has no reading, or is of another kind.
     #[cold]
-    pub(crate) fn of_kind(expected: Kind, literal: &Lit<'_>) -> ParseError {
+    pub(crate) fn of_kind(expected: Kind, literal: Lit<'_>) -> ParseError {
         let text = literal.text();
         match literal.kind() {
             Kind::Verbatim => ParseError::of(text),

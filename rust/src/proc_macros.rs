@@ -382,7 +382,7 @@ macro_rules! of_tree {
                 match Lit::try_from(tree)? {
                     Lit::$variant(literal) => Ok(literal),
                     other => {
-                        let error = ParseError::of_kind(Kind::$variant, &other);
+                        let error = ParseError::of_kind(Kind::$variant, other);
                         Err(MacroError::new(error.kind(), tree.span()))
                     }
                 }

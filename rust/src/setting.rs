@@ -15,37 +15,37 @@ use core::ops::Range;
 /// A setting that a reader knows. Its two texts are what messages say of it.
 ///
 /// ```
-/// use navyspindle::Setting;
+/// use navyspindle::Key;
 ///
-/// const PORT: Setting = Setting::new("port", "an integer from 0 to 65535");
+/// const PORT: Key = Key::new("port", "an integer from 0 to 65535");
 /// assert_eq!(PORT.to_string(), "port: expected an integer from 0 to 65535");
 /// ```
 #[derive(Clone, Copy, Debug, PartialEq, Eq, Hash)]
 #[non_exhaustive]
-pub struct Setting {
+pub struct Key {
     /// The name.
     pub name: &'static str,
     /// What its value has to be, such as `an integer from 0 to 65535`.
     pub expected: &'static str,
 }
 
-impl Setting {
+impl Key {
     /// The setting of this name, whose value has to be what is said.
     ///
     /// ```
-    /// use navyspindle::Setting;
+    /// use navyspindle::Key;
     ///
-    /// const HOST: Setting = Setting::new("host", "a string");
+    /// const HOST: Key = Key::new("host", "a string");
     /// assert_eq!((HOST.name, HOST.expected), ("host", "a string"));
     /// ```
     #[must_use]
     pub const fn new(name: &'static str, expected: &'static str) -> Self {
-        Setting { name, expected }
+        Key { name, expected }
     }
 }
 
 /// The name, and what was expected of its value.
-impl fmt::Display for Setting {
+impl fmt::Display for Key {
     fn fmt(&self, f: &mut fmt::Formatter<'_>) -> fmt::Result {
         write!(f, "{}: expected {}", self.name, self.expected)
     }
@@ -54,9 +54,9 @@ impl fmt::Display for Setting {
 /// Why a text doesn't give a reader its settings.
 ///
 /// ```
-/// use navyspindle::{Setting, SettingErrorKind, Settings};
+/// use navyspindle::{Key, SettingErrorKind, Settings};
 ///
-/// let port = Setting::new("port", "an integer from 0 to 65535");
+/// let port = Key::new("port", "an integer from 0 to 65535");
 /// let read = Settings::read("port = true")?;
 /// assert_eq!(*read.number::<u16>(port).unwrap_err().kind(), SettingErrorKind::Kind(port));
 /// # Ok::<(), navyspindle::SettingError>(())
@@ -71,15 +71,15 @@ pub enum SettingErrorKind {
     /// This name is none of the known ones.
     Unknown(String),
     /// Rust rejects the value: it is no literal, or only `syn` reads it as one. The error's places are in the value's own text.
-    Literal(Setting, ParseError),
+    Literal(Key, ParseError),
     /// The value has a suffix, and is no number.
-    Suffix(Setting),
+    Suffix(Key),
     /// The value is a literal of another kind than was expected.
-    Kind(Setting),
+    Kind(Key),
     /// The number is none of the type that it was to become. The error's place is in the value's own text.
-    Value(Setting, ValueError),
+    Value(Key, ValueError),
     /// The setting isn't set.
-    Missing(Setting),
+    Missing(Key),
 }
 
 impl fmt::Display for SettingErrorKind {
@@ -88,14 +88,14 @@ impl fmt::Display for SettingErrorKind {
             SettingErrorKind::Text(kind) => kind.fmt(f),
             SettingErrorKind::Repeated(name) => write!(f, "{} `{name}`", SyntaxErrorKind::Repeated),
             SettingErrorKind::Unknown(name) => write!(f, "unknown name `{name}`"),
-            SettingErrorKind::Literal(setting, error) => write!(f, "{setting}: {}", error.kind()),
-            SettingErrorKind::Suffix(setting) => write!(f, "{setting}: unexpected suffix"),
-            SettingErrorKind::Kind(setting) => setting.fmt(f),
-            SettingErrorKind::Value(setting, error) => {
-                write!(f, "{setting}: ")?;
+            SettingErrorKind::Literal(key, error) => write!(f, "{key}: {}", error.kind()),
+            SettingErrorKind::Suffix(key) => write!(f, "{key}: unexpected suffix"),
+            SettingErrorKind::Kind(key) => key.fmt(f),
+            SettingErrorKind::Value(key, error) => {
+                write!(f, "{key}: ")?;
                 error.write_reason(f)
             }
-            SettingErrorKind::Missing(setting) => write!(f, "missing {setting}"),
+            SettingErrorKind::Missing(key) => write!(f, "missing {key}"),
         }
     }
 }
@@ -103,9 +103,9 @@ impl fmt::Display for SettingErrorKind {
 /// Why a text doesn't give a reader its settings, and where.
 ///
 /// ```
-/// use navyspindle::{Setting, Settings};
+/// use navyspindle::{Key, Settings};
 ///
-/// let port = Setting::new("port", "an integer from 0 to 65535");
+/// let port = Key::new("port", "an integer from 0 to 65535");
 /// let error = Settings::read("port = 70000")?.number::<u16>(port).unwrap_err();
 /// assert_eq!(error.range(), 7..12);
 /// let words = "port: expected an integer from 0 to 65535: number that u16 doesn't hold at byte 7";
@@ -137,9 +137,9 @@ impl SettingError {
     /// suffix; none, at the text's end, of a setting that is missing.
     ///
     /// ```
-    /// use navyspindle::{Setting, Settings};
+    /// use navyspindle::{Key, Settings};
     ///
-    /// let host = Setting::new("host", "a string");
+    /// let host = Key::new("host", "a string");
     /// assert_eq!(Settings::read(r#"host = "a\qb""#)?.string(host).unwrap_err().range(), 10..11);
     /// # Ok::<(), navyspindle::SettingError>(())
     /// ```
@@ -152,9 +152,9 @@ impl SettingError {
     /// The byte where [`range`](SettingError::range) begins.
     ///
     /// ```
-    /// use navyspindle::{Setting, Settings};
+    /// use navyspindle::{Key, Settings};
     ///
-    /// let port = Setting::new("port", "a number");
+    /// let port = Key::new("port", "a number");
     /// assert_eq!(Settings::read("port = -1")?.number::<u16>(port).unwrap_err().at(), 7);
     /// # Ok::<(), navyspindle::SettingError>(())
     /// ```
@@ -218,10 +218,10 @@ impl From<SettingsSyntaxError> for SettingError {
 /// [`truth`](Settings::truth), which return `None` for it: of one that a reader requires [`missing`](Settings::missing) is the error.
 ///
 /// ```
-/// use navyspindle::{Setting, SettingError, Settings};
+/// use navyspindle::{Key, SettingError, Settings};
 ///
-/// const HOST: Setting = Setting::new("host", "a string");
-/// const PORT: Setting = Setting::new("port", "an integer from 0 to 65535");
+/// const HOST: Key = Key::new("host", "a string");
+/// const PORT: Key = Key::new("port", "an integer from 0 to 65535");
 ///
 /// fn server(text: &str) -> Result<(String, u16), SettingError> {
 ///     let read = Settings::read(text)?;
@@ -298,15 +298,15 @@ impl<'t> Settings<'t> {
     /// `Unknown`, at the first name that is none of them.
     ///
     /// ```
-    /// use navyspindle::{Setting, Settings};
+    /// use navyspindle::{Key, Settings};
     ///
-    /// let port = Setting::new("port", "an integer");
+    /// let port = Key::new("port", "an integer");
     /// let error = Settings::read("port = 1, prt = 2")?.check(&[port]).unwrap_err();
     /// assert_eq!(error.to_string(), "unknown name `prt` at byte 10");
     /// # Ok::<(), navyspindle::SettingError>(())
     /// ```
-    pub fn check(&self, known: &[Setting]) -> Result<(), SettingError> {
-        let is_unknown = |entry: &&Entry| known.iter().all(|setting| setting.name != entry.name);
+    pub fn check(&self, known: &[Key]) -> Result<(), SettingError> {
+        let is_unknown = |entry: &&Entry| known.iter().all(|key| key.name != entry.name);
         match self.entries.iter().find(is_unknown) {
             None => Ok(()),
             Some(entry) => Err(SettingError {
@@ -323,19 +323,19 @@ impl<'t> Settings<'t> {
     /// The value is no string (`Kind`), Rust rejects it (`Literal`), or it has a suffix.
     ///
     /// ```
-    /// use navyspindle::{Setting, Settings};
+    /// use navyspindle::{Key, Settings};
     ///
-    /// let host = Setting::new("host", "a string");
+    /// let host = Key::new("host", "a string");
     /// assert_eq!(Settings::read(r#"host = "a\x2eb""#)?.string(host)?.as_deref(), Some("a.b"));
     /// assert_eq!(Settings::read("")?.string(host)?, None);
     /// let error = Settings::read("host = 1")?.string(host).unwrap_err();
     /// assert_eq!(error.to_string(), "host: expected a string at byte 7");
     /// # Ok::<(), navyspindle::SettingError>(())
     /// ```
-    pub fn string(&self, setting: Setting) -> Result<Option<Cow<'_, str>>, SettingError> {
-        self.value_of(setting, |entry| match &entry.value {
-            Lit::Str(literal) => without_suffix(setting, entry, literal.value()),
-            _ => Err(no_such(setting, entry)),
+    pub fn string(&self, key: Key) -> Result<Option<Cow<'_, str>>, SettingError> {
+        self.value_of(key, |entry| match &entry.value {
+            Lit::Str(literal) => without_suffix(key, entry, literal.value()),
+            _ => Err(no_such(key, entry)),
         })
     }
 
@@ -348,9 +348,9 @@ impl<'t> Settings<'t> {
     /// is a float where the type is of integers, or an integer without a suffix where it is of floats, or the type doesn't hold it.
     ///
     /// ```
-    /// use navyspindle::{Setting, Settings};
+    /// use navyspindle::{Key, Settings};
     ///
-    /// let port = Setting::new("port", "an integer from 0 to 65535");
+    /// let port = Key::new("port", "an integer from 0 to 65535");
     /// assert_eq!(Settings::read("port = 0x1F_90")?.number::<u16>(port)?, Some(8080));
     /// assert_eq!(Settings::read("")?.number::<u16>(port)?, None);
     /// assert_eq!(Settings::read("port = 80u16")?.number::<u16>(port)?, Some(80));
@@ -360,16 +360,16 @@ impl<'t> Settings<'t> {
     /// assert!(Settings::read("port = 1e400")?.number::<f64>(port).is_err());
     /// # Ok::<(), navyspindle::SettingError>(())
     /// ```
-    pub fn number<N: Number>(&self, setting: Setting) -> Result<Option<N>, SettingError> {
-        self.value_of(setting, |entry| {
+    pub fn number<N: Number>(&self, key: Key) -> Result<Option<N>, SettingError> {
+        self.value_of(key, |entry| {
             let number = match &entry.value {
                 Lit::Int(literal) => literal.value(),
                 Lit::Float(literal) => literal.value(),
-                _ => return Err(no_such(setting, entry)),
+                _ => return Err(no_such(key, entry)),
             };
             number.map_err(|error| {
                 let range = range_in(entry, error.range());
-                (SettingErrorKind::Value(setting, error), range)
+                (SettingErrorKind::Value(key, error), range)
             })
         })
     }
@@ -381,37 +381,37 @@ impl<'t> Settings<'t> {
     /// The value is none (`Kind`), or Rust rejects it (`Literal`).
     ///
     /// ```
-    /// use navyspindle::{Setting, Settings};
+    /// use navyspindle::{Key, Settings};
     ///
-    /// let verbose = Setting::new("verbose", "true or false");
+    /// let verbose = Key::new("verbose", "true or false");
     /// assert_eq!(Settings::read("verbose = true")?.truth(verbose)?, Some(true));
     /// assert_eq!(Settings::read("")?.truth(verbose)?, None);
     /// assert!(Settings::read("verbose = 1")?.truth(verbose).is_err());
     /// # Ok::<(), navyspindle::SettingError>(())
     /// ```
-    pub fn truth(&self, setting: Setting) -> Result<Option<bool>, SettingError> {
-        self.value_of(setting, |entry| match &entry.value {
+    pub fn truth(&self, key: Key) -> Result<Option<bool>, SettingError> {
+        self.value_of(key, |entry| match &entry.value {
             Lit::Bool(literal) => Ok(literal.value()),
-            _ => Err(no_such(setting, entry)),
+            _ => Err(no_such(key, entry)),
         })
     }
 
     /// The error that a setting isn't set, which a reader requires: `Missing`, at the text's end.
     ///
     /// ```
-    /// use navyspindle::{Setting, SettingErrorKind, Settings};
+    /// use navyspindle::{Key, SettingErrorKind, Settings};
     ///
-    /// let host = Setting::new("host", "a string");
+    /// let host = Key::new("host", "a string");
     /// let read = Settings::read("port = 1")?;
     /// let error = read.string(host)?.ok_or_else(|| read.missing(host)).unwrap_err();
     /// assert_eq!((error.kind(), error.range()), (&SettingErrorKind::Missing(host), 8..8));
     /// # Ok::<(), navyspindle::SettingError>(())
     /// ```
     #[must_use]
-    pub fn missing(&self, setting: Setting) -> SettingError {
+    pub fn missing(&self, key: Key) -> SettingError {
         let end = self.text.len();
         SettingError {
-            kind: SettingErrorKind::Missing(setting),
+            kind: SettingErrorKind::Missing(key),
             range: end..end,
         }
     }
@@ -419,17 +419,17 @@ impl<'t> Settings<'t> {
     /// What a setting is taken as, whose value Rust takes; `None` where it isn't set.
     pub(crate) fn value_of<'s, V>(
         &'s self,
-        setting: Setting,
+        key: Key,
         take: impl FnOnce(&'s Entry<'t>) -> Result<V, (SettingErrorKind, Range<usize>)>,
     ) -> Result<Option<V>, SettingError> {
-        let Some(entry) = self.get(setting.name) else {
+        let Some(entry) = self.get(key.name) else {
             return Ok(None);
         };
         let taken = match entry.value.check() {
             Ok(()) => take(entry),
             Err(error) => {
                 let range = range_in(entry, error.range());
-                Err((SettingErrorKind::Literal(setting, error), range))
+                Err((SettingErrorKind::Literal(key, error), range))
             }
         };
         match taken {
@@ -441,21 +441,21 @@ impl<'t> Settings<'t> {
 
 /// What the entry's value stands for, which has no suffix.
 pub(crate) fn without_suffix<V>(
-    setting: Setting,
+    key: Key,
     entry: &Entry<'_>,
     value: V,
 ) -> Result<V, (SettingErrorKind, Range<usize>)> {
     match entry.value.suffix_range() {
         Some(suffix) if !suffix.is_empty() => {
-            Err((SettingErrorKind::Suffix(setting), range_in(entry, suffix)))
+            Err((SettingErrorKind::Suffix(key), range_in(entry, suffix)))
         }
         _ => Ok(value),
     }
 }
 
 /// That the entry's value is a literal of another kind than was expected.
-pub(crate) fn no_such(setting: Setting, entry: &Entry<'_>) -> (SettingErrorKind, Range<usize>) {
-    (SettingErrorKind::Kind(setting), entry.value_range.clone())
+pub(crate) fn no_such(key: Key, entry: &Entry<'_>) -> (SettingErrorKind, Range<usize>) {
+    (SettingErrorKind::Kind(key), entry.value_range.clone())
 }
 
 /// Where bytes of the entry's value stand in the text of the settings: all of the value where white space or a comment stands
@@ -475,7 +475,7 @@ mod tests {
     use crate::{FlawKind, ParseErrorKind, ValueErrorKind};
     use core::error::Error;
 
-    const PORT: Setting = Setting::new("port", "an integer");
+    const PORT: Key = Key::new("port", "an integer");
 
     fn rejected(text: &str) -> (SettingErrorKind, Range<usize>) {
         let read = Settings::read(text).expect("settings");

@@ -2,7 +2,7 @@
 //! values that TOML doesn't have are those that rustc makes of the same literal.
 
 use navyspindle::{
-    config, settings, Lit, Part, Setting, SettingErrorKind, Settings, SyntaxErrorKind,
+    config, settings, Lit, Part, Key, SettingErrorKind, Settings, SyntaxErrorKind,
 };
 use std::ops::Range;
 
@@ -17,8 +17,8 @@ enum Toml {
 
 use Toml::{Bool, Float, Int, Str};
 
-fn value(name: &'static str) -> Setting {
-    Setting::new(name, "a value")
+fn value(name: &'static str) -> Key {
+    Key::new(name, "a value")
 }
 
 /// That the text has these names, in this order, with these values.

@@ -1,11 +1,12 @@
 -- One step of the search for the end of a comment.
-use Rattle.rl_text.proofs.Common.{◌≡◌, ℕ, suc, zero, ◌+◌, ◌-◌, ◌<◌, ◌≤◌, Bool, true, false, not, ◌&&◌, ◌==◌, cond, List, [], ◌∷◌, ◌++◌, append-nil, length, get_or, take, drop, Option, None, refl, sym, ◌∙◌, ap, arith, prefix_len-le-length, and_from, and_parts, ne_eqb, IsUtf8-nil, chars, list_all, prefix_len}
+use Rattle.rl_text.proofs.Common.{◌≡◌, ℕ, suc, zero, ◌+◌, ◌-◌, ◌<◌, ◌≤◌, Bool, true, false, not, ◌&&◌, ◌==◌, cond, List, [], ◌∷◌, ◌++◌, append-nil, length, get_or, take, drop, Option, Some, None, subst, Bor, IfSome, IfNone, refl, sym, ◌∙◌, ap, arith, prefix_len-le-length, and_from, and_parts, ne_eqb, IsUtf8-nil, chars, list_all, prefix_len}
 use Rattle.std.proofs.Common.{add-one}
+use Rattle.std.specs.Option.{unwrap_or}
 use Rattle.std.proofs.lemmas.List.{drop_more, get_or-drop, drop-drop, length-drop}
 use Rattle.std.proofs.Math.Seq.{take-length}
 use Rattle.rl_text.specs.Texts.{IsTail}
 use Rattle.rl_lexer.specs.Mirrors.SkippedAt.{after_block, after_line}
-use Rattle.rl_text.specs.Scanning.{is_other, IsNextMark}
+use Rattle.rl_text.specs.Scanning.{is_other, line_ends, IsNextMark}
 use Rattle.rl_text.specs.declared.scan.Marks.{Marks}
 use Rattle.rl_lexer.proofs.Comments.{closed, after_block-step, block_goes_on, both, OneLine, after_line-past, after_line-open}
 use Rattle.rl_text.proofs.Basics.{false_unless}
@@ -154,3 +155,17 @@ line_open m s is h = chars_nil ∙ sym (after_line-open s (one_line m s (ap (λ 
 
 pub nothing_tail : (t : List ℕ) → IsTail t []
 nothing_tail t = record { front = t; text_is = sym (append-nil t); is_text = IsUtf8-nil }
+
+-- what follows the first LF, and nothing where there is none
+pub line_rest : (s : List ℕ) (found : Option (Bor (List ℕ))) (none rest : Bor (List ℕ))
+    → IfSome found (λ r. IsNextMark line_ends (chars s) 10 (chars r.now))
+    → IfNone found (list_all (is_other line_ends) (chars s) ≡ true) → IfSome found (λ r. IsTail s r.now)
+    → none.now ≡ [] → rest ≡ unwrap_or found none → (chars rest.now ≡ after_line (chars s)) × IsTail s rest.now
+line_rest s (Some r) none rest next lacks tail empty is = (
+  ap (λ z. chars z.now) is ∙ line_found line_ends (chars s) (chars r.now) 10 refl next,
+  subst (λ z. IsTail s z.now) (sym is) tail,
+)
+line_rest s None none rest next lacks tail empty is = (
+  ap (λ z. chars z.now) is ∙ ap chars empty ∙ line_open line_ends (chars s) refl lacks,
+  subst (λ z. IsTail s z.now) (sym is) (subst (IsTail s) (sym empty) (nothing_tail s)),
+)

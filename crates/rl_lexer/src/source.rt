@@ -23,7 +23,7 @@ use bad_quote::after_bad_quote;
 use rl_text::characters::is_start;
 use rl_text::classes::{skip_white, skip_word};
 use rl_text::lanes::{byte_before, is_word_byte, unlikely_len};
-use rl_text::scan::{Marks, next_mark, split_before};
+use rl_text::lines::{next_line, split_line};
 use rl_text::text::{begins_with, split_ascii, split_char, strip_byte, without_first};
 
 /// What a token of a source is: what [`Sources`](crate::Sources) cuts off.
@@ -241,7 +241,7 @@ fn line_end(text: &str) -> &str
     ensures rest { chars result.now ≡ after_run is_in_line (chars text.now) }
     ensures following { IsTail text.now result.now }
 {
-    let (_, rest) = split_before(Marks::two(b'\n', b'\n'), text);
+    let (_, rest) = split_line(text);
     rest
 }
 
@@ -253,10 +253,7 @@ pub(crate) fn after_first_line(text: &str) -> Option<&str>
     ensures following { IfSome result (λ lines. IsTail text.now lines.now) }
     ensures shorter { IfSome result (λ lines. length lines.now < length text.now) }
 {
-    match next_mark(Marks::two(b'\n', b'\n'), text) {
-        Some((_, following)) => Some(following),
-        None => None,
-    }
+    next_line(text)
 }
 
 /// What follows an identifier.

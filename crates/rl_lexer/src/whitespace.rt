@@ -9,7 +9,8 @@ ghost use Rattle.rl_lexer.specs.Mirrors.SkippedAt.{after_line, after_block, afte
 
 use rl_text::classes::skip_white;
 use rl_text::lanes::byte_at;
-use rl_text::scan::{Marks, near_len_before, next_mark};
+use rl_text::lines::next_line;
+use rl_text::scan::{Marks, near_len_before};
 use rl_text::text::{begins_with, split_ascii, strip_byte};
 
 /// The rest of the text after its leading white space and plain comments, as a slice of the text.
@@ -113,10 +114,7 @@ pub(crate) fn after_line(text: &str) -> &str
     ensures rest { chars result.now ≡ after_line (chars text.now) }
     ensures following { IsTail text.now result.now }
 {
-    match next_mark(Marks::two(b'\n', b'\n'), text) {
-        Some((_, following)) => following,
-        None => "",
-    }
+    next_line(text).unwrap_or("")
 }
 
 /// What follows a block comment, by what stands after its `/*`. It is a loop over bytes, from mark

@@ -1,6 +1,6 @@
 -- From the mask of sixteen bytes to the run of bytes that pass a test.
 use Rattle.rl_text.proofs.Common.{◌≡◌, ℕ, ◌+◌, ◌*◌, ◌%◌, ◌^◌, ◌<◌, ◌≤◌, ◌||◌, ◌&&◌, nat_le, Bool, true, false, not, cond, eqb, List, [], ◌∷◌, map, length, drop, refl, sym, ap, ap₂, ◌∙◌, arith, length-chunk, mask_l-mod, length-map, prefix_len-le-length, eq-eqb, ne_eqb, nat_tests, prefix_len, bit_or, chunk, mask_l, zip2, top, count_trailing_zeros}
-use Rattle.std.proofs.Common.{nat_eq, nat_lt}
+use Rattle.std.proofs.Common.{bit_and, nat_eq, nat_lt}
 use Rattle.std.proofs.lemmas.Simd.{chunk-drop, leading_from_mask_l, trailing_mask_l}
 use Rattle.std.proofs.lemmas.List.Folds.{prefix_len-append}
 use Rattle.rl_text.specs.declared.scan.Marks.{Marks}
@@ -22,22 +22,37 @@ lane_top : (b : Bool) → top 7 (lane b) ≡ b
 lane_top true = refl
 lane_top false = refl
 
-both_lanes : (p q : ℕ → Bool) (v : List ℕ) → zip2 bit_or (map (λ x. lane (p x)) v) (map (λ x. lane (q x)) v)
+lane_and : (a b : Bool) → bit_and (lane a) (lane b) ≡ lane (a && b)
+lane_and true true = refl
+lane_and true false = refl
+lane_and false true = refl
+lane_and false false = refl
+
+both_lanes : {X : Type 0} (p q : X → Bool) (v : List X) → zip2 bit_or (map (λ x. lane (p x)) v) (map (λ x. lane (q x)) v)
     ≡ map (λ x. lane (p x || q x)) v
 both_lanes p q [] = refl
 both_lanes p q (x ∷ xs) = ap₂ (λ a b. a ∷ b) (lane_or (p x) (q x)) (both_lanes p q xs)
 
 -- the lanes of either test
-pub either : (p q : ℕ → Bool) (v : List ℕ) {a b : List ℕ} → a ≡ map (λ x. lane (p x)) v → b ≡ map (λ x. lane (q x)) v
+pub either : {X : Type 0} (p q : X → Bool) (v : List X) {a b : List ℕ} → a ≡ map (λ x. lane (p x)) v → b ≡ map (λ x. lane (q x)) v
     → zip2 bit_or a b ≡ map (λ x. lane (p x || q x)) v
 either p q v e f = ap₂ (zip2 bit_or) e f ∙ both_lanes p q v
 
-tops : (p : ℕ → Bool) (v : List ℕ) → map (top 7) (map (λ x. lane (p x)) v) ≡ map p v
+-- the lanes of both tests
+pub both : {X : Type 0} (p q : X → Bool) (v : List X) {a b : List ℕ} → a ≡ map (λ x. lane (p x)) v
+    → b ≡ map (λ x. lane (q x)) v → zip2 bit_and a b ≡ map (λ x. lane (p x && q x)) v
+both {X = X} p q v e f = ap₂ (zip2 bit_and) e f ∙ go v
+  where
+    go : (v : List X) → zip2 bit_and (map (λ x. lane (p x)) v) (map (λ x. lane (q x)) v) ≡ map (λ x. lane (p x && q x)) v
+    go [] = refl
+    go (x ∷ xs) = ap₂ (λ a b. a ∷ b) (lane_and (p x) (q x)) (go xs)
+
+tops : {X : Type 0} (p : X → Bool) (v : List X) → map (top 7) (map (λ x. lane (p x)) v) ≡ map p v
 tops p [] = refl
 tops p (x ∷ xs) = ap₂ (λ a b. a ∷ b) (lane_top (p x)) (tops p xs)
 
 -- the mask of the lanes of a test
-pub masked : (p : ℕ → Bool) (v : List ℕ) {a : List ℕ} → length v ≤ 64 → a ≡ map (λ x. lane (p x)) v
+pub masked : {X : Type 0} (p : X → Bool) (v : List X) {a : List ℕ} → length v ≤ 64 → a ≡ map (λ x. lane (p x)) v
     → mask_l (map (top 7) a) % 2 ^ 64 ≡ mask_l (map p v)
 masked p v few e = ap (λ l. mask_l l % 2 ^ 64) (ap (map (top 7)) e ∙ tops p v)
     ∙ mask_l-mod (map p v) 64 (omega (arith, length-map v p))

@@ -1,112 +1,201 @@
 -- From the lanes of sixteen bytes to those at which a literal or a comment may begin.
-use Rattle.rl_text.proofs.Common.{◌≡◌, ℕ, zero, suc, ◌+◌, ◌-◌, ◌*◌, ◌^◌, ◌<◌, ◌≤◌, ◌==◌, nat_le, ◌||◌, ◌&&◌, Bool, true, false, not, cond, List, [], ◌∷◌, map, length, take, drop, refl, sym, ap, ap₂, ◌∙◌, arith, agree_below_at, nat_tests, map-map, bit_or, chunk, mask_l, get_or}
-use lib.Bits.{bit_and, and_block, or_block}
+use Rattle.rl_text.proofs.Common.{◌≡◌, ℕ, zero, suc, ◌+◌, ◌-◌, ◌%◌, ◌^◌, ◌<◌, ◌≤◌, ◌==◌, nat_le, ◌||◌, ◌&&◌, Bool, true, false, not, cond, eqb, List, [], ◌∷◌, map, length, take, drop, refl, sym, ap, ap₂, ◌∙◌, arith, lit<, agree_below, agree_below_at, and_parts, eqb-true, nat_tests, map-map, chunk, is_ascii_digit, mask_l, top, get_or, length-chunk, ⊤}
+use Rattle.std.proofs.Common.{Fits, w8}
+use Rattle.std.specs.Bool.{beq}
+use Rattle.std.proofs.lemmas.List.{drop-drop, drop-take, take-take}
+use Rattle.std.proofs.lemmas.Simd.{get_or-chunk}
+use Rattle.rl_text.proofs.LaneLemmas.{lane, masked, not-not}
 use Rattle.rl_text.specs.Mirrors.RunsAt.{has_bit, is_word_byte}
-use Rattle.rl_text.specs.Mirrors.UnlikelyAt.{is_likely_mark, is_likely_head, may_begin, with_before, last_of, byte_before}
+use Rattle.rl_text.specs.Mirrors.UnlikelyAt.{around, is_likely_mark, is_likely_head, may_begin_at, last_of, byte_before}
 
--- ---- each byte after the one before it
+-- ---- each byte between the one before it and the next
 
-firsts_taken : (n b : ℕ) (bs : List ℕ) → n ≤ length bs → map (λ x. x.0) (take n (with_before b bs)) ≡ take n (b ∷ bs)
-firsts_taken zero b bs h = refl
-firsts_taken (suc n) b [] h = absurd (omega arith)
-firsts_taken (suc n) b (c ∷ cs) h = ap (λ z. b ∷ z) (firsts_taken n c cs (omega arith))
+befores_taken : (n p : ℕ) (bs : List ℕ) → n ≤ length bs → map (λ x. x.0) (take n (around p bs)) ≡ take n (p ∷ bs)
+befores_taken zero p bs h = refl
+befores_taken (suc n) p [] h = absurd (omega arith)
+befores_taken (suc n) p (c ∷ cs) h = ap (λ z. p ∷ z) (befores_taken n c cs (omega arith))
 
-firsts : (j n p : ℕ) (bs : List ℕ) → suc j + n ≤ length bs → map (λ x. x.0) (take n (drop (suc j) (with_before p bs)))
-    ≡ take n (drop j bs)
-firsts j n p [] h = absurd (omega arith)
-firsts zero n p (b ∷ bs) h = firsts_taken n b bs (omega arith)
-firsts (suc j) n p (b ∷ bs) h = firsts j n b bs (omega arith)
+befores : (j n p : ℕ) (bs : List ℕ) → suc j + n ≤ length bs → map (λ x. x.0) (chunk (suc j) n (around p bs))
+    ≡ chunk j n bs
+befores j n p [] h = absurd (omega arith)
+befores zero n p (b ∷ bs) h = befores_taken n b bs (omega arith)
+befores (suc j) n p (b ∷ bs) h = befores j n b bs (omega arith)
 
-seconds_taken : (n p : ℕ) (bs : List ℕ) → map (λ x. x.1) (take n (with_before p bs)) ≡ take n bs
-seconds_taken zero p bs = refl
-seconds_taken (suc n) p [] = refl
-seconds_taken (suc n) p (b ∷ bs) = ap (λ z. b ∷ z) (seconds_taken n b bs)
+heres_taken : (n p : ℕ) (bs : List ℕ) → map (λ x. x.1) (take n (around p bs)) ≡ take n bs
+heres_taken zero p bs = refl
+heres_taken (suc n) p [] = refl
+heres_taken (suc n) p (b ∷ bs) = ap (λ z. b ∷ z) (heres_taken n b bs)
 
-seconds : (i n p : ℕ) (bs : List ℕ) → map (λ x. x.1) (take n (drop i (with_before p bs))) ≡ take n (drop i bs)
-seconds zero n p bs = seconds_taken n p bs
-seconds (suc i) n p [] = seconds_taken n p []
-seconds (suc i) n p (b ∷ bs) = seconds i n b bs
+heres : (i n p : ℕ) (bs : List ℕ) → map (λ x. x.1) (chunk i n (around p bs)) ≡ chunk i n bs
+heres zero n p bs = heres_taken n p bs
+heres (suc i) n p [] = heres_taken n p []
+heres (suc i) n p (b ∷ bs) = heres i n b bs
 
-pub with_before-length : (p : ℕ) (bs : List ℕ) → length (with_before p bs) ≡ length bs
-with_before-length p [] = refl
-with_before-length p (b ∷ bs) = ap suc (with_before-length b bs)
+nexts_taken : (n p : ℕ) (bs : List ℕ) → n < length bs → map (λ x. x.2) (take n (around p bs)) ≡ take n (drop 1 bs)
+nexts_taken zero p bs h = refl
+nexts_taken (suc n) p [] h = absurd (omega arith)
+nexts_taken (suc n) p (c ∷ []) h = absurd (omega arith)
+nexts_taken (suc n) p (c ∷ d ∷ cs) h = ap (λ z. d ∷ z) (nexts_taken n c (d ∷ cs) (omega arith))
 
-pub room_before : (p at : ℕ) (bs : List ℕ) → at + 16 ≤ length bs → at + 16 ≤ length (with_before p bs)
-room_before p at bs room = omega (arith, room, with_before-length p bs)
+nexts : (i n p : ℕ) (bs : List ℕ) → i + n < length bs → map (λ x. x.2) (chunk i n (around p bs)) ≡ chunk (suc i) n bs
+nexts zero n p bs h = nexts_taken n p bs (omega arith)
+nexts (suc i) n p [] h = absurd (omega arith)
+nexts (suc i) n p (b ∷ bs) h = nexts i n b bs (omega arith)
 
--- ---- the mask of all
+pub around-length : (p : ℕ) (bs : List ℕ) → length (around p bs) ≡ length bs
+around-length p [] = refl
+around-length p (b ∷ bs) = ap suc (around-length b bs)
 
-both_bits : (a b : Bool) → bit_and (cond a 1 0) (cond b 1 0) ≡ cond (a && b) 1 0
-both_bits true true = refl
-both_bits true false = refl
-both_bits false true = refl
-both_bits false false = refl
+-- a part of a part
+part_of : (j m r k n : ℕ) (bs : List ℕ) → m ≡ j + r → n ≤ r → chunk j n (take m (drop k bs)) ≡ chunk (k + j) n bs
+part_of j m r k n bs is room =
+    ap (λ z. take n (drop j (take z (drop k bs)))) is ∙ ap (take n) (drop-take j r (drop k bs))
+    ∙ take-take n r (drop j (drop k bs)) room ∙ ap (take n) (drop-drop j k bs)
 
-either_bit : (a b : Bool) → bit_or (cond a 1 0) (cond b 1 0) ≡ cond (a || b) 1 0
-either_bit true true = refl
-either_bit true false = refl
-either_bit false true = refl
-either_bit false false = refl
+-- ---- lanes
 
-bit_small : (b : Bool) → cond b 1 0 < 2 ^ 1
-bit_small true = omega arith
-bit_small false = omega arith
+abbrev pub AreLow : List ℕ → Type 0
+AreLow v = (k : ℕ) → k < length v → get_or v k 0 < 256
 
-and_more : (a b : Bool) (x y : ℕ) → bit_and (cond a 1 0 + 2 * x) (cond b 1 0 + 2 * y)
-    ≡ cond (a && b) 1 0 + 2 * bit_and x y
-and_more a b x y =
-    let p : cond a 1 0 + 2 * x ≡ x * 2 ^ 1 + cond a 1 0 = omega arith in
-    let q : cond b 1 0 + 2 * y ≡ y * 2 ^ 1 + cond b 1 0 = omega arith in
-    let low = both_bits a b in
-    let all : bit_and (x * 2 ^ 1 + cond a 1 0) (y * 2 ^ 1 + cond b 1 0)
-    ≡ bit_and x y * 2 ^ 1 + bit_and (cond a 1 0) (cond b 1 0) = and_block 1 x y (cond a 1 0) (cond b 1 0)
-    (bit_small a) (bit_small b) in
-    ap₂ bit_and p q ∙ all ∙ (let e : bit_and x y * 2 ^ 1 + bit_and (cond a 1 0) (cond b 1 0)
-    ≡ cond (a && b) 1 0 + 2 * bit_and x y = omega (arith, low) in e)
+-- lanes that agree on bytes
+pub same_lanes : (f g : ℕ → ℕ) → agree_below (λ c. eqb (f c) (g c)) (λ _. true) 256 ≡ true → (v : List ℕ) → AreLow v
+    → map f v ≡ map g v
+same_lanes f g all [] low = refl
+same_lanes f g all (x ∷ xs) low = ap₂ (λ a b. a ∷ b)
+    (eqb-true (f x) (g x) (agree_below_at (λ c. eqb (f c) (g c)) (λ _. true) 256 x all (low 0 (omega arith))))
+    (same_lanes f g all xs (λ k short. low (suc k) (omega arith)))
 
-or_more : (a b : Bool) (x y : ℕ) → bit_or (cond a 1 0 + 2 * x) (cond b 1 0 + 2 * y) ≡ cond (a || b) 1 0 + 2 * bit_or x y
-or_more a b x y =
-    let p : cond a 1 0 + 2 * x ≡ x * 2 ^ 1 + cond a 1 0 = omega arith in
-    let q : cond b 1 0 + 2 * y ≡ y * 2 ^ 1 + cond b 1 0 = omega arith in
-    let low = either_bit a b in
-    let all : bit_or (x * 2 ^ 1 + cond a 1 0) (y * 2 ^ 1 + cond b 1 0)
-    ≡ bit_or x y * 2 ^ 1 + bit_or (cond a 1 0) (cond b 1 0) = or_block 1 x y (cond a 1 0) (cond b 1 0) (bit_small a)
-    (bit_small b) in
-    ap₂ bit_or p q ∙ all ∙ (let e : bit_or x y * 2 ^ 1 + bit_or (cond a 1 0) (cond b 1 0)
-    ≡ cond (a || b) 1 0 + 2 * bit_or x y = omega (arith, low) in e)
+-- lanes by a test of one of three bytes
+pub lanes_of : {X : Type 0} (g : ℕ → Bool) (part : X → ℕ) (xs : List X) {v z : List ℕ} → map part xs ≡ v
+    → z ≡ map (λ c. lane (g c)) v → z ≡ map (λ x. lane (g (part x))) xs
+lanes_of g part xs is lanes = lanes ∙ ap (map (λ c. lane (g c))) (sym is) ∙ map-map (λ c. lane (g c)) part xs
 
-and_mask : {X : Type 0} (p q : X → Bool) (v : List X) → bit_and (mask_l (map p v)) (mask_l (map q v))
-    ≡ mask_l (map (λ x. p x && q x) v)
-and_mask p q [] = refl
-and_mask p q (x ∷ xs) = and_more (p x) (q x) (mask_l (map p xs)) (mask_l (map q xs))
-    ∙ ap (λ m. cond (p x && q x) 1 0 + 2 * m) (and_mask p q xs)
+-- ---- what the tests tell together
 
-or_mask : {X : Type 0} (p q : X → Bool) (v : List X) → bit_or (mask_l (map p v)) (mask_l (map q v))
-    ≡ mask_l (map (λ x. p x || q x) v)
-or_mask p q [] = refl
-or_mask p q (x ∷ xs) = or_more (p x) (q x) (mask_l (map p xs)) (mask_l (map q xs))
-    ∙ ap (λ m. cond (p x || q x) 1 0 + 2 * m) (or_mask p q xs)
+abbrev AreBytes : List (ℕ × ℕ × ℕ) → Type 0
+AreBytes [] = ⊤
+AreBytes (x ∷ xs) = (x.1 < 256) × AreBytes xs
 
-pub likely_mask : (bs : List ℕ) (at m w h : ℕ) → 0 < at → at + 16 ≤ length bs → m
-    ≡ mask_l (map is_likely_mark (chunk at 16 bs)) → w ≡ mask_l (map (λ x. not (is_word_byte x)) (chunk (at - 1) 16 bs))
-    → h ≡ mask_l (map is_likely_head (chunk at 16 bs)) → bit_or m (bit_and w h)
-    ≡ mask_l (map may_begin (chunk at 16 (with_before 0 bs)))
-likely_mask bs at m w h some room marks words heads =
-    let v = chunk at 16 (with_before 0 bs) in
+around_bytes : (p : ℕ) (bs : List ℕ) → ((k : ℕ) → Fits w8 (get_or bs k 0)) → AreBytes (around p bs)
+around_bytes p [] fits = tt
+around_bytes p (b ∷ bs) fits =
+    let low : b < 256 = (fits 0).fits in
+    (low, around_bytes b bs (λ k. fits (suc k)))
+
+drop_bytes : (n : ℕ) (xs : List (ℕ × ℕ × ℕ)) → AreBytes xs → AreBytes (drop n xs)
+drop_bytes zero xs h = h
+drop_bytes (suc n) [] h = tt
+drop_bytes (suc n) (x ∷ xs) h = drop_bytes n xs h.1
+
+take_bytes : (n : ℕ) (xs : List (ℕ × ℕ × ℕ)) → AreBytes xs → AreBytes (take n xs)
+take_bytes zero xs h = tt
+take_bytes (suc n) [] h = tt
+take_bytes (suc n) (x ∷ xs) h = (h.0, take_bytes n xs h.1)
+
+abbrev for_all : (Bool → Bool) → Bool
+for_all f = f true && f false
+
+at_each : (f : Bool → Bool) → for_all f ≡ true → (b : Bool) → f b ≡ true
+at_each f all true = (and_parts (f true) (f false) all).0
+at_each f all false = (and_parts (f true) (f false) all).1
+
+-- by what the next byte is
+abbrev pub goes_on : ℕ → Bool → Bool → Bool → Bool → Bool → Bool
+goes_on c q t r h a =
+    cond (c == 98) (q || t || r) (cond (c == 99) (q || r) (cond (c == 114) (q || h) (cond (c == 116) r
+    (cond (c == 102) a true))))
+
+-- as the lanes have it
+abbrev pub by_lanes : ℕ → Bool → Bool → Bool → Bool → Bool → Bool → Bool
+by_lanes c w q t r h a =
+    is_likely_mark c || (w && ((((is_ascii_digit c || (c == 98 && ((q || r) || t))) || (c == 99 && (q || r)))
+    || (c == 114 && (q || h))) || ((c == 116 && r) || (c == 102 && a))))
+
+abbrev by_definition : ℕ → Bool → Bool → Bool → Bool → Bool → Bool → Bool
+by_definition c w q t r h a = (is_likely_mark c || (w && is_likely_head c)) && goes_on c q t r h a
+
+agree_at : (c : ℕ) → c < 256 → (w q t r h a : Bool) → by_lanes c w q t r h a ≡ by_definition c w q t r h a
+agree_at c low w q t r h a =
+    let all = agree_below_at (λ c. for_all (λ w. for_all (λ q. for_all (λ t. for_all (λ r. for_all (λ h. for_all (λ a.
+    beq (by_lanes c w q t r h a) (by_definition c w q t r h a)))))))) (λ _. true) 256 c refl low in
+    let w_all = at_each (λ w. for_all (λ q. for_all (λ t. for_all (λ r. for_all (λ h. for_all (λ a.
+    beq (by_lanes c w q t r h a) (by_definition c w q t r h a))))))) all w in
+    let q_all = at_each (λ q. for_all (λ t. for_all (λ r. for_all (λ h. for_all (λ a.
+    beq (by_lanes c w q t r h a) (by_definition c w q t r h a)))))) w_all q in
+    let t_all = at_each (λ t. for_all (λ r. for_all (λ h. for_all (λ a.
+    beq (by_lanes c w q t r h a) (by_definition c w q t r h a))))) q_all t in
+    let r_all = at_each (λ r. for_all (λ h. for_all (λ a.
+    beq (by_lanes c w q t r h a) (by_definition c w q t r h a)))) t_all r in
+    let h_all = at_each (λ h. for_all (λ a. beq (by_lanes c w q t r h a) (by_definition c w q t r h a))) r_all h in
+    let a_all = at_each (λ a. beq (by_lanes c w q t r h a) (by_definition c w q t r h a)) h_all a in
+    same_Bool (by_lanes c w q t r h a) (by_definition c w q t r h a) a_all
+  where
+    same_Bool : (x y : Bool) → beq x y ≡ true → x ≡ y
+    same_Bool true true e = refl
+    same_Bool true false e = absurd (cc)
+    same_Bool false true e = absurd (cc)
+    same_Bool false false e = refl
+
+-- a place, by its three bytes
+abbrev pub by_bytes : ℕ × ℕ × ℕ → Bool
+by_bytes x = by_lanes x.1 (not (is_word_byte x.0)) (x.2 == 34) (x.2 == 39) (x.2 == 114) (x.2 == 35) (x.2 == 97)
+
+same_places : (xs : List (ℕ × ℕ × ℕ)) → AreBytes xs → map by_bytes xs ≡ map may_begin_at xs
+same_places [] h = refl
+same_places (x ∷ xs) h = ap₂ (λ a b. a ∷ b) (agree_at x.1 h.0 (not (is_word_byte x.0)) (x.2 == 34) (x.2 == 39)
+    (x.2 == 114) (x.2 == 35) (x.2 == 97) ∙ not-not (by_definition x.1 (not (is_word_byte x.0)) (x.2 == 34) (x.2 == 39)
+    (x.2 == 114) (x.2 == 35) (x.2 == 97))) (same_places xs h.1)
+
+-- ---- the mask
+
+abbrev pub three : ℕ → List ℕ → List (ℕ × ℕ × ℕ)
+three at bs = chunk at 16 (around 0 bs)
+
+abbrev pub near : ℕ → List ℕ → List ℕ
+near at bs = take (at + 16 + 1 - (at - 1)) (drop (at - 1) bs)
+
+near_is : (j at : ℕ) (bs : List ℕ) → 0 < at → j < 3 → chunk j 16 (near at bs) ≡ chunk (at - 1 + j) 16 bs
+near_is j at bs some few = part_of j (at + 16 + 1 - (at - 1)) (18 - j) (at - 1) 16 bs (omega arith) (omega arith)
+
+pub near-length : (j at : ℕ) (bs : List ℕ) → 0 < at → j < 3 → at + 16 < length bs
+    → length (chunk j 16 (near at bs)) ≡ 16
+near-length j at bs some few room = ap length (near_is j at bs some few) ∙ length-chunk (at - 1 + j) 16 bs (omega arith)
+
+pub near_low : (j at : ℕ) (bs : List ℕ) → 0 < at → j < 3 → at + 16 < length bs
+    → ((k : ℕ) → Fits w8 (get_or bs k 0)) → AreLow (chunk j 16 (near at bs))
+near_low j at bs some few room fits k short =
+    let long = near-length j at bs some few room in
+    let here = ap (λ v. get_or v k 0) (near_is j at bs some few) ∙ get_or-chunk (at - 1 + j) 16 bs k 0
+    (omega (arith, short, long)) in
+    omega (arith, here, (fits (at - 1 + j + k)).fits)
+
+pub before_is : (at : ℕ) (bs : List ℕ) → 0 < at → at + 16 < length bs → map (λ x. x.0) (three at bs)
+    ≡ chunk 0 16 (near at bs)
+before_is at bs some room =
     let place : suc (at - 1) ≡ at = omega arith in
-    let second : chunk at 16 bs ≡ map (λ x. x.1) v = sym (seconds at 16 0 bs) in
-    let first : chunk (at - 1) 16 bs ≡ map (λ x. x.0) v = sym (firsts (at - 1) 16 0 bs (omega (arith, room, place)))
-    ∙ ap (λ i. map (λ x. x.0) (chunk i 16 (with_before 0 bs))) place in
-    let m_is : m ≡ mask_l (map (λ x. is_likely_mark x.1) v) = marks ∙ ap (λ l. mask_l (map is_likely_mark l)) second
-    ∙ ap mask_l (map-map is_likely_mark (λ x. x.1) v) in
-    let w_is : w ≡ mask_l (map (λ x. not (is_word_byte x.0)) v) = words
-    ∙ ap (λ l. mask_l (map (λ x. not (is_word_byte x)) l)) first
-    ∙ ap mask_l (map-map (λ x. not (is_word_byte x)) (λ x. x.0) v) in
-    let h_is : h ≡ mask_l (map (λ x. is_likely_head x.1) v) = heads ∙ ap (λ l. mask_l (map is_likely_head l)) second
-    ∙ ap mask_l (map-map is_likely_head (λ x. x.1) v) in
-    let both : bit_and w h ≡ mask_l (map (λ x. not (is_word_byte x.0) && is_likely_head x.1) v) = ap₂ bit_and w_is h_is
-    ∙ and_mask (λ x. not (is_word_byte x.0)) (λ x. is_likely_head x.1) v in
-    ap₂ bit_or m_is both ∙ or_mask (λ x. is_likely_mark x.1) (λ x. not (is_word_byte x.0) && is_likely_head x.1) v
+    let same : at - 1 + 0 ≡ at - 1 = omega arith in
+    ap (λ i. map (λ x. x.0) (chunk i 16 (around 0 bs))) (sym place) ∙ befores (at - 1) 16 0 bs (omega arith)
+    ∙ ap (λ i. chunk i 16 bs) (sym same) ∙ sym (near_is 0 at bs some (lit< tt))
+
+pub here_is : (at : ℕ) (bs : List ℕ) → 0 < at → map (λ x. x.1) (three at bs) ≡ chunk 1 16 (near at bs)
+here_is at bs some =
+    let same : at - 1 + 1 ≡ at = omega arith in
+    heres at 16 0 bs ∙ ap (λ i. chunk i 16 bs) (sym same) ∙ sym (near_is 1 at bs some (lit< tt))
+
+pub next_is : (at : ℕ) (bs : List ℕ) → 0 < at → at + 16 < length bs → map (λ x. x.2) (three at bs)
+    ≡ chunk 2 16 (near at bs)
+next_is at bs some room =
+    let same : at - 1 + 2 ≡ suc at = omega arith in
+    nexts at 16 0 bs room ∙ ap (λ i. chunk i 16 bs) (sym same) ∙ sym (near_is 2 at bs some (lit< tt))
+
+pub likely_mask : (at : ℕ) (bs : List ℕ) → at + 16 < length bs → ((k : ℕ) → Fits w8 (get_or bs k 0)) → {z : List ℕ}
+    → z ≡ map (λ x. lane (by_bytes x)) (three at bs)
+    → mask_l (map (top 7) z) % 2 ^ 64 ≡ mask_l (map may_begin_at (three at bs))
+likely_mask at bs room fits lanes =
+    let long = length-chunk at 16 (around 0 bs) (omega (arith, room, around-length 0 bs)) in
+    masked by_bytes (three at bs) (omega (arith, long)) lanes
+    ∙ ap mask_l (same_places (three at bs) (take_bytes 16 (drop at (around 0 bs))
+    (drop_bytes at (around 0 bs) (around_bytes 0 bs fits))))
 
 -- ---- the first byte
 

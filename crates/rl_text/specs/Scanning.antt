@@ -18,6 +18,10 @@ abbrev pub AreAscii : Marks → Type 0
 AreAscii marks =
     (marks.first < 128) × (marks.second < 128) × (marks.third < 128) × (marks.fourth < 128)
 
+-- the line feed alone
+abbrev pub line_ends : Marks
+line_ends = record { first = 10; second = 10; third = 10; fourth = 10 }
+
 -- The mark is the first in the text, and the rest stands after it.
 pub record IsNextMark (marks : Marks) (text : List ℕ) (mark : ℕ) (rest : List ℕ) : Type 0 where
   pub front : List ℕ

@@ -113,7 +113,7 @@ fn stop_by<const HIGH: bool, const N: usize>(
 /// The place where the walk stops, from a place on, among the last bytes: eight are looked at at once, the others by
 /// themselves.
 #[inline(always)]
-fn stop_shortly<const HIGH: bool>(marks: Marks, bytes: &[u8], from: usize) -> usize
+pub(crate) fn stop_shortly<const HIGH: bool>(marks: Marks, bytes: &[u8], from: usize) -> usize
     requires { from ≤ length bytes.now }
     ensures { result ≡ from + prefix_len (goes_on HIGH marks) (drop from bytes.now) }
 {

@@ -4,7 +4,7 @@ mod written;
 
 use navyspindle::{
     macro_settings, next_literal, next_of, write_str, Lit, LitInt, LitStr, MacroError, MacroText,
-    Setting,
+    Key,
 };
 use proc_macro::{Punct, Spacing, Span, TokenStream, TokenTree};
 use std::iter::Peekable;
@@ -201,8 +201,8 @@ fn shown_error(error: &MacroError) -> TokenStream {
     tokens_of(&format!("({message}, {first}, {last})"))
 }
 
-const NAME: Setting = Setting::new("name", "a string");
-const SIZE: Setting = Setting::new("size", "an integer from 0 to 255");
+const NAME: Key = Key::new("name", "a string");
+const SIZE: Key = Key::new("size", "an integer from 0 to 255");
 
 fn named_size(input: TokenStream) -> Result<(String, u8), MacroError> {
     let text = MacroText::of(input);

@@ -21,11 +21,6 @@ is_likely_head c =
 abbrev pub may_begin : ℕ × ℕ → Bool
 may_begin x = is_likely_mark x.1 || (not (is_word_byte x.0) && is_likely_head x.1)
 
--- each byte after the one before it
-abbrev pub with_before : ℕ → List ℕ → List (ℕ × ℕ)
-with_before before [] = []
-with_before before (c ∷ cs) = (before, c) ∷ with_before c cs
-
 -- what goes on with a literal's prefix, or with one of the two words; after all else anything does
 abbrev pub goes_on_likely : ℕ → ℕ → Bool
 goes_on_likely c next =
@@ -39,13 +34,17 @@ abbrev pub first_or : ℕ → List ℕ → ℕ
 first_or other [] = other
 first_or other (c ∷ cs) = c
 
-abbrev pub is_likely_place : List ℕ → Bool
-is_likely_place [] = true
-is_likely_place (c ∷ cs) = goes_on_likely c (first_or 0 cs)
-
 -- of a byte, between the one before it and the next
 abbrev pub begins_none : ℕ → ℕ → ℕ → Bool
 begins_none before c next = not (may_begin (before, c) && goes_on_likely c next)
+
+-- each byte between the one before it and the next
+abbrev pub around : ℕ → List ℕ → List (ℕ × ℕ × ℕ)
+around before [] = []
+around before (c ∷ cs) = (before, c, first_or 0 cs) ∷ around c cs
+
+abbrev pub may_begin_at : ℕ × ℕ × ℕ → Bool
+may_begin_at x = not (begins_none x.0 x.1 x.2)
 
 -- how many bytes stand in front of the first that may begin one
 abbrev pub unlikely_after : ℕ → List ℕ → ℕ

@@ -10,9 +10,9 @@ use bad_quote::after_bad_quote;
 use crate::rl_text::characters::is_start;
 use crate::rl_text::classes::{skip_white, skip_word};
 use crate::rl_text::lanes::{byte_before, is_word_byte, unlikely_len};
-use crate::rl_text::scan::{Marks, split_before};
+use crate::rl_text::lines::split_line;
 #[cfg(feature = "rendered")]
-use crate::rl_text::scan::next_mark;
+use crate::rl_text::lines::next_line;
 use crate::rl_text::text::{begins_with, split_ascii, split_char, strip_byte, without_first};
 
 /// What a token of a source is: what [`Sources`](crate::rl_lexer::Sources) cuts off.
@@ -173,17 +173,14 @@ fn after_doc(text: &str) -> Option<&str> {
 
 /// The text from its first LF on.
 fn line_end(text: &str) -> &str {
-    let (_, rest) = split_before(Marks::two(b'\n', b'\n'), text);
+    let (_, rest) = split_line(text);
     rest
 }
 
 /// What stands after the first LF of a text.
 #[cfg(feature = "rendered")]
 pub(crate) fn after_first_line(text: &str) -> Option<&str> {
-    match next_mark(Marks::two(b'\n', b'\n'), text) {
-        Some((_, following)) => Some(following),
-        None => None,
-    }
+    next_line(text)
 }
 
 /// What follows an identifier.

@@ -3,7 +3,8 @@
 
 use crate::rl_text::classes::skip_white;
 use crate::rl_text::lanes::byte_at;
-use crate::rl_text::scan::{Marks, near_len_before, next_mark};
+use crate::rl_text::lines::next_line;
+use crate::rl_text::scan::{Marks, near_len_before};
 use crate::rl_text::text::{begins_with, split_ascii, strip_byte};
 
 /// The rest of the text after its leading white space and plain comments, as a slice of the text.
@@ -72,10 +73,7 @@ pub(crate) fn is_comment_block(inside: &str) -> bool {
 
 /// What follows the LF that ends a line comment; nothing where the text ends in the comment.
 pub(crate) fn after_line(text: &str) -> &str {
-    match next_mark(Marks::two(b'\n', b'\n'), text) {
-        Some((_, following)) => following,
-        None => "",
-    }
+    next_line(text).unwrap_or("")
 }
 
 /// What follows a block comment, by what stands after its `/*`. It is a loop over bytes, from mark

@@ -1,6 +1,7 @@
 // Rendered from crates/rl_text/src/lanes.rt by tools/render, which erases contracts: change that file, and render anew.
 //! Runs of ASCII, of words or of white space, and bytes at which a literal may begin, sixteen bytes at a time.
 
+use crate::rl_text::scan::{Marks, stop_shortly};
 use crate::simd::wide::*;
 
 /// How many bytes are looked at at once.
@@ -97,73 +98,33 @@ pub fn has_bit(bits: u64, place: u8) -> bool {
     (bits >> place) & 1 == 1
 }
 
-/// A bit for each of sixteen bytes from a place on, set at a digit, and a letter that a literal's prefix or one of the words
-/// `true` and `false` begins with.
-#[inline(always)]
-fn heads_among(bytes: &[u8], at: usize) -> u64 {
-    let lanes = u8x16::from_slice(&bytes[at..]);
-    let digits = u8x16::splat(9).simd_ge(lanes - u8x16::splat(b'0'));
-    let prefixes = lanes.simd_eq(u8x16::splat(b'b'))
-        | lanes.simd_eq(u8x16::splat(b'c'))
-        | lanes.simd_eq(u8x16::splat(b'r'));
-    let words = lanes.simd_eq(u8x16::splat(b'f')) | lanes.simd_eq(u8x16::splat(b't'));
-    (digits | prefixes | words).to_bitmask()
-}
-
-/// A bit for each of sixteen bytes from a place on, set at quotes, slashes and all past ASCII.
-#[inline(always)]
-fn marks_among(bytes: &[u8], at: usize) -> u64 {
-    let lanes = u8x16::from_slice(&bytes[at..]);
-    let quotes = lanes.simd_eq(u8x16::splat(b'"')) | lanes.simd_eq(u8x16::splat(b'\''));
-    let slashes = lanes.simd_eq(u8x16::splat(b'/'));
-    (quotes | slashes | lanes.simd_ge(u8x16::splat(128))).to_bitmask()
-}
-
-/// A bit for each of sixteen bytes from a place on that isn't the first, set where a literal or a comment may begin: at a
-/// letter or a digit only where no word goes on.
-#[inline(always)]
-fn likely_among(bytes: &[u8], at: usize) -> u64 {
-    let heads = ends_among::<true>(bytes, at - 1) & heads_among(bytes, at);
-    marks_among(bytes, at) | heads
-}
-
-/// Whether a literal may begin with the byte, which stands after no word, where this is the next: at a letter only where its
-/// prefix goes on, or one of the words `true` and `false` does.
-#[inline(always)]
-fn goes_on_likely(byte: u8, next: u8) -> bool {
-    match byte {
-        b'b' => matches!(next, b'"' | b'\'' | b'r'),
-        b'c' => matches!(next, b'"' | b'r'),
-        b'r' => matches!(next, b'"' | b'#'),
-        b't' => next == b'r',
-        b'f' => next == b'a',
-        _ => true,
-    }
-}
-
-/// Whether a literal or a comment may begin at the place, of which [`likely_among`] says so by its byte and the one before.
-#[inline(always)]
-fn is_likely_place(bytes: &[u8], at: usize) -> bool {
-    goes_on_likely(bytes[at], byte_at(bytes, at + 1))
-}
-
-/// The first place among sixteen at which a literal or a comment may begin. `None` where there is none. A bit is set for each
-/// at which one may by its byte and the one before.
+/// A bit for each of sixteen bytes from a place on, before which and after which another stands, set where a literal or a
+/// comment may begin: at a letter or a digit only where no word goes on, and at a letter only where a literal or one of the
+/// words `true` and `false` goes on with it.
 #[cfg_attr(debug_assertions, inline)]
 #[cfg_attr(not(debug_assertions), inline(always))]
-fn first_likely(bytes: &[u8], from: usize, found: u64) -> Option<usize> {
-    let mut at = from;
-    let mut left = found;
-    while left != 0 {
-        let place = left.trailing_zeros();
-        at += place as usize;
-        if is_likely_place(bytes, at) {
-            return Some(at);
-        }
-        at += 1;
-        left >>= place + 1;
-    }
-    None
+fn likely_among(bytes: &[u8], at: usize) -> u64 {
+    let near = &bytes[at - 1..at + LANES + 1];
+    let before = u8x16::from_slice(near);
+    let lanes = u8x16::from_slice(&near[1..]);
+    let next = u8x16::from_slice(&near[2..]);
+    let quotes = next.simd_eq(u8x16::splat(b'"'));
+    let letters = next.simd_eq(u8x16::splat(b'r'));
+    let words = lanes.simd_eq(u8x16::splat(b't')) & letters
+        | lanes.simd_eq(u8x16::splat(b'f')) & next.simd_eq(u8x16::splat(b'a'));
+    let raw = lanes.simd_eq(u8x16::splat(b'r')) & (quotes | next.simd_eq(u8x16::splat(b'#')));
+    let c_strings = lanes.simd_eq(u8x16::splat(b'c')) & (quotes | letters);
+    let bytes = lanes.simd_eq(u8x16::splat(b'b'))
+        & (quotes | letters | next.simd_eq(u8x16::splat(b'\'')));
+    let digits = u8x16::splat(9).simd_ge(lanes - u8x16::splat(b'0'));
+    let no_letters = ((before | u8x16::splat(32)) - u8x16::splat(b'a')).simd_ge(u8x16::splat(26));
+    let no_digits = (before - u8x16::splat(b'0')).simd_ge(u8x16::splat(10));
+    let no_words = no_letters & no_digits & before.simd_ne(u8x16::splat(b'_'));
+    let marks = lanes.simd_eq(u8x16::splat(b'"'))
+        | lanes.simd_eq(u8x16::splat(b'\''))
+        | lanes.simd_eq(u8x16::splat(b'/'))
+        | lanes.simd_ge(u8x16::splat(128));
+    (marks | no_words & (digits | bytes | c_strings | raw | words)).to_bitmask()
 }
 
 /// How many bytes at the front begin no literal and no comment, looked at sixteen at a time while so many are left.
@@ -173,14 +134,37 @@ pub fn unlikely_len(bytes: &[u8]) -> usize {
         return 0;
     }
     let mut at = 1;
-    while bytes.len() - at >= LANES {
+    while bytes.len() - at > LANES {
         let found = likely_among(bytes, at);
-        if let Some(place) = first_likely(bytes, at, found) {
-            return place;
+        if found != 0 {
+            return at + found.trailing_zeros() as usize;
         }
         at += LANES;
     }
     at
+}
+
+/// A bit for each of sixteen bytes from a place on, set at a line feed.
+#[inline(always)]
+fn line_ends_among(bytes: &[u8], at: usize) -> u64 {
+    u8x16::from_slice(&bytes[at..])
+        .simd_eq(u8x16::splat(b'\n'))
+        .to_bitmask()
+}
+
+/// How many bytes stand in front of the first line feed; all where there is none. They are looked at sixteen at a time, by
+/// vectors where whole sources are read.
+#[inline(never)]
+pub fn line_len(bytes: &[u8]) -> usize {
+    let mut at = 0;
+    while bytes.len() - at >= LANES {
+        let found = line_ends_among(bytes, at);
+        if found != 0 {
+            return at + found.trailing_zeros() as usize;
+        }
+        at += LANES;
+    }
+    stop_shortly::<false>(Marks::two(b'\n', b'\n'), bytes, at)
 }
 
 /// The byte at a place, and 0 past the end.

@@ -6,6 +6,7 @@ pub mod characters;
 pub mod classes;
 pub mod ident;
 pub mod lanes;
+pub mod lines;
 pub mod room;
 pub mod scan;
 #[cfg(feature = "rendered")]

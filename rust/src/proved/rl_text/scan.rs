@@ -89,7 +89,7 @@ fn stop_by<const HIGH: bool, const N: usize>(
 /// The place where the walk stops, from a place on, among the last bytes: eight are looked at at once, the others by
 /// themselves.
 #[inline(always)]
-fn stop_shortly<const HIGH: bool>(marks: Marks, bytes: &[u8], from: usize) -> usize {
+pub(crate) fn stop_shortly<const HIGH: bool>(marks: Marks, bytes: &[u8], from: usize) -> usize {
     match stop_by::<HIGH, 8>(marks, bytes, from) {
         Ok(at) => at,
         Err(from) => stop_slowly::<HIGH>(marks, bytes, from),

@@ -1,9 +1,11 @@
 -- The next LF ends the line.
-use Rattle.rl_lexer.proofs.CommentSteps.{line_found, line_open, nothing_tail}
+use Rattle.rl_text.proofs.Common.{refl}
+use Rattle.rl_lexer.proofs.CommentSteps.{line_rest}
 use Rattle.rl_lexer.proofs.whitespace.after_line.Goals as goal
 
-pub returns-in-Some-clause-rest : goal.returns-in-Some-clause-rest
-returns-in-Some-clause-rest c = line_found _ _ _ _ c.two.ensures c.in-Some.ensures.some
-
-pub returns-in-None : goal.returns-in-None
-returns-in-None c = record { rest = line_open _ _ c.two.ensures c.in-None.ensures.none; following = nothing_tail c.args.text.now }
+pub returns : goal.returns
+returns c =
+    let found = c.next_line.ensures in
+    let rest = line_rest c.args.text.now c.next_line.result _ c.unwrap_or.result found.some found.none found.following
+    refl c.unwrap_or.ensures in
+    record { rest = rest.0; following = rest.1 }

@@ -3,7 +3,7 @@
 use crate::flaws::proved_flaw_in_file;
 use crate::lists::{range_at, words_of};
 use crate::literals::{check_same, Proved};
-use navyspindle::{settings, Lit, Number, Setting, SettingError, Settings};
+use navyspindle::{settings, Lit, Number, Key, SettingError, Settings};
 use navyspindle_programs::rattle_std::alloc::Global;
 use navyspindle_programs::rl_attributes::{self, Attrs};
 use navyspindle_programs::rl_tokens::{parse_all, Error, ErrorKind};
@@ -60,7 +60,7 @@ fn proved_told<T: Display>(answer: Result<Option<T>, rl_attributes::SettingError
 }
 
 /// Why the package's reader rejects a value before it is looked at: Rust does.
-fn rejection_of(value: &Proved, setting: Setting) -> Option<(String, Range<usize>)> {
+fn rejection_of(value: &Proved, setting: Key) -> Option<(String, Range<usize>)> {
     let text = value.text();
     let flaw = proved_flaw_in_file(text)?;
     let words = format!("{setting}: {}", flaw.kind.words());
@@ -78,7 +78,7 @@ fn range_in(value: &Proved, bytes: Range<usize>) -> Range<usize> {
 }
 
 /// A string's value, or that it has a suffix.
-fn string_told(value: &Proved, setting: Setting, answer: Told) -> Told {
+fn string_told(value: &Proved, setting: Key, answer: Told) -> Told {
     let suffix = value.suffix().len();
     if !matches!(value, Proved::Str(_)) || suffix == 0 {
         return answer;
@@ -90,7 +90,7 @@ fn string_told(value: &Proved, setting: Setting, answer: Told) -> Told {
 
 /// A number as the package's own literal of the value's text has it, which is what the proved reader makes of its digits, where its
 /// suffix is none and the number no infinity.
-fn number_told<N: Number + Display>(value: &Proved, setting: Setting, answer: Told) -> Told {
+fn number_told<N: Number + Display>(value: &Proved, setting: Key, answer: Told) -> Told {
     let number = match Lit::new(value.text()) {
         Lit::Int(literal) => literal.value::<N>(),
         Lit::Float(literal) => literal.value::<N>(),
@@ -114,11 +114,11 @@ fn number_told<N: Number + Display>(value: &Proved, setting: Setting, answer: To
 
 fn check_name(text: &str, ours: &Settings, proved: &Attrs, name: &'static str) {
     let expected = EXPECTED;
-    let a = Setting::new(name, expected);
+    let a = Key::new(name, expected);
     let b = rl_attributes::Setting { name, expected };
     let value = proved.get(name);
     assert_eq!(ours.get(name).is_some(), value.is_some(), "{text:?} {name}");
-    let expect = |answer: Told, taken: fn(&Proved, Setting, Told) -> Told| match value {
+    let expect = |answer: Told, taken: fn(&Proved, Key, Told) -> Told| match value {
         Some(value) => match rejection_of(value, a) {
             Some(rejection) => Err(rejection),
             None => taken(value, a, answer),
@@ -144,7 +144,7 @@ fn check_known(text: &str, ours: &Settings, proved: &Attrs, known: &[&'static st
     let expected = EXPECTED;
     let settings: Vec<_> = known
         .iter()
-        .map(|&name| Setting::new(name, expected))
+        .map(|&name| Key::new(name, expected))
         .collect();
     let unknown = proved
         .entries()
