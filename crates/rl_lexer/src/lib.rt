@@ -15,5 +15,5 @@ pub use crate::cursor::{Lexeme, Tokens};
 pub use crate::lex_error::{LexError, LexKind};
 pub use crate::lexeme::Form;
 pub use crate::lines::{LineColumn, Lines};
-pub use crate::source::{SourceForm, first_source};
+pub use crate::source::{SourceForm, first_source, without_mark};
 pub use crate::sources::{SourceToken, Sources};

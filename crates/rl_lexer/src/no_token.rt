@@ -1,9 +1,7 @@
 //! Why no token begins a text.
 
-ghost use Rattle.std.specs.Prelude.{◌≡◌, nat_lt, IsTrue};
+ghost use Rattle.std.specs.Prelude.{◌≡◌};
 ghost use Rattle.std.specs.Str.{chars};
-ghost use Rattle.std.specs.List.{list_all};
-ghost use Rattle.rl_text.specs.Texts.{begins};
 ghost use Rattle.rl_lexer.specs.Mirrors.ErrorAt.{error_kind};
 ghost use Rattle.rl_lexer.specs.Mirrors.SourceAt.{source_error_kind, opens};
 ghost use Rattle.rl_lexer.specs.Cuts.{begins_doc_comment, begins_lifetime};
@@ -14,7 +12,7 @@ use crate::lex_error::LexKind;
 use crate::lexeme::{begins_hashed_quote, begins_marked_identifier};
 use rl_forms::kind::{BYTE_OPENER, BYTE_STR_OPENER, C_STR_OPENER, CHAR_OPENER, STR_OPENER};
 use rl_text::characters::is_start;
-use rl_text::text::{begins_with, split_char};
+use rl_text::text::{begins, begins_with, split_char};
 
 /// Why no token begins the text, by its first characters.
 pub(crate) fn error_kind(rest: &str) -> LexKind
@@ -51,14 +49,6 @@ pub(crate) fn opens(text: &str) -> bool
     ensures { result ≡ opens (chars text.now) }
 {
     begins(text, "/*") || (begins_quote(text) || begins_with(text, '\''))
-}
-
-/// Whether the text begins with these characters, which are ASCII.
-fn begins(text: &str, word: &str) -> bool
-    requires { IsTrue (list_all (λ c. nat_lt c 128) word.now) }
-    ensures { result ≡ begins word.now (chars text.now) }
-{
-    text.starts_with(word)
 }
 
 fn begins_doc_comment(text: &str) -> bool

@@ -312,7 +312,7 @@ pub(crate) fn without_preamble(text: &str) -> &str
 }
 
 /// The text without a byte order mark at its front.
-pub(crate) fn without_mark(text: &str) -> &str
+pub fn without_mark(text: &str) -> &str
     ensures rest { chars result.now ≡ without_mark (chars text.now) }
     ensures following { IsTail text.now result.now }
 {

@@ -1,15 +1,14 @@
 //! Which error stands at the front of a text, and where reading goes on after it.
 #![tactic(auto, using(rl_text::proofs::TailLemmas::tail_step))]
 
-ghost use Rattle.std.specs.Prelude.{◌≡◌, ◌<◌, ◌==◌, ◌&&◌, false, not, codes, length, nat_lt, option_map, IfSome, IsTrue};
-ghost use Rattle.std.specs.List.{list_all};
+ghost use Rattle.std.specs.Prelude.{◌≡◌, ◌<◌, ◌==◌, ◌&&◌, false, not, codes, length, option_map, IfSome};
 ghost use Rattle.std.specs.Str.{chars};
-ghost use Rattle.rl_text.specs.Texts.{code, begins, IsTail};
+ghost use Rattle.rl_text.specs.Texts.{code, IsTail};
 ghost use Rattle.rl_lexer.specs.Mirrors.SourceAt.{source_error_kind};
 ghost use Rattle.rl_recovery.specs.Recoveries.{begins_character, from_line_end, lines_after};
 
 use rl_lexer::LexKind;
-use rl_text::text::{begins_with, split_char};
+use rl_text::text::{begins, begins_with, split_char};
 
 /// Why no token begins the text, where none does.
 pub(crate) fn error_kind(text: &str) -> LexKind
@@ -78,12 +77,4 @@ fn begins_character(text: &str) -> bool
         Some(('b', following)) => begins_with(following, '\''),
         _ => false,
     }
-}
-
-/// Whether the text begins with these characters, which are ASCII.
-fn begins(text: &str, word: &str) -> bool
-    requires { IsTrue (list_all (λ c. nat_lt c 128) word.now) }
-    ensures { result ≡ begins word.now (chars text.now) }
-{
-    text.starts_with(word)
 }

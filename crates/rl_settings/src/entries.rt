@@ -1,9 +1,7 @@
 //! The entry that stands next in a configuration, or what is wrong there.
 
 ghost use Rattle.std.specs.Prelude.{◌≡◌, ◌⊎◌, ◌<◌, ◌≤◌, IsTrue, length, IfOk, IfErr, IfSome, IfNone, OnOk, MatchBool};
-ghost use Rattle.std.specs.Str.{chars};
 ghost use Rattle.rl_text.specs.Texts.{IsTail, code};
-ghost use Rattle.rl_lexer.specs.Sources.{without_mark};
 ghost use Rattle.rl_settings.specs.SettingSteps.{TakesMark, HasNo};
 ghost use Rattle.rl_settings.specs.EntrySteps.{
   IsDotForm,
@@ -27,7 +25,6 @@ use crate::settings::{is_mark, missed, take_literal, take_mark, take_name};
 use crate::syntax_error::{Part, SyntaxError};
 use rl_lexer::{Lexeme, Tokens};
 use rl_reading::NextLiteral;
-use rl_text::text::split_char;
 
 /// A name: an identifier, or some with a dot between two, as `server.port`. Nothing stands beside a dot.
 #[derive(Clone, Copy)]
@@ -218,7 +215,7 @@ fn take_entry<'t>(tokens: &mut Tokens<'t>, text: &str) -> Result<NextEntry<'t>, 
 /// is missed. No memory is taken, so whether a name stood before is for the caller.
 ///
 /// Each group is closed in a text that has no [`first_error`](crate::first_error). A byte order mark at the text's front is for
-/// [`without_mark`].
+/// [`rl_lexer::without_mark`].
 pub fn entry_step<'t>(tokens: &mut Tokens<'t>, text: &str) -> EntryStep<'t>
     requires { text.now ≡ tokens.old.text }
     ensures { StepsEntries tokens.old result tokens.new }
@@ -233,16 +230,5 @@ pub fn entry_step<'t>(tokens: &mut Tokens<'t>, text: &str) -> EntryStep<'t>
             EntryStep::Entry(entry)
         }
         Err(rejection) => EntryStep::Rejected(rejection),
-    }
-}
-
-/// The text without a byte order mark at its front.
-pub fn without_mark(text: &str) -> &str
-    ensures rest { chars result.now ≡ without_mark (chars text.now) }
-    ensures following { IsTail text.now result.now }
-{
-    match split_char(text) {
-        Some(('\u{feff}', following)) => following,
-        _ => text,
     }
 }

@@ -7,9 +7,7 @@ mod groups;
 mod settings;
 mod syntax_error;
 
-pub use crate::entries::{
-    DottedName, EntryRejection, EntryStep, NextEntry, entry_step, without_mark,
-};
+pub use crate::entries::{DottedName, EntryRejection, EntryStep, NextEntry, entry_step};
 pub use crate::groups::first_error;
 pub use crate::settings::{NextSetting, SettingRejection, SettingStep, settings_step};
 pub use crate::syntax_error::{Part, SyntaxError, SyntaxErrorKind, lexer_error, list_error};

@@ -1,9 +1,10 @@
 //! Walking a text by its characters, and what it begins with.
 
-ghost use Rattle.std.specs.Prelude.{◌≡◌, ◌<◌, ◌≤◌, ◌==◌, ◌++◌, ◌∷◌, ◌≢◌, ℕ, List, [], length, drop, encode_utf8, MatchOption, IfSome, IfNone, IsFalse};
+ghost use Rattle.std.specs.Prelude.{◌≡◌, ◌<◌, ◌≤◌, ◌==◌, ◌++◌, ◌∷◌, ◌≢◌, ℕ, List, [], length, drop, encode_utf8, MatchOption, nat_lt, IfSome, IfNone, IsFalse, IsTrue};
 ghost use Rattle.std.specs.Char.{is_ascii};
+ghost use Rattle.std.specs.List.{list_all};
 ghost use Rattle.std.specs.Str.{chars, IsCharBoundary};
-ghost use Rattle.rl_text.specs.Texts.{first_passes, IsTail, begins_char};
+ghost use Rattle.rl_text.specs.Texts.{first_passes, IsTail, begins, begins_char};
 
 /// The first character, and the text after it: `None` where the text is empty.
 pub fn split_char(text: &str) -> Option<(char, &str)>
@@ -63,6 +64,14 @@ pub fn begins_with(text: &str, c: char) -> bool
         Some((first, _)) => first == c,
         None => false,
     }
+}
+
+/// Whether the text begins with these characters, which are ASCII.
+pub fn begins(text: &str, word: &str) -> bool
+    requires { IsTrue (list_all (λ c. nat_lt c 128) word.now) }
+    ensures { result ≡ begins word.now (chars text.now) }
+{
+    text.starts_with(word)
 }
 
 /// The text after its first character.

@@ -2,7 +2,7 @@
 use Rattle.rl_text.proofs.Common.{◌∙◌}
 use Rattle.std.proofs.lemmas.Str.Pattern.{starts_text}
 use Rattle.rl_text.proofs.BeginsLemmas.{begins_bytes, starts_begins}
-use Rattle.rl_recovery.proofs.lines.begins.Goals as goal
+use Rattle.rl_text.proofs.text.begins.Goals as goal
 
 pub returns : goal.returns
 returns c =
