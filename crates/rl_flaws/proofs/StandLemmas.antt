@@ -1,8 +1,7 @@
 -- A flaw stands in what is left, and less is left after it.
-use Rattle.rl_text.proofs.Common.{◌≡◌, ◌≢◌, ◌≤◌, ◌<◌, ◌+◌, ◌==◌, ◌||◌, ◌&&◌, ℕ, Bool, Bor, true, false, List, [], ◌∷◌, ◌++◌, Some, None, Option, IfSome, option_map, length, length-append, refl, sym, ap, subst, ◌∙◌, arith, and_parts, append_assoc, encode_utf8, encode_utf8_all, encodes-chars, IsUtf8, IsUtf8-nil, chars-nil, both_ways, cond, suc, zero, len_utf8_bounds, length-encode, append-nil}
+use Rattle.rl_text.proofs.Common.{◌≡◌, ◌≢◌, ◌<◌, ◌+◌, ◌==◌, ◌||◌, ◌&&◌, ℕ, Bool, Bor, true, false, List, [], ◌∷◌, ◌++◌, Some, None, Option, IfSome, option_map, length, length-append, refl, sym, ap, subst, ◌∙◌, arith, and_parts, append_assoc, encode_utf8, encode_utf8_all, encodes-chars, IsUtf8, chars-nil, both_ways, cond, len_utf8_bounds, length-encode, append-nil}
 use Rattle.std.specs.Str.{chars}
 use Rattle.rl_text.specs.Texts.{IsTail, byte_len, is_underscore}
-use Rattle.rl_text.proofs.TailLemmas.{tail_step}
 use Rattle.rl_reading.proofs.Names.{Kind, is_string}
 use Rattle.rl_reading.specs.declared.quoted_forms.QuotedForm.{QuotedForm}
 use Rattle.rl_forms.specs.Quoted.{is_hex_digit}
@@ -148,33 +147,36 @@ shorter q (c ∷ cs) some =
 -- ---- the next flaw
 
 open_less : (o : Opened) (rest : Bor (List ℕ)) (len : ℕ) (closing : List ℕ) (left : Left) → IsUtf8 closing
-    → IsTail rest.now closing → chars closing ≢ [] → FollowsPiece o closing left
-    → IsTail rest.now (state_of len left).rest × (left_count (state_of len left) < left_count (state_of len (Inside o rest)))
-open_less o rest len closing (Whole t) u tail some f = absurd f
-open_less o rest len closing Nothing u tail some f = absurd f
-open_less o rest len closing (Inside p r) u tail some f =
+    → IsTail rest.now closing → IsEndOf (chars rest.now) (chars closing) → chars closing ≢ [] → FollowsPiece o closing left
+    → IsEndOf (chars rest.now) (chars (state_of len left).rest) × (left_count (state_of len left) < left_count (state_of len (Inside o rest)))
+open_less o rest len closing (Whole t) u tail ends some f = absurd f
+open_less o rest len closing Nothing u tail ends some f = absurd f
+open_less o rest len closing (Inside p r) u tail ends some f =
     let whole : length rest.now ≡ length tail.front + length closing = ap length tail.text_is ∙ length-append tail.front closing in
     let here : byte_len (chars closing) ≡ length closing = ap length (encodes-chars closing u) in
     let there : byte_len (chars r.now) ≡ length r.now = ap length (encodes-chars r.now f.2.is_text) in
     let after : byte_len (chars r.now) ≡ byte_len (after_bad_piece (closer o.kind) (chars closing)) = ap byte_len f.1 in
-    let less = shorter (closer o.kind) (chars closing) some in
-    (tail_step rest.now closing r.now tail f.2, omega (arith, whole, here, there, after, less))
+    let less = shorter (closer o.kind) (chars closing) some in (
+      subst (IsEndOf (chars rest.now)) (sym f.1) (end_more (chars rest.now) (chars closing)
+          (after_bad_piece (closer o.kind) (chars closing)) ends (piece_end (closer o.kind) (chars closing))),
+      omega (arith, whole, here, there, after, less),
+    )
 
 nothing_less : (o : Opened) (rest : Bor (List ℕ)) (len : ℕ) (left : Left) → left ≡ Nothing
-    → IsTail rest.now (state_of len left).rest × (left_count (state_of len left) < left_count (state_of len (Inside o rest)))
-nothing_less o rest len left e = subst (λ (l : Left). IsTail rest.now (state_of len l).rest
+    → IsEndOf (chars rest.now) (chars (state_of len left).rest) × (left_count (state_of len left) < left_count (state_of len (Inside o rest)))
+nothing_less o rest len left e = subst (λ (l : Left). IsEndOf (chars rest.now) (chars (state_of len l).rest)
     × (left_count (state_of len l) < left_count (state_of len (Inside o rest)))) (sym e)
-    (record { front = rest.now; text_is = sym (append-nil rest.now); is_text = IsUtf8-nil }, omega arith)
+    ((chars rest.now, sym (ap (λ z. chars rest.now ++ z) chars-nil ∙ append-nil (chars rest.now))), omega arith)
 
 left_less : (o : Opened) (rest : Bor (List ℕ)) (len : ℕ) (closing : List ℕ) (left : Left) (s u : Bool) → IsUtf8 closing
-    → IsTail rest.now closing → (u ≡ true → chars closing ≢ []) → ((s && u) ≡ true → FollowsPiece o closing left)
+    → IsTail rest.now closing → IsEndOf (chars rest.now) (chars closing) → (u ≡ true → chars closing ≢ []) → ((s && u) ≡ true → FollowsPiece o closing left)
     → ((s && u) ≡ false → left ≡ Nothing)
-    → IsTail rest.now (state_of len left).rest × (left_count (state_of len left) < left_count (state_of len (Inside o rest)))
-left_less o rest len closing left s u up tail some inside nothing = go (s && u) refl
+    → IsEndOf (chars rest.now) (chars (state_of len left).rest) × (left_count (state_of len left) < left_count (state_of len (Inside o rest)))
+left_less o rest len closing left s u up tail ends some inside nothing = go (s && u) refl
   where
-    go : (b : Bool) → (s && u) ≡ b → IsTail rest.now (state_of len left).rest
+    go : (b : Bool) → (s && u) ≡ b → IsEndOf (chars rest.now) (chars (state_of len left).rest)
         × (left_count (state_of len left) < left_count (state_of len (Inside o rest)))
-    go true e = open_less o rest len closing left up tail (some (and_parts s u e).1) (inside e)
+    go true e = open_less o rest len closing left up tail ends (some (and_parts s u e).1) (inside e)
     go false e = nothing_less o rest len left (nothing e)
 
 pub inside_stands : (o : Opened) (rest : Bor (List ℕ)) (len q : ℕ) (found : FlawAt) (closing : List ℕ) (bad : BadPiece)
@@ -190,7 +192,7 @@ pub inside_stands : (o : Opened) (rest : Bor (List ℕ)) (len q : ℕ) (found : 
     → StandsInLeft (state_of len (Inside o rest)) bad (state_of len left)
 inside_stands o rest len q found closing bad left uc uz tail ends within kind from lo hi end at some inside nothing =
     let stop : bad.flaw.lo + byte_len (chars found.rest.now) ≡ len = omega (arith, lo, ap length (encodes-chars found.rest.now uz)) in
-    let less = left_less o rest len closing left (is_string o.kind) (is_of_unit found.kind) uc tail some inside nothing in
+    let less = left_less o rest len closing left (is_string o.kind) (is_of_unit found.kind) uc tail ends some inside nothing in
     record {
       lo = place_of (state_of len (Inside o rest)) bad.flaw.lo (chars found.rest.now) within stop;
       hi = place_after (state_of len (Inside o rest)) bad.flaw.lo bad.flaw.hi (chars found.rest.now) within stop hi;
@@ -227,6 +229,6 @@ whole_stands text flaw u e =
       hi = hi;
       from = λ _. place_of s flaw.from e.piece (e.before, e.text_is) (omega (arith, long, from, e.from_is));
       end = λ _. hi;
-      following = record { front = text.now; text_is = sym (append-nil text.now); is_text = IsUtf8-nil };
+      following = (chars text.now, sym (ap (λ z. chars text.now ++ z) chars-nil ∙ append-nil (chars text.now)));
       less = omega arith;
     }

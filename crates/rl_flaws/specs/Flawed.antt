@@ -3,7 +3,7 @@
 use Rattle.std.specs.Prelude.{◌≡◌, ◌⊎◌, ◌+◌, ◌<◌, ◌&&◌, ℕ, suc, Bool, true, false, List, [], ◌++◌, length, Option, None, Some, IsFalse, IsTrue, MatchOption, if◌then◌else◌}
 use Rattle.std.specs.Str.{chars, IsUtf8}
 use Prim.Native.Char.{code}
-use Rattle.rl_text.specs.Texts.{IsTail, byte_len}
+use Rattle.rl_text.specs.Texts.{byte_len}
 use Rattle.rl_forms.specs.declared.kind.Kind.{Kind}
 use Rattle.rl_forms.specs.Quoted.{is_single, is_string, opener}
 use Rattle.rl_forms.specs.Written.{closer}
@@ -12,6 +12,7 @@ use Rattle.rl_reasons.specs.StrictFlaws.{ExplainsStrictly}
 use Rattle.rl_reasons.specs.StrictRead.{IsFlawAt}
 use Rattle.rl_strict.specs.StrictShapes.{IsToken}
 use Rattle.rl_flaws.specs.BadPieces.{after_bad_piece, is_of_unit}
+use Rattle.rl_flaws.specs.Inside.{IsEndOf}
 use Rattle.rl_flaws.specs.Looks.{IsStringOpener, OpensSingle, OpensString}
 use Rattle.rl_flaws.specs.declared.bad_piece.BadPiece.{BadPiece}
 
@@ -103,7 +104,7 @@ pub record StandsInLeft (old : FlawsState) (bad : BadPiece) (new : FlawsState) :
   pub hi : IsPlaceLeft old bad.flaw.hi
   pub from : IsTrue (is_of_unit bad.flaw.kind) → IsPlaceLeft old bad.flaw.from
   pub end : IsTrue (is_of_unit bad.flaw.kind) → IsPlaceLeft old bad.end
-  pub following : IsTail old.rest new.rest
+  pub following : IsEndOf (chars old.rest) (chars new.rest)
   pub less : left_count new < left_count old
 
 -- what opens a quoted literal of the kind

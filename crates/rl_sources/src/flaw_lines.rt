@@ -1,12 +1,12 @@
 //! The lines of all flaws of a literal.
 
-ghost use Rattle.std.specs.Prelude.{◌≡◌, IsFalse, IsTrue, OnOk, string_bytes};
+ghost use Rattle.std.specs.Prelude.{◌≡◌, ◌↔◌, IsFalse, IsTrue, OnOk, string_bytes};
 ghost use Rattle.std.specs.Str.{chars};
 ghost use Rattle.rl_file_reasons.specs.FileTexts.{IsPlaceInFile, lf_text};
 ghost use Rattle.rl_flaws.specs.BadPieces.{is_of_unit};
 ghost use Rattle.rl_reasons.specs.declared.flaws.FlawKind.TheVariants.{TooLarge};
 ghost use Rattle.rl_lines.specs.Lines.{Appends};
-ghost use Rattle.rl_sources.specs.Findings.{IsFlawFinding};
+ghost use Rattle.rl_sources.specs.Findings.{IsFlawFinding, IsLimitFinding};
 ghost use Rattle.rl_sources.specs.InFile.{AreCuts, IsFlawsOver, StandsInFile};
 ghost use Rattle.rl_sources.specs.Scans.{AreFlawLines, AreReasonLines, FindsFlaw};
 ghost use Rattle.rl_sources.specs.Steps.{BeginsRest};
@@ -112,6 +112,26 @@ fn push_flaws_left<'t, A: Allocator>(
     Ok(())
 }
 
+/// Whether a flaw is that of an integer past 128 bits.
+fn is_limit(flaw: Flaw) -> bool
+    ensures { IsTrue result ↔ (flaw.kind ≡ TooLarge) }
+{
+    matches!(flaw.kind, FlawKind::TooLarge)
+}
+
+/// The finding of an integer past 128 bits.
+fn limit_finding(text: &str, flaw: Flaw) -> Finding
+    ensures { IsLimitFinding (chars text.now) flaw result }
+{
+    Finding {
+        reason: Reason::Flaw(flaw.kind),
+        lo: flaw.lo,
+        hi: flaw.hi,
+        from: 0,
+        to: text.len(),
+    }
+}
+
 /// Appends the line of an integer past 128 bits.
 fn push_limit<'t, A: Allocator>(
     out: &mut String<A>,
@@ -129,13 +149,7 @@ fn push_limit<'t, A: Allocator>(
         (chars (string_bytes out.old)) (chars (string_bytes out.new))) }
     ensures same { places.new ≡ places.old }
 {
-    let finding = Finding {
-        reason: Reason::Flaw(flaw.kind),
-        lo: flaw.lo,
-        hi: flaw.hi,
-        from: 0,
-        to: literal.token.text.len(),
-    };
+    let finding = limit_finding(literal.token.text, flaw);
     push_finding(out, options, literal, places, finding)
 }
 
@@ -157,7 +171,7 @@ pub(crate) fn push_flaws<'t, A: Allocator>(
         (chars (string_bytes out.old)) (chars (string_bytes out.new))) }
     ensures same { places.new ≡ places.old }
 {
-    if matches!(flaw.kind, FlawKind::TooLarge) {
+    if is_limit(flaw) {
         return push_limit(out, options, literal, places, flaw);
     }
     let read = read_text(alloc, literal.token.text)?;

@@ -1,6 +1,6 @@
 //! The text of a literal as rustc reads it, CR LF as LF, and the places in the file of what stands there.
 
-ghost use Rattle.std.specs.Prelude.{◌≡◌, ◌++◌, IfOk, string_bytes};
+ghost use Rattle.std.specs.Prelude.{◌≡◌, ◌≤◌, IfOk, string_bytes};
 ghost use Rattle.std.specs.Str.{chars};
 ghost use Rattle.rl_file_reasons.specs.FileTexts.{lf_text};
 ghost use Rattle.rl_sources.specs.Held.{IsCutAt};
@@ -31,7 +31,8 @@ pub(crate) fn read_text<A: Allocator>(alloc: A, text: &str) -> Result<String<A>,
 
 /// The front of a text.
 pub(crate) fn front_of(text: &str) -> ReadPlace<'_>
-    ensures { StandsInFile text.now result }
+    ensures stands { StandsInFile text.now result }
+    ensures at { result.at ≡ 0 }
 {
     ReadPlace { at: 0, rest: text }
 }

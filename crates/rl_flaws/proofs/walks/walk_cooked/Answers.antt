@@ -5,7 +5,7 @@ use Rattle.rl_reasons.specs.Mirrors.UnitFlawAt.{found_flaw}
 use Rattle.rl_reasons.proofs.ReadQuoted.{cooked_open}
 use Rattle.rl_reading.specs.declared.quoted_forms.QuotedForm.TheVariants.{Cooked as CookedForm}
 use Rattle.rl_flaws.proofs.WalkLemmas.{cooked_none, cooked_some, no_unit, suffix_at}
-use Rattle.rl_flaws.proofs.StandLemmas.{some_of_unit, some_text, stop_within, suffix_within, unit_some}
+use Rattle.rl_flaws.proofs.StandLemmas.{some_of_unit, some_text, stop_within, unit_some}
 use Rattle.rl_flaws.proofs.walks.walk_cooked.Goals as goal
 
 pub returns-in-Some-clause-good : goal.returns-in-Some-clause-good
