@@ -102,7 +102,7 @@ mod write;
 pub mod rendered {
     pub use crate::proved::{
         rl_file_reasons, rl_flaws, rl_forms, rl_leading, rl_lexer, rl_parts, rl_reading,
-        rl_reasons, rl_recovery, rl_settings, rl_strict, rl_text, rl_writing,
+        rl_reasons, rl_recovery, rl_settings, rl_strict, rl_text, rl_types, rl_writing,
     };
 }
 
@@ -117,7 +117,7 @@ pub mod rendered {
 )]
 use proved::{
     rl_file_reasons, rl_flaws, rl_forms, rl_leading, rl_lexer, rl_parts, rl_reading, rl_reasons,
-    rl_recovery, rl_settings, rl_strict, rl_text, rl_writing,
+    rl_recovery, rl_settings, rl_strict, rl_text, rl_types, rl_writing,
 };
 
 pub use characters::{LitByte, LitChar};

@@ -53,6 +53,9 @@ const LARGE: &str = "340282366920938463463374607431768211456f64
 340282366920938463463374607431768211456f16
 0x340282366920938463463374607431768211456f64";
 
+/// Literals with several flaws, one of them across lines that end with CR LF.
+const MANY: &str = "\"\\xff \\q\\u{1234567}\" b\"é\\u{41}\"\r\n\"\\q\r\n\\xg é\\z\"";
+
 /// What a file of the tree holds that is a text.
 fn text_at(path: &str) -> Option<&'static str> {
     match path {
@@ -68,6 +71,7 @@ fn text_at(path: &str) -> Option<&'static str> {
         "held" => Some(HELD),
         "json" => Some(JSON),
         "large" => Some(LARGE),
+        "many" => Some(MANY),
         "hides" => Some(HIDES),
         "marked" => Some(MARKED),
         "marks" => Some("\u{feff}\u{feff}1"),

@@ -31,7 +31,7 @@ use Rattle.rl_sources.specs.Json.{place_members}
 use Rattle.rl_sources.specs.Places.{line_front, place_text, IsPlaceIn}
 use Rattle.rl_sources.specs.Held.{Holds, IsHeldAt}
 use Rattle.rl_sources.specs.Hidden.{HoldsHidden, IsHiddenAt}
-use Rattle.rl_sources.specs.Scans.{FindsFlaw, FindsNoFlaw, IsAskedLine, IsBad, IsPicked, IsPlacedLine, IsFlawLine, IsHeldLine, IsHiddenLine, IsLineAt, IsLineEnd, IsLineIn, IsPickedLine, IsPrintedAs, IsShownLiteral}
+use Rattle.rl_sources.specs.Scans.{FindsFlaw, FindsNoFlaw, IsAskedLine, IsBad, IsPicked, IsPlacedLine, AreReasonLines, IsHeldLine, IsHiddenLine, IsLineAt, IsLineEnd, IsLineIn, IsPickedLine, IsPrintedAs, IsShownLiteral}
 use Rattle.rl_sources.specs.Steps.{LooksForFlaws}
 use Rattle.rl_reasons.specs.Limits.{IsFloatBySuffix}
 use Rattle.rl_file_reasons.proofs.FilePlaces.{signed_same}
@@ -191,9 +191,9 @@ pub placed : (options : Options) (whole text : List ℕ) (lo hi : ℕ) (place : 
     → Appends (IsPlacedLine options whole text lo hi) old new
 placed options whole text lo hi place old new is_place (shown, is, e) = (shown, (place, is_place, is), e)
 
--- a line that says why
+-- lines that say why
 pub explained : (options : Options) (whole text : List ℕ) (lo hi : ℕ) (old new : List ℕ) → IsTrue options.explains
-    → Appends (IsFlawLine options whole text lo) old new → Appends (IsLineIn options whole text lo hi) old new
+    → Appends (AreReasonLines options whole text lo) old new → Appends (IsLineIn options whole text lo hi) old new
 explained options whole text lo hi old new asked (shown, is, e) = (shown, inl (asked, is), e)
 
 -- a line that doesn't

@@ -1,10 +1,9 @@
 -- What is shown of a source: a line for each of its literals, after its place, or where it is asked
 -- for one that says why it is bad. Texts and what is shown are lists of characters, what
 -- is written lists of bytes.
-use Rattle.std.specs.Prelude.{◌≡◌, ◌≢◌, ◌⊎◌, ◌↔◌, ℕ, ◌+◌, ◌-◌, ◌≤◌, Bool, cond, List, [], ◌++◌, IsTrue, take, drop, codes, encode_utf8_all, Option, Some, None}
+use Rattle.std.specs.Prelude.{◌≡◌, ◌≢◌, ◌⊎◌, ◌↔◌, ℕ, ◌+◌, Bool, cond, List, [], ◌++◌, IsTrue, codes, encode_utf8_all, Option, Some, None}
 use denote.Ref.{Bor}
 use Rattle.std.specs.List.{All}
-use Rattle.std.specs.Str.{IsCharBoundary}
 use Rattle.std.specs.Io.KnownBytes.{Appends}
 use Rattle.rl_text.specs.Texts.{byte_len}
 use Rattle.rl_lexer.specs.Lexemes.{LiteralForm, IdentifierForm}
@@ -13,8 +12,9 @@ use Rattle.rl_lexer.specs.Sources.{source_text, SourceKind, PlainKind, StrayKind
 use Rattle.rl_lexer.specs.declared.lex_error.LexKind.{LexKind}
 use Rattle.rl_lexer.specs.declared.lex_error.LexKind.TheVariants.{StrayCharacter}
 use Rattle.rl_reasons.specs.declared.flaws.Flaw.{Flaw}
-use Rattle.rl_reasons.specs.Limits.{IsFloatBySuffix}
-use Rattle.rl_reasons.specs.FlawWords.{flaw_message}
+use Rattle.rl_reasons.specs.Limits.{ExplainsLimit, IsFloatBySuffix}
+use Rattle.rl_flaws.specs.Flawed.{AreFlawsOf, FlawsState}
+use Rattle.rl_flaws.specs.declared.bad_piece.BadPiece.{BadPiece}
 use Rattle.rl_strict.specs.StrictShapes.{IsToken}
 use Rattle.rl_file_reasons.specs.FileTexts.{lf_text, ExplainsValueInFile}
 use Rattle.rl_lines.specs.Lines.{IsLineOf, IsLabelOf, Joins}
@@ -33,9 +33,12 @@ use Rattle.rl_sources.specs.declared.place.Place.{Place}
 use Rattle.rl_sources.specs.declared.scan_error.ScanError.{ScanError}
 use Rattle.rl_sources.specs.declared.scan_error.ScanError.TheVariants.{Fault, Source}
 use Rattle.rl_sources.specs.Colors.{painted}
+use Rattle.rl_sources.specs.Findings.{AreFlawsLeft, IsFlawFinding, IsLimitFinding, IsPieceOf, reason_message}
+use Rattle.rl_sources.specs.declared.finding.Finding.{Finding}
+use Rattle.rl_sources.specs.declared.finding.Reason.{Reason}
 use Rattle.rl_sources.specs.Held.{Holds, IsHeldAt}
 use Rattle.rl_sources.specs.Hidden.{HoldsHidden, IsHiddenAt}
-use Rattle.rl_sources.specs.Json.{is_json, IsJsonLiteral, flaw_members, error_members}
+use Rattle.rl_sources.specs.Json.{is_json, IsJsonLiteral, finding_members, error_members}
 use Rattle.rl_sources.specs.Options.{Picks}
 use Rattle.rl_sources.specs.Places.{line_front, IsPlaceIn}
 
@@ -74,18 +77,6 @@ abbrev pub IsPlacedLine : Options → List ℕ → List ℕ → ℕ → ℕ → 
 IsPlacedLine options whole text lo hi shown =
     (place : Place) × IsPlaceIn options whole lo hi place × IsLineAt options text place shown
 
--- the bytes from `lo` to `hi` are a text
-abbrev pub IsSlice : List ℕ → ℕ → ℕ → Type 0
-IsSlice text lo hi = (lo ≤ hi) × IsCharBoundary text lo × IsCharBoundary text hi
-
--- the piece of a text that the flaw spoils, up to the character that makes it no literal; nothing
--- where that is no piece of it
-abbrev pub IsFlawPiece : List ℕ → Flaw → List ℕ → Type 0
-IsFlawPiece text flaw piece =
-    (IsSlice (encode_utf8_all text) flaw.from flaw.hi
-    × (encode_utf8_all piece ≡ take (flaw.hi - flaw.from) (drop flaw.from (encode_utf8_all text))))
-    ⊎ ((IsSlice (encode_utf8_all text) flaw.from flaw.hi → ⊥) × (piece ≡ []))
-
 -- what is wrong: a message and, where there is one, a piece as it is printed
 abbrev pub error_reason : List ℕ → List ℕ → List ℕ
 error_reason message [] = codes ": " ++ (message ++ codes "\n")
@@ -95,35 +86,44 @@ error_reason message piece = codes ": " ++ (message ++ (codes ": " ++ (visible p
 abbrev pub error_words : Form → List ℕ → List ℕ → List ℕ
 error_words form message piece = painted form paint.Error (codes "error") ++ error_reason message piece
 
--- what stands after the place in the line of a flaw, and in that of a source's error
-abbrev pub flaw_end : Form → List ℕ → List ℕ → List ℕ → List ℕ
-flaw_end form text message piece =
-    cond (is_json form) (flaw_members text message piece) (error_words form message piece)
+-- what stands after the place in the line of a finding, and in that of a source's error
+abbrev pub finding_end : Form → List ℕ → Reason → List ℕ → List ℕ
+finding_end form text reason piece =
+    cond (is_json form) (finding_members text reason piece) (error_words form (reason_message reason) piece)
 
 abbrev pub error_end : Form → List ℕ → List ℕ
 error_end form message = cond (is_json form) (error_members message) (error_words form message [])
 
--- the line that says why a text is bad, after this place: what is wrong, and the piece that the flaw
--- spoils
-abbrev pub IsFlawLineAt : Options → List ℕ → Flaw → Place → List ℕ → Type 0
-IsFlawLineAt options text flaw place shown =
-    (piece : List ℕ) × IsFlawPiece text flaw piece
-    × (shown ≡ line_front options.form options.path place
-    ++ flaw_end options.form text (flaw_message flaw.kind) piece)
+-- the line of a finding in a text that begins at this byte of the whole source: its place, what is wrong, and the piece
+abbrev pub IsFindingLine : Options → List ℕ → List ℕ → ℕ → Finding → List ℕ → Type 0
+IsFindingLine options whole text lo finding shown =
+    (place : Place) × (piece : List ℕ) × IsPlaceIn options whole (lo + finding.lo) (lo + finding.hi) place
+    × IsPieceOf text finding piece
+    × (shown ≡ line_front options.form options.path place ++ finding_end options.form text finding.reason piece)
 
--- the line that says why a text, which begins at this byte of the whole source, is bad: of its flaw, at
--- the flaw's place
-abbrev pub IsFlawLine : Options → List ℕ → List ℕ → ℕ → List ℕ → Type 0
-IsFlawLine options whole text lo shown =
-    (flaw : Flaw) × (place : Place) × FindsFlaw text flaw
-    × IsPlaceIn options whole (lo + flaw.lo) (lo + flaw.hi) place
-    × IsFlawLineAt options text flaw place shown
+-- the line of a flaw of a text as rustc reads it
+abbrev pub IsFlawLine : Options → List ℕ → List ℕ → ℕ → BadPiece → List ℕ → Type 0
+IsFlawLine options whole text lo read shown =
+    (finding : Finding) × IsFlawFinding text read finding × IsFindingLine options whole text lo finding shown
 
--- the line of a text: where it is asked for, and the text is bad, the line that says why; else its
--- line as a literal
+-- the lines of flaws that a cursor gives from here on, in order
+abbrev pub AreFlawLines : Options → List ℕ → List ℕ → ℕ → FlawsState → List ℕ → Type 0
+AreFlawLines options whole text lo start shown =
+    (flaws : List BadPiece) × AreFlawsLeft start flaws × Joins (IsFlawLine options whole text lo) flaws shown
+
+-- the lines that say why a text, which begins at this byte of the whole source, is bad: where it is no token as rustc reads it, one
+-- for each of its flaws; else one, of an integer past 128 bits
+abbrev pub AreReasonLines : Options → List ℕ → List ℕ → ℕ → List ℕ → Type 0
+AreReasonLines options whole text lo shown =
+    ((IsToken (lf_text text) → ⊥) × ((start : FlawsState) × AreFlawsOf (encode_utf8_all (lf_text text)) start
+    × AreFlawLines options whole text lo start shown))
+    ⊎ (IsToken (lf_text text) × ((flaw : Flaw) × (finding : Finding) × ExplainsLimit text flaw
+    × IsLimitFinding text flaw finding × IsFindingLine options whole text lo finding shown))
+
+-- the lines of a text: where it is asked for, and the text is bad, those that say why; else its line as a literal
 abbrev pub IsLineIn : Options → List ℕ → List ℕ → ℕ → ℕ → List ℕ → Type 0
 IsLineIn options whole text lo hi shown =
-    (IsTrue options.explains × IsFlawLine options whole text lo shown)
+    (IsTrue options.explains × AreReasonLines options whole text lo shown)
     ⊎ ((IsTrue options.explains → FindsNoFlaw text) × IsPlacedLine options whole text lo hi shown)
 
 -- what is shown where this is looked for: where the contents of the literal hold it, the literal's

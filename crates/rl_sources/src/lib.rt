@@ -3,8 +3,11 @@
 #![tactic(auto)]
 
 mod color;
+mod finding;
+mod flaw_lines;
 mod held;
 mod hidden;
+mod in_file;
 mod json;
 mod json_string;
 mod judge;

@@ -12,6 +12,7 @@ ghost use Rattle.rl_sources.specs.Scans.{IsAskedLine, IsErrorAt, IsHeldLine, IsH
 ghost use Rattle.rl_sources.specs.declared.options.Spelling.TheVariants.{Value};
 ghost use Rattle.rl_sources.specs.Steps.{BeginsRest, EndsUnshown, IsAcceptedToken, IsCursorOver, IsLiteralOf, IsFoundIn, IsStepOf, StopsUnshown, TakesShown};
 
+use crate::flaw_lines::push_flaws;
 use crate::held::held_at;
 use crate::hidden::{hidden_at, is_hidden};
 use crate::json::push_json_literal;
@@ -19,7 +20,6 @@ use crate::judge::{flaw_of, reason_of};
 use crate::literal::{Literal, kind_of};
 use crate::options::{Form, Options, Shown, Spelling};
 use crate::place::{Place, Places, place_inside, place_of, push_front};
-use crate::reason::push_flaw;
 use rl_files::{make_visible, push_visible};
 use rl_lines::{bare_value, label_of, push_bare, push_found};
 use rl_reading::{Found, find};
@@ -176,7 +176,7 @@ fn push_inside<'t, A: Allocator + Copy>(
     push_line_at(alloc, out, options, literal, place)
 }
 
-/// Appends the line of a literal: its own, or where lines report flaws and it has one, the line that says why it is bad.
+/// Appends the line of a literal: its own, or where lines report flaws and it has some, those that say why it is bad.
 #[inline(always)]
 fn push_line_in<'t, A: Allocator + Copy>(
     alloc: A,
@@ -193,7 +193,7 @@ fn push_line_in<'t, A: Allocator + Copy>(
     ensures same { places.new ≡ places.old }
 {
     match reason_of(options.explains, literal.flaw) {
-        Some(flaw) => push_flaw(alloc, out, options, literal, places, flaw),
+        Some(flaw) => push_flaws(alloc, out, options, literal, places, flaw),
         None => push_placed(alloc, out, options, literal, places),
     }
 }

@@ -12,4 +12,5 @@ pub mod rl_recovery;
 pub mod rl_settings;
 pub mod rl_strict;
 pub mod rl_text;
+pub mod rl_types;
 pub mod rl_writing;

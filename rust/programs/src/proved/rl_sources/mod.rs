@@ -3,8 +3,11 @@
 //! whose contents hold a text.
 
 mod color;
+mod finding;
+mod flaw_lines;
 mod held;
 mod hidden;
+mod in_file;
 mod json;
 mod json_string;
 mod judge;

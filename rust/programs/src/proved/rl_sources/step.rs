@@ -2,6 +2,7 @@
 //! What is shown of the tokens of a source, one after another.
 
 use crate::rattle_std::prelude::{String};
+use crate::rl_sources::flaw_lines::push_flaws;
 use crate::rl_sources::held::held_at;
 use crate::rl_sources::hidden::{hidden_at, is_hidden};
 use crate::rl_sources::json::push_json_literal;
@@ -9,7 +10,6 @@ use crate::rl_sources::judge::{flaw_of, reason_of};
 use crate::rl_sources::literal::{Literal, kind_of};
 use crate::rl_sources::options::{Form, Options, Shown, Spelling};
 use crate::rl_sources::place::{Place, Places, place_inside, place_of, push_front};
-use crate::rl_sources::reason::push_flaw;
 use crate::rl_files::{make_visible, push_visible};
 use crate::rl_lines::{bare_value, label_of, push_bare, push_found};
 use crate::rl_reading::{Found, find};
@@ -126,7 +126,7 @@ fn push_inside<'t, A: Allocator + Copy>(
     push_line_at(alloc, out, options, literal, place)
 }
 
-/// Appends the line of a literal: its own, or where lines report flaws and it has one, the line that says why it is bad.
+/// Appends the line of a literal: its own, or where lines report flaws and it has some, those that say why it is bad.
 #[inline(always)]
 fn push_line_in<'t, A: Allocator + Copy>(
     alloc: A,
@@ -136,7 +136,7 @@ fn push_line_in<'t, A: Allocator + Copy>(
     places: &mut Places<'t>,
 ) -> Result<(), AllocError> {
     match reason_of(options.explains, literal.flaw) {
-        Some(flaw) => push_flaw(alloc, out, options, literal, places, flaw),
+        Some(flaw) => push_flaws(alloc, out, options, literal, places, flaw),
         None => push_placed(alloc, out, options, literal, places),
     }
 }

@@ -1,0 +1,112 @@
+// Rendered from crates/rl_sources/src/flaw_lines.rt by tools/render, which erases contracts: change that file, and render anew.
+//! The lines of all flaws of a literal.
+
+use crate::rattle_std::prelude::{String};
+use crate::rl_sources::finding::{Finding, Reason};
+use crate::rl_sources::in_file::{ReadPlace, front_of, place_at, read_text};
+use crate::rl_sources::literal::Literal;
+use crate::rl_sources::options::Options;
+use crate::rl_sources::place::Places;
+use crate::rl_sources::reason::push_finding;
+use crate::rl_flaws::{BadPiece, Flaws, is_of_unit};
+use crate::rl_reasons::{Flaw, FlawKind};
+use crate::rattle_std::alloc::{AllocError, Allocator};
+
+/// A place in the file, in bytes of the text.
+fn in_text(text: &str, place: ReadPlace<'_>) -> usize {
+    text.len() - place.rest.len()
+}
+
+/// The finding of a bad escape or character, and where it ends.
+fn piece_finding<'t>(text: &'t str, from: ReadPlace<'t>, bad: BadPiece) -> (Finding, ReadPlace<'t>) {
+    let piece = place_at(text, from, bad.flaw.from);
+    let lo = place_at(text, piece, bad.flaw.lo);
+    let hi = place_at(text, lo, bad.flaw.hi);
+    let end = place_at(text, lo, bad.end);
+    let finding = Finding {
+        reason: Reason::Flaw(bad.flaw.kind),
+        lo: in_text(text, lo),
+        hi: in_text(text, hi),
+        from: in_text(text, piece),
+        to: in_text(text, end),
+    };
+    (finding, end)
+}
+
+/// The finding of a flaw of the whole literal, and where it stands.
+fn whole_finding<'t>(text: &'t str, from: ReadPlace<'t>, bad: BadPiece) -> (Finding, ReadPlace<'t>) {
+    let lo = place_at(text, from, bad.flaw.lo);
+    let hi = place_at(text, lo, bad.flaw.hi);
+    let finding = Finding {
+        reason: Reason::Flaw(bad.flaw.kind),
+        lo: in_text(text, lo),
+        hi: in_text(text, hi),
+        from: 0,
+        to: text.len(),
+    };
+    (finding, lo)
+}
+
+/// The finding of a flaw, by its places in the file, and a place to go on from.
+fn finding_of<'t>(text: &'t str, from: ReadPlace<'t>, bad: BadPiece) -> (Finding, ReadPlace<'t>) {
+    if is_of_unit(bad.flaw.kind) {
+        piece_finding(text, from, bad)
+    } else {
+        whole_finding(text, from, bad)
+    }
+}
+
+/// Appends a line for each flaw that is left.
+fn push_flaws_left<'t, A: Allocator>(
+    out: &mut String<A>,
+    options: &Options<'_>,
+    literal: &Literal<'_, 't>,
+    places: &mut Places<'t>,
+    all: Flaws<'_>,
+) -> Result<(), AllocError> {
+    let text = literal.token.text;
+    let mut flaws = all;
+    let mut place = front_of(text);
+    while let Some(bad) = flaws.next() {
+        let (finding, next) = finding_of(text, place, bad);
+        push_finding(out, options, literal, places, finding)?;
+        place = next;
+    }
+    Ok(())
+}
+
+/// Appends the line of an integer past 128 bits.
+fn push_limit<'t, A: Allocator>(
+    out: &mut String<A>,
+    options: &Options<'_>,
+    literal: &Literal<'_, 't>,
+    places: &mut Places<'t>,
+    flaw: Flaw,
+) -> Result<(), AllocError> {
+    let finding = Finding {
+        reason: Reason::Flaw(flaw.kind),
+        lo: flaw.lo,
+        hi: flaw.hi,
+        from: 0,
+        to: literal.token.text.len(),
+    };
+    push_finding(out, options, literal, places, finding)
+}
+
+/// Appends the lines that say why a literal is bad: one for each of its flaws.
+#[inline(never)]
+pub(crate) fn push_flaws<'t, A: Allocator>(
+    alloc: A,
+    out: &mut String<A>,
+    options: &Options<'_>,
+    literal: &Literal<'_, 't>,
+    places: &mut Places<'t>,
+    flaw: Flaw,
+) -> Result<(), AllocError> {
+    if matches!(flaw.kind, FlawKind::TooLarge) {
+        return push_limit(out, options, literal, places, flaw);
+    }
+    let read = read_text(alloc, literal.token.text)?;
+    let flaws = Flaws::of(read.as_str());
+    push_flaws_left(out, options, literal, places, flaws)
+}
