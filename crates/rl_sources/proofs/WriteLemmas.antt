@@ -13,7 +13,7 @@ use Rattle.rl_sources.specs.declared.scan_error.ScanError.TheVariants.{Fault, So
 use Rattle.rl_sources.specs.declared.step.Step.{Step}
 use Rattle.rl_sources.specs.declared.step.Step.TheVariants.{More, End, Error}
 use Rattle.rl_sources.specs.Places.{IsPlaceIn}
-use Rattle.rl_sources.specs.Scans.{Scans, FailsScan}
+use Rattle.rl_sources.specs.Scans.{ScansTokens, FailsTokens}
 use Rattle.rl_sources.specs.Steps.{Adds, IsStepOf}
 use Rattle.rl_sources.proofs.ScanLemmas.{HasWritten, written_more, written_beginning, step_adds}
 
@@ -28,10 +28,10 @@ pub write_fails : {A : Type 0} (options : Options) (text lines : List ℕ) (old 
     (step : Step) (any : Bool) (out mid after : Option (List ℕ)) (fault : RunFault A) → old.text ≡ text
     → HasWritten options (chars text) (chars old.rest) any out mid → IsStepOf options old (chars lines) new places step
     → IsUtf8 lines → (fault ≡ Write) × AppendsBeginning mid after lines
-    → FailsScan {A = A} options (chars text) out after (Fault fault)
+    → FailsTokens {A = A} options (chars text) out after (Fault fault)
 write_fails {A = A} options text lines old new places step any out mid after fault same has is utf8 (fault_is, begins) =
     let found = step_adds options old (chars lines) new places step is in
-    subst (λ (f : RunFault A). FailsScan {A = A} options (chars text) out after (Fault f)) (sym fault_is)
+    subst (λ (f : RunFault A). FailsTokens {A = A} options (chars text) out after (Fault f)) (sym fault_is)
     (written_beginning options (chars text) (chars old.rest) found.0 lines any out mid after has
     (of_text options text old found.0 (chars lines) same found.1) utf8 begins)
 
@@ -48,7 +48,7 @@ writes_on options text lines old new places any more out mid after same has is u
 pub writes_all : (options : Options) (text lines : List ℕ) (old new : CursorState) (places : List ℕ) (any more : Bool)
     (out mid after : Option (List ℕ)) → old.text ≡ text → HasWritten options (chars text) (chars old.rest) any out mid
     → IsStepOf options old (chars lines) new places End → IsUtf8 lines → Appends mid after lines → more
-    ≡ (any || not (length lines == 0)) → Scans options (chars text) out after more
+    ≡ (any || not (length lines == 0)) → ScansTokens options (chars text) out after more
 writes_all options text lines old new places any more out mid after same has is utf8 appends more_is =
     let all = written_more options (chars text) (chars old.rest) [] lines any more out mid after has
     (of_text options text old [] (chars lines) same is) utf8 appends more_is in
@@ -59,7 +59,7 @@ pub writes_up_to : (A : Type 0) (options : Options) (text lines : List ℕ) (old
     (place : Place) (kind : LexKind) (any more : Bool) (out mid after : Option (List ℕ)) → old.text ≡ text
     → HasWritten options (chars text) (chars old.rest) any out mid
     → IsStepOf options old (chars lines) new places (Error place kind) → IsUtf8 lines → Appends mid after lines → more
-    ≡ (any || not (length lines == 0)) → FailsScan {A = A} options (chars text) out after (Source place kind)
+    ≡ (any || not (length lines == 0)) → FailsTokens {A = A} options (chars text) out after (Source place kind)
 writes_up_to A options text lines old new places place kind any more out mid after same has
     (at, rest, adds, error, rest_place, is_place) utf8 appends more_is =
     let all = written_more options (chars text) (chars old.rest) rest lines any more out mid after has

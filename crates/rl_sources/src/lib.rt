@@ -1,5 +1,5 @@
-//! The literals of whole Rust sources as lines, each after its place: all of them, or those that are bad, that hide text, or
-//! whose contents hold a text.
+//! The literals of whole Rust sources as lines, each after its place: all of them, those that are bad, or whose contents
+//! hold a text; or what turns or hides text in them.
 #![tactic(auto)]
 
 mod color;

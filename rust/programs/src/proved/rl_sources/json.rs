@@ -59,7 +59,11 @@ pub(crate) fn push_object_front<A: Allocator>(
 }
 
 /// Appends a member after others, whose value is a string.
-fn push_member<A: Allocator>(out: &mut String<A>, name: &str, text: &str) -> Result<(), AllocError> {
+pub(crate) fn push_member<A: Allocator>(
+    out: &mut String<A>,
+    name: &str,
+    text: &str,
+) -> Result<(), AllocError> {
     push_ascii(out, ",\"")?;
     push_ascii(out, name)?;
     push_ascii(out, "\":")?;

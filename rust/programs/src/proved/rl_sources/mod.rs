@@ -1,6 +1,6 @@
 // Rendered from crates/rl_sources/src/lib.rt by tools/render, which erases contracts: change that file, and render anew.
-//! The literals of whole Rust sources as lines, each after its place: all of them, or those that are bad, that hide text, or
-//! whose contents hold a text.
+//! The literals of whole Rust sources as lines, each after its place: all of them, those that are bad, or whose contents
+//! hold a text; or what turns or hides text in them.
 
 mod color;
 mod held;

@@ -30,7 +30,7 @@ pub enum Shown<'a> {
     Only(&'a str),
     /// Those that are bad: no literal tokens of Rust, where a CR LF of the file is an LF, or integers past 128 bits.
     Bad,
-    /// Those that hold characters which turn or hide text, as they are written.
+    /// None: in their place the characters of the source are shown that turn or hide text, wherever they stand.
     Hidden,
 }
 
@@ -77,14 +77,13 @@ pub fn names(list: &str, label: &str) -> bool {
 }
 
 impl Shown<'_> {
-    /// Whether a literal is shown whose line begins with this word, which is bad or not, and which holds characters that
-    /// turn or hide text or not.
-    pub fn picks(self, label: &str, is_bad: bool, is_hidden: bool) -> bool {
+    /// Whether a literal is shown whose line begins with this word, and which is bad or not.
+    pub fn picks(self, label: &str, is_bad: bool) -> bool {
         match self {
             Shown::All => true,
             Shown::Only(list) => names(list, label),
             Shown::Bad => is_bad,
-            Shown::Hidden => is_hidden,
+            Shown::Hidden => false,
         }
     }
 }
