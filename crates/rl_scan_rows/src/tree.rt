@@ -39,6 +39,10 @@ const HELD: &str = "\"\\u{61}b\" b\"ab\" c\"\\x61b\" 'a' b'a'
    ab\" r#\"ab\"# \"äab\" \"\\\\u{61}\" // \"ab\"
 \"ba\" 'b'";
 
+/// Literals that hold `ab` in one case or another, as a word or not.
+const WORDS: &str = "\"ab\" \"AB\" \"cab aB\" \"abc\" \"ab_\" \"éab ab.\" \"-ab-\" b\"ab\\xff ab\\n\"
+\"abab ab\" \"é e é\" '-' \"a-b\" \"3ab a b\" r\"\\ab\"";
+
 /// Characters that turn or hide text, in literals, comments, names and between tokens, and some that don't: escapes, tabs, a form
 /// feed, CR LF, a variation selector.
 const HIDES: &str = "\u{feff}\"a\\u{202e}b\" \"a\u{202e}b\"
@@ -82,6 +86,7 @@ fn text_at(path: &str) -> Option<&'static str> {
         "bad.rs" => Some(BAD),
         "crlf.rs" => Some("\"a\r\nb\" \"a\r\n\\q\" \"c\r\nd\re\" \"\\\r\n x\""),
         "held" => Some(HELD),
+        "words" => Some(WORDS),
         "json" => Some(JSON),
         "large" => Some(LARGE),
         "hides" => Some(HIDES),
@@ -90,6 +95,11 @@ fn text_at(path: &str) -> Option<&'static str> {
         "marks" => Some("\u{feff}\u{feff}1"),
         "./.git/x.rs" => Some("4"),
         "./target/x.rs" => Some("5"),
+        "package/.hidden/x.rs" => Some("6"),
+        "package/src/target/x.rs" => Some("7"),
+        "package/target/x.rs" => Some("8"),
+        "package/src/.rs" => Some("9"),
+        "./x.txt" => Some("10"),
         _ => None,
     }
 }
@@ -113,6 +123,9 @@ fn names_at(path: &str) -> Result<&'static str, PathError> {
         "." => Ok("n.rs|b/|t\n.rs|b.rs|x.txt|.git/|target/|none.rs|a.rs|locked/||targets/"),
         "./b/" => Ok("c.rs"),
         "./.git/" | "./target/" => Ok("x.rs"),
+        "package" => Ok("target/|src/|Cargo.toml|.hidden/"),
+        "package/src/" => Ok("target/|.rs|x.rs.in"),
+        "package/target/" | "package/src/target/" | "package/.hidden/" => Ok("x.rs"),
         "./targets/" => Ok("none"),
         "./locked/" => Err(PathError::PermissionDenied),
         _ => Err(PathError::NotADirectory),

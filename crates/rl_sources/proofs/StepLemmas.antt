@@ -244,7 +244,7 @@ picks_found options text label flaw r b is found none picks = go options.shown r
 
 -- the line where the contents hold what is looked for
 pub at_held : (sought : List ℕ) (options : Options) (whole text : List ℕ) (lo first last : ℕ) (old new : List ℕ)
-    → IsHeldAt sought text first last
+    → IsHeldAt options.matching sought text first last
     → Appends (IsPlacedLine options whole text (lo + first) (lo + last)) old new
     → Appends (IsHeldLine sought options whole text lo) old new
 at_held sought options whole text lo first last old new held (shown, is, e) =
@@ -252,7 +252,7 @@ at_held sought options whole text lo first last old new held (shown, is, e) =
 
 -- nothing of a literal whose contents don't hold what is looked for
 pub not_held : (sought : List ℕ) (options : Options) (whole text : List ℕ) (lo : ℕ) (old : List ℕ)
-    → (Holds sought text → ⊥) → Appends (IsHeldLine sought options whole text lo) old old
+    → (Holds options.matching sought text → ⊥) → Appends (IsHeldLine sought options whole text lo) old old
 not_held sought options whole text lo old none = ([], inr (none, refl), sym (append-nil old))
 
 -- the word of a text's line, by what was found

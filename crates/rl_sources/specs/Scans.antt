@@ -130,9 +130,9 @@ IsLineIn options whole text lo hi shown =
 -- line, at the place of what gives it where it stands first; else nothing
 abbrev pub IsHeldLine : List ℕ → Options → List ℕ → List ℕ → ℕ → List ℕ → Type 0
 IsHeldLine sought options whole text lo shown =
-    ((first : ℕ) × (last : ℕ) × IsHeldAt sought text first last
+    ((first : ℕ) × (last : ℕ) × IsHeldAt options.matching sought text first last
     × IsPlacedLine options whole text (lo + first) (lo + last) shown)
-    ⊎ ((Holds sought text → ⊥) × (shown ≡ []))
+    ⊎ ((Holds options.matching sought text → ⊥) × (shown ≡ []))
 
 -- what is shown of a literal that is picked
 abbrev pub IsPickedLine : Option (Bor (List ℕ)) → Options → List ℕ → List ℕ → ℕ → ℕ → List ℕ → Type 0

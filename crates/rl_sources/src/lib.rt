@@ -20,7 +20,7 @@ mod step;
 pub use crate::color::{Paint, push_painted};
 pub use crate::json::is_json;
 pub use crate::json_string::json_strings_stand;
-pub use crate::options::{Form, Options, Shown, Spelling, names};
+pub use crate::options::{Form, Matching, Options, Shown, Spelling, names};
 pub use crate::place::Place;
 pub use crate::reason::push_source_error;
 pub use crate::scan_error::ScanError;

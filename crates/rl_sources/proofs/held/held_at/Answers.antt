@@ -5,17 +5,17 @@ use Rattle.rl_sources.proofs.HeldPlaces.{held_cut}
 use Rattle.rl_sources.proofs.held.held_at.Goals as goal
 
 pub returns-in_default-2-clause-none : goal.returns-in_default-2-clause-none
-returns-in_default-2-clause-none g c = holds_no_quotes c.args.sought.now c.args.text.now c.in-Some.found
+returns-in_default-2-clause-none g c = holds_no_quotes c.args.matching c.args.sought.now c.args.text.now c.in-Some.found
     (rw c.in-Some.is at c.requires.found) (rw c.in_default-2.is at c.in_ok-contents.ensures)
 
 pub returns-in_default-3-clause-none : goal.returns-in_default-3-clause-none
-returns-in_default-3-clause-none g c = holds_none c.args.sought.now (chars c.args.text.now) c.in-Some.found.kind
+returns-in_default-3-clause-none g c = holds_none c.args.matching c.args.sought.now (chars c.args.text.now) c.in-Some.found.kind
     c.in-Some-2.contents.items (rw c.in-Some-2.is at c.in_ok-contents.ensures).0
     (rw c.as_slice.ensures.value at (rw c.as_bytes.ensures.value at
     (rw c.in_default-3.is at c.in_ok-at.ensures.none)))
 
 pub returns-clause-cut : goal.returns-clause-cut
-returns-clause-cut g c = held_cut c.args.sought.now (chars c.args.text.now) c.in-Some.found.kind
+returns-clause-cut g c = held_cut c.args.matching c.args.sought.now (chars c.args.text.now) c.in-Some.found.kind
     c.in-Some-2.contents.items c.in-Some-3.at c.range_of.result.0 c.utf8.sought
     (rw c.in-Some-2.is at c.in_ok-contents.ensures).0
     (rw c.as_slice.ensures.value at (rw c.as_bytes.ensures.value at

@@ -20,7 +20,7 @@ mod step;
 pub use crate::rl_sources::color::{Paint, push_painted};
 pub use crate::rl_sources::json::is_json;
 pub use crate::rl_sources::json_string::json_strings_stand;
-pub use crate::rl_sources::options::{Form, Options, Shown, Spelling, names};
+pub use crate::rl_sources::options::{Form, Matching, Options, Shown, Spelling, names};
 pub use crate::rl_sources::place::Place;
 pub use crate::rl_sources::reason::push_source_error;
 pub use crate::rl_sources::scan_error::ScanError;

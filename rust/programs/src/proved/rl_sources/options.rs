@@ -34,6 +34,16 @@ pub enum Shown<'a> {
     Hidden,
 }
 
+/// How a text is looked for.
+#[derive(Clone, Copy)]
+pub struct Matching {
+    /// Whether small letters of ASCII and large ones are the same.
+    pub ignores_case: bool,
+    /// Whether it has to stand as whole words: between bytes that are no letter and no digit of ASCII, no `_`, and not past
+    /// ASCII.
+    pub whole_words: bool,
+}
+
 /// How a source is scanned.
 #[derive(Clone, Copy)]
 pub struct Options<'a> {
@@ -41,6 +51,8 @@ pub struct Options<'a> {
     pub shown: Shown<'a>,
     /// A text that is looked for: only literals are shown whose contents hold it, at the place where it begins there.
     pub finds: Option<&'a str>,
+    /// How it is looked for.
+    pub matching: Matching,
     /// How they are printed.
     pub spelling: Spelling,
     /// How each line is written.
@@ -56,11 +68,15 @@ pub struct Options<'a> {
 }
 
 impl Default for Options<'_> {
-    /// All literals, each by its value after its place in bytes, without reasons.
+    /// All literals, each by its value after its place in bytes, without reasons; texts are looked for as they are.
     fn default() -> Self {
         Options {
             shown: Shown::All,
             finds: None,
+            matching: Matching {
+                ignores_case: false,
+                whole_words: false,
+            },
             spelling: Spelling::Value,
             form: Form::Plain,
             by_line: false,
