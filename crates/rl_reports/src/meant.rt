@@ -40,11 +40,16 @@ fn slips_here(said: &[u8], meant: &[u8]) -> bool
 fn is_slip(said: &[u8], meant: &[u8]) -> bool
     ensures { result ≡ slip said.now meant.now }
 {
-    let mut at = 0;
-    while at < said.len() && at < meant.len() && said[at] == meant[at] {
-        at += 1;
+    let mut said = said;
+    let mut meant = meant;
+    while let ([a, less_said @ ..], [b, less_meant @ ..]) = (said, meant) {
+        if *a != *b {
+            return slips_here(said, meant);
+        }
+        said = less_said;
+        meant = less_meant;
     }
-    slips_here(&said[at..], &meant[at..])
+    slips_here(said, meant)
 }
 
 /// Whether a word may stand for an option: one slip makes it of that, or that begins with it.

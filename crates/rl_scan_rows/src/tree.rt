@@ -120,7 +120,7 @@ fn bytes_at(path: &str) -> Result<&'static [u8], PathError> {
 /// The names in a directory of the tree, with a bar between them.
 fn names_at(path: &str) -> Result<&'static str, PathError> {
     match path {
-        "." => Ok("n.rs|b/|t\n.rs|b.rs|x.txt|.git/|target/|none.rs|a.rs|locked/||targets/"),
+        "." => Ok("n.rs|b/|t\n.rs|b.rs|Cargo.toml|x.txt|.git/|target/|none.rs|a.rs|locked/||targets/"),
         "./b/" => Ok("c.rs"),
         "./.git/" | "./target/" => Ok("x.rs"),
         "package" => Ok("target/|src/|Cargo.toml|.hidden/"),

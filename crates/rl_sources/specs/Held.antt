@@ -22,14 +22,14 @@ abbrev pub StandsFrom : List ℕ → List ℕ → ℕ → Type 0
 StandsFrom sought bytes at = (at ≤ length bytes) × IsTrue (starts_with ◌==◌ (drop at bytes) sought)
 
 -- a byte of a word: a letter or a digit of ASCII, `_`, or one past ASCII
-abbrev pub is_word_byte : ℕ → Bool
-is_word_byte b = is_ascii_alphanumeric b || (b == 95) || nat_le 128 b
+abbrev pub is_word_part : ℕ → Bool
+is_word_part b = is_ascii_alphanumeric b || (b == 95) || nat_le 128 b
 
 -- no byte of a word stands on either side of the bytes from one place to another
 abbrev pub is_bounded : List ℕ → ℕ → ℕ → Bool
 is_bounded bytes at end =
-    ((at == 0) || not (is_word_byte (slice_index bytes (at - 1))))
-    && (nat_le (length bytes) end || not (is_word_byte (slice_index bytes end)))
+    ((at == 0) || not (is_word_part (slice_index bytes (at - 1))))
+    && (nat_le (length bytes) end || not (is_word_part (slice_index bytes end)))
 
 -- bytes as they are compared: where case doesn't count, small letters of ASCII stand for large ones
 abbrev pub compared : Bool → List ℕ → List ℕ

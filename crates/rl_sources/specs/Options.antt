@@ -1,5 +1,5 @@
 -- Which literals are shown.
-use Rattle.std.specs.Prelude.{◌≡◌, ℕ, ◌==◌, List, map, ⊤, ⊥}
+use Rattle.std.specs.Prelude.{◌≡◌, ℕ, ◌==◌, List, map, ⊤}
 use Prim.Native.Char.{code}
 use Rattle.std.specs.List.{slice_split, Any}
 use Rattle.std.specs.Char.{to_ascii_lowercase}

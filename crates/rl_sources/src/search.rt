@@ -2,7 +2,7 @@
 
 ghost use Rattle.std.specs.Prelude.{◌≡◌, ◌≢◌, ◌+◌, ◌<◌, ◌≤◌, ℕ, length, map, slice_index, IfNone, IfOk, IfSome, MatchBool};
 ghost use Rattle.std.specs.Char.{to_ascii_lowercase};
-ghost use Rattle.rl_sources.specs.Held.{is_word_byte as word_byte, is_bounded as bounded, FirstMatchAt, IsAsWanted, MatchesAt, MatchesFirst, MatchesFrom};
+ghost use Rattle.rl_sources.specs.Held.{is_word_part as word_part, is_bounded as bounded, FirstMatchAt, IsAsWanted, MatchesAt, MatchesFirst, MatchesFrom};
 ghost use Rattle.rl_sources.specs.Searches.{Agrees, AreBorders, IsLongestBorder, IsShift};
 
 use crate::options::Matching;
@@ -71,8 +71,8 @@ fn shift_of(sought: &[u8], borders: &[usize], held: usize) -> (usize, usize)
 }
 
 /// Whether a byte is one of a word: a letter or a digit of ASCII, `_`, or one past ASCII.
-fn is_word_byte(byte: u8) -> bool
-    ensures { result ≡ word_byte byte }
+fn is_word_part(byte: u8) -> bool
+    ensures { result ≡ word_part byte }
 {
     byte.is_ascii_alphanumeric() || byte == b'_' || byte >= 128
 }
@@ -82,7 +82,7 @@ fn is_bounded(bytes: &[u8], at: usize, end: usize) -> bool
     requires { at ≤ length bytes.now }
     ensures { result ≡ bounded bytes.now at end }
 {
-    (at == 0 || !is_word_byte(bytes[at - 1])) && (end >= bytes.len() || !is_word_byte(bytes[end]))
+    (at == 0 || !is_word_part(bytes[at - 1])) && (end >= bytes.len() || !is_word_part(bytes[end]))
 }
 
 /// Whether what stands at a place is as it is wanted: where whole words are looked for, bounded.
