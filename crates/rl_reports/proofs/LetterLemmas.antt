@@ -113,12 +113,12 @@ pub letter_taken : (A : Type 0) (has_colors : Bool) (word : List ℕ) (old : Wis
 letter_taken A hc word old letters now new then last rest after c flag split is none left added =
     go flag is none added (letter_front flag c rest after is split)
   where
-    open : AreOpen A hc word old letters now then rest
-    open = still_open A hc word old letters now then rest after c split left
+    begun : AreOpen A hc word old letters now then rest
+    begun = still_open A hc word old letters now then rest after c split left
 
     plain : (f : Flag) → next_after f ≡ next.Any → IsLetter f c → IsAdded f now last new → rest ≡ c ∷ after
         → AreLeft A hc word old letters new last after
-    plain f any is added front = inl (open_more A hc word old letters now new then last rest after c f open front is
+    plain f any is added front = inl (open_more A hc word old letters now new then last rest after c f begun front is
         added (added.1 ∙ any))
 
     no_text : TakesNothing Find after → after ≡ []
@@ -128,8 +128,11 @@ letter_taken A hc word old letters now new then last rest after c flag split is 
 
     go : (f : Flag) → IsLetter f c → TakesNothing f after → IsAdded f now last new → rest ≡ c ∷ after
         → AreLeft A hc word old letters new last after
-    go Find is none added front = inr (no_text none, closed A hc word old letters now new then last rest after c Find
-        takes.Text open front is added added.1 (no_text none))
+    go Find is none added front = inr (
+      no_text none,
+      closed A hc word old letters now new then last rest after c Find
+          takes.Text begun front is added added.1 (no_text none),
+    )
     go IgnoreCase is none added front = plain IgnoreCase refl is added front
     go WholeWords is none added front = plain WholeWords refl is added front
     go Count is none added front = plain Count refl is added front
@@ -158,10 +161,10 @@ pub letter_and_text : (A : Type 0) (has_colors : Bool) (word : List ℕ) (old : 
     → IsTaken has_colors operand now after new → last ≡ next.Any → AreLetters has_colors old letters last new
 letter_and_text A hc word old letters now new then last rest after c flag operand split is flag_is some left may taken
     any =
-    let open = still_open A hc word old letters now then rest after c split left in
+    let begun = still_open A hc word old letters now then rest after c split left in
     let front = letter_front flag c rest after is split in
     let is_taken : IsLetter (taken_by operand) c = subst (λ (f : Flag). IsLetter f c) flag_is is in
-    subst (λ (n : Next). AreLetters hc old letters n new) (sym any) (open.goes_on next.Any new
+    subst (λ (n : Next). AreLetters hc old letters n new) (sym any) (begun.goes_on next.Any new
     (subst (λ (z : List ℕ). AreLetters hc now z next.Any new) (sym front)
     (LetterAndText operand c is_taken may some taken)))
 
@@ -172,10 +175,10 @@ pub text_rejected : (A : Type 0) (has_colors : Bool) (word : List ℕ) (old : Wi
     → AreLeft A has_colors word old letters now then rest → IsRejectedJoined operand now after error
     → AreRejectedLetters has_colors word error old letters
 text_rejected A hc word old letters now then rest after c flag operand error split is flag_is left rejected =
-    let open = still_open A hc word old letters now then rest after c split left in
+    let begun = still_open A hc word old letters now then rest after c split left in
     let front = letter_front flag c rest after is split in
     let is_taken : IsLetter (taken_by operand) c = subst (λ (f : Flag). IsLetter f c) flag_is is in
-    open.rejected error (subst (λ (z : List ℕ). AreRejectedLetters hc word error now z) (sym front)
+    begun.rejected error (subst (λ (z : List ℕ). AreRejectedLetters hc word error now z) (sym front)
     (RejectedText operand c is_taken rejected))
 
 pub letter_rejected : (A : Type 0) (has_colors : Bool) (word : List ℕ) (old : Wishes) (letters : List ℕ)
@@ -183,9 +186,9 @@ pub letter_rejected : (A : Type 0) (has_colors : Bool) (word : List ℕ) (old : 
     → rest ≡ encode_utf8 c ++ after → IsLetter flag c → AreLeft A has_colors word old letters now then rest
     → IsRejectedFlag flag now error → AreRejectedLetters has_colors word error old letters
 letter_rejected A hc word old letters now then rest after c flag error split is left rejected =
-    let open = still_open A hc word old letters now then rest after c split left in
+    let begun = still_open A hc word old letters now then rest after c split left in
     let front = letter_front flag c rest after is split in
-    open.rejected error (subst (λ (z : List ℕ). AreRejectedLetters hc word error now z) (sym front)
+    begun.rejected error (subst (λ (z : List ℕ). AreRejectedLetters hc word error now z) (sym front)
     (RejectedLetter flag c is rejected))
 
 pub letter_unknown : (A : Type 0) (has_colors : Bool) (word : List ℕ) (old : Wishes) (letters : List ℕ)
@@ -194,14 +197,14 @@ pub letter_unknown : (A : Type 0) (has_colors : Bool) (word : List ℕ) (old : W
     → AreLeft A has_colors word old letters now then rest → NamesUnknown word error
     → AreRejectedLetters has_colors word error old letters
 letter_unknown A hc word old letters now then rest after c error split none left names =
-    let open = still_open A hc word old letters now then rest after c split left in
-    open.rejected error (UnknownLetter c split none names)
+    let begun = still_open A hc word old letters now then rest after c split left in
+    begun.rejected error (UnknownLetter c split none names)
 
 -- none is left
 pub letters_end : (A : Type 0) (has_colors : Bool) (word : List ℕ) (old : Wishes) (letters : List ℕ) (now : Wishes)
     (then : Next) (rest : List ℕ) → rest ≡ [] → AreLeft A has_colors word old letters now then rest
     → AreLetters has_colors old letters then now
 letters_end A hc word old letters now then rest nil (inr (e, are)) = are
-letters_end A hc word old letters now then rest nil (inl open) =
-    subst (λ (n : Next). AreLetters hc old letters n now) (sym open.any) (open.goes_on next.Any now
+letters_end A hc word old letters now then rest nil (inl begun) =
+    subst (λ (n : Next). AreLetters hc old letters n now) (sym begun.any) (begun.goes_on next.Any now
     (subst (λ (z : List ℕ). AreLetters hc now z next.Any now) (sym nil) NoLetters))

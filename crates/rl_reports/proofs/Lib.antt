@@ -3,3 +3,4 @@ pub mod ReportLemmas
 pub mod RunLemmas
 pub mod EndingLemmas
 pub mod MeantLemmas
+pub mod LetterLemmas

@@ -5,7 +5,8 @@ ghost use Rattle.std.specs.Str.{bytes_eq};
 ghost use Rattle.rl_reports.specs.Meant.{IsMeant, is_near as near, is_slip as slip, slips_here as here, swapped};
 
 /// The options; commas separate them.
-const OPTIONS: &str = "--bad,--hidden,--only,--find,--ignore-case,--word,--no-stray,--all,--extension,--bytes,--lines,--text,--json,--color,--count,--files-with-matches,--quiet,--help,--version";
+const OPTIONS: &str =
+    "--bad,--hidden,--only,--find,--ignore-case,--word,--no-stray,--all,--extension,--bytes,--lines,--text,--json,--color,--count,--files-with-matches,--quiet,--help,--version";
 
 /// Whether two letters at the front changed places.
 fn is_swapped(said: &[u8], meant: &[u8]) -> bool

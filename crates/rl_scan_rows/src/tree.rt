@@ -40,7 +40,8 @@ const HELD: &str = "\"\\u{61}b\" b\"ab\" c\"\\x61b\" 'a' b'a'
 \"ba\" 'b'";
 
 /// Literals that hold `ab` in one case or another, as a word or not.
-const WORDS: &str = "\"ab\" \"AB\" \"cab aB\" \"abc\" \"ab_\" \"éab ab.\" \"-ab-\" b\"ab\\xff ab\\n\"
+const WORDS: &str =
+    "\"ab\" \"AB\" \"cab aB\" \"abc\" \"ab_\" \"éab ab.\" \"-ab-\" b\"ab\\xff ab\\n\"
 \"abab ab\" \"é e é\" '-' \"a-b\" \"3ab a b\" r\"\\ab\"";
 
 /// Characters that turn or hide text, in literals, comments, names and between tokens, and some that don't: escapes, tabs, a form
@@ -120,7 +121,9 @@ fn bytes_at(path: &str) -> Result<&'static [u8], PathError> {
 /// The names in a directory of the tree, with a bar between them.
 fn names_at(path: &str) -> Result<&'static str, PathError> {
     match path {
-        "." => Ok("n.rs|b/|t\n.rs|b.rs|Cargo.toml|x.txt|.git/|target/|none.rs|a.rs|locked/||targets/"),
+        "." => Ok(
+            "n.rs|b/|t\n.rs|b.rs|Cargo.toml|x.txt|.git/|target/|none.rs|a.rs|locked/||targets/",
+        ),
         "./b/" => Ok("c.rs"),
         "./.git/" | "./target/" => Ok("x.rs"),
         "package" => Ok("target/|src/|Cargo.toml|.hidden/"),

@@ -169,5 +169,10 @@ pub(crate) fn first_in<A: Allocator + Copy>(
     }
     let bytes = lowered(alloc, bytes)?;
     let sought = lowered(alloc, sought)?;
-    first_exactly(alloc, matching.whole_words, bytes.as_slice(), sought.as_slice())
+    first_exactly(
+        alloc,
+        matching.whole_words,
+        bytes.as_slice(),
+        sought.as_slice(),
+    )
 }

@@ -214,7 +214,14 @@ fn push_held_line<'t, A: Allocator + Copy>(
         (chars (string_bytes out.old)) (chars (string_bytes out.new))) }
     ensures same { places.new ≡ places.old }
 {
-    let Some(range) = held_at(alloc, literal.token.text, *literal.found, options.matching, sought)? else {
+    let Some(range) = held_at(
+        alloc,
+        literal.token.text,
+        *literal.found,
+        options.matching,
+        sought,
+    )?
+    else {
         return Ok(());
     };
     push_inside(alloc, out, options, literal, places, range)
