@@ -264,9 +264,9 @@ lead_back b lead h = omega (arith, lead (omega (arith, h, lower_high b h)), lowe
 
 lead_back_at : (bytes : List ℕ) (at : ℕ) → IsLead (get_or (map to_ascii_lowercase bytes) at 0)
     → IsLead (get_or bytes at 0)
-lead_back_at [] at lead high = absurd (omega (arith, high, nothing at))
+lead_back_at [] at lead = λ high. absurd (omega (arith, high, nothing at))
   where
-    nothing : (n : ℕ) → get_or [] n 0 ≡ 0
+    nothing : (n : ℕ) → ◌≡◌ {A = ℕ} (get_or [] n 0) 0
     nothing zero = refl
     nothing (suc n) = refl
 lead_back_at (c ∷ cs) zero lead = lead_back c lead

@@ -1,40 +1,85 @@
 -- The lines of what turns or hides text.
-use Rattle.rl_text.proofs.Common.{List, [], ap, append-nil, append_assoc, false, inl, inr, refl, subst, sym, true, ℕ, ◌++◌, ◌∙◌, ◌∷◌, ◌≡◌}
+use Rattle.rl_text.proofs.Common.{IsUtf8, List, [], ap, append-nil, append_assoc, arith, chars, chars-nil, codes, encode_utf8, encode_utf8_all, false, inl, inr, length, length-append, refl, subst, sym, true, ℕ, ◌++◌, ◌+◌, ◌∙◌, ◌∷◌, ◌≡◌}
+use Rattle.rl_text.specs.Texts.{byte_len}
+use Rattle.rl_lexer.specs.Cursors.{IsCursorState}
+use Rattle.rl_lexer.proofs.ErrorKinds.{char_len}
 use Rattle.rl_lines.specs.Lines.{Appends}
+use Rattle.rl_lines.proofs.LineLemmas.{pushed}
 use Rattle.rl_sources.specs.declared.options.Options.{Options}
-use Rattle.rl_sources.specs.Hidden.{AreHiddenLines, IsHiddenLine, hides}
+use Rattle.rl_sources.specs.declared.place.Place.{Place}
+use Rattle.rl_sources.specs.Hidden.{AreHiddenLines, IsHiddenLine, IsShownCharacter, character_words, hidden_end, hides}
+use Rattle.rl_sources.specs.Places.{line_front, IsPlaceIn}
+use Rattle.rl_sources.proofs.JsonLemmas.{two_pieces}
+use Rattle.rl_sources.specs.Json.{string_member}
 
 -- These are the lines of what was passed: with those of the rest after them, they are the lines of all.
 pub record PassesHidden (options : Options) (whole all rest lines : List ℕ) : Type 0 where
   pub goes_on : (more : List ℕ) → AreHiddenLines options whole rest more
       → AreHiddenLines options whole all (lines ++ more)
 
-pub passes_none : (options : Options) (whole all : List ℕ) → PassesHidden options whole all all []
-passes_none options whole all = record { goes_on = λ more is. is }
-
--- one that hides
-pub passes_hidden : (options : Options) (whole all rest after lines longer : List ℕ) (c : ℕ)
-    → PassesHidden options whole all rest lines → rest ≡ c ∷ after → hides c after ≡ true
-    → Appends (IsHiddenLine options whole c after) lines longer → PassesHidden options whole all after longer
-passes_hidden options whole all rest after lines longer c passes split hider (line, is_line, longer_is) = record {
+pub passes_none : (options : Options) (whole all rest lines : List ℕ) → rest ≡ all → lines ≡ []
+    → PassesHidden options whole all rest (chars lines)
+passes_none options whole all rest lines same nil = record {
   goes_on = λ more is.
-      let here : AreHiddenLines options whole (c ∷ after) (line ++ more) =
-      inl (hider, line, more, is_line, is, refl) in
+      let none : [] ≡ chars lines = sym (ap chars nil ∙ chars-nil) in
+      subst (λ (z : List ℕ). AreHiddenLines options whole all (z ++ more)) none
+      (subst (λ (r : List ℕ). AreHiddenLines options whole r more) same is);
+}
+
+-- a character more
+pub passes_more : (options : Options) (whole all rest after lines longer : List ℕ) (c : ℕ)
+    → PassesHidden options whole all rest lines → rest ≡ c ∷ after
+    → Appends (IsShownCharacter options whole c after) lines longer → PassesHidden options whole all after longer
+passes_more options whole all rest after lines longer c passes split (line, is_line, longer_is) = record {
+  goes_on = λ more is.
+      let here : AreHiddenLines options whole (c ∷ after) (line ++ more) = (line, more, is_line, is, refl) in
       let joined : lines ++ (line ++ more) ≡ longer ++ more = sym (append_assoc lines line more)
       ∙ ap (λ (z : List ℕ). z ++ more) (sym longer_is) in
       subst (AreHiddenLines options whole all) joined (passes.goes_on (line ++ more)
       (subst (λ (r : List ℕ). AreHiddenLines options whole r (line ++ more)) (sym split) here));
 }
 
--- one that doesn't
-pub passes_plain : (options : Options) (whole all rest after lines : List ℕ) (c : ℕ)
-    → PassesHidden options whole all rest lines → rest ≡ c ∷ after → hides c after ≡ false
-    → PassesHidden options whole all after lines
-passes_plain options whole all rest after lines c passes split plain = record {
-  goes_on = λ more is.
-      let here : AreHiddenLines options whole (c ∷ after) more = inr (plain, is) in
-      passes.goes_on more (subst (λ (r : List ℕ). AreHiddenLines options whole r more) (sym split) here);
-}
+-- what is shown of one that hides, and of another
+pub shown_hidden : (options : Options) (whole after old new : List ℕ) (c : ℕ) → hides c after ≡ true
+    → Appends (IsHiddenLine options whole c after) old new → Appends (IsShownCharacter options whole c after) old new
+shown_hidden options whole after old new c hider (line, is, e) = (line, inl (hider, is), e)
+
+pub shown_plain : (options : Options) (whole after old : List ℕ) (c : ℕ) → hides c after ≡ false
+    → Appends (IsShownCharacter options whole c after) old old
+shown_plain options whole after old c plain = ([], inr (plain, refl), sym (append-nil old))
+
+-- the line of a character
+pub hidden_line : (options : Options) (whole rest after : List ℕ) (c lo hi : ℕ) (place : Place)
+    (old mid new : List ℕ) → IsCursorState whole rest → IsCursorState whole after → chars rest ≡ c ∷ chars after
+    → lo + length rest ≡ length whole → hi + length after ≡ length whole
+    → IsPlaceIn options (chars whole) lo hi place → mid ≡ old ++ line_front options.form options.path place
+    → new ≡ mid ++ hidden_end options.form c → Appends (IsHiddenLine options (chars whole) c (chars after)) old new
+hidden_line options whole rest after c lo hi place old mid new at_rest at_after split lo_is hi_is place_is front end =
+    let of_whole = char_len whole at_rest.is_text in
+    let of_rest = char_len rest at_rest.following.is_text in
+    let of_after = char_len after at_after.following.is_text in
+    let cut : byte_len (c ∷ chars after) ≡ length (encode_utf8 c) + byte_len (chars after) =
+    length-append (encode_utf8 c) (encode_utf8_all (chars after)) in
+    let ends : hi ≡ lo + length (encode_utf8 c) = omega (
+      arith,
+      lo_is,
+      hi_is,
+      of_whole,
+      of_rest,
+      of_after,
+      cut,
+      ap byte_len split,
+    ) in (
+      line_front options.form options.path place ++ hidden_end options.form c,
+      record {
+        lo = lo;
+        lo_is = omega (arith, lo_is, of_whole, of_rest, ap byte_len split);
+        place = place;
+        place_is = subst (λ (n : ℕ). IsPlaceIn options (chars whole) lo n place) ends place_is;
+        line_is = refl;
+      },
+      two_pieces old mid new (line_front options.form options.path place) (hidden_end options.form c) front end,
+    )
 
 -- nothing is left
 pub passes_all : (options : Options) (whole all rest lines : List ℕ) → PassesHidden options whole all rest lines
@@ -42,3 +87,20 @@ pub passes_all : (options : Options) (whole all rest lines : List ℕ) → Passe
 passes_all options whole all rest lines passes nil =
     subst (AreHiddenLines options whole all) (append-nil lines) (passes.goes_on []
     (subst (λ (r : List ℕ). AreHiddenLines options whole r []) (sym nil) refl))
+
+-- the words of a character, and the line's end
+pub words_line : (old a new words : List ℕ) (c : ℕ) → IsUtf8 old → words ≡ character_words c → a ≡ old ++ words
+    → chars new ≡ chars a ++ codes "\n" → chars new ≡ chars old ++ (chars (character_words c) ++ codes "\n")
+words_line old a new words c utf8 words_are pushes ends =
+    ends ∙ ap (λ (z : List ℕ). z ++ codes "\n") (pushed old a words utf8 pushes
+    ∙ ap (λ (z : List ℕ). chars old ++ chars z) words_are)
+    ∙ append_assoc (chars old) (chars (character_words c)) (codes "\n")
+
+-- the member of an object, and its end
+pub words_member : (old mid new words : List ℕ) (c : ℕ) → words ≡ character_words c
+    → mid ≡ old ++ string_member (codes "hidden") (chars words) → new ≡ mid ++ codes "}\n"
+    → new ≡ old ++ (string_member (codes "hidden") (chars (character_words c)) ++ codes "}\n")
+words_member old mid new words c words_are member ends =
+    ends ∙ ap (λ (z : List ℕ). z ++ codes "}\n") (member
+    ∙ ap (λ (z : List ℕ). old ++ string_member (codes "hidden") (chars z)) words_are)
+    ∙ append_assoc old (string_member (codes "hidden") (chars (character_words c))) (codes "}\n")

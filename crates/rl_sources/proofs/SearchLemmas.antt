@@ -1,11 +1,16 @@
 -- A search by borders.
-use Rattle.std.proofs.Common.{◌≡◌, ◌≢◌, ℕ, zero, suc, ◌+◌, ◌-◌, ◌<◌, ◌≤◌, ◌==◌, Bool, true, List, [], ◌∷◌, ◌++◌, length, length-append, get_or, take, drop, refl, sym, ap, subst, ◌∙◌, arith, inl, inr, ◌⊎◌}
+use Rattle.std.proofs.Common.{◌≡◌, ◌≢◌, ℕ, zero, suc, ◌+◌, ◌-◌, ◌<◌, ◌≤◌, ◌==◌, Bool, false, true, List, [], ◌∷◌, ◌++◌, length, length-append, get_or, take, drop, refl, sym, ap, subst, ◌∙◌, arith, inl, inr, ◌⊎◌}
 use Rattle.std.proofs.lemmas.Bool.{and_parts, and_from, eqb-true, eq-eqb, cases_lt}
 use Rattle.std.proofs.lemmas.Bool.{false≢true}
 use Rattle.std.proofs.Common.{length-drop}
-use Rattle.std.proofs.lemmas.List.{get_or-drop, get_or_append_left, get_or_at}
+use Rattle.std.proofs.lemmas.List.{get_or-drop, get_or_append_left, get_or_at, length-map}
+use Rattle.std.specs.Prelude.{not, IfNone, IfOk, None, Option, Some}
+use Rattle.std.specs.declared.result.Result.{Result}
+use Rattle.std.specs.declared.result.Result.TheVariants.{Err, Ok}
+use Rattle.std.specs.Char.{to_ascii_lowercase}
 use lib.Pointwise.{pointwise}
-use Rattle.rl_sources.specs.Held.{IsAsWanted, MatchesFirst, MatchesFrom, StandsFrom}
+use Rattle.rl_sources.specs.declared.options.Matching.{Matching}
+use Rattle.rl_sources.specs.Held.{FirstMatchAt, IsAsWanted, MatchesAt, MatchesFirst, MatchesFrom, StandsFrom, compared}
 use Rattle.rl_sources.specs.Searches.{Agrees, AreBorders, IsLongestBorder, IsShift}
 
 -- ---- what agrees
@@ -330,3 +335,35 @@ pub longer_stands_nowhere : (whole : Bool) (sought bytes : List ℕ) → length 
     → MatchesFrom whole sought bytes at → ⊥
 longer_stands_nowhere whole sought bytes longer at matches =
     absurd (omega (arith, (stands_agrees sought bytes at matches.0).0))
+
+-- ---- bytes as they are compared
+
+pub compared_length : (ignores_case : Bool) (bytes : List ℕ) → length (compared ignores_case bytes) ≡ length bytes
+compared_length false bytes = refl
+compared_length true bytes = length-map bytes to_ascii_lowercase
+
+-- a match lies within the bytes
+pub match_fits : (matching : Matching) (sought bytes : List ℕ) (at : ℕ) → FirstMatchAt matching sought bytes at
+    → at + length sought ≤ length bytes
+match_fits matching sought bytes at first = omega (
+  arith,
+  (stands_agrees (compared matching.ignores_case sought) (compared matching.ignores_case bytes) at first.0.0).0,
+  compared_length matching.ignores_case sought,
+  compared_length matching.ignores_case bytes,
+)
+
+pub turned : (b r : Bool) → not b ≡ r → b ≡ not r
+turned false r is = ap not is
+turned true r is = ap not is
+
+-- nothing matches, where nothing does among what is compared
+pub none_compared : {E : Type 0} (matching : Matching) (sought bytes said among : List ℕ) (b : Bool)
+    (r : Result (Option ℕ) E) → matching.ignores_case ≡ b → said ≡ compared b sought → among ≡ compared b bytes
+    → IfOk r (λ found. IfNone found ((at : ℕ) → MatchesFrom matching.whole_words said among at → ⊥))
+    → IfOk r (λ found. IfNone found ((at : ℕ) → MatchesAt matching sought bytes at → ⊥))
+none_compared matching sought bytes said among b (Ok None) is said_is among_is none = λ at matches.
+    none at (subst (λ (z : List ℕ). MatchesFrom matching.whole_words said z at) (sym among_is)
+    (subst (λ (z : List ℕ). MatchesFrom matching.whole_words z (compared b bytes) at) (sym said_is)
+    (subst (λ (t : Bool). MatchesFrom matching.whole_words (compared t sought) (compared t bytes) at) is matches)))
+none_compared matching sought bytes said among b (Ok (Some at)) is said_is among_is none = tt
+none_compared matching sought bytes said among b (Err e) is said_is among_is none = tt

@@ -1,5 +1,5 @@
 -- What a scan has written after a step.
-use Rattle.rl_text.proofs.Common.{Bool, IsUtf8, List, Option, [], ap, chars, length, not, subst, sym, ℕ, ◌==◌, ◌||◌, ◌∙◌, ◌≡◌}
+use Rattle.rl_text.proofs.Common.{Bool, IsUtf8, List, Option, [], ap, chars, encodes-chars, false, length, not, refl, subst, sym, ℕ, ◌==◌, ◌||◌, ◌∙◌, ◌≡◌}
 use Rattle.std.specs.Io.KnownBytes.{Appends}
 use Rattle.rl_text.specs.Texts.{byte_len}
 use Rattle.rl_lexer.specs.Cursors.{CursorState}
@@ -12,10 +12,12 @@ use Rattle.rl_sources.specs.declared.place.Place.{Place}
 use Rattle.rl_sources.specs.declared.scan_error.ScanError.TheVariants.{Fault, Source}
 use Rattle.rl_sources.specs.declared.step.Step.{Step}
 use Rattle.rl_sources.specs.declared.step.Step.TheVariants.{More, End, Error}
+use Rattle.std.proofs.lemmas.Bool.{false≢true}
+use Rattle.rl_sources.specs.Hidden.{ShowsHidden}
 use Rattle.rl_sources.specs.Places.{IsPlaceIn}
-use Rattle.rl_sources.specs.Scans.{ScansTokens, FailsTokens}
+use Rattle.rl_sources.specs.Scans.{ScansHidden, ScansTokens, FailsHidden, FailsTokens}
 use Rattle.rl_sources.specs.Steps.{Adds, IsStepOf}
-use Rattle.rl_sources.proofs.ScanLemmas.{HasWritten, written_more, written_beginning, step_adds}
+use Rattle.rl_sources.proofs.ScanLemmas.{HasWritten, any_more, written_more, written_beginning, step_adds}
 
 -- the step's piece, with the text as the scan has it
 of_text : (options : Options) (text : List ℕ) (old : CursorState) (rest piece : List ℕ) → old.text ≡ text
@@ -75,4 +77,26 @@ writes_up_to A options text lines old new places place kind any more out mid aft
         place_is = subst (λ (t : List ℕ). IsPlaceIn options (chars t) at at place) same is_place;
       },
       all.written,
+    )
+
+-- what turns or hides text was written
+pub hidden_written : (options : Options) (text lines : List ℕ) (empty : Bool) (old new : Option (List ℕ))
+    → IsUtf8 lines → ShowsHidden options text (chars lines) → empty ≡ (length lines == 0) → Appends old new lines
+    → ScansHidden options text old new (not empty)
+hidden_written options text lines empty old new utf8 shows empty_is appends = (
+  chars lines,
+  shows,
+  any_more false (not empty) [] lines utf8 (λ t. absurd (false≢true t), λ some. absurd (some refl)) (ap not empty_is),
+  subst (λ (z : List ℕ). Appends old new z) (sym (encodes-chars lines utf8)) appends,
+)
+
+-- a write failed
+pub hidden_unwritten : {A : Type 0} (options : Options) (text lines : List ℕ) (old new : Option (List ℕ))
+    (fault : RunFault A) → IsUtf8 lines → ShowsHidden options text (chars lines)
+    → (fault ≡ Write) × AppendsBeginning old new lines → FailsHidden {A = A} options text old new (Fault fault)
+hidden_unwritten {A = A} options text lines old new fault utf8 shows (fault_is, begins) =
+    subst (λ (f : RunFault A). FailsHidden {A = A} options text old new (Fault f)) (sym fault_is) (
+      chars lines,
+      shows,
+      subst (λ (z : List ℕ). AppendsBeginning old new z) (sym (encodes-chars lines utf8)) begins,
     )

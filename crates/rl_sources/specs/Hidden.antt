@@ -58,14 +58,19 @@ pub record IsHiddenLine (options : Options) (whole : List ℕ) (c : ℕ) (after 
   pub place_is : IsPlaceIn options whole lo (lo + length (encode_utf8 c)) place
   pub line_is : line ≡ line_front options.form options.path place ++ hidden_end options.form c
 
--- the lines of what is left of the whole source: of each character that turns or hides text one, in order
+-- what is shown of a character of the whole source: where it turns or hides text its line, else nothing
+abbrev pub IsShownCharacter : Options → List ℕ → ℕ → List ℕ → List ℕ → Type 0
+IsShownCharacter options whole c after line =
+    ((hides c after ≡ true) × IsHiddenLine options whole c after line)
+    ⊎ ((hides c after ≡ false) × (line ≡ []))
+
+-- what is shown of what is left of the whole source: of each character, in order
 abbrev pub AreHiddenLines : Options → List ℕ → List ℕ → List ℕ → Type 0
 AreHiddenLines options whole [] lines = lines ≡ []
 AreHiddenLines options whole (c ∷ after) lines =
-    ((hides c after ≡ true) × (line more : List ℕ) × IsHiddenLine options whole c after line
-    × AreHiddenLines options whole after more × (lines ≡ line ++ more))
-    ⊎ ((hides c after ≡ false) × AreHiddenLines options whole after lines)
+    (line more : List ℕ) × IsShownCharacter options whole c after line
+    × AreHiddenLines options whole after more × (lines ≡ line ++ more)
 
--- the lines of the whole source; a byte order mark at its front marks only its encoding
+-- what is shown of the whole source; a byte order mark at its front marks only its encoding
 abbrev pub ShowsHidden : Options → List ℕ → List ℕ → Type 0
 ShowsHidden options whole lines = AreHiddenLines options whole (without_mark whole) lines

@@ -2,12 +2,13 @@
 
 ghost use Rattle.std.specs.Prelude.{◌≡◌, ◌+◌, ◌++◌, ◌∷◌, IfOk, OnOk, length, string_bytes};
 ghost use Rattle.std.specs.Str.{chars};
+ghost use Rattle.rl_text.specs.Texts.{IsTail};
 ghost use Rattle.rl_lexer.specs.Cursors.{IsCursorState};
 ghost use Rattle.rl_lexer.specs.Sources.{without_mark as unmarked};
 ghost use Rattle.rl_lines.specs.Lines.{Appends};
-ghost use Rattle.rl_sources.specs.Hidden.{IsHiddenLine, ShowsHidden, character_words, direction_name as name_of, hidden_end, hides as is_hider, is_layout as layout};
+ghost use Rattle.rl_sources.specs.Hidden.{IsHiddenLine, IsShownCharacter, ShowsHidden, character_words, direction_name as name_of, hidden_end, hides as is_hider, is_layout as layout};
 
-use crate::json::{is_json, push_member};
+use crate::json::{is_json, push_ascii, push_member};
 use crate::options::{Form, Options};
 use crate::place::{Places, place_of, push_front};
 use rl_files::needs_escape;
@@ -72,12 +73,10 @@ fn push_hidden_end<A: Allocator>(
     let words = words_of(alloc, c)?;
     if is_json(form) {
         push_member(out, "hidden", words.as_str())?;
-        out.push_str("}\n")?;
-        return Ok(());
+        return push_ascii(out, "}\n");
     }
     out.push_str(words.as_str())?;
-    out.push_str("\n")?;
-    Ok(())
+    push_ascii(out, "\n")
 }
 
 /// Appends the line of the character that begins a rest of the source, and after which so much is left.
@@ -105,9 +104,34 @@ fn push_hidden_line<'t, A: Allocator>(
     push_hidden_end(alloc, out, options.form, c)
 }
 
+/// Appends what is shown of the character that begins a rest of the source, and after which so much is left.
+#[inline(always)]
+fn push_character<'t, A: Allocator>(
+    alloc: A,
+    out: &mut String<A>,
+    options: &Options<'_>,
+    places: &mut Places<'t>,
+    rest: &'t str,
+    c: char,
+    after: &'t str,
+) -> Result<(), AllocError>
+    requires begins { chars rest.now ≡ c ∷ chars after.now }
+    requires rest { IsCursorState places.old rest.now }
+    requires after { IsCursorState places.old after.now }
+    ensures shown { OnOk result (Appends (IsShownCharacter options.now (chars places.old) c (chars after.now))
+        (chars (string_bytes out.old)) (chars (string_bytes out.new))) }
+    ensures same { places.new ≡ places.old }
+{
+    if !hides(c, after) {
+        return Ok(());
+    }
+    push_hidden_line(alloc, out, options, places, rest, c, after)
+}
+
 /// The text after a byte order mark at its front.
 fn after_mark(text: &str) -> &str
-    ensures { chars result.now ≡ unmarked (chars text.now) }
+    ensures rest { chars result.now ≡ unmarked (chars text.now) }
+    ensures following { IsTail text.now result.now }
 {
     match split_char(text) {
         Some(('\u{feff}', after)) => after,
@@ -132,9 +156,7 @@ pub(crate) fn hidden_lines<A: Allocator + Copy>(
     let mut places = Places::new(text);
     let mut rest = after_mark(text);
     while let Some((c, after)) = split_char(rest) {
-        if hides(c, after) {
-            push_hidden_line(alloc, &mut lines, options, &mut places, rest, c, after)?;
-        }
+        push_character(alloc, &mut lines, options, &mut places, rest, c, after)?;
         rest = after;
     }
     Ok(lines)

@@ -33,7 +33,7 @@ pub fn is_json(form: Form) -> bool
 }
 
 /// Appends ASCII.
-fn push_ascii<A: Allocator>(out: &mut String<A>, piece: &str) -> Result<(), AllocError>
+pub(crate) fn push_ascii<A: Allocator>(out: &mut String<A>, piece: &str) -> Result<(), AllocError>
     requires { list_all is_ascii piece.now ≡ true }
     ensures { OnOk result
         (chars (string_bytes out.new) ≡ chars (string_bytes out.old) ++ piece.now) }

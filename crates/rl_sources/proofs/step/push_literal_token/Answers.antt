@@ -6,8 +6,8 @@ use Rattle.rl_sources.proofs.step.push_literal_token.Goals as goal
 pub returns-then-not-picks-clause-shown : goal.returns-then-not-picks-clause-shown
 returns-then-not-picks-clause-shown g c =
     let text = c.args.token.text.now in
-    let is_label = found_label text c.label_of.result.now c.kind_of.result c.find-found.result c.find-found.ensures.none
-    c.find-found.ensures.found c.kind_of.ensures c.label_of.ensures in
+    let is_label = found_label text c.label_of-label.result.now c.kind_of.result c.find-found.result c.find-found.ensures.none
+    c.find-found.ensures.found c.kind_of.ensures c.label_of-label.ensures in
     let picks = picks_found c.args.options.now (chars text) _ _ _ _ c.is_some.ensures c.flaw_of-flaw.ensures.some
     c.flaw_of-flaw.ensures.none c.if-not-picks.ensures in
     not_picked c.args.options.now (chars c.args.places.now) (chars text) _ c.args.token.lo c.args.token.hi
@@ -24,8 +24,8 @@ push_picked-requires g c = record {
 pub returns-clause-shown : goal.returns-clause-shown
 returns-clause-shown g c =
     let text = c.args.token.text.now in
-    let is_label = found_label text c.label_of.result.now c.kind_of.result c.find-found.result c.find-found.ensures.none
-    c.find-found.ensures.found c.kind_of.ensures c.label_of.ensures in
+    let is_label = found_label text c.label_of-label.result.now c.kind_of.result c.find-found.result c.find-found.ensures.none
+    c.find-found.ensures.found c.kind_of.ensures c.label_of-label.ensures in
     let picks = picks_found c.args.options.now (chars text) _ _ _ _ c.is_some.ensures c.flaw_of-flaw.ensures.some
     c.flaw_of-flaw.ensures.none c.if-not-picks.ensures in
     on_ok_weaker c.push_picked.result (picked_line c.args.options.now (chars c.args.places.now) (chars text) _
