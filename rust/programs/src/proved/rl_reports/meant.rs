@@ -2,7 +2,8 @@
 //! Which option a word was likely meant to be.
 
 /// The options; commas separate them.
-const OPTIONS: &str = "--bad,--hidden,--only,--find,--ignore-case,--word,--no-stray,--all,--extension,--bytes,--lines,--text,--json,--color,--count,--files-with-matches,--quiet,--help,--version";
+const OPTIONS: &str =
+    "--bad,--hidden,--only,--find,--ignore-case,--word,--no-stray,--all,--extension,--bytes,--lines,--text,--json,--color,--count,--files-with-matches,--quiet,--help,--version";
 
 /// Whether two letters at the front changed places.
 fn is_swapped(said: &[u8], meant: &[u8]) -> bool {
@@ -29,11 +30,16 @@ fn slips_here(said: &[u8], meant: &[u8]) -> bool {
 
 /// Whether one slip makes one of the other: a letter too many or too few, another letter, or two that changed places.
 fn is_slip(said: &[u8], meant: &[u8]) -> bool {
-    let mut at = 0;
-    while at < said.len() && at < meant.len() && said[at] == meant[at] {
-        at += 1;
+    let mut said = said;
+    let mut meant = meant;
+    while let ([a, less_said @ ..], [b, less_meant @ ..]) = (said, meant) {
+        if *a != *b {
+            return slips_here(said, meant);
+        }
+        said = less_said;
+        meant = less_meant;
     }
-    slips_here(&said[at..], &meant[at..])
+    slips_here(said, meant)
 }
 
 /// Whether a word may stand for an option: one slip makes it of that, or that begins with it.

@@ -2,7 +2,7 @@
 //! Characters of a source that turn or hide text, wherever they stand.
 
 use crate::rattle_std::prelude::{String, format};
-use crate::rl_sources::json::{is_json, push_member};
+use crate::rl_sources::json::{is_json, push_ascii, push_member};
 use crate::rl_sources::options::{Form, Options};
 use crate::rl_sources::place::{Places, place_of, push_front};
 use crate::rl_files::needs_escape;
@@ -56,12 +56,10 @@ fn push_hidden_end<A: Allocator>(
     let words = words_of(alloc, c)?;
     if is_json(form) {
         push_member(out, "hidden", words.as_str())?;
-        out.push_str("}\n")?;
-        return Ok(());
+        return push_ascii(out, "}\n");
     }
     out.push_str(words.as_str())?;
-    out.push_str("\n")?;
-    Ok(())
+    push_ascii(out, "\n")
 }
 
 /// Appends the line of the character that begins a rest of the source, and after which so much is left.
@@ -80,6 +78,23 @@ fn push_hidden_line<'t, A: Allocator>(
     let place = place_of(options, places, rest, lo, hi);
     push_front(out, options.form, options.path, &place)?;
     push_hidden_end(alloc, out, options.form, c)
+}
+
+/// Appends what is shown of the character that begins a rest of the source, and after which so much is left.
+#[inline(always)]
+fn push_character<'t, A: Allocator>(
+    alloc: A,
+    out: &mut String<A>,
+    options: &Options<'_>,
+    places: &mut Places<'t>,
+    rest: &'t str,
+    c: char,
+    after: &'t str,
+) -> Result<(), AllocError> {
+    if !hides(c, after) {
+        return Ok(());
+    }
+    push_hidden_line(alloc, out, options, places, rest, c, after)
 }
 
 /// The text after a byte order mark at its front.
@@ -105,9 +120,7 @@ pub(crate) fn hidden_lines<A: Allocator + Copy>(
     let mut places = Places::new(text);
     let mut rest = after_mark(text);
     while let Some((c, after)) = split_char(rest) {
-        if hides(c, after) {
-            push_hidden_line(alloc, &mut lines, options, &mut places, rest, c, after)?;
-        }
+        push_character(alloc, &mut lines, options, &mut places, rest, c, after)?;
         rest = after;
     }
     Ok(lines)

@@ -56,7 +56,8 @@ fn scan_hidden<A: Allocator + Copy, W: Write>(
     let Ok(lines) = hidden_lines(alloc, &options, text) else {
         return Err(ScanError::Fault(Fault::Memory));
     };
-    match write_whole(out, lines.as_bytes()) {
+    let written = write_whole(out, lines.as_bytes());
+    match written {
         Ok(()) => Ok(!lines.as_bytes().is_empty()),
         Err(fault) => Err(ScanError::Fault(fault)),
     }

@@ -50,13 +50,13 @@ fn shift_of(sought: &[u8], borders: &[usize], held: usize) -> (usize, usize) {
 }
 
 /// Whether a byte is one of a word: a letter or a digit of ASCII, `_`, or one past ASCII.
-fn is_word_byte(byte: u8) -> bool {
+fn is_word_part(byte: u8) -> bool {
     byte.is_ascii_alphanumeric() || byte == b'_' || byte >= 128
 }
 
 /// Whether no byte of a word stands on either side of the bytes from one place to another.
 fn is_bounded(bytes: &[u8], at: usize, end: usize) -> bool {
-    (at == 0 || !is_word_byte(bytes[at - 1])) && (end >= bytes.len() || !is_word_byte(bytes[end]))
+    (at == 0 || !is_word_part(bytes[at - 1])) && (end >= bytes.len() || !is_word_part(bytes[end]))
 }
 
 /// Whether what stands at a place is as it is wanted: where whole words are looked for, bounded.
@@ -125,5 +125,10 @@ pub(crate) fn first_in<A: Allocator + Copy>(
     }
     let bytes = lowered(alloc, bytes)?;
     let sought = lowered(alloc, sought)?;
-    first_exactly(alloc, matching.whole_words, bytes.as_slice(), sought.as_slice())
+    first_exactly(
+        alloc,
+        matching.whole_words,
+        bytes.as_slice(),
+        sought.as_slice(),
+    )
 }

@@ -150,7 +150,14 @@ fn push_held_line<'t, A: Allocator + Copy>(
     places: &mut Places<'t>,
     sought: &str,
 ) -> Result<(), AllocError> {
-    let Some(range) = held_at(alloc, literal.token.text, *literal.found, options.matching, sought)? else {
+    let Some(range) = held_at(
+        alloc,
+        literal.token.text,
+        *literal.found,
+        options.matching,
+        sought,
+    )?
+    else {
         return Ok(());
     };
     push_inside(alloc, out, options, literal, places, range)
