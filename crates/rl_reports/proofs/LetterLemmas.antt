@@ -208,3 +208,62 @@ letters_end A hc word old letters now then rest nil (inr (e, are)) = are
 letters_end A hc word old letters now then rest nil (inl begun) =
     subst (λ (n : Next). AreLetters hc old letters n now) (sym begun.any) (begun.goes_on next.Any now
     (subst (λ (z : List ℕ). AreLetters hc now z next.Any now) (sym nil) NoLetters))
+
+-- ---- what an option takes
+
+pub taken_flag : (flag : Flag) (operand : Operand) → next_after flag ≡ next.Operand operand → flag ≡ taken_by operand
+taken_flag Bad operand e = absurd (cc)
+taken_flag Hidden operand e = absurd (cc)
+taken_flag Only takes.Kinds e = refl
+taken_flag Only takes.Text e = absurd (cc)
+taken_flag Only takes.Color e = absurd (cc)
+taken_flag Only takes.Extension e = absurd (cc)
+taken_flag Find takes.Kinds e = absurd (cc)
+taken_flag Find takes.Text e = refl
+taken_flag Find takes.Color e = absurd (cc)
+taken_flag Find takes.Extension e = absurd (cc)
+taken_flag IgnoreCase operand e = absurd (cc)
+taken_flag WholeWords operand e = absurd (cc)
+taken_flag Text operand e = absurd (cc)
+taken_flag Json operand e = absurd (cc)
+taken_flag Color takes.Kinds e = absurd (cc)
+taken_flag Color takes.Text e = absurd (cc)
+taken_flag Color takes.Color e = refl
+taken_flag Color takes.Extension e = absurd (cc)
+taken_flag Bytes operand e = absurd (cc)
+taken_flag Lines operand e = absurd (cc)
+taken_flag NoStray operand e = absurd (cc)
+taken_flag All operand e = absurd (cc)
+taken_flag Extension takes.Kinds e = absurd (cc)
+taken_flag Extension takes.Text e = absurd (cc)
+taken_flag Extension takes.Color e = absurd (cc)
+taken_flag Extension takes.Extension e = refl
+taken_flag Count operand e = absurd (cc)
+taken_flag Files operand e = absurd (cc)
+taken_flag Quiet operand e = absurd (cc)
+taken_flag Help operand e = absurd (cc)
+taken_flag Version operand e = absurd (cc)
+taken_flag Paths operand e = absurd (cc)
+
+pub takes_nothing : (flag : Flag) → ((operand : Operand) → next_after flag ≢ next.Operand operand)
+    → (next_after flag ≡ next.Any) ⊎ (next_after flag ≡ next.Path)
+takes_nothing Bad none = inl refl
+takes_nothing Hidden none = inl refl
+takes_nothing Only none = absurd (none takes.Kinds refl)
+takes_nothing Find none = absurd (none takes.Text refl)
+takes_nothing IgnoreCase none = inl refl
+takes_nothing WholeWords none = inl refl
+takes_nothing Text none = inl refl
+takes_nothing Json none = inl refl
+takes_nothing Color none = absurd (none takes.Color refl)
+takes_nothing Bytes none = inl refl
+takes_nothing Lines none = inl refl
+takes_nothing NoStray none = inl refl
+takes_nothing All none = inl refl
+takes_nothing Extension none = absurd (none takes.Extension refl)
+takes_nothing Count none = inl refl
+takes_nothing Files none = inl refl
+takes_nothing Quiet none = inl refl
+takes_nothing Help none = inl refl
+takes_nothing Version none = inl refl
+takes_nothing Paths none = inr refl

@@ -119,7 +119,7 @@ pub(crate) fn letter_of(c: char) -> Option<Flag>
 
 /// What stands after the front of a word, where the word begins with that.
 #[tactic(auto, using(crate::proofs::WordLemmas::front_some, crate::proofs::WordLemmas::front_none))]
-fn after_front<'w>(front: &str, word: &'w str) -> Option<&'w str>
+pub(crate) fn after_front<'w>(front: &str, word: &'w str) -> Option<&'w str>
     ensures some { IfSome result (λ rest. word.now ≡ front.now ++ rest.now) }
     ensures none { IfNone result ((rest : List ℕ) → word.now ≢ front.now ++ rest) }
 {

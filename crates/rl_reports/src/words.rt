@@ -10,8 +10,8 @@ ghost use Rattle.rl_reports.specs.Words.{IsKindWord, AreKindWords, IsUnknownKind
 
 use crate::command::{Command, Output, PlaceForm, Wish};
 use crate::flags::{
-    Flag, Next, Operand, When, add_flag, flag_of, form_when, joined_of, letter_of, next_after,
-    recolored, taken_by, when_of,
+    Flag, Next, Operand, When, add_flag, after_front, flag_of, form_when, joined_of, letter_of,
+    next_after, recolored, taken_by, when_of,
 };
 use crate::meant::meant_by;
 use crate::report::visible_text;
@@ -143,15 +143,19 @@ fn unknown_option<A: Allocator>(alloc: A, word: &str) -> Result<WordError<A>, Al
     Ok(WordError::UnknownOption(visible_text(alloc, word)?, meant_by(word)))
 }
 
-/// What stands after the dash of a word that isn't an option's.
-fn letters_of(word: &str) -> &str
-    requires { is_path_word word.now ≡ false }
-    ensures { word.now ≡ codes "-" ++ result.now }
+/// The letters of a word, after its dash: none where it begins with two.
+fn letters_of(word: &str) -> Option<&str>
+    ensures { IfSome result (λ letters. word.now ≡ codes "-" ++ letters.now) }
 {
-    &word[1..]
+    let letters = after_front("-", word)?;
+    if letters.as_bytes().starts_with(b"-".as_slice()) {
+        return None;
+    }
+    Some(letters)
 }
 
 /// What an option takes, where it takes something and the letters go on after its own.
+#[tactic(auto, using(crate::proofs::LetterLemmas::taken_flag, crate::proofs::LetterLemmas::takes_nothing))]
 fn operand_in(flag: Flag, rest: &str) -> Option<Operand>
     ensures some { IfSome result (λ operand. (flag ≡ flag_before operand) × (rest.now ≢ [])) }
     ensures none { IfNone result ((rest.now ≡ []) ⊎ (follows flag ≡ next.Any) ⊎ (follows flag ≡ next.Path)) }
@@ -337,10 +341,10 @@ impl<'a, A: Allocator + Copy> Asked<'a, A> {
         if let Some((operand, text)) = joined_of(word) {
             return self.take_joined(alloc, has_colors, operand, text);
         }
-        if word.as_bytes().starts_with(b"--".as_slice()) {
-            return Err(unknown_option(alloc, word)?);
+        match letters_of(word) {
+            Some(letters) => self.take_letters(alloc, has_colors, word, letters),
+            None => Err(unknown_option(alloc, word)?),
         }
-        self.take_letters(alloc, has_colors, word, letters_of(word))
     }
 
     /// Takes the next word.
