@@ -312,7 +312,7 @@ any_cases false true shown lines utf8 is k =
     (λ e. absurd (false≢true e), λ some. absurd (some nil))
 
 -- whether anything was written
-any_more : (any more : Bool) (shown lines : List ℕ) → IsUtf8 lines → (IsTrue any ↔ (shown ≢ [])) → more
+pub any_more : (any more : Bool) (shown lines : List ℕ) → IsUtf8 lines → (IsTrue any ↔ (shown ≢ [])) → more
     ≡ (any || not (length lines == 0)) → IsTrue more ↔ ((shown ++ chars lines) ≢ [])
 any_more any more shown lines utf8 is more_is =
     subst (λ (b : Bool). IsTrue b ↔ ((shown ++ chars lines) ≢ [])) (sym more_is)

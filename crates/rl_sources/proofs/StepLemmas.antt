@@ -30,8 +30,7 @@ use Rattle.rl_lexer.specs.declared.lines.LineColumn.{LineColumn}
 use Rattle.rl_sources.specs.Json.{place_members}
 use Rattle.rl_sources.specs.Places.{line_front, place_text, IsPlaceIn}
 use Rattle.rl_sources.specs.Held.{Holds, IsHeldAt}
-use Rattle.rl_sources.specs.Hidden.{HoldsHidden, IsHiddenAt}
-use Rattle.rl_sources.specs.Scans.{FindsFlaw, FindsNoFlaw, IsAskedLine, IsBad, IsPicked, IsPlacedLine, AreReasonLines, IsHeldLine, IsHiddenLine, IsLineAt, IsLineEnd, IsLineIn, IsPickedLine, IsPrintedAs, IsShownLiteral}
+use Rattle.rl_sources.specs.Scans.{FindsFlaw, FindsNoFlaw, IsAskedLine, IsBad, IsPicked, IsPlacedLine, AreReasonLines, IsHeldLine, IsLineAt, IsLineEnd, IsLineIn, IsPickedLine, IsPrintedAs, IsShownLiteral}
 use Rattle.rl_sources.specs.Steps.{LooksForFlaws}
 use Rattle.rl_reasons.specs.Limits.{IsFloatBySuffix}
 use Rattle.rl_file_reasons.proofs.FilePlaces.{signed_same}
@@ -219,12 +218,11 @@ not_bad text flaw (token, reads) (inr (_, (signed, e, no_float))) = elim reads [
 ]
 
 -- what was looked for says whether a literal is picked
-pub picks_found : (options : Options) (text label : List ℕ) (flaw : Option Flaw) (r h b : Bool) → r ≡ is_some flaw
+pub picks_found : (options : Options) (text label : List ℕ) (flaw : Option Flaw) (r b : Bool) → r ≡ is_some flaw
     → IfSome flaw (FindsFlaw text)
     → IfNone flaw (LooksForFlaws options → FindsNoFlaw text)
-    → (options.shown ≡ Hidden → IsTrue h ↔ HoldsHidden text)
-    → IsTrue b ↔ Picks options.shown label (IsTrue r) (IsTrue h) → IsTrue b ↔ IsPicked options text label
-picks_found options text label flaw r h b is found none hides picks = go options.shown refl picks
+    → IsTrue b ↔ Picks options.shown label (IsTrue r) → IsTrue b ↔ IsPicked options text label
+picks_found options text label flaw r b is found none picks = go options.shown refl picks
   where
     bad : (f : Option Flaw) → r ≡ is_some f → IfSome f (FindsFlaw text)
         → IfNone f (LooksForFlaws options → FindsNoFlaw text) → LooksForFlaws options
@@ -235,48 +233,26 @@ picks_found options text label flaw r h b is found none hides picks = go options
       λ (f, finds). absurd (not_bad text f (nothing looks) finds),
     )
 
-    go : (shown : Shown) → options.shown ≡ shown → IsTrue b ↔ Picks shown label (IsTrue r) (IsTrue h)
-        → IsTrue b ↔ Picks shown label (IsBad text) (HoldsHidden text)
+    go : (shown : Shown) → options.shown ≡ shown → IsTrue b ↔ Picks shown label (IsTrue r)
+        → IsTrue b ↔ Picks shown label (IsBad text)
     go All e p = p
     go (Only list) e p = p
     go Bad e p =
         let both = bad flaw is found none (inr e) in
         (λ t. both.0 (p.0 t), λ t. p.1 (both.1 t))
-    go Hidden e p =
-        let both = hides e in
-        (λ t. both.0 (p.0 t), λ t. p.1 (both.1 t))
+    go Hidden e p = p
 
 -- the line where the contents hold what is looked for
 pub at_held : (sought : List ℕ) (options : Options) (whole text : List ℕ) (lo first last : ℕ) (old new : List ℕ)
-    → IsHeldAt sought text first last
+    → IsHeldAt options.matching sought text first last
     → Appends (IsPlacedLine options whole text (lo + first) (lo + last)) old new
     → Appends (IsHeldLine sought options whole text lo) old new
 at_held sought options whole text lo first last old new held (shown, is, e) =
     (shown, inl (first, last, held, is), e)
 
--- the line at the first character that hides
-pub at_hidden : (options : Options) (whole text : List ℕ) (lo first last : ℕ) (old new : List ℕ)
-    → IsHiddenAt text first last → Appends (IsPlacedLine options whole text (lo + first) (lo + last)) old new
-    → Appends (IsHiddenLine options whole text lo) old new
-at_hidden options whole text lo first last old new at (shown, is, e) = (shown, inl (first, last, at, is), e)
-
--- nothing where none hides
-pub not_hidden : (options : Options) (whole text : List ℕ) (lo : ℕ) (old : List ℕ) → (HoldsHidden text → ⊥)
-    → Appends (IsHiddenLine options whole text lo) old old
-not_hidden options whole text lo old none = ([], inr (none, refl), sym (append-nil old))
-
--- the line where hiding characters aren't asked for
-pub asked_line : (wanted : Shown) (options : Options) (whole text : List ℕ) (lo hi : ℕ) (old new : List ℕ)
-    → (wanted ≡ Hidden → ⊥) → Appends (IsLineIn options whole text lo hi) old new
-    → Appends (IsAskedLine wanted options whole text lo hi) old new
-asked_line All options whole text lo hi old new other is = is
-asked_line (Only list) options whole text lo hi old new other is = is
-asked_line Bad options whole text lo hi old new other is = is
-asked_line Hidden options whole text lo hi old new other is = absurd (other refl)
-
 -- nothing of a literal whose contents don't hold what is looked for
 pub not_held : (sought : List ℕ) (options : Options) (whole text : List ℕ) (lo : ℕ) (old : List ℕ)
-    → (Holds sought text → ⊥) → Appends (IsHeldLine sought options whole text lo) old old
+    → (Holds options.matching sought text → ⊥) → Appends (IsHeldLine sought options whole text lo) old old
 not_held sought options whole text lo old none = ([], inr (none, refl), sym (append-nil old))
 
 -- the word of a text's line, by what was found

@@ -1,10 +1,11 @@
 -- What is shown of a source: a line for each of its literals, after its place, or where it is asked
--- for one that says why it is bad. Texts and what is shown are lists of characters, what
+-- for one that says why it is bad; or a line for each character that turns or hides text. Texts and what is shown are lists of characters, what
 -- is written lists of bytes.
 use Rattle.std.specs.Prelude.{◌≡◌, ◌≢◌, ◌⊎◌, ◌↔◌, ℕ, ◌+◌, Bool, cond, List, [], ◌++◌, IsTrue, codes, encode_utf8_all, Option, Some, None}
 use denote.Ref.{Bor}
 use Rattle.std.specs.List.{All}
-use Rattle.std.specs.Io.KnownBytes.{Appends}
+use Rattle.std.specs.Str.{IsCharBoundary}
+use Rattle.std.specs.Io.KnownBytes.{Appends, Keeps}
 use Rattle.rl_text.specs.Texts.{byte_len}
 use Rattle.rl_lexer.specs.Lexemes.{LiteralForm, IdentifierForm}
 use Rattle.rl_forms.specs.Reading.{HasReading, truth_text}
@@ -37,7 +38,7 @@ use Rattle.rl_sources.specs.Findings.{AreFlawsLeft, IsFlawFinding, IsLimitFindin
 use Rattle.rl_sources.specs.declared.finding.Finding.{Finding}
 use Rattle.rl_sources.specs.declared.finding.Reason.{Reason}
 use Rattle.rl_sources.specs.Held.{Holds, IsHeldAt}
-use Rattle.rl_sources.specs.Hidden.{HoldsHidden, IsHiddenAt}
+use Rattle.rl_sources.specs.Hidden.{ShowsHidden}
 use Rattle.rl_sources.specs.Json.{is_json, IsJsonLiteral, finding_members, error_members}
 use Rattle.rl_sources.specs.Options.{Picks}
 use Rattle.rl_sources.specs.Places.{line_front, IsPlaceIn}
@@ -130,34 +131,19 @@ IsLineIn options whole text lo hi shown =
 -- line, at the place of what gives it where it stands first; else nothing
 abbrev pub IsHeldLine : List ℕ → Options → List ℕ → List ℕ → ℕ → List ℕ → Type 0
 IsHeldLine sought options whole text lo shown =
-    ((first : ℕ) × (last : ℕ) × IsHeldAt sought text first last
+    ((first : ℕ) × (last : ℕ) × IsHeldAt options.matching sought text first last
     × IsPlacedLine options whole text (lo + first) (lo + last) shown)
-    ⊎ ((Holds sought text → ⊥) × (shown ≡ []))
-
--- what is shown where characters are asked for which turn or hide text: where the text holds one, the
--- literal's line, at the place of the first; else nothing
-abbrev pub IsHiddenLine : Options → List ℕ → List ℕ → ℕ → List ℕ → Type 0
-IsHiddenLine options whole text lo shown =
-    ((first : ℕ) × (last : ℕ) × IsHiddenAt text first last
-    × IsPlacedLine options whole text (lo + first) (lo + last) shown)
-    ⊎ ((HoldsHidden text → ⊥) × (shown ≡ []))
-
--- what is shown where no text is looked for, by what is asked for
-abbrev pub IsAskedLine : Shown → Options → List ℕ → List ℕ → ℕ → ℕ → List ℕ → Type 0
-IsAskedLine asked.All options whole text lo hi shown = IsLineIn options whole text lo hi shown
-IsAskedLine (asked.Only list) options whole text lo hi shown = IsLineIn options whole text lo hi shown
-IsAskedLine asked.Bad options whole text lo hi shown = IsLineIn options whole text lo hi shown
-IsAskedLine asked.Hidden options whole text lo hi shown = IsHiddenLine options whole text lo shown
+    ⊎ ((Holds options.matching sought text → ⊥) × (shown ≡ []))
 
 -- what is shown of a literal that is picked
 abbrev pub IsPickedLine : Option (Bor (List ℕ)) → Options → List ℕ → List ℕ → ℕ → ℕ → List ℕ → Type 0
-IsPickedLine None options whole text lo hi shown = IsAskedLine options.shown options whole text lo hi shown
+IsPickedLine None options whole text lo hi shown = IsLineIn options whole text lo hi shown
 IsPickedLine (Some sought) options whole text lo hi shown =
     IsHeldLine sought.now options whole text lo shown
 
 -- the literal is picked, whose line begins with this word
 abbrev pub IsPicked : Options → List ℕ → List ℕ → Type 0
-IsPicked options text label = Picks options.shown label (IsBad text) (HoldsHidden text)
+IsPicked options text label = Picks options.shown label (IsBad text)
 
 -- what is shown of a literal: where it is picked, what is shown of it then, else nothing
 abbrev pub IsShownLiteral : Options → List ℕ → List ℕ → ℕ → ℕ → List ℕ → Type 0
@@ -217,22 +203,61 @@ pub record StopsAtError (options : Options) (whole shown : List ℕ) (place : Pl
   pub rest_place : at + byte_len rest ≡ byte_len whole
   pub place_is : IsPlaceIn options whole at at place
 
--- What was written is what is shown of the whole source, and it says whether that is anything.
-abbrev pub Scans : Options → List ℕ → Option (List ℕ) → Option (List ℕ) → Bool → Type 0
-Scans options whole old new any =
+-- What was written is what is shown of the whole source, token after token, and it says whether that is
+-- anything.
+abbrev pub ScansTokens : Options → List ℕ → Option (List ℕ) → Option (List ℕ) → Bool → Type 0
+ScansTokens options whole old new any =
     (cuts : List CutSource) × (shown : List ℕ) × ShowsUpTo options whole cuts [] shown
     × (IsTrue any ↔ (shown ≢ [])) × Appends old new (encode_utf8_all shown)
 
--- What was written before an error: what is shown of the source up to the place of the error; of a
+-- The same of what turns or hides text in it.
+abbrev pub ScansHidden : Options → List ℕ → Option (List ℕ) → Option (List ℕ) → Bool → Type 0
+ScansHidden options whole old new any =
+    (shown : List ℕ) × ShowsHidden options whole shown × (IsTrue any ↔ (shown ≢ []))
+    × Appends old new (encode_utf8_all shown)
+
+-- The same of what is asked for.
+abbrev pub ScansFor : Shown → Options → List ℕ → Option (List ℕ) → Option (List ℕ) → Bool → Type 0
+ScansFor asked.All options whole old new any = ScansTokens options whole old new any
+ScansFor (asked.Only list) options whole old new any = ScansTokens options whole old new any
+ScansFor asked.Bad options whole old new any = ScansTokens options whole old new any
+ScansFor asked.Hidden options whole old new any = ScansHidden options whole old new any
+
+abbrev pub Scans : Options → List ℕ → Option (List ℕ) → Option (List ℕ) → Bool → Type 0
+Scans options whole old new any = ScansFor options.shown options whole old new any
+
+-- What was written of the tokens before an error: what is shown of the source up to the place of the error; of a
 -- front of it where an allocation failed; a beginning of that where a write failed.
-abbrev pub FailsScan : {A : Type 0} → Options → List ℕ → Option (List ℕ) → Option (List ℕ)
+abbrev pub FailsTokens : {A : Type 0} → Options → List ℕ → Option (List ℕ) → Option (List ℕ)
     → ScanError A → Type 0
-FailsScan options whole old new (Source place kind) =
+FailsTokens options whole old new (Source place kind) =
     (shown : List ℕ) × StopsAtError options whole shown place kind
     × Appends old new (encode_utf8_all shown)
-FailsScan options whole old new (Fault Memory) =
+FailsTokens options whole old new (Fault Memory) =
     (shown : List ℕ) × ShowsFront options whole shown × Appends old new (encode_utf8_all shown)
-FailsScan options whole old new (Fault Write) =
+FailsTokens options whole old new (Fault Write) =
     (shown : List ℕ) × ShowsFront options whole shown
     × AppendsBeginning old new (encode_utf8_all shown)
-FailsScan options whole old new (Fault _) = ⊥
+FailsTokens options whole old new (Fault _) = ⊥
+
+-- What was written of what turns or hides text: nothing where an allocation failed; a beginning where a
+-- write failed. It has no errors of the source.
+abbrev pub FailsHidden : {A : Type 0} → Options → List ℕ → Option (List ℕ) → Option (List ℕ)
+    → ScanError A → Type 0
+FailsHidden options whole old new (Source place kind) = ⊥
+FailsHidden options whole old new (Fault Memory) = Keeps old new
+FailsHidden options whole old new (Fault Write) =
+    (shown : List ℕ) × ShowsHidden options whole shown × AppendsBeginning old new (encode_utf8_all shown)
+FailsHidden options whole old new (Fault _) = ⊥
+
+-- The same of what is asked for.
+abbrev pub FailsFor : {A : Type 0} → Shown → Options → List ℕ → Option (List ℕ) → Option (List ℕ)
+    → ScanError A → Type 0
+FailsFor asked.All options whole old new error = FailsTokens options whole old new error
+FailsFor (asked.Only list) options whole old new error = FailsTokens options whole old new error
+FailsFor asked.Bad options whole old new error = FailsTokens options whole old new error
+FailsFor asked.Hidden options whole old new error = FailsHidden options whole old new error
+
+abbrev pub FailsScan : {A : Type 0} → Options → List ℕ → Option (List ℕ) → Option (List ℕ)
+    → ScanError A → Type 0
+FailsScan options whole old new error = FailsFor options.shown options whole old new error

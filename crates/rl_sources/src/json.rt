@@ -32,7 +32,7 @@ pub fn is_json(form: Form) -> bool
 }
 
 /// Appends ASCII.
-fn push_ascii<A: Allocator>(out: &mut String<A>, piece: &str) -> Result<(), AllocError>
+pub(crate) fn push_ascii<A: Allocator>(out: &mut String<A>, piece: &str) -> Result<(), AllocError>
     requires { list_all is_ascii piece.now ≡ true }
     ensures { OnOk result
         (chars (string_bytes out.new) ≡ chars (string_bytes out.old) ++ piece.now) }
@@ -84,7 +84,11 @@ pub(crate) fn push_object_front<A: Allocator>(
 }
 
 /// Appends a member after others, whose value is a string.
-fn push_member<A: Allocator>(out: &mut String<A>, name: &str, text: &str) -> Result<(), AllocError>
+pub(crate) fn push_member<A: Allocator>(
+    out: &mut String<A>,
+    name: &str,
+    text: &str,
+) -> Result<(), AllocError>
     requires { list_all is_ascii name.now ≡ true }
     ensures { OnOk result (chars (string_bytes out.new)
         ≡ chars (string_bytes out.old) ++ string_member name.now (chars text.now)) }

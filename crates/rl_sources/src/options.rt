@@ -32,8 +32,18 @@ pub enum Shown<'a> {
     Only(&'a str),
     /// Those that are bad: no literal tokens of Rust, where a CR LF of the file is an LF, or integers past 128 bits.
     Bad,
-    /// Those that hold characters which turn or hide text, as they are written.
+    /// None: in their place the characters of the source are shown that turn or hide text, wherever they stand.
     Hidden,
+}
+
+/// How a text is looked for.
+#[derive(Clone, Copy)]
+pub struct Matching {
+    /// Whether small letters of ASCII and large ones are the same.
+    pub ignores_case: bool,
+    /// Whether it has to stand as whole words: between bytes that are no letter and no digit of ASCII, no `_`, and not past
+    /// ASCII.
+    pub whole_words: bool,
 }
 
 /// How a source is scanned.
@@ -43,6 +53,8 @@ pub struct Options<'a> {
     pub shown: Shown<'a>,
     /// A text that is looked for: only literals are shown whose contents hold it, at the place where it begins there.
     pub finds: Option<&'a str>,
+    /// How it is looked for.
+    pub matching: Matching,
     /// How they are printed.
     pub spelling: Spelling,
     /// How each line is written.
@@ -66,6 +78,7 @@ impl Default for Options<'_> {
     ghost is_default = { λ options. options ≡ record {
       shown = All;
       finds = None;
+      matching = record { ignores_case = false; whole_words = false };
       spelling = Value;
       form = Plain;
       by_line = false;
@@ -74,11 +87,15 @@ impl Default for Options<'_> {
       path = None;
     } };
 
-    /// All literals, each by its value after its place in bytes, without reasons.
+    /// All literals, each by its value after its place in bytes, without reasons; texts are looked for as they are.
     fn default() -> Self {
         Options {
             shown: Shown::All,
             finds: None,
+            matching: Matching {
+                ignores_case: false,
+                whole_words: false,
+            },
             spelling: Spelling::Value,
             form: Form::Plain,
             by_line: false,
@@ -97,16 +114,15 @@ pub fn names(list: &str, label: &str) -> bool
 }
 
 impl Shown<'_> {
-    /// Whether a literal is shown whose line begins with this word, which is bad or not, and which holds characters that
-    /// turn or hide text or not.
-    pub fn picks(self, label: &str, is_bad: bool, is_hidden: bool) -> bool
-        ensures { IsTrue result ↔ Picks self.entry label.now (IsTrue is_bad) (IsTrue is_hidden) }
+    /// Whether a literal is shown whose line begins with this word, and which is bad or not.
+    pub fn picks(self, label: &str, is_bad: bool) -> bool
+        ensures { IsTrue result ↔ Picks self.entry label.now (IsTrue is_bad) }
     {
         match self {
             Shown::All => true,
             Shown::Only(list) => names(list, label),
             Shown::Bad => is_bad,
-            Shown::Hidden => is_hidden,
+            Shown::Hidden => false,
         }
     }
 }

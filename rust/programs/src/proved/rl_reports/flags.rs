@@ -13,12 +13,16 @@ pub(crate) enum Flag {
     Hidden,
     Only,
     Find,
+    IgnoreCase,
+    WholeWords,
     Text,
     Json,
     Color,
     Bytes,
     Lines,
     NoStray,
+    All,
+    Extension,
     Count,
     Files,
     Quiet,
@@ -36,6 +40,8 @@ pub(crate) enum Operand {
     Text,
     /// When lines have colours.
     Color,
+    /// What the names of files end with.
+    Extension,
 }
 
 /// What the next word may be.
@@ -61,22 +67,41 @@ pub(crate) enum When {
 /// The option that a word is.
 pub(crate) fn flag_of(word: &str) -> Option<Flag> {
     match word {
-        "-b" | "--bad" => Some(Flag::Bad),
-        "-B" | "--hidden" => Some(Flag::Hidden),
-        "-k" | "--only" => Some(Flag::Only),
-        "-f" | "--find" => Some(Flag::Find),
+        "--bad" => Some(Flag::Bad),
+        "--hidden" => Some(Flag::Hidden),
+        "--only" => Some(Flag::Only),
+        "--find" => Some(Flag::Find),
+        "--ignore-case" => Some(Flag::IgnoreCase),
+        "--word" => Some(Flag::WholeWords),
         "--text" => Some(Flag::Text),
         "--json" => Some(Flag::Json),
         "--color" => Some(Flag::Color),
-        "-o" | "--bytes" => Some(Flag::Bytes),
+        "--bytes" => Some(Flag::Bytes),
         "--lines" => Some(Flag::Lines),
         "--no-stray" => Some(Flag::NoStray),
-        "-c" | "--count" => Some(Flag::Count),
-        "-l" | "--files" => Some(Flag::Files),
-        "-q" | "--quiet" => Some(Flag::Quiet),
-        "-h" | "--help" => Some(Flag::Help),
-        "-V" | "--version" => Some(Flag::Version),
+        "--all" => Some(Flag::All),
+        "--extension" => Some(Flag::Extension),
+        "--count" => Some(Flag::Count),
+        "--files-with-matches" => Some(Flag::Files),
+        "--quiet" => Some(Flag::Quiet),
+        "--help" => Some(Flag::Help),
+        "--version" => Some(Flag::Version),
         "--" => Some(Flag::Paths),
+        _ => None,
+    }
+}
+
+/// The option that a letter after a dash is.
+pub(crate) fn letter_of(c: char) -> Option<Flag> {
+    match c {
+        'e' => Some(Flag::Find),
+        'i' => Some(Flag::IgnoreCase),
+        'w' => Some(Flag::WholeWords),
+        'c' => Some(Flag::Count),
+        'l' => Some(Flag::Files),
+        'q' => Some(Flag::Quiet),
+        'h' => Some(Flag::Help),
+        'V' => Some(Flag::Version),
         _ => None,
     }
 }
@@ -94,8 +119,11 @@ pub(crate) fn joined_of(word: &str) -> Option<(Operand, &str)> {
     if let Some(text) = after_front("--find=", word) {
         return Some((Operand::Text, text));
     }
-    let when = after_front("--color=", word)?;
-    Some((Operand::Color, when))
+    if let Some(when) = after_front("--color=", word) {
+        return Some((Operand::Color, when));
+    }
+    let extension = after_front("--extension=", word)?;
+    Some((Operand::Extension, extension))
 }
 
 /// The option that takes this.
@@ -104,6 +132,7 @@ pub(crate) fn taken_by(operand: Operand) -> Flag {
         Operand::Kinds => Flag::Only,
         Operand::Text => Flag::Find,
         Operand::Color => Flag::Color,
+        Operand::Extension => Flag::Extension,
     }
 }
 
@@ -115,7 +144,10 @@ fn with_flag(command: Command<'_>, flag: Flag) -> Option<Command<'_>> {
         (Flag::Hidden, Shown::All) => next.shown = Shown::Hidden,
         (Flag::Only, Shown::All) => {}
         (Flag::Bad | Flag::Hidden | Flag::Only, _) => return None,
-        (Flag::Find | Flag::Color | Flag::Paths, _) => {}
+        (Flag::Find | Flag::Color | Flag::Extension | Flag::Paths, _) => {}
+        (Flag::IgnoreCase, _) => next.matching.ignores_case = true,
+        (Flag::WholeWords, _) => next.matching.whole_words = true,
+        (Flag::All, _) => next.selection.all = true,
         (Flag::Text, _) => next.spelling = Spelling::Source,
         (Flag::Json, _) => next.form = Form::Json,
         (Flag::Bytes, _) => next.places = PlaceForm::Bytes,
@@ -164,6 +196,7 @@ pub(crate) fn next_after(flag: Flag) -> Next {
         Flag::Only => Next::Operand(Operand::Kinds),
         Flag::Find => Next::Operand(Operand::Text),
         Flag::Color => Next::Operand(Operand::Color),
+        Flag::Extension => Next::Operand(Operand::Extension),
         Flag::Paths => Next::Path,
         _ => Next::Any,
     }

@@ -78,6 +78,7 @@ fn options_for<'a>(command: Command<'a>, path: &'a str, shown: Option<&'a str>) 
     Options {
         shown: command.shown,
         finds: command.finds,
+        matching: command.matching,
         spelling: command.spelling,
         form: command.form,
         by_line: is_by_line(command.places, path),

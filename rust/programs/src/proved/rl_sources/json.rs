@@ -20,7 +20,7 @@ pub fn is_json(form: Form) -> bool {
 }
 
 /// Appends ASCII.
-fn push_ascii<A: Allocator>(out: &mut String<A>, piece: &str) -> Result<(), AllocError> {
+pub(crate) fn push_ascii<A: Allocator>(out: &mut String<A>, piece: &str) -> Result<(), AllocError> {
     out.push_str(piece)?;
     Ok(())
 }
@@ -59,7 +59,11 @@ pub(crate) fn push_object_front<A: Allocator>(
 }
 
 /// Appends a member after others, whose value is a string.
-fn push_member<A: Allocator>(out: &mut String<A>, name: &str, text: &str) -> Result<(), AllocError> {
+pub(crate) fn push_member<A: Allocator>(
+    out: &mut String<A>,
+    name: &str,
+    text: &str,
+) -> Result<(), AllocError> {
     push_ascii(out, ",\"")?;
     push_ascii(out, name)?;
     push_ascii(out, "\":")?;

@@ -4,11 +4,10 @@
 use crate::rattle_std::prelude::{String};
 use crate::rl_sources::flaw_lines::push_flaws;
 use crate::rl_sources::held::held_at;
-use crate::rl_sources::hidden::{hidden_at, is_hidden};
 use crate::rl_sources::json::push_json_literal;
 use crate::rl_sources::judge::{flaw_of, reason_of};
 use crate::rl_sources::literal::{Literal, kind_of};
-use crate::rl_sources::options::{Form, Options, Shown, Spelling};
+use crate::rl_sources::options::{Form, Options, Spelling};
 use crate::rl_sources::place::{Place, Places, place_inside, place_of, push_front};
 use crate::rl_files::{make_visible, push_visible};
 use crate::rl_lines::{bare_value, label_of, push_bare, push_found};
@@ -151,41 +150,17 @@ fn push_held_line<'t, A: Allocator + Copy>(
     places: &mut Places<'t>,
     sought: &str,
 ) -> Result<(), AllocError> {
-    let Some(range) = held_at(alloc, literal.token.text, *literal.found, sought)? else {
+    let Some(range) = held_at(
+        alloc,
+        literal.token.text,
+        *literal.found,
+        options.matching,
+        sought,
+    )?
+    else {
         return Ok(());
     };
     push_inside(alloc, out, options, literal, places, range)
-}
-
-/// Appends the line of a literal whose text holds a character that turns or hides text, at the place of the first.
-#[inline(never)]
-fn push_hidden_line<'t, A: Allocator + Copy>(
-    alloc: A,
-    out: &mut String<A>,
-    options: &Options<'_>,
-    literal: &Literal<'_, 't>,
-    places: &mut Places<'t>,
-) -> Result<(), AllocError> {
-    let Some(range) = hidden_at(literal.token.text) else {
-        return Ok(());
-    };
-    push_inside(alloc, out, options, literal, places, range)
-}
-
-/// Appends what is shown of a literal where no text is looked for: its line, which stands at the first character that
-/// turns or hides text where these are asked for.
-#[inline(always)]
-fn push_asked<'t, A: Allocator + Copy>(
-    alloc: A,
-    out: &mut String<A>,
-    options: &Options<'_>,
-    literal: &Literal<'_, 't>,
-    places: &mut Places<'t>,
-) -> Result<(), AllocError> {
-    match options.shown {
-        Shown::Hidden => push_hidden_line(alloc, out, options, literal, places),
-        _ => push_line_in(alloc, out, options, literal, places),
-    }
 }
 
 /// Appends what is shown of a literal that is picked: where a text is looked for, its line where its contents hold that.
@@ -198,7 +173,7 @@ fn push_picked<'t, A: Allocator + Copy>(
     places: &mut Places<'t>,
 ) -> Result<(), AllocError> {
     match options.finds {
-        None => push_asked(alloc, out, options, literal, places),
+        None => push_line_in(alloc, out, options, literal, places),
         Some(sought) => push_held_line(alloc, out, options, literal, places, sought),
     }
 }
@@ -215,11 +190,8 @@ fn push_literal_token<'t, A: Allocator + Copy>(
 ) -> Result<(), AllocError> {
     let found = find(token.text);
     let flaw = flaw_of(options, token.text);
-    let hides = is_hidden(options.shown, token.text);
-    if !options
-        .shown
-        .picks(label_of(kind_of(&found)), flaw.is_some(), hides)
-    {
+    let label = label_of(kind_of(&found));
+    if !options.shown.picks(label, flaw.is_some()) {
         return Ok(());
     }
     let literal = Literal {

@@ -1,6 +1,6 @@
 use Rattle.rl_text.proofs.Common.{IsUtf8-string_bytes, string_bytes, ◌∙◌}
 use Rattle.rl_sources.proofs.WriteLemmas.{write_fails, writes_on, writes_all, writes_up_to}
-use Rattle.rl_sources.proofs.scanner.scan.Goals as goal
+use Rattle.rl_sources.proofs.scanner.scan_tokens.Goals as goal
 
 pub returns-in-Err-clause-fails : goal.returns-in-Err-clause-fails
 returns-in-Err-clause-fails g c =

@@ -1,7 +1,7 @@
 use Rattle.rl_text.proofs.Common.{[], chars, length, string_bytes, ◌≡◌}
 use Rattle.rl_sources.specs.Steps.{IsCursorOver}
 use Rattle.rl_sources.proofs.ScanLemmas.{HasWritten}
-use Rattle.rl_sources.proofs.scanner.scan.Given as goal
+use Rattle.rl_sources.proofs.scanner.scan_tokens.Given as goal
 
 abbrev pub invariant-loop-step : goal.invariant-loop-step
 invariant-loop-step g l = record {
