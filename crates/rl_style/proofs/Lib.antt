@@ -1,0 +1,11 @@
+pub mod CaseLemmas
+pub mod WrittenTexts
+pub mod SameIntegers
+pub mod SameFloats
+pub mod SameRaw
+pub mod SameUnits
+pub mod SameLiterals
+pub mod QuotedParts
+pub mod UnitTexts
+pub mod WrittenNumbers
+pub mod WrittenQuoted
