@@ -9,3 +9,11 @@ pub mod QuotedParts
 pub mod UnitTexts
 pub mod WrittenNumbers
 pub mod WrittenQuoted
+pub mod FrontTests
+pub mod Stays
+pub mod Decimals
+pub mod Ends
+pub mod Recut
+pub mod WholeSource
+pub mod Unraws
+pub mod UnrawCuts

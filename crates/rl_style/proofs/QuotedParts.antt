@@ -26,7 +26,7 @@ use Rattle.rl_reasons.specs.declared.strict_reading.Reading.{Reading}
 use Rattle.rl_reasons.specs.declared.strict_reading.Reading.TheVariants.{Text, Unit, Integer, Float as FloatRead, Truth as TruthRead}
 use Rattle.rl_reasons.specs.StrictRead.{IsStrictReading}
 use Rattle.rl_strict.proofs.StrictLemmas.{IsStrictNumber, Opened, seen}
-use Rattle.rl_style.specs.Mirrors.{AreUnits, BeginsAs, CookedParts, RawParts}
+use Rattle.rl_style.specs.Mirrors.{AreUnits, OpensAs, CookedParts, RawParts}
 use Rattle.rl_style.specs.Rewriting.{KeepsTruth}
 use Rattle.rl_style.proofs.SameRaw.{raw_joined}
 
@@ -303,16 +303,16 @@ raw_by RawForm kind t v b x token p is =
     (parts_read RawForm kind t v b x p))
 
 -- the parts tell how the text begins
-parts_begin : (form : QuotedForm) (kind : Kind) (t v b x : List ℕ) → PartsAre form kind t v b x → BeginsAs form kind t
+parts_begin : (form : QuotedForm) (kind : Kind) (t v b x : List ℕ) → PartsAre form kind t v b x → OpensAs form kind t
 parts_begin CookedForm kind t v b x p = (_, told_front CookedForm kind t _ (cooked_told kind t v b x p))
 parts_begin SingleForm kind t v b x p = (_, told_front SingleForm kind t _ (single_told kind t v b x p))
 parts_begin RawForm kind t v b x p = (_, told_front RawForm kind t _ (raw_told kind t v b x p))
 
-begin_same : (f g : QuotedForm) (k l : Kind) (t : List ℕ) → BeginsAs f k t → BeginsAs g l t → f ≡ g
+begin_same : (f g : QuotedForm) (k l : Kind) (t : List ℕ) → OpensAs f k t → OpensAs g l t → f ≡ g
 begin_same f g k l t a b = form_same f g k l a.0 b.0 (sym a.1 ∙ b.1)
 
 pub cooked_parts : (form : QuotedForm) (kind : Kind) (t inside suffix : List ℕ) (body : Body) → IsToken (chars t)
-    → BeginsAs form kind (chars t) → IsQuotedAt kind t body → form ≢ RawForm → inside ≡ body_in t body
+    → OpensAs form kind (chars t) → IsQuotedAt kind t body → form ≢ RawForm → inside ≡ body_in t body
     → suffix ≡ suffix_in t body → CookedParts kind (chars t) (chars inside) (chars suffix)
 cooked_parts form kind t inside suffix body token begins q other b x =
     let same = begin_same form q.form kind kind (chars t) begins (parts_begin q.form kind (chars t) q.value
@@ -323,7 +323,7 @@ cooked_parts form kind t inside suffix body token begins q other b x =
     (λ e. other (same ∙ e))))
 
 pub raw_parts : (form : QuotedForm) (kind : Kind) (t inside suffix : List ℕ) (body : Body) → IsToken (chars t)
-    → BeginsAs form kind (chars t) → IsQuotedAt kind t body → form ≡ RawForm → inside ≡ body_in t body
+    → OpensAs form kind (chars t) → IsQuotedAt kind t body → form ≡ RawForm → inside ≡ body_in t body
     → suffix ≡ suffix_in t body → RawParts kind (chars t) (chars inside) (chars suffix)
 raw_parts form kind t inside suffix body token begins q is b x =
     let same = begin_same form q.form kind kind (chars t) begins (parts_begin q.form kind (chars t) q.value
@@ -350,7 +350,7 @@ token_reads form kind t r h token =
     go RawForm has e c = inside kind t r (e ∙ ap (λ z. z ++ r) (raw_opener_same kind)) c
 
 quoted_found : (form : QuotedForm) (kind : Kind) (t : List ℕ) (found : Found) → IsToken (chars t)
-    → BeginsAs form kind (chars t) → IsFound t found → IsQuotedAt kind t found.body
+    → OpensAs form kind (chars t) → IsFound t found → IsQuotedAt kind t found.body
 quoted_found form kind t found token begins f =
     let own = token_reads form kind (chars t) begins.0 begins.1 token in
     let same : kind ≡ found.kind = (one_reading (chars t) kind found.kind own.0 f.reads.0 own.1
@@ -359,24 +359,24 @@ quoted_found form kind t found token begins f =
     subst (λ k. IsQuotedAt k t found.body) (sym same) (f.quoted (ap is_quoted (sym same) ∙ form_quoted form kind told.has))
 
 pub text_found : (form : QuotedForm) (kind k : Kind) (t : List ℕ) (body : Body) (r : Reading) → IsToken (chars t)
-    → BeginsAs form kind (chars t) → IsStrictReading t r → r ≡ Text k body → IsQuotedAt kind t body
+    → OpensAs form kind (chars t) → IsStrictReading t r → r ≡ Text k body → IsQuotedAt kind t body
 text_found form kind k t body r token begins reads e = quoted_found form kind t _ token begins
     (subst (IsStrictReading t) e reads)
 
 pub unit_found : (form : QuotedForm) (kind k : Kind) (t : List ℕ) (body : Body) (n : ℕ) (r : Reading) → IsToken (chars t)
-    → BeginsAs form kind (chars t) → IsStrictReading t r → r ≡ Unit k body n → IsQuotedAt kind t body
+    → OpensAs form kind (chars t) → IsStrictReading t r → r ≡ Unit k body n → IsQuotedAt kind t body
 unit_found form kind k t body n r token begins reads e = quoted_found form kind t _ token begins
     (subst (IsStrictReading t) e reads)
 
-no_number : (form : QuotedForm) (kind : Kind) (t : List ℕ) → BeginsAs form kind t → IsStrictNumber t → ⊥
+no_number : (form : QuotedForm) (kind : Kind) (t : List ℕ) → OpensAs form kind t → IsStrictNumber t → ⊥
 no_number form kind t begins n = let e : None ≡ found_opener form kind begins.0 = sym (number_none t n) ∙ begins.1 in absurd (cc)
 
-no_word : (form : QuotedForm) (kind : Kind) (t : List ℕ) (b : Bool) → BeginsAs form kind t → t ≡ truth_text b → ⊥
+no_word : (form : QuotedForm) (kind : Kind) (t : List ℕ) (b : Bool) → OpensAs form kind t → t ≡ truth_text b → ⊥
 no_word form kind t b begins e =
     let none : None ≡ found_opener form kind begins.0 = sym (ap opener_at e ∙ word_has_none b) ∙ begins.1 in absurd (cc)
 
 -- a quoted literal has no other reading
-pub no_other : (form : QuotedForm) (kind : Kind) (t : List ℕ) (r : Reading) → BeginsAs form kind (chars t)
+pub no_other : (form : QuotedForm) (kind : Kind) (t : List ℕ) (r : Reading) → OpensAs form kind (chars t)
     → IsStrictReading t r → ((k : Kind) (body : Body) → r ≡ Text k body → ⊥)
     → ((k : Kind) (body : Body) (n : ℕ) → r ≡ Unit k body n → ⊥) → ⊥
 no_other form kind t (Text k body) begins reads a b = a k body refl

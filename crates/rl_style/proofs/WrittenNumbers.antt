@@ -13,7 +13,7 @@ use Rattle.rl_style.specs.declared.style.Case.{Case}
 use Rattle.rl_style.specs.declared.style.Case.TheVariants.{Lower, Upper}
 use Rattle.rl_style.specs.declared.style.Style.{Style}
 use Rattle.rl_style.specs.Cases.{cased, exponent_letter, float_character}
-use Rattle.rl_style.specs.Mirrors.{listed}
+use Rattle.rl_style.specs.Mirrors.{one_or_none}
 use Rattle.rl_style.specs.Rewriting.{RewritesFloat, RewritesInt, integer_digits}
 use Rattle.rl_style.proofs.CaseLemmas.{scalars_cased}
 use Rattle.rl_style.proofs.SameFloats.{by_character}

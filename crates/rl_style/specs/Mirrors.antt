@@ -11,13 +11,13 @@ use Rattle.rl_style.specs.declared.style.Style.{Style}
 use Rattle.rl_style.specs.Cases.{cased}
 
 -- one or none
-abbrev pub listed : Option ℕ → List ℕ
-listed None = []
-listed (Some c) = c ∷ []
+abbrev pub one_or_none : Option ℕ → List ℕ
+one_or_none None = []
+one_or_none (Some c) = c ∷ []
 
 -- the text opens as a literal of the form and the kind
-abbrev pub BeginsAs : QuotedForm → Kind → List ℕ → Type 0
-BeginsAs form kind text = (rest : List ℕ) × (opener_at text ≡ found_opener form kind rest)
+abbrev pub OpensAs : QuotedForm → Kind → List ℕ → Type 0
+OpensAs form kind text = (rest : List ℕ) × (opener_at text ≡ found_opener form kind rest)
 
 -- A raw literal of the kind, with this text inside and this suffix.
 pub record RawParts (kind : Kind) (text inside suffix : List ℕ) : Type 0 where

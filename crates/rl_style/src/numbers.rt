@@ -8,7 +8,7 @@ ghost use Rattle.rl_reasons.specs.StrictNumbersRead.{IsNumberRead, suffix_of};
 ghost use Rattle.rl_forms.specs.Reading.{Contents};
 ghost use Rattle.rl_forms.specs.Strict.{StrictFloat, StrictInt};
 ghost use Rattle.rl_style.specs.Cases.{float_character};
-ghost use Rattle.rl_style.specs.Mirrors.{listed};
+ghost use Rattle.rl_style.specs.Mirrors.{one_or_none};
 ghost use Rattle.rl_style.specs.Rewriting.{Rewrites, RewritesFloat, RewritesInt, integer_digits};
 
 use crate::case::put_cased;
@@ -48,7 +48,7 @@ fn write_integer(text: &str, suffix: &str, style: Style, out: &mut [u8]) -> usiz
 
 /// What a character before a float's suffix is written anew as: `None` where it is dropped.
 fn float_character(style: Style, c: char) -> Option<char>
-    ensures value { listed result ≡ float_character style c }
+    ensures value { one_or_none result ≡ float_character style c }
     ensures len { IfSome result (λ d. length (encode_utf8 d) ≡ length (encode_utf8 c)) }
 {
     match c {

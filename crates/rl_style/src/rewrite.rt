@@ -9,7 +9,7 @@ ghost use Rattle.rl_reading.specs.Mirrors.OpenerAt.{found_opener, opener_at};
 ghost use Rattle.rl_strict.specs.StrictShapes.{IsToken};
 ghost use Rattle.rl_reasons.specs.StrictFlaws.{ExplainsStrictly};
 ghost use Rattle.rl_reasons.specs.StrictRead.{IsStrictReading};
-ghost use Rattle.rl_style.specs.Mirrors.{BeginsAs};
+ghost use Rattle.rl_style.specs.Mirrors.{OpensAs};
 ghost use Rattle.rl_style.specs.Rewriting.{Rewrites};
 
 use crate::cooked::write_cooked;
@@ -27,7 +27,7 @@ use rl_text::room::put_text;
 /// Where the parts of a quoted literal of the kind stand, by its reading.
 fn body_of(text: &str, form: QuotedForm, kind: Kind, reading: Reading) -> Body
     requires token { IsToken (chars text.now) }
-    requires begins { BeginsAs form kind (chars text.now) }
+    requires begins { OpensAs form kind (chars text.now) }
     requires reads { IsStrictReading text.now reading }
     ensures { IsQuotedAt kind text.now result }
 {
@@ -48,7 +48,7 @@ fn write_quoted(
     out: &mut [u8],
 ) -> usize
     requires token { IsToken (chars text.now) }
-    requires begins { BeginsAs form kind (chars text.now) }
+    requires begins { OpensAs form kind (chars text.now) }
     requires reads { IsStrictReading text.now reading }
     requires room { length text.now + 1 ≤ length out.old }
     ensures written { Rewrites style (chars text.now) (chars (take result out.new)) }

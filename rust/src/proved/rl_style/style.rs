@@ -8,7 +8,7 @@ pub enum Case {
     Upper,
 }
 
-/// How literals are written anew. Each field is a rule; [`Style::KEEP`] has none.
+/// How literals are written anew: each field is a rule by itself. With `None` and `false` it changes nothing.
 #[derive(Clone, Copy)]
 pub struct Style {
     /// The case of an integer's digits after `0x`.
@@ -23,16 +23,4 @@ pub struct Style {
     pub quote_escapes: bool,
     /// Whether a raw string has the fewest hashes that its text needs.
     pub raw_hashes: bool,
-}
-
-impl Style {
-    /// Changes nothing.
-    pub const KEEP: Style = Style {
-        hex_digits: None,
-        exponent_letter: None,
-        exponent_plus: false,
-        escape_digits: None,
-        quote_escapes: false,
-        raw_hashes: false,
-    };
 }
