@@ -17,3 +17,5 @@ pub mod Recut
 pub mod WholeSource
 pub mod Unraws
 pub mod UnrawCuts
+pub mod OneAnswer
+pub mod NoRule

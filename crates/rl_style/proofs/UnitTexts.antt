@@ -232,6 +232,31 @@ first_is k u us t a =
       text_is = a.inside_is;
     }
 
+-- one text is one row of units, as far as their texts go
+pub texts_once : (style : Style) (k : Kind) (us vs : List StrictUnit) (t : List ℕ) → AreUnits k us t → AreUnits k vs t
+    → flat_map strict_text (map (restyled style k) us) ≡ flat_map strict_text (map (restyled style k) vs)
+texts_once style k [] [] t a b = refl
+texts_once style k [] (v ∷ vs) t a b =
+    let g = first_is k v vs t b in
+    absurd (let none : None ≡ Some (g.value, flat_map strict_text vs) = sym (ap (unit_at k) a.inside_is ∙ unit_nil k)
+    ∙ g.read in cc)
+texts_once style k (u ∷ us) [] t a b =
+    let f = first_is k u us t a in
+    absurd (let none : None ≡ Some (f.value, flat_map strict_text us) = sym (ap (unit_at k) b.inside_is ∙ unit_nil k)
+    ∙ f.read in cc)
+texts_once style k (u ∷ us) (v ∷ vs) t a b =
+    let f = first_is k u us t a in
+    let g = first_is k v vs t b in
+    let rest : flat_map strict_text us ≡ flat_map strict_text vs =
+    (some_pair (f.value, flat_map strict_text us) (g.value, flat_map strict_text vs) (sym f.read ∙ g.read)).1 in
+    let text : strict_text u ≡ strict_text v = append_cancel_right (strict_text u) (strict_text v) (flat_map strict_text us)
+    (sym f.text_is ∙ g.text_is ∙ ap (λ z. strict_text v ++ z) (sym rest)) in
+    let one : strict_text (restyled style k u) ≡ strict_text (restyled style k v) =
+    sym (unit_restyled style k u f.is_unit) ∙ ap (restyled_text style k) text ∙ unit_restyled style k v g.is_unit in
+    ap (λ z. z ++ flat_map strict_text (map (restyled style k) us)) one
+    ∙ ap (λ z. strict_text (restyled style k v) ++ z) (texts_once style k us vs (flat_map strict_text us) f.left
+    (subst (AreUnits k vs) (sym rest) g.left))
+
 pub record UnitsPassed (style : Style) (k : Kind) (us : List StrictUnit) (rest out front : List ℕ) : Type 0 where
   pub done : List StrictUnit
   pub left : List StrictUnit

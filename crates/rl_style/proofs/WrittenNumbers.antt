@@ -24,7 +24,7 @@ use Rattle.rl_style.proofs.WrittenTexts.{scalars_join, text_of}
 abbrev radix_of : List ℕ → ℕ
 radix_of t = (radix_at t).0
 
-base_found : (t : List ℕ) (v : Contents) (x : List ℕ) (i : StrictInt t v x) → radix_of t ≡ i.base
+pub base_found : (t : List ℕ) (v : Contents) (x : List ℕ) (i : StrictInt t v x) → radix_of t ≡ i.base
 base_found t v x i =
     let w : List ℕ = i.row ++ x in
     let text : t ≡ i.prefix ++ w = i.text ∙ append_assoc i.prefix i.row x in
@@ -47,7 +47,7 @@ hex_prefix None = refl
 hex_prefix (Some Lower) = refl
 hex_prefix (Some Upper) = refl
 
-sixteen : (t : List ℕ) (v : Contents) (x : List ℕ) (i : StrictInt t v x) → i.base ≡ 16 → i.prefix ≡ 48 ∷ 120 ∷ []
+pub sixteen : (t : List ℕ) (v : Contents) (x : List ℕ) (i : StrictInt t v x) → i.base ≡ 16 → i.prefix ≡ 48 ∷ 120 ∷ []
 sixteen t v x i h =
     elim i.is_front [
       | inl f ↦ absurd (let b = f.1 in omega (arith, b, h))
@@ -60,7 +60,7 @@ sixteen t v x i h =
       ]
     ]
 
-digits_apart : (b : Bool) (case : Option Case) (p row : List ℕ) → (b ≡ true → p ≡ 48 ∷ 120 ∷ [])
+pub digits_apart : (b : Bool) (case : Option Case) (p row : List ℕ) → (b ≡ true → p ≡ 48 ∷ 120 ∷ [])
     → cond b (map (cased case) (p ++ row)) (p ++ row) ≡ p ++ cond b (map (cased case) row) row
 digits_apart true case p row h =
     map-append (cased case) p row ∙ ap (λ z. z ++ map (cased case) row) (ap (map (cased case)) (h refl)

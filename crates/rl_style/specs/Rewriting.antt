@@ -1,5 +1,5 @@
 -- Literals written anew: what a style makes of a strict text, and what every style keeps. A character is its code.
-use Rattle.std.specs.Prelude.{◌≡◌, ◌⊎◌, ℕ, Bool, true, false, not, ◌&&◌, ◌==◌, List, ◌∷◌, ◌++◌, Option, map, if◌then◌else◌}
+use Rattle.std.specs.Prelude.{◌≡◌, ◌⊎◌, ℕ, Bool, true, false, not, ◌&&◌, ◌==◌, List, ◌∷◌, ◌++◌, Option, None, map, if◌then◌else◌}
 use Rattle.std.specs.List.{flat_map}
 use Rattle.rl_forms.specs.declared.kind.Kind.{Kind}
 use Rattle.rl_forms.specs.Reading.{Contents}
@@ -98,3 +98,12 @@ Rewrites style old new =
     RewritesInt style old new
     ⊎ (RewritesFloat style old new
     ⊎ (RewritesRaw style old new ⊎ (RewritesCooked style old new ⊎ KeepsTruth old new)))
+
+-- The style has no rule.
+pub record HasNoRule (style : Style) : Type 0 where
+  pub hex_digits : style.hex_digits ≡ None
+  pub exponent_letter : style.exponent_letter ≡ None
+  pub exponent_plus : style.exponent_plus ≡ false
+  pub escape_digits : style.escape_digits ≡ None
+  pub quote_escapes : style.quote_escapes ≡ false
+  pub raw_hashes : style.raw_hashes ≡ false

@@ -4,7 +4,7 @@ ghost use Rattle.std.specs.Prelude.{List, ℕ, ◌≡◌};
 ghost use Rattle.rl_style.specs.declared.style.Style.{Style};
 ghost use Rattle.rl_style.specs.Around.{StaysAround, StaysBeforeQuote, KeepsItsEnds};
 ghost use Rattle.rl_style.specs.Recut.{KeepsTheCut, KeepsTheCutUnraw, KeepsTheSource};
-ghost use Rattle.rl_style.specs.Rewriting.{SameLiteral, Rewrites};
+ghost use Rattle.rl_style.specs.Rewriting.{HasNoRule, SameLiteral, Rewrites};
 
 /// A literal that is written anew is the same literal: its kind, its contents and its suffix are what they were.
 pub fn a_rewritten_literal_is_the_same()
@@ -14,6 +14,16 @@ pub fn a_rewritten_literal_is_the_same()
 /// What was written in a style, that style leaves as it is.
 pub fn what_was_written_stays()
     ensures { (style : Style) (t u : List ℕ) → Rewrites style t u → Rewrites style u u }
+{}
+
+/// A literal is one text in a style: whatever is the literal in the style is what [`rewrite_into`](crate::rewrite_into) writes.
+pub fn a_literal_has_one_text_in_a_style()
+    ensures { (style : Style) (t u w : List ℕ) → Rewrites style t u → Rewrites style t w → u ≡ w }
+{}
+
+/// A style without rules changes nothing.
+pub fn no_rule_changes_nothing()
+    ensures { (style : Style) (t u : List ℕ) → HasNoRule style → Rewrites style t u → u ≡ t }
 {}
 
 /// A token of a source stays one before a literal that begins as the old one did. Bad quotes and stray characters aside: no source
