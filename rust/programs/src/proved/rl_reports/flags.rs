@@ -107,7 +107,7 @@ pub(crate) fn letter_of(c: char) -> Option<Flag> {
 }
 
 /// What stands after the front of a word, where the word begins with that.
-fn after_front<'w>(front: &str, word: &'w str) -> Option<&'w str> {
+pub(crate) fn after_front<'w>(front: &str, word: &'w str) -> Option<&'w str> {
     word.strip_prefix(front)
 }
 

@@ -75,6 +75,22 @@ fn push_flaws_left<'t, A: Allocator>(
     Ok(())
 }
 
+/// Whether a flaw is that of an integer past 128 bits.
+fn is_limit(flaw: Flaw) -> bool {
+    matches!(flaw.kind, FlawKind::TooLarge)
+}
+
+/// The finding of an integer past 128 bits.
+fn limit_finding(text: &str, flaw: Flaw) -> Finding {
+    Finding {
+        reason: Reason::Flaw(flaw.kind),
+        lo: flaw.lo,
+        hi: flaw.hi,
+        from: 0,
+        to: text.len(),
+    }
+}
+
 /// Appends the line of an integer past 128 bits.
 fn push_limit<'t, A: Allocator>(
     out: &mut String<A>,
@@ -83,13 +99,7 @@ fn push_limit<'t, A: Allocator>(
     places: &mut Places<'t>,
     flaw: Flaw,
 ) -> Result<(), AllocError> {
-    let finding = Finding {
-        reason: Reason::Flaw(flaw.kind),
-        lo: flaw.lo,
-        hi: flaw.hi,
-        from: 0,
-        to: literal.token.text.len(),
-    };
+    let finding = limit_finding(literal.token.text, flaw);
     push_finding(out, options, literal, places, finding)
 }
 
@@ -103,7 +113,7 @@ pub(crate) fn push_flaws<'t, A: Allocator>(
     places: &mut Places<'t>,
     flaw: Flaw,
 ) -> Result<(), AllocError> {
-    if matches!(flaw.kind, FlawKind::TooLarge) {
+    if is_limit(flaw) {
         return push_limit(out, options, literal, places, flaw);
     }
     let read = read_text(alloc, literal.token.text)?;
