@@ -48,3 +48,8 @@ abbrev pub HasType : Kind → List ℕ → ℕ → Bool → List ℕ → Type 0
 HasType kind text magnitude negated suffix =
     (suffix ≡ []) ⊎ (kind ≡ BoolKind)
     ⊎ ((t : NumberType) × Names suffix t × IsOfType t kind text magnitude negated)
+
+-- a fault and a type exclude each other
+abbrev pub ExcludesType : TypeFault → Kind → List ℕ → ℕ → Bool → List ℕ → Type 0
+ExcludesType fault kind text magnitude negated suffix =
+    HasFault fault kind text magnitude negated suffix → HasType kind text magnitude negated suffix → ⊥
