@@ -19,7 +19,7 @@ use Rattle.rl_sources.specs.declared.options.Spelling.{Spelling}
 use Rattle.rl_sources.specs.declared.options.Spelling.TheVariants.{Value, Source}
 use Rattle.rl_sources.specs.declared.options.Shown.TheVariants as shown
 use Rattle.rl_reports.specs.declared.flags.Flag.{Flag}
-use Rattle.rl_reports.specs.declared.flags.Flag.TheVariants.{Bad, Hidden, Only, Find, Text, Json, Color, Bytes, Lines, NoStray, Count, Files, Quiet, Help, Version, Paths}
+use Rattle.rl_reports.specs.declared.flags.Flag.TheVariants.{Bad, Hidden, Only, Find, Text, Json, Color, Bytes, Lines, NoStray, AnySuffix, Count, Files, Quiet, Help, Version, Paths}
 use Rattle.rl_reports.specs.declared.flags.Operand.{Operand}
 use Rattle.rl_reports.specs.declared.flags.Operand.TheVariants as takes
 use Rattle.rl_reports.specs.declared.flags.Next.{Next}
@@ -43,6 +43,7 @@ IsOptionWord Color word = word ≡ codes "--color"
 IsOptionWord Bytes word = (word ≡ codes "-o") ⊎ (word ≡ codes "--bytes")
 IsOptionWord Lines word = word ≡ codes "--lines"
 IsOptionWord NoStray word = word ≡ codes "--no-stray"
+IsOptionWord AnySuffix word = word ≡ codes "--any-suffix"
 IsOptionWord Count word = (word ≡ codes "-c") ⊎ (word ≡ codes "--count")
 IsOptionWord Files word = (word ≡ codes "-l") ⊎ (word ≡ codes "--files")
 IsOptionWord Quiet word = (word ≡ codes "-q") ⊎ (word ≡ codes "--quiet")
@@ -129,6 +130,7 @@ pub record Wishes : Type 0 where
   pub places : PlaceForm
   pub output : Output
   pub rejects_strays : Bool
+  pub any_suffix : Bool
   pub spelling : Spelling
   pub form : Form
   pub paths : List (List ℕ)
@@ -142,6 +144,7 @@ first_wishes has_colors = record {
   places = form.Usual;
   output = output.Lines;
   rejects_strays = false;
+  any_suffix = false;
   spelling = Value;
   form = colored_form has_colors Auto;
   paths = [];
@@ -156,6 +159,7 @@ wishes_of command paths = record {
   places = command.places;
   output = command.output;
   rejects_strays = command.rejects_strays;
+  any_suffix = command.any_suffix;
   spelling = command.spelling;
   form = command.form;
   paths = paths;
@@ -193,6 +197,7 @@ with_flag Color w = w
 with_flag Bytes w = record w { places = form.Bytes }
 with_flag Lines w = record w { places = form.Lines }
 with_flag NoStray w = record w { rejects_strays = true }
+with_flag AnySuffix w = record w { any_suffix = true }
 with_flag Count w = record w { output = output.Count }
 with_flag Files w = record w { output = output.Path }
 with_flag Quiet w = record w { output = output.Nothing }

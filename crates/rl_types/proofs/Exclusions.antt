@@ -5,8 +5,8 @@ use Rattle.rl_reading.proofs.Names.{Kind, Int, Float}
 use Rattle.rl_forms.specs.declared.kind.Kind.TheVariants.{Bool as BoolKind}
 use Rattle.rl_forms.specs.Numbers.{begins_base}
 use Rattle.rl_reading.specs.Founds.{is_quoted}
-use Rattle.rl_types.specs.NumberTypes.{greatest_of, type_name}
-use Rattle.rl_types.specs.TypeFaults.{HasFault, HasType, IsOfType, Names}
+use Rattle.rl_types.specs.NumberTypes.{greatest_of, number_name}
+use Rattle.rl_types.specs.TypeFaults.{HasFault, HasType, IsOfType, NamesType}
 use Rattle.rl_types.specs.declared.faults.TypeFault.{TypeFault}
 use Rattle.rl_types.specs.declared.faults.TypeFault.TheVariants.{QuotedSuffix, UnknownSuffix, FloatSuffix, BasedFloat, OutOfRange}
 use Rattle.rl_types.specs.declared.number_types.NumberType.{NumberType}
@@ -19,16 +19,16 @@ number_of (b ∷ bs) = b + 256 * number_of bs
 
 named_by : ℕ → Option NumberType
 named_by n =
-    if n == number_of (type_name U8) then Some U8 else (if n == number_of (type_name U16) then Some U16
-    else (if n == number_of (type_name U32) then Some U32 else (if n == number_of (type_name U64) then Some U64
-    else (if n == number_of (type_name U128) then Some U128 else (if n == number_of (type_name Usize) then Some Usize
-    else (if n == number_of (type_name I8) then Some I8 else (if n == number_of (type_name I16) then Some I16
-    else (if n == number_of (type_name I32) then Some I32 else (if n == number_of (type_name I64) then Some I64
-    else (if n == number_of (type_name I128) then Some I128 else (if n == number_of (type_name Isize) then Some Isize
-    else (if n == number_of (type_name F32) then Some F32 else (if n == number_of (type_name F64) then Some F64
+    if n == number_of (number_name U8) then Some U8 else (if n == number_of (number_name U16) then Some U16
+    else (if n == number_of (number_name U32) then Some U32 else (if n == number_of (number_name U64) then Some U64
+    else (if n == number_of (number_name U128) then Some U128 else (if n == number_of (number_name Usize) then Some Usize
+    else (if n == number_of (number_name I8) then Some I8 else (if n == number_of (number_name I16) then Some I16
+    else (if n == number_of (number_name I32) then Some I32 else (if n == number_of (number_name I64) then Some I64
+    else (if n == number_of (number_name I128) then Some I128 else (if n == number_of (number_name Isize) then Some Isize
+    else (if n == number_of (number_name F32) then Some F32 else (if n == number_of (number_name F64) then Some F64
     else None)))))))))))))
 
-name_tells : (t : NumberType) → named_by (number_of (type_name t)) ≡ Some t
+name_tells : (t : NumberType) → named_by (number_of (number_name t)) ≡ Some t
 unfolding named_by number_of
 name_tells U8 = refl
 name_tells U16 = refl
@@ -45,19 +45,19 @@ name_tells Isize = refl
 name_tells F32 = refl
 name_tells F64 = refl
 
-one_type : (s : List ℕ) (t u : NumberType) → Names s t → Names s u → t ≡ u
+one_type : (s : List ℕ) (t u : NumberType) → NamesType s t → NamesType s u → t ≡ u
 one_type s t u a b =
     let e : Some t ≡ Some u = sym (name_tells t) ∙ ap (λ z. named_by (number_of z)) (sym a ∙ b) ∙ name_tells u in
     (cc)
 
-some_name : (s : List ℕ) (t : NumberType) → Names s t → s ≢ []
+some_name : (s : List ℕ) (t : NumberType) → NamesType s t → s ≢ []
 unfolding named_by number_of
 some_name s t a none =
     let e : Some t ≡ None = sym (name_tells t) ∙ ap (λ z. named_by (number_of z)) (sym a ∙ none) in
     absurd (cc)
 
 -- what begins as a float's suffix names no type of integers
-float_name : (t : NumberType) (n : Bool) → first_passes (λ b. b == 102) (type_name t) ≡ true → greatest_of t n ≡ None
+float_name : (t : NumberType) (n : Bool) → first_passes (λ b. b == 102) (number_name t) ≡ true → greatest_of t n ≡ None
 float_name F32 n h = refl
 float_name F64 n h = refl
 float_name U8 n h = absurd (both_ways false refl h)
@@ -108,7 +108,7 @@ float_is_float t u k text m n same f some (inl o) = int_not_float k o.0 f
 float_is_float t u k text m n same f some (inr (inl o)) = int_not_float k o.0 f
 float_is_float t u k text m n same f some (inr (inr o)) = some (ap (λ z. greatest_of z n) same ∙ o.1)
 
-based_is_none : (t : NumberType) (k : Kind) (text s : List ℕ) (m : ℕ) (n : Bool) → Names s t → k ≡ Int
+based_is_none : (t : NumberType) (k : Kind) (text s : List ℕ) (m : ℕ) (n : Bool) → NamesType s t → k ≡ Int
     → begins_base text ≡ true → first_passes (λ b. b == 102) s ≡ true → IsOfType t k text m n → ⊥
 based_is_none t k text s m n named i based float (inl (e, (g, is, le))) =
     none_some (greatest_of t n) g (float_name t n (sym (ap (first_passes (λ b. b == 102)) named) ∙ float)) is

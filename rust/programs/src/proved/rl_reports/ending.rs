@@ -19,6 +19,7 @@ Prints the literals of Rust sources, or what is wrong with them.
          `target`; links aren't followed. `-` is standard input, as is no PATH, unless input is a terminal (then `.`)
 What is printed (every literal, if nothing is said; of -b, -B and -k one, and -f with -k alone)
   -b, --bad            what Rust rejects: bad literals, quotes and comments left open, and why
+      --any-suffix     with -b: any suffix and value, as macros may take 1u9; else only those that Rust has a type for
   -B, --hidden         literals with raw characters in them that turn or hide text, such as U+202E; not comments
   -k, --only KIND,..   Str ByteStr CStr Byte Char Int Float Bool Verbatim, in any case
   -f, --find TEXT      what holds TEXT in its contents, however it is written, at the place where TEXT begins
@@ -29,7 +30,7 @@ How it is printed
   -o, --bytes          LO..HI in place of LINE:COLUMN
       --lines          LINE:COLUMN in place of LO..HI
       --text           the literal as it is written, in place of KIND VALUE SUFFIX
-      --json           an object of JSON: path, lo, hi, line, column; kind, text, value, suffix; or text, error, piece
+      --json           an object of JSON: path, lo, hi, line, column; kind, text, value, suffix; or text, id, error, piece
       --color WHEN     auto (on a terminal, unless NO_COLOR is set or TERM is dumb), always or never
   -c, --count          how many lines a file has      -l, --files   its path      -q, --quiet   nothing
       --               what follows is a PATH
