@@ -6,11 +6,13 @@
 It makes N literals, good and bad: escapes, bases, exponents, suffixes and values. With a PATH the literals of the files there are
 taken too, each once. What `rl_scan --bad --json` reports of them is compared with what rustc rejects: each literal stands in a
 source of its own line, as `let _ = LITERAL;`; what rustc reports is taken out, and the rest is read again, until nothing is
-reported, since later passes of rustc begin only where the earlier ones find nothing. The last lines are the literals that rl_scan
+reported, since later passes of rustc begin only where the earlier ones find nothing. That an integer without a suffix is past the
+type that rustc infers for it here says nothing of the literal, and isn't counted. The last lines are the literals that rl_scan
 reports and rustc takes (`false:`), those that rustc rejects and rl_scan doesn't report (`missed:`), and the numbers. The status is 1
 where one is false. Nothing of what rl_scan prints is expected: the answers are rustc's.
 """
 import argparse
+import bisect
 import json
 import os
 import random
@@ -80,6 +82,11 @@ def reported(program, texts):
     return {line['text'] for line in lines if 'text' in line}
 
 
+def is_inferred(text, message):
+    """Whether rustc says this of the type alone that it infers here, since the literal has no suffix."""
+    return message == 'literal out of range for `i32`' and not text.endswith('i32')
+
+
 def rejected_at_once(texts):
     """Those of the literals that rustc names in the errors of one run."""
     front, ends, source = b'fn main() {\n', [], b'fn main() {\n'
@@ -97,8 +104,8 @@ def rejected_at_once(texts):
         it = json.loads(line)
         if it.get('level') == 'error':
             for span in it['spans']:
-                at = next((k for k, end in enumerate(ends) if span['byte_start'] < end), None)
-                if at is not None and span['byte_start'] >= len(front):
+                at = bisect.bisect_right(ends, span['byte_start'])
+                if at < len(ends) and span['byte_start'] >= len(front) and not is_inferred(texts[at], it['message']):
                     bad.add(texts[at])
     return bad
 

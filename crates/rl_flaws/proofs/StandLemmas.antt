@@ -18,7 +18,7 @@ use Rattle.rl_reasons.specs.Mirrors.UnitFlawAt.{FoundFlaw, found_flaw}
 use Rattle.rl_reasons.specs.Mirrors.WordFlawAt.{end_flaw_at}
 use Rattle.rl_reasons.proofs.ReadQuoted.{judged_by}
 use Rattle.rl_flaws.specs.BadPieces.{after_bad_piece, after_brace, after_code_digits, after_escape, after_hex, after_one, after_unicode, is_of_unit}
-use Rattle.rl_flaws.specs.Flawed.{EndsWhere, FlawsState, IsPlaceLeft, StandsInLeft, left_count}
+use Rattle.rl_flaws.specs.Flawed.{EndsWhere, FlawsState, IsPlaceInLeft, StandsInLeft, left_count}
 use Rattle.rl_flaws.specs.Inside.{IsEndOf}
 use Rattle.rl_flaws.specs.Left.{FollowsPiece, state_of}
 use Rattle.rl_flaws.specs.declared.bad_piece.BadPiece.{BadPiece}
@@ -125,11 +125,11 @@ some_of_unit closing (Some f) some = λ u. some
 -- ---- places of what is left
 
 place_of : (s : FlawsState) (at : ℕ) (back : List ℕ) → IsEndOf (chars s.rest) back → at + byte_len back ≡ s.len
-    → IsPlaceLeft s at
+    → IsPlaceInLeft s at
 place_of s at back (f, e) is = record { front = f; back = back; text_is = e; at_is = is }
 
 place_after : (s : FlawsState) (lo hi : ℕ) (back : List ℕ) → IsEndOf (chars s.rest) back → lo + byte_len back ≡ s.len
-    → hi ≡ lo + first_len back → IsPlaceLeft s hi
+    → hi ≡ lo + first_len back → IsPlaceInLeft s hi
 place_after s lo hi [] p is e = place_of s hi [] p (omega (arith, is, e))
 place_after s lo hi (c ∷ cs) p is e =
     let long : byte_len (c ∷ cs) ≡ length (encode_utf8 c) + byte_len cs = length-append (encode_utf8 c) (encode_utf8_all cs) in

@@ -87,7 +87,7 @@ abbrev pub GivesFlaw : FlawsState → Option BadPiece → FlawsState → Type 0
 GivesFlaw old bad new = MatchOption bad (HasNoFlaw old new) (λ it. TakesFlaw old it new)
 
 -- The place is one of what is left.
-pub record IsPlaceLeft (s : FlawsState) (at : ℕ) : Type 0 where
+pub record IsPlaceInLeft (s : FlawsState) (at : ℕ) : Type 0 where
   pub front : List ℕ
   pub back : List ℕ
   pub text_is : chars s.rest ≡ front ++ back
@@ -100,10 +100,10 @@ left_count s = if s.over then 0 else suc (length s.rest)
 -- The flaw stands in what was left, and so does its piece where that is a character or an escape; what is left now follows, and is
 -- less.
 pub record StandsInLeft (old : FlawsState) (bad : BadPiece) (new : FlawsState) : Type 0 where
-  pub lo : IsPlaceLeft old bad.flaw.lo
-  pub hi : IsPlaceLeft old bad.flaw.hi
-  pub from : IsTrue (is_of_unit bad.flaw.kind) → IsPlaceLeft old bad.flaw.from
-  pub end : IsTrue (is_of_unit bad.flaw.kind) → IsPlaceLeft old bad.end
+  pub lo : IsPlaceInLeft old bad.flaw.lo
+  pub hi : IsPlaceInLeft old bad.flaw.hi
+  pub from : IsTrue (is_of_unit bad.flaw.kind) → IsPlaceInLeft old bad.flaw.from
+  pub end : IsTrue (is_of_unit bad.flaw.kind) → IsPlaceInLeft old bad.end
   pub following : IsEndOf (chars old.rest) (chars new.rest)
   pub less : left_count new < left_count old
 

@@ -2,7 +2,7 @@
 use Rattle.rl_text.proofs.Common.{List, [], ap, arith, chars, encode_utf8, inl, inr, length, length-append, length-encode, len_utf8_bounds, encode_ascii, refl, subst, sym, ℕ, ◌++◌, ◌<◌, ◌∙◌, ◌∷◌, ◌≡◌, ◌≢◌, ◌⊎◌, Bool}
 use Prim.Native.Char.{code}
 use Rattle.rl_reports.specs.declared.flags.Flag.{Flag}
-use Rattle.rl_reports.specs.declared.flags.Flag.TheVariants.{Bad, Hidden, Only, Find, IgnoreCase, WholeWords, Text, Json, Color, Bytes, Lines, NoStray, All, Extension, Count, Files, Quiet, Help, Version, Paths}
+use Rattle.rl_reports.specs.declared.flags.Flag.TheVariants.{Bad, Hidden, Only, Find, IgnoreCase, WholeWords, Text, Json, Color, Bytes, Lines, NoStray, AnySuffix, All, Extension, Count, Files, Quiet, Help, Version, Paths}
 use Rattle.rl_reports.specs.declared.flags.Operand.{Operand}
 use Rattle.rl_reports.specs.declared.flags.Operand.TheVariants as takes
 use Rattle.rl_reports.specs.declared.flags.Next.{Next}
@@ -29,6 +29,7 @@ letter_low Color c is = absurd is
 letter_low Bytes c is = absurd is
 letter_low Lines c is = absurd is
 letter_low NoStray c is = absurd is
+letter_low AnySuffix c is = absurd is
 letter_low All c is = absurd is
 letter_low Extension c is = absurd is
 letter_low Paths c is = absurd is
@@ -149,6 +150,7 @@ letter_taken A hc word old letters now new then last rest after c flag split is 
     go Bytes is none added front = absurd is
     go Lines is none added front = absurd is
     go NoStray is none added front = absurd is
+    go AnySuffix is none added front = absurd is
     go All is none added front = absurd is
     go Extension is none added front = absurd is
     go Paths is none added front = absurd is
@@ -233,6 +235,7 @@ taken_flag Color takes.Extension e = absurd (cc)
 taken_flag Bytes operand e = absurd (cc)
 taken_flag Lines operand e = absurd (cc)
 taken_flag NoStray operand e = absurd (cc)
+taken_flag AnySuffix operand e = absurd (cc)
 taken_flag All operand e = absurd (cc)
 taken_flag Extension takes.Kinds e = absurd (cc)
 taken_flag Extension takes.Text e = absurd (cc)
@@ -259,6 +262,7 @@ takes_nothing Color none = absurd (none takes.Color refl)
 takes_nothing Bytes none = inl refl
 takes_nothing Lines none = inl refl
 takes_nothing NoStray none = inl refl
+takes_nothing AnySuffix none = inl refl
 takes_nothing All none = inl refl
 takes_nothing Extension none = absurd (none takes.Extension refl)
 takes_nothing Count none = inl refl

@@ -77,6 +77,7 @@ pub record IsOptionsFor (command : Command) (path : List ℕ) (options : Options
   pub form : options.form ≡ command.form
   pub by_line : options.by_line ≡ is_by_line command.places path
   pub rejects_strays : options.rejects_strays ≡ command.rejects_strays
+  pub any_suffix : options.any_suffix ≡ command.any_suffix
   pub explains : options.explains ≡ is_bad command.shown
   pub before : IsPathIn command.form path options.path
 

@@ -20,7 +20,7 @@ use Rattle.rl_sources.specs.declared.options.Spelling.{Spelling}
 use Rattle.rl_sources.specs.declared.options.Spelling.TheVariants.{Value, Source}
 use Rattle.rl_sources.specs.declared.options.Shown.TheVariants as shown
 use Rattle.rl_reports.specs.declared.flags.Flag.{Flag}
-use Rattle.rl_reports.specs.declared.flags.Flag.TheVariants.{Bad, Hidden, Only, Find, IgnoreCase, WholeWords, Text, Json, Color, Bytes, Lines, NoStray, All, Extension, Count, Files, Quiet, Help, Version, Paths}
+use Rattle.rl_reports.specs.declared.flags.Flag.TheVariants.{Bad, Hidden, Only, Find, IgnoreCase, WholeWords, Text, Json, Color, Bytes, Lines, NoStray, AnySuffix, All, Extension, Count, Files, Quiet, Help, Version, Paths}
 use Rattle.rl_reports.specs.declared.flags.Operand.{Operand}
 use Rattle.rl_reports.specs.declared.flags.Operand.TheVariants as takes
 use Rattle.rl_reports.specs.declared.flags.Next.{Next}
@@ -47,6 +47,7 @@ IsOptionWord Color word = word ≡ codes "--color"
 IsOptionWord Bytes word = word ≡ codes "--bytes"
 IsOptionWord Lines word = word ≡ codes "--lines"
 IsOptionWord NoStray word = word ≡ codes "--no-stray"
+IsOptionWord AnySuffix word = word ≡ codes "--any-suffix"
 IsOptionWord All word = word ≡ codes "--all"
 IsOptionWord Extension word = word ≡ codes "--extension"
 IsOptionWord Count word = word ≡ codes "--count"
@@ -151,6 +152,7 @@ pub record Wishes : Type 0 where
   pub places : PlaceForm
   pub output : Output
   pub rejects_strays : Bool
+  pub any_suffix : Bool
   pub spelling : Spelling
   pub form : Form
   pub all_directories : Bool
@@ -168,6 +170,7 @@ first_wishes has_colors = record {
   places = form.Usual;
   output = output.Lines;
   rejects_strays = false;
+  any_suffix = false;
   spelling = Value;
   form = colored_form has_colors Auto;
   all_directories = false;
@@ -186,6 +189,7 @@ wishes_of command paths = record {
   places = command.places;
   output = command.output;
   rejects_strays = command.rejects_strays;
+  any_suffix = command.any_suffix;
   spelling = command.spelling;
   form = command.form;
   all_directories = command.selection.all;
@@ -227,6 +231,7 @@ with_flag Color w = w
 with_flag Bytes w = record w { places = form.Bytes }
 with_flag Lines w = record w { places = form.Lines }
 with_flag NoStray w = record w { rejects_strays = true }
+with_flag AnySuffix w = record w { any_suffix = true }
 with_flag All w = record w { all_directories = true }
 with_flag Extension w = w
 with_flag Count w = record w { output = output.Count }

@@ -77,6 +77,11 @@ const LARGE: &str = "340282366920938463463374607431768211456f64
 /// Literals with several flaws, one of them across lines that end with CR LF.
 const MANY: &str = "\"\\xff \\q\\u{1234567}\" b\"é\\u{41}\"\r\n\"\\q\r\n\\xg é\\z\"";
 
+/// Suffixes that Rust takes, or only a macro, and values of their types and past them.
+const TYPED: &str = "1u8 256u8 -128i8 129i8 1u9
+\"a\"x 'b'y b\"c\"d r\"e\"u8
+1.0u8 0b1f32 1e5f64 1_f32 0xFFi8 1f16 true";
+
 /// What a file of the tree holds that is a text.
 fn text_at(path: &str) -> Option<&'static str> {
     match path {
@@ -94,6 +99,7 @@ fn text_at(path: &str) -> Option<&'static str> {
         "json" => Some(JSON),
         "large" => Some(LARGE),
         "many" => Some(MANY),
+        "typed" => Some(TYPED),
         "hides" => Some(HIDES),
         "trojan.rs" => Some(TROJAN),
         "marked" => Some(MARKED),

@@ -1,36 +1,35 @@
 -- The lines of all flaws of a literal.
-use Rattle.rl_text.proofs.Common.{◌≡◌, ◌≢◌, ◌≤◌, ◌<◌, ◌+◌, ℕ, Bool, true, false, List, [], ◌∷◌, ◌++◌, Option, Some, None, inl, inr, length, length-append, refl, sym, ap, subst, ◌∙◌, arith, append_assoc, append-nil, encode_utf8_all, encodes-chars, IsUtf8, chars}
+use Rattle.rl_text.proofs.Common.{◌≡◌, ◌≤◌, ◌+◌, ℕ, true, false, List, [], ◌∷◌, ◌++◌, Option, Some, None, inl, inr, length, refl, sym, ap, subst, ◌∙◌, arith, append_assoc, append-nil, encode_utf8_all, encodes-chars, IsUtf8, chars}
 use Rattle.rl_text.specs.Texts.{byte_len}
 use Rattle.rl_lexer.proofs.CutLemmas.{byte_len-append}
 use Rattle.rl_lines.specs.Lines.{Appends}
 use Rattle.rl_reading.specs.declared.quoted_forms.QuotedForm.{QuotedForm}
 use Rattle.rl_reading.specs.declared.quoted_forms.QuotedForm.TheVariants.{Cooked as CookedForm, Raw as RawForm, Single as SingleForm}
 use Rattle.rl_reasons.specs.declared.flaws.Flaw.{Flaw}
-use Rattle.rl_reasons.specs.declared.flaws.FlawKind.{FlawKind}
 use Rattle.rl_reasons.specs.declared.flaws.FlawKind.TheVariants.{TooLarge}
-use Rattle.rl_reasons.specs.Limits.{ExplainsLimit}
 use Rattle.rl_reasons.specs.StrictFlaws.{ExplainsStrictly, IsStrictFlawOf}
-use Rattle.rl_strict.specs.StrictShapes.{IsToken}
 use Rattle.rl_file_reasons.specs.FileTexts.{IsPlaceInFile, lf_text}
 use Rattle.rl_flaws.specs.BadPieces.{is_of_unit}
-use Rattle.rl_flaws.specs.Flawed.{AreFlawsOf, FlawsState, GivesFlaw, IsPlaceLeft, StandsInLeft, TakesFlaw, judged}
+use Rattle.rl_flaws.specs.Flawed.{AreFlawsOf, FlawsState, GivesFlaw, IsPlaceInLeft, StandsInLeft, TakesFlaw}
 use Rattle.rl_flaws.specs.declared.bad_piece.BadPiece.{BadPiece}
 use Rattle.rl_sources.specs.declared.finding.Finding.{Finding}
-use Rattle.rl_sources.specs.declared.finding.Reason.{Reason}
+use Rattle.rl_sources.specs.declared.finding.Wrong.TheVariants as wrong
+use Rattle.rl_reading.specs.declared.found.Found.{Found}
+use Rattle.rl_types.specs.declared.faults.TypeFault.{TypeFault}
 use Rattle.rl_sources.specs.declared.finding.Reason.TheVariants as reason
 use Rattle.rl_sources.specs.declared.options.Options.{Options}
 use Rattle.rl_sources.specs.declared.place.Place.{Place}
-use Rattle.rl_sources.specs.Findings.{AreFlawsLeft, IsFlawFinding, IsLimitFinding, IsPieceOf, IsShownPiece, IsSlice, reason_message}
+use Rattle.rl_sources.specs.Findings.{FindsFlaw, IsFlawFinding, IsLimitFinding, IsPieceOf, IsShownPiece, IsTypeFinding, IsWrong}
 use Rattle.rl_sources.specs.Held.{IsCutAt}
 use Rattle.rl_sources.specs.InFile.{AreCuts, IsFlawsOver}
 use Rattle.rl_sources.proofs.InFileLemmas.{file_cut, file_within}
 use Rattle.rl_sources.proofs.ReasonLemmas.{flaw_cut, has_place}
 use Rattle.rl_sources.specs.Places.{IsPlaceIn, line_front}
-use Rattle.rl_sources.specs.Scans.{AreFlawLines, AreReasonLines, FindsFlaw, IsFindingLine, IsFlawLine, finding_end}
+use Rattle.rl_sources.specs.Scans.{AreAllFlawLines, AreFlawLines, AreReasonLines, IsFindingLine, IsLimitLine, IsTypeLine, finding_end}
 
 -- ---- what the cursor gives stands in the text
 
-cut_left : (text : List ℕ) (s : FlawsState) (at : ℕ) → IsFlawsOver text s → IsPlaceLeft s at → IsCutAt (lf_text text) at
+cut_left : (text : List ℕ) (s : FlawsState) (at : ℕ) → IsFlawsOver text s → IsPlaceInLeft s at → IsCutAt (lf_text text) at
 cut_left text s at over p =
     let whole : lf_text text ≡ (over.front ++ p.front) ++ p.back = over.text_is ∙ ap (λ z. over.front ++ z) p.text_is
     ∙ sym (append_assoc over.front p.front p.back) in
@@ -148,20 +147,46 @@ explains_no_limit text flaw e large = not_large text e.place.stops.front e.piece
 
 pub limit_lines : (options : Options) (whole text : List ℕ) (lo : ℕ) (flaw : Flaw) (finding : Finding) (old new : List ℕ)
     → FindsFlaw text flaw → flaw.kind ≡ TooLarge → IsLimitFinding text flaw finding
-    → Appends (IsFindingLine options whole text lo finding) old new → Appends (AreReasonLines options whole text lo) old new
+    → Appends (IsFindingLine options whole text lo finding) old new → Appends (IsLimitLine options whole text lo) old new
 limit_lines options whole text lo flaw finding old new (inl e) large is (line, shows, f) =
     absurd (explains_no_limit (lf_text text) e.read e.explains (sym e.kind ∙ large))
 limit_lines options whole text lo flaw finding old new (inr (token, limit)) large is (line, shows, f) =
-    (line, inr (token, (flaw, finding, limit, is, shows)), f)
+    (line, (token, (flaw, finding, limit, is, shows)), f)
 
 pub flaw_lines : (options : Options) (whole text read : List ℕ) (lo : ℕ) (flaw : Flaw) (start : FlawsState) (old new : List ℕ)
     → FindsFlaw text flaw → (flaw.kind ≡ TooLarge → ⊥) → IsUtf8 read → chars read ≡ lf_text text → AreFlawsOf read start
-    → Appends (AreFlawLines options whole text lo start) old new → Appends (AreReasonLines options whole text lo) old new
+    → Appends (AreFlawLines options whole text lo start) old new → Appends (AreAllFlawLines options whole text lo) old new
 flaw_lines options whole text read lo flaw start old new (inr (token, limit)) other u is are (line, shows, f) =
     absurd (other limit.1.kind_is)
 flaw_lines options whole text read lo flaw start old new (inl e) other u is are (line, shows, f) =
     let same : read ≡ encode_utf8_all (lf_text text) = sym (encodes-chars read u) ∙ ap encode_utf8_all is in
-    (line, inl (e.explains.no_token, (start, subst (λ (r : List ℕ). AreFlawsOf r start) same are, shows)), f)
+    (line, (e.explains.no_token, (start, subst (λ (r : List ℕ). AreFlawsOf r start) same are, shows)), f)
+
+-- ---- a literal that Rust has no type for
+
+pub fault_line : (options : Options) (whole text : List ℕ) (found : Option Found) (lo : ℕ) (fault : TypeFault)
+    (finding : Finding) (old new : List ℕ) → IsWrong options.any_suffix text found (wrong.Type fault)
+    → IsTypeFinding (chars text) fault finding → Appends (IsFindingLine options whole (chars text) lo finding) old new
+    → Appends (IsTypeLine options whole text found lo) old new
+fault_line options whole text found lo fault finding old new bad is (line, shows, f) =
+    (line, (fault, finding, bad, is, shows), f)
+
+-- ---- any of these
+
+pub all_flaws_say : (options : Options) (whole text : List ℕ) (found : Option Found) (lo : ℕ) (old new : List ℕ)
+    → Appends (AreAllFlawLines options whole (chars text) lo) old new
+    → Appends (AreReasonLines options whole text found lo) old new
+all_flaws_say options whole text found lo old new (line, shows, f) = (line, inl shows, f)
+
+pub limit_says : (options : Options) (whole text : List ℕ) (found : Option Found) (lo : ℕ) (old new : List ℕ)
+    → Appends (IsLimitLine options whole (chars text) lo) old new
+    → Appends (AreReasonLines options whole text found lo) old new
+limit_says options whole text found lo old new (line, shows, f) = (line, inr (inl shows), f)
+
+pub type_says : (options : Options) (whole text : List ℕ) (found : Option Found) (lo : ℕ) (old new : List ℕ)
+    → Appends (IsTypeLine options whole text found lo) old new
+    → Appends (AreReasonLines options whole text found lo) old new
+type_says options whole text found lo old new (line, shows, f) = (line, inr (inr shows), f)
 
 -- ---- the places of findings
 

@@ -1,5 +1,5 @@
 -- Places of a literal's text as rustc reads it, in the file.
-use Rattle.rl_text.proofs.Common.{◌≡◌, ◌≤◌, ◌<◌, ◌+◌, ◌-◌, ℕ, List, [], ◌∷◌, ◌++◌, length, length-append, refl, sym, ap, subst, ◌∙◌, arith, drop, append_assoc, encode_utf8, encode_utf8_all, encodes-append, encodes-chars, chars_from_encodes, append-nil, IsUtf8, chars}
+use Rattle.rl_text.proofs.Common.{◌≡◌, ◌≤◌, ◌<◌, ◌+◌, ◌-◌, ℕ, List, [], ◌∷◌, ◌++◌, length, length-append, sym, ap, subst, ◌∙◌, arith, drop, append_assoc, encode_utf8, encode_utf8_all, encodes-append, encodes-chars, chars_from_encodes, append-nil, IsUtf8, chars}
 use Rattle.rl_text.specs.Texts.{IsTail, byte_len}
 use Rattle.rl_text.proofs.TailLemmas.{tail_self, tail_step}
 use Rattle.rl_lexer.proofs.CutLemmas.{byte_len-append}

@@ -22,18 +22,16 @@ use Rattle.std.proofs.lemmas.Bool.{false≢true}
 use Rattle.rl_files.specs.Visible.{visible}
 use Rattle.rl_lines.proofs.LineLemmas.{pushed}
 use Rattle.rl_file_reasons.specs.FileTexts.{ExplainsInFile}
-use Rattle.rl_sources.specs.declared.options.Options.{Options}
-use Rattle.rl_sources.specs.declared.place.Place.{Place}
 use Rattle.rl_sources.specs.Held.{IsCutAt}
-use Rattle.rl_sources.specs.Places.{line_front, HoldsPlaces, IsPlaceIn}
+use Rattle.rl_sources.specs.Places.{HoldsPlaces}
 use Rattle.rl_types.specs.FaultWords.{fault_id, fault_message}
 use Rattle.rl_types.specs.declared.faults.TypeFault.{TypeFault}
 use Rattle.rl_types.specs.declared.faults.TypeFault.TheVariants.{QuotedSuffix, UnknownSuffix, FloatSuffix, BasedFloat as BasedFloatSuffix, OutOfRange}
 use Rattle.rl_sources.specs.declared.finding.Finding.{Finding}
 use Rattle.rl_sources.specs.declared.finding.Reason.{Reason}
 use Rattle.rl_sources.specs.declared.finding.Reason.TheVariants as reason
-use Rattle.rl_sources.specs.Findings.{IsPieceOf, IsSlice, reason_id, reason_message}
-use Rattle.rl_sources.specs.Scans.{FindsFlaw, error_reason}
+use Rattle.rl_sources.specs.Findings.{FindsFlaw, IsPieceOf, IsSlice, reason_id, reason_message}
+use Rattle.rl_sources.specs.Scans.{error_reason}
 use Rattle.rl_sources.specs.Steps.{BeginsRest, HasPlace}
 use Rattle.rl_sources.proofs.StepLemmas.{back_utf8, low_text}
 

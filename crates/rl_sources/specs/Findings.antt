@@ -1,10 +1,19 @@
 -- What is wrong with a literal, and where. Texts are lists of characters, places are in bytes.
-use Rattle.std.specs.Prelude.{◌≡◌, ◌⊎◌, ℕ, ◌-◌, ◌≤◌, Bool, true, false, List, [], ◌∷◌, take, drop, encode_utf8_all, IsTrue, Some, None}
-use Rattle.std.specs.Str.{IsCharBoundary}
+use Rattle.std.specs.Prelude.{◌≡◌, ◌⊎◌, ℕ, ◌-◌, ◌≤◌, Bool, true, false, List, [], ◌∷◌, take, drop, encode_utf8_all, IsTrue, IsFalse, IfNone, IfSome, Option, Some, None, ⊤}
+use Rattle.std.specs.Str.{IsCharBoundary, chars}
+use Rattle.rl_forms.specs.Reading.{HasNoReading, HasReading}
+use Rattle.rl_reading.specs.Founds.{IsFound, suffix_in}
+use Rattle.rl_reading.specs.declared.found.Found.{Found}
+use Rattle.rl_reasons.specs.Limits.{IsFloatBySuffix}
+use Rattle.rl_strict.specs.StrictShapes.{IsToken}
+use Rattle.rl_types.specs.TypeFaults.{HasFault, HasType}
+use Rattle.rl_types.specs.declared.faults.TypeFault.{TypeFault}
+use Rattle.rl_sources.specs.declared.finding.Wrong.{Wrong}
+use Rattle.rl_sources.specs.declared.finding.Wrong.TheVariants as wrong
 use Rattle.rl_text.specs.Texts.{byte_len}
 use Rattle.rl_reasons.specs.FlawWords.{flaw_id, flaw_message}
 use Rattle.rl_reasons.specs.declared.flaws.Flaw.{Flaw}
-use Rattle.rl_file_reasons.specs.FileTexts.{IsPlaceInFile}
+use Rattle.rl_file_reasons.specs.FileTexts.{ExplainsValueInFile, IsPlaceInFile, lf_text}
 use Rattle.rl_flaws.specs.BadPieces.{is_of_unit}
 use Rattle.rl_flaws.specs.Flawed.{FlawsState, GivesFlaw}
 use Rattle.rl_flaws.specs.declared.bad_piece.BadPiece.{BadPiece}
@@ -21,6 +30,44 @@ reason_message (reason.Type fault) = fault_message fault
 abbrev pub reason_id : Reason → List ℕ
 reason_id (reason.Flaw kind) = flaw_id kind
 reason_id (reason.Type fault) = fault_id fault
+
+-- the flaw of the text of a literal: as rustc reads it, it is no token; or it is an integer past 128 bits, and no float
+abbrev pub FindsFlaw : List ℕ → Flaw → Type 0
+FindsFlaw = ExplainsValueInFile
+
+-- as rustc reads it, the text is a token, and has a reading or is a float by its suffix
+abbrev pub FindsNoFlaw : List ℕ → Type 0
+FindsNoFlaw text = IsToken (lf_text text) × (HasReading (lf_text text) ⊎ IsFloatBySuffix (lf_text text))
+
+-- The text, in bytes, was read, and this was found.
+pub record IsFoundIn (text : List ℕ) (found : Option Found) : Type 0 where
+  pub none : IfNone found (HasNoReading (chars text))
+  pub some : IfSome found (IsFound text)
+
+-- Rust has no type for what was found, or has one; a minus may stand before it. A text without a reading is a float by its suffix.
+abbrev pub HasFoundFault : List ℕ → Option Found → TypeFault → Type 0
+HasFoundFault text None fault = ⊥
+HasFoundFault text (Some found) fault =
+    HasFault fault found.kind (chars text) found.magnitude true (suffix_in text found.body)
+
+abbrev pub HasFoundType : List ℕ → Option Found → Type 0
+HasFoundType text None = ⊤
+HasFoundType text (Some found) = HasType found.kind (chars text) found.magnitude true (suffix_in text found.body)
+
+-- what is wrong with the text of a literal, in bytes, of what was found; any suffix may stand there, or not
+abbrev pub IsWrong : Bool → List ℕ → Option Found → Wrong → Type 0
+IsWrong any_suffix text found (wrong.Flaw flaw) = FindsFlaw (chars text) flaw
+IsWrong any_suffix text found (wrong.Type fault) =
+    IsFalse any_suffix × FindsNoFlaw (chars text) × HasFoundFault text found fault
+
+-- nothing is wrong with it
+abbrev pub IsRight : Bool → List ℕ → Option Found → Type 0
+IsRight any_suffix text found =
+    FindsNoFlaw (chars text) × (IsTrue any_suffix ⊎ HasFoundType text found)
+
+-- something is
+abbrev pub IsBad : Bool → List ℕ → Option Found → Type 0
+IsBad any_suffix text found = (wrong : Wrong) × IsWrong any_suffix text found wrong
 
 -- the bytes from `lo` to `hi` are a text
 abbrev pub IsSlice : List ℕ → ℕ → ℕ → Type 0
@@ -51,6 +98,14 @@ pub record IsLimitFinding (text : List ℕ) (flaw : Flaw) (finding : Finding) : 
   pub reason_is : finding.reason ≡ reason.Flaw flaw.kind
   pub lo_is : finding.lo ≡ flaw.lo
   pub hi_is : finding.hi ≡ flaw.hi
+  pub from_is : finding.from ≡ 0
+  pub to_is : finding.to ≡ byte_len text
+
+-- That Rust has no type for a literal: place and piece are the whole literal.
+pub record IsTypeFinding (text : List ℕ) (fault : TypeFault) (finding : Finding) : Type 0 where
+  pub reason_is : finding.reason ≡ reason.Type fault
+  pub lo_is : finding.lo ≡ 0
+  pub hi_is : finding.hi ≡ byte_len text
   pub from_is : finding.from ≡ 0
   pub to_is : finding.to ≡ byte_len text
 

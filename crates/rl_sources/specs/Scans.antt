@@ -8,16 +8,16 @@ use Rattle.std.specs.Str.{IsCharBoundary}
 use Rattle.std.specs.Io.KnownBytes.{Appends, Keeps}
 use Rattle.rl_text.specs.Texts.{byte_len}
 use Rattle.rl_lexer.specs.Lexemes.{LiteralForm, IdentifierForm}
-use Rattle.rl_forms.specs.Reading.{HasReading, truth_text}
+use Rattle.rl_forms.specs.Reading.{truth_text}
 use Rattle.rl_lexer.specs.Sources.{source_text, SourceKind, PlainKind, StrayKind, source_kind, CutSource, source_end, IsCutUpTo, SourceBefore, SourceErrorAt}
 use Rattle.rl_lexer.specs.declared.lex_error.LexKind.{LexKind}
 use Rattle.rl_lexer.specs.declared.lex_error.LexKind.TheVariants.{StrayCharacter}
 use Rattle.rl_reasons.specs.declared.flaws.Flaw.{Flaw}
-use Rattle.rl_reasons.specs.Limits.{ExplainsLimit, IsFloatBySuffix}
+use Rattle.rl_reasons.specs.Limits.{ExplainsLimit}
 use Rattle.rl_flaws.specs.Flawed.{AreFlawsOf, FlawsState}
 use Rattle.rl_flaws.specs.declared.bad_piece.BadPiece.{BadPiece}
 use Rattle.rl_strict.specs.StrictShapes.{IsToken}
-use Rattle.rl_file_reasons.specs.FileTexts.{lf_text, ExplainsValueInFile}
+use Rattle.rl_file_reasons.specs.FileTexts.{lf_text}
 use Rattle.rl_lines.specs.Lines.{IsLineOf, IsLabelOf, Joins}
 use Rattle.rl_files.specs.Visible.{visible, visible_lines}
 use Rattle.rl_program.specs.Streams.{AppendsBeginning}
@@ -34,26 +34,18 @@ use Rattle.rl_sources.specs.declared.place.Place.{Place}
 use Rattle.rl_sources.specs.declared.scan_error.ScanError.{ScanError}
 use Rattle.rl_sources.specs.declared.scan_error.ScanError.TheVariants.{Fault, Source}
 use Rattle.rl_sources.specs.Colors.{painted}
-use Rattle.rl_sources.specs.Findings.{AreFlawsLeft, IsFlawFinding, IsLimitFinding, IsPieceOf, reason_message}
+use Rattle.rl_sources.specs.Findings.{AreFlawsLeft, IsBad, IsFlawFinding, IsFoundIn, IsLimitFinding, IsPieceOf, IsRight, IsTypeFinding, IsWrong, reason_message}
 use Rattle.rl_sources.specs.declared.finding.Finding.{Finding}
 use Rattle.rl_sources.specs.declared.finding.Reason.{Reason}
+use Rattle.rl_sources.specs.declared.finding.Wrong.TheVariants as wrong
+use Rattle.rl_reading.specs.declared.found.Found.{Found}
+use Rattle.rl_types.specs.declared.faults.TypeFault.{TypeFault}
+use Rattle.std.specs.Str.{chars}
 use Rattle.rl_sources.specs.Held.{Holds, IsHeldAt}
 use Rattle.rl_sources.specs.Hidden.{ShowsHidden}
 use Rattle.rl_sources.specs.Json.{is_json, IsJsonLiteral, finding_members, error_members}
 use Rattle.rl_sources.specs.Options.{Picks}
 use Rattle.rl_sources.specs.Places.{line_front, IsPlaceIn}
-
--- the flaw of the text of a literal: as rustc reads it, it is no token; or it is an integer past 128 bits, and no float
-abbrev pub FindsFlaw : List ℕ → Flaw → Type 0
-FindsFlaw = ExplainsValueInFile
-
--- as rustc reads it, the text is a token, and has a reading or is a float by its suffix
-abbrev pub FindsNoFlaw : List ℕ → Type 0
-FindsNoFlaw text = IsToken (lf_text text) × (HasReading (lf_text text) ⊎ IsFloatBySuffix (lf_text text))
-
--- the text has a flaw
-abbrev pub IsBad : List ℕ → Type 0
-IsBad text = (flaw : Flaw) × FindsFlaw text flaw
 
 -- what is printed of a literal: the line of its text as a literal, or the text as it is written
 abbrev pub IsPrintedAs : Spelling → List ℕ → List ℕ → Type 0
@@ -112,20 +104,44 @@ abbrev pub AreFlawLines : Options → List ℕ → List ℕ → ℕ → FlawsSta
 AreFlawLines options whole text lo start shown =
     (flaws : List BadPiece) × AreFlawsLeft start flaws × Joins (IsFlawLine options whole text lo) flaws shown
 
--- the lines that say why a text, which begins at this byte of the whole source, is bad: where it is no token as rustc reads it, one
--- for each of its flaws; else one, of an integer past 128 bits
-abbrev pub AreReasonLines : Options → List ℕ → List ℕ → ℕ → List ℕ → Type 0
-AreReasonLines options whole text lo shown =
-    ((IsToken (lf_text text) → ⊥) × ((start : FlawsState) × AreFlawsOf (encode_utf8_all (lf_text text)) start
-    × AreFlawLines options whole text lo start shown))
-    ⊎ (IsToken (lf_text text) × ((flaw : Flaw) × (finding : Finding) × ExplainsLimit text flaw
-    × IsLimitFinding text flaw finding × IsFindingLine options whole text lo finding shown))
+-- the lines of all flaws of a text that is no token as rustc reads it
+abbrev pub AreAllFlawLines : Options → List ℕ → List ℕ → ℕ → List ℕ → Type 0
+AreAllFlawLines options whole text lo shown =
+    (IsToken (lf_text text) → ⊥) × ((start : FlawsState) × AreFlawsOf (encode_utf8_all (lf_text text)) start
+    × AreFlawLines options whole text lo start shown)
 
--- the lines of a text: where it is asked for, and the text is bad, those that say why; else its line as a literal
+-- the line of an integer past 128 bits
+abbrev pub IsLimitLine : Options → List ℕ → List ℕ → ℕ → List ℕ → Type 0
+IsLimitLine options whole text lo shown =
+    IsToken (lf_text text) × ((flaw : Flaw) × (finding : Finding) × ExplainsLimit text flaw
+    × IsLimitFinding text flaw finding × IsFindingLine options whole text lo finding shown)
+
+-- the line of a literal, its text in bytes, that Rust has no type for
+abbrev pub IsTypeLine : Options → List ℕ → List ℕ → Option Found → ℕ → List ℕ → Type 0
+IsTypeLine options whole text found lo shown =
+    (fault : TypeFault) × (finding : Finding) × IsWrong options.any_suffix text found (wrong.Type fault)
+    × IsTypeFinding (chars text) fault finding × IsFindingLine options whole (chars text) lo finding shown
+
+-- the lines that say why a literal, its text in bytes, which begins at this byte of the whole source, is bad: one for each of its
+-- flaws, or the one of an integer past 128 bits, or of what Rust has no type for
+abbrev pub AreReasonLines : Options → List ℕ → List ℕ → Option Found → ℕ → List ℕ → Type 0
+AreReasonLines options whole text found lo shown =
+    AreAllFlawLines options whole (chars text) lo shown ⊎ IsLimitLine options whole (chars text) lo shown
+    ⊎ IsTypeLine options whole text found lo shown
+
+-- the lines of a literal, its text in bytes, of what was found: where it is asked for, and it is bad, those that say why; else its
+-- line as a literal
+abbrev pub IsLineOfFound : Options → List ℕ → List ℕ → Option Found → ℕ → ℕ → List ℕ → Type 0
+IsLineOfFound options whole text found lo hi shown =
+    (IsTrue options.explains × AreReasonLines options whole text found lo shown)
+    ⊎ ((IsTrue options.explains → IsRight options.any_suffix text found)
+    × IsPlacedLine options whole (chars text) lo hi shown)
+
+-- the same of a text, which is read
 abbrev pub IsLineIn : Options → List ℕ → List ℕ → ℕ → ℕ → List ℕ → Type 0
 IsLineIn options whole text lo hi shown =
-    (IsTrue options.explains × AreReasonLines options whole text lo shown)
-    ⊎ ((IsTrue options.explains → FindsNoFlaw text) × IsPlacedLine options whole text lo hi shown)
+    (bytes : List ℕ) × (found : Option Found) × (chars bytes ≡ text) × IsFoundIn bytes found
+    × IsLineOfFound options whole bytes found lo hi shown
 
 -- what is shown where this is looked for: where the contents of the literal hold it, the literal's
 -- line, at the place of what gives it where it stands first; else nothing
@@ -141,17 +157,18 @@ IsPickedLine None options whole text lo hi shown = IsLineIn options whole text l
 IsPickedLine (Some sought) options whole text lo hi shown =
     IsHeldLine sought.now options whole text lo shown
 
--- the literal is picked, whose line begins with this word
-abbrev pub IsPicked : Options → List ℕ → List ℕ → Type 0
-IsPicked options text label = Picks options.shown label (IsBad text)
+-- the literal, its text in bytes, of what was found, is picked, whose line begins with this word
+abbrev pub IsPicked : Options → List ℕ → Option Found → List ℕ → Type 0
+IsPicked options text found label = Picks options.shown label (IsBad options.any_suffix text found)
 
 -- what is shown of a literal: where it is picked, what is shown of it then, else nothing
 abbrev pub IsShownLiteral : Options → List ℕ → List ℕ → ℕ → ℕ → List ℕ → Type 0
 IsShownLiteral options whole text lo hi shown =
-    (label : List ℕ) × IsLabelOf text label
-    × ((IsPicked options text label
+    (label : List ℕ) × (bytes : List ℕ) × (found : Option Found) × IsLabelOf text label × (chars bytes ≡ text)
+    × IsFoundIn bytes found
+    × ((IsPicked options bytes found label
     × IsPickedLine options.finds options whole text lo hi shown)
-    ⊎ ((IsPicked options text label → ⊥) × (shown ≡ [])))
+    ⊎ ((IsPicked options bytes found label → ⊥) × (shown ≡ [])))
 
 -- what is shown of a token: of a literal, and of the words `true` and `false`, what is shown of
 -- that literal; of anything else nothing

@@ -3,7 +3,7 @@
 ghost use Rattle.std.specs.Prelude.{◌≡◌};
 ghost use Rattle.rl_sources.specs.Findings.{reason_id, reason_message};
 
-use rl_reasons::FlawKind;
+use rl_reasons::{Flaw, FlawKind};
 use rl_types::TypeFault;
 
 /// What is wrong with a literal.
@@ -28,6 +28,13 @@ pub(crate) struct Finding {
     pub(crate) from: usize,
     /// The place after the piece.
     pub(crate) to: usize,
+}
+
+/// What is wrong with a literal, as it was judged: its first flaw, or that Rust has no type for it.
+#[derive(Clone, Copy)]
+pub(crate) enum Wrong {
+    Flaw(Flaw),
+    Type(TypeFault),
 }
 
 impl Reason {

@@ -1,17 +1,20 @@
-//! The lines of all flaws of a literal.
+//! The lines of all that is wrong with a literal.
 
-ghost use Rattle.std.specs.Prelude.{◌≡◌, ◌↔◌, IsFalse, IsTrue, OnOk, string_bytes};
+ghost use Rattle.std.specs.Prelude.{◌≡◌, ◌≢◌, ◌≤◌, ◌↔◌, IsFalse, IsTrue, OnOk, string_bytes};
 ghost use Rattle.std.specs.Str.{chars};
+ghost use Rattle.rl_text.specs.Texts.{byte_len};
 ghost use Rattle.rl_file_reasons.specs.FileTexts.{IsPlaceInFile, lf_text};
 ghost use Rattle.rl_flaws.specs.BadPieces.{is_of_unit};
 ghost use Rattle.rl_reasons.specs.declared.flaws.FlawKind.TheVariants.{TooLarge};
 ghost use Rattle.rl_lines.specs.Lines.{Appends};
-ghost use Rattle.rl_sources.specs.Findings.{IsFlawFinding, IsLimitFinding};
+ghost use Rattle.rl_sources.specs.Findings.{FindsFlaw, IsFlawFinding, IsLimitFinding, IsTypeFinding, IsWrong};
+ghost use Rattle.rl_sources.specs.declared.finding.Wrong.TheVariants as wrong;
+ghost use Rattle.rl_sources.specs.Held.{IsCutAt};
 ghost use Rattle.rl_sources.specs.InFile.{AreCuts, IsFlawsOver, StandsInFile};
-ghost use Rattle.rl_sources.specs.Scans.{AreFlawLines, AreReasonLines, FindsFlaw};
+ghost use Rattle.rl_sources.specs.Scans.{AreAllFlawLines, AreFlawLines, AreReasonLines, IsLimitLine, IsTypeLine};
 ghost use Rattle.rl_sources.specs.Steps.{BeginsRest};
 
-use crate::finding::{Finding, Reason};
+use crate::finding::{Finding, Reason, Wrong};
 use crate::in_file::{ReadPlace, front_of, place_at, read_text};
 use crate::literal::Literal;
 use crate::options::Options;
@@ -19,6 +22,7 @@ use crate::place::Places;
 use crate::reason::push_finding;
 use rl_flaws::{BadPiece, Flaws, is_of_unit};
 use rl_reasons::{Flaw, FlawKind};
+use rl_types::TypeFault;
 use std::alloc::{AllocError, Allocator};
 
 /// A place in the file, in bytes of the text.
@@ -144,7 +148,7 @@ fn push_limit<'t, A: Allocator>(
     requires flaw { FindsFlaw (chars literal.now.token.now.text.now) flaw }
     requires large { flaw.kind ≡ TooLarge }
     ensures shown { OnOk result (Appends
-        (AreReasonLines options.now (chars places.old) (chars literal.now.token.now.text.now)
+        (IsLimitLine options.now (chars places.old) (chars literal.now.token.now.text.now)
         literal.now.token.now.lo)
         (chars (string_bytes out.old)) (chars (string_bytes out.new))) }
     ensures same { places.new ≡ places.old }
@@ -153,9 +157,8 @@ fn push_limit<'t, A: Allocator>(
     push_finding(out, options, literal, places, finding)
 }
 
-/// Appends the lines that say why a literal is bad: one for each of its flaws.
-#[inline(never)]
-pub(crate) fn push_flaws<'t, A: Allocator>(
+/// Appends the lines of the flaws of a literal that is no token.
+fn push_flaws<'t, A: Allocator>(
     alloc: A,
     out: &mut String<A>,
     options: &Options<'_>,
@@ -165,16 +168,74 @@ pub(crate) fn push_flaws<'t, A: Allocator>(
 ) -> Result<(), AllocError>
     requires rest { BeginsRest literal.now.token.now places.old literal.now.rest.now }
     requires flaw { FindsFlaw (chars literal.now.token.now.text.now) flaw }
+    requires other { flaw.kind ≢ TooLarge }
     ensures shown { OnOk result (Appends
-        (AreReasonLines options.now (chars places.old) (chars literal.now.token.now.text.now)
+        (AreAllFlawLines options.now (chars places.old) (chars literal.now.token.now.text.now)
         literal.now.token.now.lo)
         (chars (string_bytes out.old)) (chars (string_bytes out.new))) }
     ensures same { places.new ≡ places.old }
 {
-    if is_limit(flaw) {
-        return push_limit(out, options, literal, places, flaw);
-    }
     let read = read_text(alloc, literal.token.text)?;
     let flaws = Flaws::of(read.as_str());
     push_flaws_left(out, options, literal, places, flaws)
+}
+
+/// The finding of a literal that Rust has no type for.
+fn type_finding(text: &str, fault: TypeFault) -> Finding
+    ensures finding { IsTypeFinding (chars text.now) fault result }
+    ensures cut { IsCutAt (chars text.now) result.lo }
+    ensures within { result.hi ≤ byte_len (chars text.now) }
+{
+    Finding {
+        reason: Reason::Type(fault),
+        lo: 0,
+        hi: text.len(),
+        from: 0,
+        to: text.len(),
+    }
+}
+
+/// Appends the line of a literal that Rust has no type for.
+fn push_fault<'t, A: Allocator>(
+    out: &mut String<A>,
+    options: &Options<'_>,
+    literal: &Literal<'_, 't>,
+    places: &mut Places<'t>,
+    fault: TypeFault,
+) -> Result<(), AllocError>
+    requires rest { BeginsRest literal.now.token.now places.old literal.now.rest.now }
+    requires wrong { IsWrong options.now.any_suffix literal.now.token.now.text.now literal.now.found.now (wrong.Type fault) }
+    ensures shown { OnOk result (Appends
+        (IsTypeLine options.now (chars places.old) literal.now.token.now.text.now literal.now.found.now
+        literal.now.token.now.lo)
+        (chars (string_bytes out.old)) (chars (string_bytes out.new))) }
+    ensures same { places.new ≡ places.old }
+{
+    let finding = type_finding(literal.token.text, fault);
+    push_finding(out, options, literal, places, finding)
+}
+
+/// Appends the lines that say why a literal is bad: one for each of its flaws, or one.
+#[inline(never)]
+pub(crate) fn push_wrong<'t, A: Allocator>(
+    alloc: A,
+    out: &mut String<A>,
+    options: &Options<'_>,
+    literal: &Literal<'_, 't>,
+    places: &mut Places<'t>,
+    wrong: Wrong,
+) -> Result<(), AllocError>
+    requires rest { BeginsRest literal.now.token.now places.old literal.now.rest.now }
+    requires wrong { IsWrong options.now.any_suffix literal.now.token.now.text.now literal.now.found.now wrong }
+    ensures shown { OnOk result (Appends
+        (AreReasonLines options.now (chars places.old) literal.now.token.now.text.now literal.now.found.now
+        literal.now.token.now.lo)
+        (chars (string_bytes out.old)) (chars (string_bytes out.new))) }
+    ensures same { places.new ≡ places.old }
+{
+    match wrong {
+        Wrong::Flaw(flaw) if is_limit(flaw) => push_limit(out, options, literal, places, flaw),
+        Wrong::Flaw(flaw) => push_flaws(alloc, out, options, literal, places, flaw),
+        Wrong::Type(fault) => push_fault(out, options, literal, places, fault),
+    }
 }

@@ -10,12 +10,13 @@ ghost use Rattle.rl_lines.specs.Lines.{Appends};
 ghost use Rattle.rl_sources.specs.Held.{IsCutAt};
 ghost use Rattle.rl_sources.specs.Scans.{IsErrorAt, IsHeldLine, IsLineAt, IsLineEnd, IsLineIn, IsPickedLine, IsPlacedLine, IsPrintedAs, IsShownLiteral};
 ghost use Rattle.rl_sources.specs.declared.options.Spelling.TheVariants.{Value};
-ghost use Rattle.rl_sources.specs.Steps.{BeginsRest, EndsUnshown, IsAcceptedToken, IsCursorOver, IsLiteralOf, IsFoundIn, IsStepOf, StopsUnshown, TakesShown};
+ghost use Rattle.rl_sources.specs.Steps.{BeginsRest, EndsUnshown, IsAcceptedToken, IsCursorOver, IsLiteralOf, IsStepOf, StopsUnshown, TakesShown};
+ghost use Rattle.rl_sources.specs.Findings.{IsFoundIn};
 
-use crate::flaw_lines::push_flaws;
+use crate::flaw_lines::push_wrong;
 use crate::held::held_at;
 use crate::json::push_json_literal;
-use crate::judge::{flaw_of, reason_of};
+use crate::judge::{reason_of, wrong_in};
 use crate::literal::{Literal, kind_of};
 use crate::options::{Form, Options, Spelling};
 use crate::place::{Place, Places, place_inside, place_of, push_front};
@@ -175,7 +176,7 @@ fn push_inside<'t, A: Allocator + Copy>(
     push_line_at(alloc, out, options, literal, place)
 }
 
-/// Appends the line of a literal: its own, or where lines report flaws and it has some, those that say why it is bad.
+/// Appends the lines of a literal: its own, or where lines report what is wrong and something is, those that say so.
 #[inline(always)]
 fn push_line_in<'t, A: Allocator + Copy>(
     alloc: A,
@@ -191,8 +192,8 @@ fn push_line_in<'t, A: Allocator + Copy>(
         (chars (string_bytes out.old)) (chars (string_bytes out.new))) }
     ensures same { places.new ≡ places.old }
 {
-    match reason_of(options.explains, literal.flaw) {
-        Some(flaw) => push_flaws(alloc, out, options, literal, places, flaw),
+    match reason_of(options.explains, literal.wrong) {
+        Some(wrong) => push_wrong(alloc, out, options, literal, places, wrong),
         None => push_placed(alloc, out, options, literal, places),
     }
 }
@@ -267,16 +268,16 @@ fn push_literal_token<'t, A: Allocator + Copy>(
     ensures same { places.new ≡ places.old }
 {
     let found = find(token.text);
-    let flaw = flaw_of(options, token.text);
+    let wrong = wrong_in(options, token.text, &found);
     let label = label_of(kind_of(&found));
-    if !options.shown.picks(label, flaw.is_some()) {
+    if !options.shown.picks(label, wrong.is_some()) {
         return Ok(());
     }
     let literal = Literal {
         token: &token,
         rest,
         found: &found,
-        flaw,
+        wrong,
     };
     push_picked(alloc, out, options, &literal, places)
 }

@@ -1,1 +1,2 @@
 pub mod TypeLemmas
+pub mod Exclusions

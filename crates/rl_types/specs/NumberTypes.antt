@@ -3,21 +3,21 @@ use Rattle.std.specs.Prelude.{ℕ, ◌-◌, ◌^◌, Bool, List, codes, Option, 
 use Rattle.rl_types.specs.declared.number_types.NumberType.{NumberType}
 use Rattle.rl_types.specs.declared.number_types.NumberType.TheVariants.{U8, U16, U32, U64, U128, Usize, I8, I16, I32, I64, I128, Isize, F32, F64}
 
-abbrev pub type_name : NumberType → List ℕ
-type_name U8 = codes "u8"
-type_name U16 = codes "u16"
-type_name U32 = codes "u32"
-type_name U64 = codes "u64"
-type_name U128 = codes "u128"
-type_name Usize = codes "usize"
-type_name I8 = codes "i8"
-type_name I16 = codes "i16"
-type_name I32 = codes "i32"
-type_name I64 = codes "i64"
-type_name I128 = codes "i128"
-type_name Isize = codes "isize"
-type_name F32 = codes "f32"
-type_name F64 = codes "f64"
+abbrev pub number_name : NumberType → List ℕ
+number_name U8 = codes "u8"
+number_name U16 = codes "u16"
+number_name U32 = codes "u32"
+number_name U64 = codes "u64"
+number_name U128 = codes "u128"
+number_name Usize = codes "usize"
+number_name I8 = codes "i8"
+number_name I16 = codes "i16"
+number_name I32 = codes "i32"
+number_name I64 = codes "i64"
+number_name I128 = codes "i128"
+number_name Isize = codes "isize"
+number_name F32 = codes "f32"
+number_name F64 = codes "f64"
 
 -- the greatest number of a type of so many bits: without a sign, or with one, where the least negative one is one more
 abbrev pub unsigned_greatest : ℕ → Option ℕ

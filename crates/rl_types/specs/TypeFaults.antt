@@ -7,18 +7,18 @@ use Rattle.rl_forms.specs.declared.kind.Kind.{Kind}
 use Rattle.rl_forms.specs.declared.kind.Kind.TheVariants.{Int, Float, Bool as BoolKind}
 use Rattle.rl_forms.specs.Numbers.{begins_base}
 use Rattle.rl_reading.specs.Founds.{is_quoted}
-use Rattle.rl_types.specs.NumberTypes.{greatest_of, type_name}
+use Rattle.rl_types.specs.NumberTypes.{greatest_of, number_name}
 use Rattle.rl_types.specs.declared.faults.TypeFault.{TypeFault}
 use Rattle.rl_types.specs.declared.faults.TypeFault.TheVariants.{QuotedSuffix, UnknownSuffix, FloatSuffix, BasedFloat, OutOfRange}
 use Rattle.rl_types.specs.declared.number_types.NumberType.{NumberType}
 
 -- the suffix names this type
-abbrev pub Names : List ℕ → NumberType → Type 0
-Names suffix t = suffix ≡ type_name t
+abbrev pub NamesType : List ℕ → NumberType → Type 0
+NamesType suffix t = suffix ≡ number_name t
 
 -- the suffix names none
 abbrev pub NamesNone : List ℕ → Type 0
-NamesNone suffix = (t : NumberType) → Names suffix t → ⊥
+NamesNone suffix = (t : NumberType) → NamesType suffix t → ⊥
 
 -- The suffix would make the integer a float, which has base ten alone: `0b1f32`.
 abbrev pub IsBasedFloat : List ℕ → List ℕ → Type 0
@@ -30,10 +30,10 @@ HasFault QuotedSuffix kind text magnitude negated suffix = IsTrue (is_quoted kin
 HasFault UnknownSuffix kind text magnitude negated suffix =
     (((kind ≡ Int) × (IsBasedFloat text suffix → ⊥)) ⊎ (kind ≡ Float)) × (suffix ≢ []) × NamesNone suffix
 HasFault FloatSuffix kind text magnitude negated suffix =
-    (kind ≡ Float) × ((t : NumberType) × Names suffix t × (greatest_of t negated ≢ None))
+    (kind ≡ Float) × ((t : NumberType) × NamesType suffix t × (greatest_of t negated ≢ None))
 HasFault BasedFloat kind text magnitude negated suffix = (kind ≡ Int) × IsBasedFloat text suffix
 HasFault OutOfRange kind text magnitude negated suffix =
-    (kind ≡ Int) × ((t : NumberType) × (greatest : ℕ) × Names suffix t × (greatest_of t negated ≡ Some greatest)
+    (kind ≡ Int) × ((t : NumberType) × (greatest : ℕ) × NamesType suffix t × (greatest_of t negated ≡ Some greatest)
     × (greatest < magnitude))
 
 -- a number of the type, as the literal is written: an integer in its range; of the types of floats a decimal number
@@ -47,4 +47,9 @@ IsOfType t kind text magnitude negated =
 abbrev pub HasType : Kind → List ℕ → ℕ → Bool → List ℕ → Type 0
 HasType kind text magnitude negated suffix =
     (suffix ≡ []) ⊎ (kind ≡ BoolKind)
-    ⊎ ((t : NumberType) × Names suffix t × IsOfType t kind text magnitude negated)
+    ⊎ ((t : NumberType) × NamesType suffix t × IsOfType t kind text magnitude negated)
+
+-- a fault and a type exclude each other
+abbrev pub ExcludesType : TypeFault → Kind → List ℕ → ℕ → Bool → List ℕ → Type 0
+ExcludesType fault kind text magnitude negated suffix =
+    HasFault fault kind text magnitude negated suffix → HasType kind text magnitude negated suffix → ⊥

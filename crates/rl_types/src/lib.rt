@@ -2,6 +2,7 @@
 #![tactic(auto)]
 
 mod faults;
+pub mod laws;
 mod number_types;
 
 pub use crate::faults::{TypeFault, type_fault};

@@ -1,7 +1,7 @@
 //! The types of numbers.
 
 ghost use Rattle.std.specs.Prelude.{◌≡◌, ◌≢◌, IfNone, IfSome};
-ghost use Rattle.rl_types.specs.NumberTypes.{greatest_of, type_name};
+ghost use Rattle.rl_types.specs.NumberTypes.{greatest_of, number_name};
 ghost use Rattle.rl_types.specs.declared.number_types.NumberType.{NumberType as AnyType};
 
 /// A type of numbers.
@@ -25,8 +25,8 @@ pub enum NumberType {
 
 /// The type that a suffix names; `None` where it names none.
 pub fn type_named(suffix: &str) -> Option<NumberType>
-    ensures some { IfSome result (λ t. suffix.now ≡ type_name t) }
-    ensures none { IfNone result ((t : AnyType) → suffix.now ≢ type_name t) }
+    ensures some { IfSome result (λ t. suffix.now ≡ number_name t) }
+    ensures none { IfNone result ((t : AnyType) → suffix.now ≢ number_name t) }
 {
     match suffix {
         "u8" => Some(NumberType::U8),

@@ -1,7 +1,7 @@
 use Rattle.rl_text.proofs.Common.{List, ℕ, chars, string_bytes, subst, ◌∙◌}
 use Rattle.rl_lines.specs.Lines.{Appends}
 use Rattle.rl_sources.specs.Scans.{IsFindingLine}
-use Rattle.rl_sources.proofs.FlawLineLemmas.{begins_on, cuts_of, ends_on, finding_within, goes_further, over_next}
+use Rattle.rl_sources.proofs.FlawLineLemmas.{cuts_of, ends_on, finding_within, goes_further, over_next}
 use Rattle.rl_sources.proofs.flaw_lines.push_flaws_left.Goals as goal
 
 pub finding_of-requires-clause-cuts : goal.finding_of-requires-clause-cuts

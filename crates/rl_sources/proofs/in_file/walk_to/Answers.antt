@@ -1,4 +1,4 @@
-use Rattle.rl_text.proofs.Common.{chars, arith, length-encode}
+use Rattle.rl_text.proofs.Common.{chars, arith}
 use Rattle.rl_sources.proofs.InFileLemmas.{no_further, stands_next, step_fits}
 use Rattle.rl_sources.proofs.in_file.walk_to.Goals as goal
 

@@ -60,6 +60,8 @@ pub struct Command<'a> {
     pub output: Output,
     /// Whether a stray character is an error, as it is in Rust.
     pub rejects_strays: bool,
+    /// Whether a literal may have any suffix and any value, as where a macro takes it.
+    pub any_suffix: bool,
     /// Which files are read of directories.
     pub selection: Selection<'a>,
 }

@@ -23,6 +23,8 @@ terminal: then it is `.`.
 What is printed: every literal; or one of --bad, --hidden, --only; or --find
       --bad            what Rust rejects: bad literals, quotes and comments left
                        open, and why
+      --any-suffix     of --bad: literals may have any suffix and value, as
+                       macros may take 1u9; else those of Rust's types alone
       --hidden         characters that turn or hide text, such as U+202E,
                        wherever they stand
       --only KIND,..   literals of these kinds: Str ByteStr CStr Byte Char Int

@@ -286,6 +286,7 @@ fn first_command<'a>(has_colors: bool) -> Command<'a> {
         places: PlaceForm::Usual,
         output: Output::Lines,
         rejects_strays: false,
+        any_suffix: false,
         spelling: Spelling::Value,
         form: form_when(has_colors, When::Auto),
         selection: Selection {

@@ -1,7 +1,7 @@
 // Rendered from crates/rl_sources/src/finding.rt by tools/render, which erases contracts: change that file, and render anew.
 //! What is wrong with a literal, and where.
 
-use crate::rl_reasons::FlawKind;
+use crate::rl_reasons::{Flaw, FlawKind};
 use crate::rl_types::TypeFault;
 
 /// What is wrong with a literal.
@@ -26,6 +26,13 @@ pub(crate) struct Finding {
     pub(crate) from: usize,
     /// The place after the piece.
     pub(crate) to: usize,
+}
+
+/// What is wrong with a literal, as it was judged: its first flaw, or that Rust has no type for it.
+#[derive(Clone, Copy)]
+pub(crate) enum Wrong {
+    Flaw(Flaw),
+    Type(TypeFault),
 }
 
 impl Reason {

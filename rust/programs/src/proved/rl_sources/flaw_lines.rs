@@ -1,8 +1,8 @@
 // Rendered from crates/rl_sources/src/flaw_lines.rt by tools/render, which erases contracts: change that file, and render anew.
-//! The lines of all flaws of a literal.
+//! The lines of all that is wrong with a literal.
 
 use crate::rattle_std::prelude::{String};
-use crate::rl_sources::finding::{Finding, Reason};
+use crate::rl_sources::finding::{Finding, Reason, Wrong};
 use crate::rl_sources::in_file::{ReadPlace, front_of, place_at, read_text};
 use crate::rl_sources::literal::Literal;
 use crate::rl_sources::options::Options;
@@ -10,6 +10,7 @@ use crate::rl_sources::place::Places;
 use crate::rl_sources::reason::push_finding;
 use crate::rl_flaws::{BadPiece, Flaws, is_of_unit};
 use crate::rl_reasons::{Flaw, FlawKind};
+use crate::rl_types::TypeFault;
 use crate::rattle_std::alloc::{AllocError, Allocator};
 
 /// A place in the file, in bytes of the text.
@@ -103,9 +104,8 @@ fn push_limit<'t, A: Allocator>(
     push_finding(out, options, literal, places, finding)
 }
 
-/// Appends the lines that say why a literal is bad: one for each of its flaws.
-#[inline(never)]
-pub(crate) fn push_flaws<'t, A: Allocator>(
+/// Appends the lines of the flaws of a literal that is no token.
+fn push_flaws<'t, A: Allocator>(
     alloc: A,
     out: &mut String<A>,
     options: &Options<'_>,
@@ -113,10 +113,47 @@ pub(crate) fn push_flaws<'t, A: Allocator>(
     places: &mut Places<'t>,
     flaw: Flaw,
 ) -> Result<(), AllocError> {
-    if is_limit(flaw) {
-        return push_limit(out, options, literal, places, flaw);
-    }
     let read = read_text(alloc, literal.token.text)?;
     let flaws = Flaws::of(read.as_str());
     push_flaws_left(out, options, literal, places, flaws)
+}
+
+/// The finding of a literal that Rust has no type for.
+fn type_finding(text: &str, fault: TypeFault) -> Finding {
+    Finding {
+        reason: Reason::Type(fault),
+        lo: 0,
+        hi: text.len(),
+        from: 0,
+        to: text.len(),
+    }
+}
+
+/// Appends the line of a literal that Rust has no type for.
+fn push_fault<'t, A: Allocator>(
+    out: &mut String<A>,
+    options: &Options<'_>,
+    literal: &Literal<'_, 't>,
+    places: &mut Places<'t>,
+    fault: TypeFault,
+) -> Result<(), AllocError> {
+    let finding = type_finding(literal.token.text, fault);
+    push_finding(out, options, literal, places, finding)
+}
+
+/// Appends the lines that say why a literal is bad: one for each of its flaws, or one.
+#[inline(never)]
+pub(crate) fn push_wrong<'t, A: Allocator>(
+    alloc: A,
+    out: &mut String<A>,
+    options: &Options<'_>,
+    literal: &Literal<'_, 't>,
+    places: &mut Places<'t>,
+    wrong: Wrong,
+) -> Result<(), AllocError> {
+    match wrong {
+        Wrong::Flaw(flaw) if is_limit(flaw) => push_limit(out, options, literal, places, flaw),
+        Wrong::Flaw(flaw) => push_flaws(alloc, out, options, literal, places, flaw),
+        Wrong::Type(fault) => push_fault(out, options, literal, places, fault),
+    }
 }

@@ -28,7 +28,8 @@ pub enum Shown<'a> {
     All,
     /// Those whose lines begin with one of these words, in any case of their letters; commas separate the words.
     Only(&'a str),
-    /// Those that are bad: no literal tokens of Rust, where a CR LF of the file is an LF, or integers past 128 bits.
+    /// Those that are bad: no literal tokens of Rust, where a CR LF of the file is an LF, integers past 128 bits, or literals that
+    /// Rust has no type for.
     Bad,
     /// None: in their place the characters of the source are shown that turn or hide text, wherever they stand.
     Hidden,
@@ -61,8 +62,10 @@ pub struct Options<'a> {
     pub by_line: bool,
     /// Whether a stray character is an error, as it is in Rust.
     pub rejects_strays: bool,
-    /// Whether the line of a bad literal says why it is bad.
+    /// Whether the lines of a bad literal say why it is bad.
     pub explains: bool,
+    /// Whether a literal may have any suffix, as where a macro takes it, and any value.
+    pub any_suffix: bool,
     /// What stands before each place: a file's path as it is printed, or for the form `Json` as it is.
     pub path: Option<&'a str>,
 }
@@ -82,6 +85,7 @@ impl Default for Options<'_> {
             by_line: false,
             rejects_strays: false,
             explains: false,
+            any_suffix: false,
             path: None,
         }
     }

@@ -2,10 +2,10 @@
 //! What is shown of the tokens of a source, one after another.
 
 use crate::rattle_std::prelude::{String};
-use crate::rl_sources::flaw_lines::push_flaws;
+use crate::rl_sources::flaw_lines::push_wrong;
 use crate::rl_sources::held::held_at;
 use crate::rl_sources::json::push_json_literal;
-use crate::rl_sources::judge::{flaw_of, reason_of};
+use crate::rl_sources::judge::{reason_of, wrong_in};
 use crate::rl_sources::literal::{Literal, kind_of};
 use crate::rl_sources::options::{Form, Options, Spelling};
 use crate::rl_sources::place::{Place, Places, place_inside, place_of, push_front};
@@ -125,7 +125,7 @@ fn push_inside<'t, A: Allocator + Copy>(
     push_line_at(alloc, out, options, literal, place)
 }
 
-/// Appends the line of a literal: its own, or where lines report flaws and it has some, those that say why it is bad.
+/// Appends the lines of a literal: its own, or where lines report what is wrong and something is, those that say so.
 #[inline(always)]
 fn push_line_in<'t, A: Allocator + Copy>(
     alloc: A,
@@ -134,8 +134,8 @@ fn push_line_in<'t, A: Allocator + Copy>(
     literal: &Literal<'_, 't>,
     places: &mut Places<'t>,
 ) -> Result<(), AllocError> {
-    match reason_of(options.explains, literal.flaw) {
-        Some(flaw) => push_flaws(alloc, out, options, literal, places, flaw),
+    match reason_of(options.explains, literal.wrong) {
+        Some(wrong) => push_wrong(alloc, out, options, literal, places, wrong),
         None => push_placed(alloc, out, options, literal, places),
     }
 }
@@ -189,16 +189,16 @@ fn push_literal_token<'t, A: Allocator + Copy>(
     places: &mut Places<'t>,
 ) -> Result<(), AllocError> {
     let found = find(token.text);
-    let flaw = flaw_of(options, token.text);
+    let wrong = wrong_in(options, token.text, &found);
     let label = label_of(kind_of(&found));
-    if !options.shown.picks(label, flaw.is_some()) {
+    if !options.shown.picks(label, wrong.is_some()) {
         return Ok(());
     }
     let literal = Literal {
         token: &token,
         rest,
         found: &found,
-        flaw,
+        wrong,
     };
     push_picked(alloc, out, options, &literal, places)
 }
