@@ -1,5 +1,5 @@
 -- Letters after a dash, one after another.
-use Rattle.rl_text.proofs.Common.{List, [], ap, arith, chars, encode_utf8, inl, inr, length, length-append, length-encode, len_utf8_bounds, encode_ascii, refl, subst, sym, ℕ, ◌++◌, ◌<◌, ◌∙◌, ◌∷◌, ◌≡◌, ◌≢◌, ◌⊎◌, Bool}
+use Rattle.rl_text.proofs.Common.{List, [], ap, arith, encode_utf8, inl, inr, length, length-append, length-encode, len_utf8_bounds, encode_ascii, refl, subst, sym, ℕ, ◌++◌, ◌<◌, ◌∙◌, ◌∷◌, ◌≡◌, ◌≢◌, ◌⊎◌, Bool}
 use Rattle.std.specs.Prelude.{IfErr, OnOk}
 use Rattle.std.specs.declared.result.Result.{Result}
 use Rattle.std.specs.declared.result.Result.TheVariants.{Err, Ok}

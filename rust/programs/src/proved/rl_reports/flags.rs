@@ -21,7 +21,7 @@ pub(crate) enum Flag {
     Bytes,
     Lines,
     NoStray,
-    All,
+    AllDirectories,
     Extension,
     Count,
     Files,
@@ -79,7 +79,7 @@ pub(crate) fn flag_of(word: &str) -> Option<Flag> {
         "--bytes" => Some(Flag::Bytes),
         "--lines" => Some(Flag::Lines),
         "--no-stray" => Some(Flag::NoStray),
-        "--all" => Some(Flag::All),
+        "--all" => Some(Flag::AllDirectories),
         "--extension" => Some(Flag::Extension),
         "--count" => Some(Flag::Count),
         "--files-with-matches" => Some(Flag::Files),
@@ -107,7 +107,7 @@ pub(crate) fn letter_of(c: char) -> Option<Flag> {
 }
 
 /// What stands after the front of a word, where the word begins with that.
-fn after_front<'w>(front: &str, word: &'w str) -> Option<&'w str> {
+pub(crate) fn after_front<'w>(front: &str, word: &'w str) -> Option<&'w str> {
     word.strip_prefix(front)
 }
 
@@ -122,8 +122,10 @@ pub(crate) fn joined_of(word: &str) -> Option<(Operand, &str)> {
     if let Some(when) = after_front("--color=", word) {
         return Some((Operand::Color, when));
     }
-    let extension = after_front("--extension=", word)?;
-    Some((Operand::Extension, extension))
+    if let Some(extension) = after_front("--extension=", word) {
+        return Some((Operand::Extension, extension));
+    }
+    None
 }
 
 /// The option that takes this.
@@ -147,7 +149,7 @@ fn with_flag(command: Command<'_>, flag: Flag) -> Option<Command<'_>> {
         (Flag::Find | Flag::Color | Flag::Extension | Flag::Paths, _) => {}
         (Flag::IgnoreCase, _) => next.matching.ignores_case = true,
         (Flag::WholeWords, _) => next.matching.whole_words = true,
-        (Flag::All, _) => next.selection.all = true,
+        (Flag::AllDirectories, _) => next.selection.all = true,
         (Flag::Text, _) => next.spelling = Spelling::Source,
         (Flag::Json, _) => next.form = Form::Json,
         (Flag::Bytes, _) => next.places = PlaceForm::Bytes,

@@ -4,8 +4,8 @@
 use crate::rattle_std::prelude::{String, Vec};
 use crate::rl_reports::command::{Command, Output, PlaceForm, Wish};
 use crate::rl_reports::flags::{
-    Flag, Next, Operand, When, add_flag, flag_of, form_when, joined_of, letter_of, next_after,
-    recolored, taken_by, when_of,
+    Flag, Next, Operand, When, add_flag, after_front, flag_of, form_when, joined_of, letter_of,
+    next_after, recolored, taken_by, when_of,
 };
 use crate::rl_reports::meant::meant_by;
 use crate::rl_reports::report::visible_text;
@@ -115,9 +115,13 @@ fn unknown_option<A: Allocator>(alloc: A, word: &str) -> Result<WordError<A>, Al
     Ok(WordError::UnknownOption(visible_text(alloc, word)?, meant_by(word)))
 }
 
-/// What stands after the dash of a word that isn't an option's.
-fn letters_of(word: &str) -> &str {
-    &word[1..]
+/// The letters of a word, after its dash: none where it begins with two.
+fn letters_of(word: &str) -> Option<&str> {
+    let letters = after_front("-", word)?;
+    if letters.as_bytes().starts_with(b"-".as_slice()) {
+        return None;
+    }
+    Some(letters)
 }
 
 /// What an option takes, where it takes something and the letters go on after its own.
@@ -252,10 +256,10 @@ impl<'a, A: Allocator + Copy> Asked<'a, A> {
         if let Some((operand, text)) = joined_of(word) {
             return self.take_joined(alloc, has_colors, operand, text);
         }
-        if word.as_bytes().starts_with(b"--".as_slice()) {
-            return Err(unknown_option(alloc, word)?);
+        match letters_of(word) {
+            Some(letters) => self.take_letters(alloc, has_colors, word, letters),
+            None => Err(unknown_option(alloc, word)?),
         }
-        self.take_letters(alloc, has_colors, word, letters_of(word))
     }
 
     /// Takes the next word.
