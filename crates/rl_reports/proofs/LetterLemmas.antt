@@ -1,8 +1,10 @@
 -- Letters after a dash, one after another.
-use Rattle.rl_text.proofs.Common.{List, [], ap, arith, chars, encode_utf8, inl, inr, length, length-append, length-encode, len_utf8_bounds, encode_ascii, refl, subst, sym, ℕ, ◌++◌, ◌<◌, ◌∙◌, ◌∷◌, ◌≡◌, ◌≢◌, ◌⊎◌, Bool}
-use Prim.Native.Char.{code}
+use Rattle.rl_text.proofs.Common.{List, [], ap, arith, encode_utf8, inl, inr, length, length-append, length-encode, len_utf8_bounds, encode_ascii, refl, subst, sym, ℕ, ◌++◌, ◌<◌, ◌∙◌, ◌∷◌, ◌≡◌, ◌≢◌, ◌⊎◌, Bool}
+use Rattle.std.specs.Prelude.{IfErr, OnOk}
+use Rattle.std.specs.declared.result.Result.{Result}
+use Rattle.std.specs.declared.result.Result.TheVariants.{Err, Ok}
 use Rattle.rl_reports.specs.declared.flags.Flag.{Flag}
-use Rattle.rl_reports.specs.declared.flags.Flag.TheVariants.{Bad, Hidden, Only, Find, IgnoreCase, WholeWords, Text, Json, Color, Bytes, Lines, NoStray, AnySuffix, All, Extension, Count, Files, Quiet, Help, Version, Paths}
+use Rattle.rl_reports.specs.declared.flags.Flag.TheVariants.{Bad, Hidden, Only, Find, IgnoreCase, WholeWords, Text, Json, Color, Bytes, Lines, NoStray, AnySuffix, AllDirectories, Extension, Count, Files, Quiet, Help, Version, Paths}
 use Rattle.rl_reports.specs.declared.flags.Operand.{Operand}
 use Rattle.rl_reports.specs.declared.flags.Operand.TheVariants as takes
 use Rattle.rl_reports.specs.declared.flags.Next.{Next}
@@ -30,7 +32,7 @@ letter_low Bytes c is = absurd is
 letter_low Lines c is = absurd is
 letter_low NoStray c is = absurd is
 letter_low AnySuffix c is = absurd is
-letter_low All c is = absurd is
+letter_low AllDirectories c is = absurd is
 letter_low Extension c is = absurd is
 letter_low Paths c is = absurd is
 
@@ -151,7 +153,7 @@ letter_taken A hc word old letters now new then last rest after c flag split is 
     go Lines is none added front = absurd is
     go NoStray is none added front = absurd is
     go AnySuffix is none added front = absurd is
-    go All is none added front = absurd is
+    go AllDirectories is none added front = absurd is
     go Extension is none added front = absurd is
     go Paths is none added front = absurd is
 
@@ -200,7 +202,7 @@ pub letter_unknown : (A : Type 0) (has_colors : Bool) (word : List ℕ) (old : W
     → AreRejectedLetters has_colors word error old letters
 letter_unknown A hc word old letters now then rest after c error split none left names =
     let begun = still_open A hc word old letters now then rest after c split left in
-    begun.rejected error (UnknownLetter c split none names)
+    begun.rejected error (UnknownLetter c after split none names)
 
 -- none is left
 pub letters_end : (A : Type 0) (has_colors : Bool) (word : List ℕ) (old : Wishes) (letters : List ℕ) (now : Wishes)
@@ -236,7 +238,7 @@ taken_flag Bytes operand e = absurd (cc)
 taken_flag Lines operand e = absurd (cc)
 taken_flag NoStray operand e = absurd (cc)
 taken_flag AnySuffix operand e = absurd (cc)
-taken_flag All operand e = absurd (cc)
+taken_flag AllDirectories operand e = absurd (cc)
 taken_flag Extension takes.Kinds e = absurd (cc)
 taken_flag Extension takes.Text e = absurd (cc)
 taken_flag Extension takes.Color e = absurd (cc)
@@ -263,7 +265,7 @@ takes_nothing Bytes none = inl refl
 takes_nothing Lines none = inl refl
 takes_nothing NoStray none = inl refl
 takes_nothing AnySuffix none = inl refl
-takes_nothing All none = inl refl
+takes_nothing AllDirectories none = inl refl
 takes_nothing Extension none = absurd (none takes.Extension refl)
 takes_nothing Count none = inl refl
 takes_nothing Files none = inl refl
@@ -271,3 +273,13 @@ takes_nothing Quiet none = inl refl
 takes_nothing Help none = inl refl
 takes_nothing Version none = inl refl
 takes_nothing Paths none = inr refl
+
+-- ---- results of calls
+
+pub all_ok : {T E P Q R S : Type 0} (r : Result T E) → (P → Q → R → S) → OnOk r P → OnOk r Q → OnOk r R → OnOk r S
+all_ok (Ok x) f p q s = f p q s
+all_ok (Err e) f p q s = tt
+
+pub other_err : {T E : Type 0} {P Q : E → Type 0} (r : Result T E) → ((e : E) → P e → Q e) → IfErr r P → IfErr r Q
+other_err (Ok x) f p = tt
+other_err (Err e) f p = f e p

@@ -7,12 +7,12 @@ use Rattle.std.specs.Io.KnownBytes.{Appends, Keeps}
 use Rattle.std.proofs.KnownBytes.{Appends-nil, Appends-trans, Appends-kept}
 use Rattle.rl_program.specs.Streams.{AppendsBeginning}
 use Rattle.rl_files.specs.Trees.{World}
-use Rattle.rl_files.specs.Walks.{Spot, Visited, Visits, VisitsNone, VisitsFirst}
+use Rattle.rl_files.specs.Walks.{Spot, Visited, Visits, VisitsFirst}
 use Rattle.rl_files.proofs.WalkLemmas.{some_visits}
 use Rattle.rl_reports.specs.declared.command.Command.{Command}
 use Rattle.rl_reports.specs.declared.runs.Tally.{Tally}
 use Rattle.rl_reports.specs.Reports.{Findings, IsReport, AreReports, nothing, both_of}
-use Rattle.rl_reports.specs.Runs.{Streams, IsWritten, WritesReport, WritesSome, WritesWalk, WritesFront}
+use Rattle.rl_reports.specs.Runs.{Streams, IsWritten, WritesReport, WritesSome, WritesFront}
 
 -- what was written so far, of what was visited so far, and what is visited from the new places on comes
 -- after it

@@ -20,7 +20,7 @@ use Rattle.rl_sources.specs.declared.options.Spelling.{Spelling}
 use Rattle.rl_sources.specs.declared.options.Spelling.TheVariants.{Value, Source}
 use Rattle.rl_sources.specs.declared.options.Shown.TheVariants as shown
 use Rattle.rl_reports.specs.declared.flags.Flag.{Flag}
-use Rattle.rl_reports.specs.declared.flags.Flag.TheVariants.{Bad, Hidden, Only, Find, IgnoreCase, WholeWords, Text, Json, Color, Bytes, Lines, NoStray, AnySuffix, All, Extension, Count, Files, Quiet, Help, Version, Paths}
+use Rattle.rl_reports.specs.declared.flags.Flag.TheVariants.{Bad, Hidden, Only, Find, IgnoreCase, WholeWords, Text, Json, Color, Bytes, Lines, NoStray, AnySuffix, AllDirectories, Extension, Count, Files, Quiet, Help, Version, Paths}
 use Rattle.rl_reports.specs.declared.flags.Operand.{Operand}
 use Rattle.rl_reports.specs.declared.flags.Operand.TheVariants as takes
 use Rattle.rl_reports.specs.declared.flags.Next.{Next}
@@ -48,7 +48,7 @@ IsOptionWord Bytes word = word ≡ codes "--bytes"
 IsOptionWord Lines word = word ≡ codes "--lines"
 IsOptionWord NoStray word = word ≡ codes "--no-stray"
 IsOptionWord AnySuffix word = word ≡ codes "--any-suffix"
-IsOptionWord All word = word ≡ codes "--all"
+IsOptionWord AllDirectories word = word ≡ codes "--all"
 IsOptionWord Extension word = word ≡ codes "--extension"
 IsOptionWord Count word = word ≡ codes "--count"
 IsOptionWord Files word = word ≡ codes "--files-with-matches"
@@ -232,7 +232,7 @@ with_flag Bytes w = record w { places = form.Bytes }
 with_flag Lines w = record w { places = form.Lines }
 with_flag NoStray w = record w { rejects_strays = true }
 with_flag AnySuffix w = record w { any_suffix = true }
-with_flag All w = record w { all_directories = true }
+with_flag AllDirectories w = record w { all_directories = true }
 with_flag Extension w = w
 with_flag Count w = record w { output = output.Count }
 with_flag Files w = record w { output = output.Path }
@@ -379,7 +379,7 @@ IsUnknownOption word error =
 -- asked for, or takes no such text.
 pub data AreRejectedLetters {A : Type 0} (has_colors : Bool) (word : List ℕ) (error : WordError A)
     : Wishes → List ℕ → Type 0 where
-  UnknownLetter : {old : Wishes} {letters more : List ℕ} (c : ℕ) → letters ≡ encode_utf8 c ++ more
+  UnknownLetter : {old : Wishes} {letters : List ℕ} (c : ℕ) (more : List ℕ) → letters ≡ encode_utf8 c ++ more
       → ((flag : Flag) → IsLetter flag c → ⊥) → NamesUnknown word error
       → AreRejectedLetters has_colors word error old letters
   RejectedLetter : {old : Wishes} {more : List ℕ} (flag : Flag) (c : ℕ) → IsLetter flag c

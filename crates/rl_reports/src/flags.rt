@@ -27,7 +27,7 @@ pub(crate) enum Flag {
     Lines,
     NoStray,
     AnySuffix,
-    All,
+    AllDirectories,
     Extension,
     Count,
     Files,
@@ -89,7 +89,7 @@ pub(crate) fn flag_of(word: &str) -> Option<Flag>
         "--lines" => Some(Flag::Lines),
         "--no-stray" => Some(Flag::NoStray),
         "--any-suffix" => Some(Flag::AnySuffix),
-        "--all" => Some(Flag::All),
+        "--all" => Some(Flag::AllDirectories),
         "--extension" => Some(Flag::Extension),
         "--count" => Some(Flag::Count),
         "--files-with-matches" => Some(Flag::Files),
@@ -143,8 +143,10 @@ pub(crate) fn joined_of(word: &str) -> Option<(Operand, &str)>
     if let Some(when) = after_front("--color=", word) {
         return Some((Operand::Color, when));
     }
-    let extension = after_front("--extension=", word)?;
-    Some((Operand::Extension, extension))
+    if let Some(extension) = after_front("--extension=", word) {
+        return Some((Operand::Extension, extension));
+    }
+    None
 }
 
 /// The option that takes this.
@@ -176,7 +178,7 @@ fn with_flag(command: Command<'_>, flag: Flag) -> Option<Command<'_>>
         (Flag::Find | Flag::Color | Flag::Extension | Flag::Paths, _) => {}
         (Flag::IgnoreCase, _) => next.matching.ignores_case = true,
         (Flag::WholeWords, _) => next.matching.whole_words = true,
-        (Flag::All, _) => next.selection.all = true,
+        (Flag::AllDirectories, _) => next.selection.all = true,
         (Flag::Text, _) => next.spelling = Spelling::Source,
         (Flag::Json, _) => next.form = Form::Json,
         (Flag::Bytes, _) => next.places = PlaceForm::Bytes,

@@ -1,5 +1,5 @@
 -- The lines of what turns or hides text.
-use Rattle.rl_text.proofs.Common.{IsUtf8, List, [], ap, append-nil, append_assoc, arith, chars, chars-nil, codes, encode_utf8, encode_utf8_all, false, inl, inr, length, length-append, refl, subst, sym, true, ℕ, ◌++◌, ◌+◌, ◌∙◌, ◌∷◌, ◌≡◌}
+use Rattle.rl_text.proofs.Common.{Bool, IsUtf8, List, [], ap, append-nil, append_assoc, arith, chars, chars-nil, codes, encode_utf8, encode_utf8_all, false, inl, inr, length, length-append, nat_tests, not, refl, subst, sym, true, ℕ, ◌&&◌, ◌++◌, ◌+◌, ◌∙◌, ◌∷◌, ◌≡◌, ◌≤◌}
 use Rattle.rl_text.specs.Texts.{byte_len}
 use Rattle.rl_lexer.specs.Cursors.{IsCursorState}
 use Rattle.rl_lexer.proofs.ErrorKinds.{char_len}
@@ -7,10 +7,18 @@ use Rattle.rl_lines.specs.Lines.{Appends}
 use Rattle.rl_lines.proofs.LineLemmas.{pushed}
 use Rattle.rl_sources.specs.declared.options.Options.{Options}
 use Rattle.rl_sources.specs.declared.place.Place.{Place}
-use Rattle.rl_sources.specs.Hidden.{AreHiddenLines, IsHiddenLine, IsShownCharacter, character_words, hidden_end, hides}
+use Rattle.rl_sources.specs.Hidden.{AreHiddenLines, IsHiddenLine, IsShownCharacter, character_words, hidden_end, hides, is_layout}
+use Rattle.rl_files.specs.Visible.{needs_escape}
 use Rattle.rl_sources.specs.Places.{line_front, IsPlaceIn}
 use Rattle.rl_sources.proofs.JsonLemmas.{two_pieces}
 use Rattle.rl_sources.specs.Json.{string_member}
+
+-- ASCII that prints hides nothing
+plain_shown : (c : ℕ) → 32 ≤ c → c ≤ 126 → needs_escape c ≡ false
+plain_shown c low high = grind (arith, nat_tests)
+
+pub plain_hides : (c : ℕ) (after : List ℕ) → 32 ≤ c → c ≤ 126 → hides c after ≡ false
+plain_hides c after low high = ap (λ (t : Bool). t && not (is_layout c after)) (plain_shown c low high)
 
 -- These are the lines of what was passed: with those of the rest after them, they are the lines of all.
 pub record PassesHidden (options : Options) (whole all rest lines : List ℕ) : Type 0 where

@@ -1,6 +1,5 @@
 -- Characters of a source that turn or hide text, wherever they stand. Texts are lists of characters.
 use Rattle.std.specs.Prelude.{◌≡◌, ◌⊎◌, ℕ, ◌+◌, ◌-◌, ◌^◌, ◌==◌, Bool, true, false, cond, not, ◌||◌, ◌&&◌, List, [], ◌∷◌, ◌++◌, length, codes, encode_utf8}
-use Prim.Native.Char.{code}
 use Rattle.std.specs.Str.{chars}
 use Rattle.std.specs.Fmt.{digits, format_spec, padded_integral}
 use Rattle.rl_text.specs.Texts.{byte_len, begins_char}

@@ -23,10 +23,14 @@ fn is_layout(c: char, after: &str) -> bool
 }
 
 /// Whether a character turns or hides text: one that is printed as an escape, but for the layout.
+#[tactic(auto, using(crate::proofs::HiddenLemmas::plain_hides))]
 #[inline(always)]
 fn hides(c: char, after: &str) -> bool
     ensures { result ≡ is_hider c (chars after.now) }
 {
+    if c >= ' ' && c <= '~' {
+        return false;
+    }
     needs_escape(c) && !is_layout(c, after)
 }
 

@@ -17,6 +17,9 @@ fn is_layout(c: char, after: &str) -> bool {
 /// Whether a character turns or hides text: one that is printed as an escape, but for the layout.
 #[inline(always)]
 fn hides(c: char, after: &str) -> bool {
+    if c >= ' ' && c <= '~' {
+        return false;
+    }
     needs_escape(c) && !is_layout(c, after)
 }
 
