@@ -1,5 +1,6 @@
 pub mod CaseLemmas
 pub mod WrittenTexts
+pub mod NumberCharacters
 pub mod SameIntegers
 pub mod SameFloats
 pub mod SameRaw

@@ -13,23 +13,15 @@ use Rattle.rl_forms.proofs.StrictQuoted.{between}
 use Rattle.rl_writing.specs.RawStrings.{HasFewestHashes, raw_contents, raw_text}
 use Rattle.rl_style.specs.declared.style.Case.{Case}
 use Rattle.rl_style.specs.declared.style.Style.{Style}
-use Rattle.rl_style.specs.Cases.{float_character}
+use Rattle.rl_style.specs.Cases.{drops_underscores, number_character}
 use Rattle.rl_style.specs.Mirrors.{AreUnits}
-use Rattle.rl_style.specs.Rewriting.{HasHashes, KeepsTruth, Rewrites, RewritesCooked, RewritesFloat, RewritesInt, RewritesRaw, integer_digits, restyled}
+use Rattle.rl_style.specs.Rewriting.{HasHashes, KeepsTruth, Rewrites, RewritesCooked, RewritesFloat, RewritesInt, RewritesRaw, restyled}
 use Rattle.rl_style.proofs.SameRaw.{raw_followed, raw_joined, raw_strict, raw_string}
 use Rattle.rl_style.proofs.SameUnits.{cooked_strict}
 use Rattle.rl_style.proofs.UnitTexts.{texts_once}
-use Rattle.rl_style.proofs.WrittenNumbers.{base_found, digits_apart, sixteen}
+use Rattle.rl_style.proofs.WrittenNumbers.{base_found}
 
 -- ---- numbers
-
-integer_text : (style : Style) (t u : List ℕ) → (c : RewritesInt style t u)
-    → u ≡ integer_digits style c.int.base (c.int.prefix ++ c.int.row) ++ c.suffix
-integer_text style t u c =
-    let i = c.int in
-    c.new_is ∙ sym (append_assoc i.prefix (integer_digits style i.base i.row) c.suffix)
-    ∙ ap (λ z. z ++ c.suffix) (sym (digits_apart (i.base == 16) style.hex_digits i.prefix i.row
-    (λ h. sixteen t c.contents c.suffix i (eqb-true i.base 16 h))))
 
 integer_once : (style : Style) (t u w : List ℕ) → RewritesInt style t u → RewritesInt style t w → u ≡ w
 integer_once style t u w a b =
@@ -39,11 +31,12 @@ integer_once style t u w a b =
     let front : a.int.prefix ++ a.int.row ≡ b.int.prefix ++ b.int.row =
     append_cancel_right (a.int.prefix ++ a.int.row) (b.int.prefix ++ b.int.row) b.suffix
     (ap (λ z. (a.int.prefix ++ a.int.row) ++ z) (sym suffix) ∙ sym a.int.text ∙ b.int.text) in
-    integer_text style t u a
-    ∙ ap (λ z. integer_digits style z (a.int.prefix ++ a.int.row) ++ a.suffix) base
-    ∙ ap (λ z. integer_digits style b.int.base z ++ a.suffix) front
-    ∙ ap (λ z. integer_digits style b.int.base (b.int.prefix ++ b.int.row) ++ z) suffix
-    ∙ sym (integer_text style t w b)
+    a.new_is
+    ∙ ap (λ z. flat_map (number_character style (drops_underscores style a.suffix) (z == 16)) (a.int.prefix ++ a.int.row)
+    ++ a.suffix) base
+    ∙ ap (λ z. flat_map (number_character style (drops_underscores style a.suffix) (b.int.base == 16)) z ++ a.suffix) front
+    ∙ ap (λ z. flat_map (number_character style (drops_underscores style z) (b.int.base == 16))
+    (b.int.prefix ++ b.int.row) ++ z) suffix ∙ sym b.new_is
 
 float_once : (style : Style) (t u w : List ℕ) → RewritesFloat style t u → RewritesFloat style t w → u ≡ w
 float_once style t u w a b =
@@ -51,8 +44,10 @@ float_once style t u w a b =
     let numeral : a.float.numeral ≡ b.float.numeral =
     append_cancel_right a.float.numeral b.float.numeral b.suffix
     (ap (λ z. a.float.numeral ++ z) (sym suffix) ∙ sym a.float.text ∙ b.float.text) in
-    a.new_is ∙ ap (λ z. flat_map (float_character style) z ++ a.suffix) numeral
-    ∙ ap (λ z. flat_map (float_character style) b.float.numeral ++ z) suffix ∙ sym b.new_is
+    a.new_is
+    ∙ ap (λ z. flat_map (number_character style (drops_underscores style a.suffix) false) z ++ a.suffix) numeral
+    ∙ ap (λ z. flat_map (number_character style (drops_underscores style z) false) b.float.numeral ++ z) suffix
+    ∙ sym b.new_is
 
 -- ---- raw literals
 
