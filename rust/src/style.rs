@@ -40,6 +40,7 @@ impl Case {
 pub struct Style {
     hex_digits: Option<Case>,
     underscores: bool,
+    leading_zeros: bool,
     exponent_letter: Option<Case>,
     exponent_plus: bool,
     escape_digits: Option<Case>,
@@ -61,6 +62,7 @@ impl Style {
         Style {
             hex_digits: None,
             underscores: false,
+            leading_zeros: false,
             exponent_letter: None,
             exponent_plus: false,
             escape_digits: None,
@@ -102,6 +104,26 @@ impl Style {
     pub const fn underscores(self, dropped: bool) -> Self {
         Style {
             underscores: dropped,
+            ..self
+        }
+    }
+
+    /// The same without the zeros in front of integers of base ten, or with those that stand there. An integer whose suffix begins
+    /// with `b`, `o` or `x` keeps them.
+    ///
+    /// ```
+    /// use navyspindle::{rewrite, Style};
+    ///
+    /// let style = Style::new().leading_zeros(true);
+    /// assert_eq!(rewrite("007_i32", style)?, "7_i32");
+    /// assert_eq!(rewrite("0_00", style)?, "0");
+    /// assert_eq!(rewrite("0x07", style)?, "0x07");
+    /// # Ok::<(), navyspindle::ParseError>(())
+    /// ```
+    #[must_use]
+    pub const fn leading_zeros(self, dropped: bool) -> Self {
+        Style {
+            leading_zeros: dropped,
             ..self
         }
     }
@@ -195,6 +217,7 @@ impl Style {
         rl_style::Style {
             hex_digits: self.hex_digits.map(Case::proved),
             underscores: self.underscores,
+            leading_zeros: self.leading_zeros,
             exponent_letter: self.exponent_letter.map(Case::proved),
             exponent_plus: self.exponent_plus,
             escape_digits: self.escape_digits.map(Case::proved),

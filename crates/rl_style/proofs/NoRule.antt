@@ -8,7 +8,7 @@ use Rattle.rl_forms.proofs.StrictQuoted.{between}
 use Rattle.rl_writing.specs.RawStrings.{raw_text}
 use Rattle.rl_style.specs.declared.style.Case.{Case}
 use Rattle.rl_style.specs.declared.style.Style.{Style}
-use Rattle.rl_style.specs.Cases.{cased, drops_underscores, exponent_letter, number_character}
+use Rattle.rl_style.specs.Cases.{cased, drops_underscores, exponent_letter, kept_digits, number_character, significant}
 use Rattle.rl_style.specs.Rewriting.{HasHashes, HasNoRule, Rewrites, RewritesCooked, RewritesFloat, RewritesInt, RewritesRaw, cased_digit, restyled}
 use Rattle.rl_text.specs.Texts.{first_passes}
 use Rattle.rl_lexer.specs.Lexemes.{is_base_letter}
@@ -43,10 +43,15 @@ numeral_kept style drops hex (c ∷ cs) n d =
 none_dropped : (style : Style) (x : List ℕ) → HasNoRule style → drops_underscores style x ≡ false
 none_dropped style x n = ap (λ b. b && not (first_passes is_base_letter x)) n.underscores
 
+zeros_kept : (style : Style) (base : ℕ) (x row : List ℕ) → HasNoRule style → kept_digits style base x row ≡ row
+zeros_kept style base x row n = ap (λ b. cond ((b && base == 10) && not (first_passes is_base_letter x)) (significant row) row)
+    n.leading_zeros
+
 integer_kept : (style : Style) (t u : List ℕ) → HasNoRule style → RewritesInt style t u → u ≡ t
 integer_kept style t u n c =
     c.new_is ∙ ap (λ z. z ++ c.suffix) (numeral_kept style (drops_underscores style c.suffix) (c.int.base == 16)
-    (c.int.prefix ++ c.int.row) n (none_dropped style c.suffix n)) ∙ sym c.int.text
+    (c.int.prefix ++ kept_digits style c.int.base c.suffix c.int.row) n (none_dropped style c.suffix n))
+    ∙ ap (λ z. (c.int.prefix ++ z) ++ c.suffix) (zeros_kept style c.int.base c.suffix c.int.row n) ∙ sym c.int.text
 
 float_kept : (style : Style) (t u : List ℕ) → HasNoRule style → RewritesFloat style t u → u ≡ t
 float_kept style t u n c =

@@ -1,6 +1,6 @@
 //! Numbers written anew.
 
-ghost use Rattle.std.specs.Prelude.{◌≡◌, ◌≤◌, ◌+◌, ◌++◌, Bool, length, take, encode_utf8, encode_utf8_all, IfSome};
+ghost use Rattle.std.specs.Prelude.{◌≡◌, ◌≤◌, ◌+◌, ◌++◌, Bool, length, take, encode_utf8, encode_utf8_all, IfSome, IsTrue};
 ghost use Rattle.std.specs.List.{flat_map};
 ghost use Rattle.std.specs.Str.{chars, IsUtf8};
 ghost use Rattle.rl_text.specs.Texts.{IsTail, first_passes};
@@ -8,7 +8,9 @@ ghost use Rattle.rl_forms.specs.Reading.{Contents};
 ghost use Rattle.rl_forms.specs.Strict.{StrictFloat, StrictInt};
 ghost use Rattle.rl_lexer.specs.Lexemes.{is_base_letter};
 ghost use Rattle.rl_reasons.specs.StrictNumbersRead.{IsNumberRead, suffix_of};
-ghost use Rattle.rl_style.specs.Cases.{drops_underscores, exponent_letter, number_character};
+ghost use Rattle.rl_text.specs.Classes.{after_run};
+ghost use Rattle.std.specs.Char.{is_ascii_digit};
+ghost use Rattle.rl_style.specs.Cases.{drops_underscores, drops_zeros, exponent_letter, is_padding, number_character, significant};
 ghost use Rattle.rl_style.specs.Mirrors.{one_or_none};
 ghost use Rattle.rl_style.specs.Rewriting.{Rewrites, RewritesFloat, RewritesInt};
 
@@ -83,21 +85,70 @@ fn put_numeral(out: &mut [u8], style: Style, drops: bool, hex: bool, numeral: &s
     end
 }
 
-/// Writes the number anew that has this suffix.
-fn write_numeral(text: &str, suffix: &str, style: Style, out: &mut [u8]) -> usize
+/// The text after the zeros and underscores at its front.
+fn skip_padding(text: &str) -> &str
+    ensures rest { chars result.now ≡ after_run is_padding (chars text.now) }
+    ensures shorter { length result.now ≤ length text.now }
+{
+    let mut rest = text;
+    while let Some(('0' | '_', after)) = split_char(rest) {
+        rest = after;
+    }
+    rest
+}
+
+/// The digits without the zeros in front; of zeros alone one.
+fn significant(digits: &str) -> &str
+    requires { IsTrue (first_passes is_ascii_digit (chars digits.now)) }
+    ensures digits { chars result.now ≡ significant (chars digits.now) }
+    ensures shorter { length result.now ≤ length digits.now }
+{
+    let rest = skip_padding(digits);
+    match split_char(rest) {
+        Some(_) => rest,
+        None => "0",
+    }
+}
+
+/// Whether an integer of the base with the suffix loses the zeros in front of its digits.
+fn drops_zeros(style: Style, base: u32, suffix: &str) -> bool
+    ensures { result ≡ drops_zeros style base (chars suffix.now) }
+{
+    style.leading_zeros && base == 10 && !begins_base_letter(suffix)
+}
+
+/// Writes the integer anew that has this suffix.
+fn write_integer(text: &str, suffix: &str, style: Style, out: &mut [u8]) -> usize
     requires following { IsTail text.now suffix.now }
+    requires integer { (v : Contents) × StrictInt (chars text.now) v (chars suffix.now) }
     requires room { length text.now ≤ length out.old }
-    ensures integer { (v : Contents) → StrictInt (chars text.now) v (chars suffix.now)
-        → RewritesInt style (chars text.now) (chars (take result out.new)) }
-    ensures float { (v : Contents) → StrictFloat (chars text.now) v (chars suffix.now)
-        → RewritesFloat style (chars text.now) (chars (take result out.new)) }
+    ensures written { RewritesInt style (chars text.now) (chars (take result out.new)) }
     ensures utf8 { IsUtf8 (take result out.new) }
     ensures within { result ≤ length text.now }
 {
     let (base, _) = split_radix(text);
-    let hex = base == 16;
     let drops = drops_underscores(style, suffix);
-    let at = put_numeral(out, style, drops, hex, before(text, suffix));
+    let numeral = before(text, suffix);
+    if drops_zeros(style, base, suffix) {
+        let at = put_numeral(out, style, drops, false, significant(numeral));
+        return put_text(out, at, suffix);
+    }
+    let hex = base == 16;
+    let at = put_numeral(out, style, drops, hex, numeral);
+    put_text(out, at, suffix)
+}
+
+/// Writes the float anew that has this suffix.
+fn write_float(text: &str, suffix: &str, style: Style, out: &mut [u8]) -> usize
+    requires following { IsTail text.now suffix.now }
+    requires float { (v : Contents) × StrictFloat (chars text.now) v (chars suffix.now) }
+    requires room { length text.now ≤ length out.old }
+    ensures written { RewritesFloat style (chars text.now) (chars (take result out.new)) }
+    ensures utf8 { IsUtf8 (take result out.new) }
+    ensures within { result ≤ length text.now }
+{
+    let drops = drops_underscores(style, suffix);
+    let at = put_numeral(out, style, drops, false, before(text, suffix));
     put_text(out, at, suffix)
 }
 
@@ -111,7 +162,7 @@ pub(crate) fn write_number(text: &str, number: Number<'_>, style: Style, out: &m
     ensures within { result ≤ length text.now }
 {
     match number {
-        Number::Integer(_, suffix) => write_numeral(text, suffix, style, out),
-        Number::Float(suffix) => write_numeral(text, suffix, style, out),
+        Number::Integer(_, suffix) => write_integer(text, suffix, style, out),
+        Number::Float(suffix) => write_float(text, suffix, style, out),
     }
 }

@@ -56,19 +56,54 @@ fn put_numeral(out: &mut [u8], style: Style, drops: bool, hex: bool, numeral: &s
     end
 }
 
-/// Writes the number anew that has this suffix.
-fn write_numeral(text: &str, suffix: &str, style: Style, out: &mut [u8]) -> usize {
+/// The text after the zeros and underscores at its front.
+fn skip_padding(text: &str) -> &str {
+    let mut rest = text;
+    while let Some(('0' | '_', after)) = split_char(rest) {
+        rest = after;
+    }
+    rest
+}
+
+/// The digits without the zeros in front; of zeros alone one.
+fn significant(digits: &str) -> &str {
+    let rest = skip_padding(digits);
+    match split_char(rest) {
+        Some(_) => rest,
+        None => "0",
+    }
+}
+
+/// Whether an integer of the base with the suffix loses the zeros in front of its digits.
+fn drops_zeros(style: Style, base: u32, suffix: &str) -> bool {
+    style.leading_zeros && base == 10 && !begins_base_letter(suffix)
+}
+
+/// Writes the integer anew that has this suffix.
+fn write_integer(text: &str, suffix: &str, style: Style, out: &mut [u8]) -> usize {
     let (base, _) = split_radix(text);
-    let hex = base == 16;
     let drops = drops_underscores(style, suffix);
-    let at = put_numeral(out, style, drops, hex, before(text, suffix));
+    let numeral = before(text, suffix);
+    if drops_zeros(style, base, suffix) {
+        let at = put_numeral(out, style, drops, false, significant(numeral));
+        return put_text(out, at, suffix);
+    }
+    let hex = base == 16;
+    let at = put_numeral(out, style, drops, hex, numeral);
+    put_text(out, at, suffix)
+}
+
+/// Writes the float anew that has this suffix.
+fn write_float(text: &str, suffix: &str, style: Style, out: &mut [u8]) -> usize {
+    let drops = drops_underscores(style, suffix);
+    let at = put_numeral(out, style, drops, false, before(text, suffix));
     put_text(out, at, suffix)
 }
 
 /// Writes the number anew that was read.
 pub(crate) fn write_number(text: &str, number: Number<'_>, style: Style, out: &mut [u8]) -> usize {
     match number {
-        Number::Integer(_, suffix) => write_numeral(text, suffix, style, out),
-        Number::Float(suffix) => write_numeral(text, suffix, style, out),
+        Number::Integer(_, suffix) => write_integer(text, suffix, style, out),
+        Number::Float(suffix) => write_float(text, suffix, style, out),
     }
 }
