@@ -7,8 +7,9 @@
 
 A literal is taken apart by the token grammar of the Rust Reference, each part is mapped by itself, and the parts are put together
 again. Nothing of the repository is asked. A style is a word of letters: `x` and `X` hexadecimal digits in lower and in upper case,
-`e` and `E` the exponent's letter, `d` and `D` the digits of escapes, `p` no plus, `q` no needless backslash before a quote, `h` the
-fewest hashes. A row is a style, a text and what it becomes, both in hexadecimal; `!` stands for a text that is no literal.
+`u` no underscores in numbers, `z` no zeros in front of integers of base ten, `e` and `E` the exponent's letter, `d` and `D` the digits
+of escapes, `p` no plus, `q` no needless backslash before a quote, `h` the fewest hashes. A row is a style, a text and what it becomes,
+both in hexadecimal: `=` stands for the text itself, and `!` for what is no literal.
 
 The laws: what is written is a literal of the same kind, with the same contents and the same suffix, and the style leaves it as it
 is."""
@@ -26,7 +27,7 @@ HEX = '0123456789abcdefABCDEF'
 OPENERS = {'Str': '"', 'ByteStr': 'b"', 'CStr': 'c"', 'Byte': "b'", 'Char': "'"}
 RAW_OPENERS = {'Str': 'r', 'ByteStr': 'br', 'CStr': 'cr'}
 LETTERS = {'n': 10, 'r': 13, 't': 9, '\\': 92, '0': 0}
-RULES = ['x', 'X', 'e', 'E', 'd', 'D', 'p', 'q', 'h']
+RULES = ['x', 'X', 'u', 'z', 'e', 'E', 'd', 'D', 'p', 'q', 'h']
 
 
 class Unit(NamedTuple):
@@ -219,6 +220,11 @@ def rewrite(style, text):
     if it is None:
         return None
     parts = dict(it.parts)
+    # Without its underscores `0_b1` would begin as another base does.
+    if 'u' in style and it.suffix[:1] not in ('b', 'o', 'x'):
+        parts.update((part, parts[part].replace('_', '')) for part in ('row', 'numeral') if part in parts)
+    if 'z' in style and it.form == 'int' and parts['base'] == 10 and it.suffix[:1] not in ('b', 'o', 'x'):
+        parts['row'] = parts['row'].lstrip('0_') or '0'
     if it.form == 'int' and parts['base'] == 16:
         parts['row'] = cased(style, 'x', 'X', parts['row'])
     if it.form == 'float':
@@ -281,7 +287,8 @@ def long_texts(dice, count):
 
 def styles():
     for x, e, d in itertools.product(['', 'x', 'X'], ['', 'e', 'E'], ['', 'd', 'D']):
-        yield from (x + e + d + p + q + h for p, q, h in itertools.product(['', 'p'], ['', 'q'], ['', 'h']))
+        for u, z, p, q, h in itertools.product(['', 'u'], ['', 'z'], ['', 'p'], ['', 'q'], ['', 'h']):
+            yield x + u + z + e + d + p + q + h
 
 
 def broken(style, text):
@@ -300,9 +307,9 @@ def broken(style, text):
 
 def check_laws(dice):
     texts = {text for text in itertools.chain(short_texts(), long_texts(dice, 40000)) if literal(text)}
-    changed = 0
+    every, changed = sorted(texts), 0
     for style in styles():
-        for text in sorted(texts) if len(style) > 5 or style in RULES else dice.sample(sorted(texts), 4000):
+        for text in every if len(style) > 7 or style in RULES else dice.sample(every, 1000):
             changed += rewrite(style, text) != text
             law = broken(style, text)
             if law:

@@ -39,6 +39,8 @@ impl Case {
 #[derive(Clone, Copy, Debug, PartialEq, Eq, Hash)]
 pub struct Style {
     hex_digits: Option<Case>,
+    underscores: bool,
+    leading_zeros: bool,
     exponent_letter: Option<Case>,
     exponent_plus: bool,
     escape_digits: Option<Case>,
@@ -59,6 +61,8 @@ impl Style {
     pub const fn new() -> Self {
         Style {
             hex_digits: None,
+            underscores: false,
+            leading_zeros: false,
             exponent_letter: None,
             exponent_plus: false,
             escape_digits: None,
@@ -80,6 +84,46 @@ impl Style {
     pub const fn hex_digits(self, case: Case) -> Self {
         Style {
             hex_digits: Some(case),
+            ..self
+        }
+    }
+
+    /// The same without the underscores of numbers, or with those that stand there. A number whose suffix begins with `b`, `o` or
+    /// `x` keeps them: `0_b1` without them would be of another base.
+    ///
+    /// ```
+    /// use navyspindle::{rewrite, Style};
+    ///
+    /// let style = Style::new().underscores(true);
+    /// assert_eq!(rewrite("1_000_u32", style)?, "1000u32");
+    /// assert_eq!(rewrite("1_0.5_0e1_0", style)?, "10.50e10");
+    /// assert_eq!(rewrite("0_b1", style)?, "0_b1");
+    /// # Ok::<(), navyspindle::ParseError>(())
+    /// ```
+    #[must_use]
+    pub const fn underscores(self, dropped: bool) -> Self {
+        Style {
+            underscores: dropped,
+            ..self
+        }
+    }
+
+    /// The same without the zeros in front of integers of base ten, or with those that stand there. An integer whose suffix begins
+    /// with `b`, `o` or `x` keeps them.
+    ///
+    /// ```
+    /// use navyspindle::{rewrite, Style};
+    ///
+    /// let style = Style::new().leading_zeros(true);
+    /// assert_eq!(rewrite("007_i32", style)?, "7_i32");
+    /// assert_eq!(rewrite("0_00", style)?, "0");
+    /// assert_eq!(rewrite("0x07", style)?, "0x07");
+    /// # Ok::<(), navyspindle::ParseError>(())
+    /// ```
+    #[must_use]
+    pub const fn leading_zeros(self, dropped: bool) -> Self {
+        Style {
+            leading_zeros: dropped,
             ..self
         }
     }
@@ -172,6 +216,8 @@ impl Style {
     fn proved(self) -> rl_style::Style {
         rl_style::Style {
             hex_digits: self.hex_digits.map(Case::proved),
+            underscores: self.underscores,
+            leading_zeros: self.leading_zeros,
             exponent_letter: self.exponent_letter.map(Case::proved),
             exponent_plus: self.exponent_plus,
             escape_digits: self.escape_digits.map(Case::proved),

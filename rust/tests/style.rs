@@ -14,6 +14,8 @@ fn style_of(letters: &str) -> Style {
         'E' => style.exponent_letter(Case::Upper),
         'd' => style.escape_digits(Case::Lower),
         'D' => style.escape_digits(Case::Upper),
+        'u' => style.underscores(true),
+        'z' => style.leading_zeros(true),
         'p' => style.exponent_plus(true),
         'q' => style.quote_escapes(true),
         'h' => style.raw_hashes(true),
@@ -72,7 +74,7 @@ fn read_alike(old: &str, new: &str) -> bool {
 
 #[test]
 fn what_is_written_reads_alike() {
-    let all = style_of("xepdqh");
+    let all = style_of("xuzepdqh");
     for row in ROWS.lines() {
         let text = decoded(row.split(' ').nth(1).unwrap());
         if let Ok(written) = rewrite(&text, all) {
@@ -85,7 +87,7 @@ fn what_is_written_reads_alike() {
 #[test]
 fn errors_are_those_of_the_reader() {
     for text in ["", "0b102", "\"a\\q\"", "r\"a\"b\"", "'ab'", "1e", "x"] {
-        let error = rewrite(text, style_of("xepdqh")).unwrap_err();
+        let error = rewrite(text, style_of("xuzepdqh")).unwrap_err();
         assert_eq!(error, Lit::parse(text).unwrap_err(), "{text}");
     }
     // A minus is a token of its own.

@@ -1,5 +1,7 @@
 pub mod CaseLemmas
 pub mod WrittenTexts
+pub mod NumberCharacters
+pub mod LeadingZeros
 pub mod SameIntegers
 pub mod SameFloats
 pub mod SameRaw

@@ -1,5 +1,5 @@
 -- A style without rules changes nothing.
-use Rattle.rl_text.proofs.Common.{◌≡◌, ℕ, ◌&&◌, Bool, true, false, not, ◌==◌, cond, List, [], ◌∷◌, ◌++◌, map, Some, None, refl, sym, ap, subst, ◌∙◌, inl, inr, append_assoc, flat_map}
+use Rattle.rl_text.proofs.Common.{◌≡◌, ℕ, ◌&&◌, ◌||◌, Bool, true, false, not, ◌==◌, cond, List, [], ◌∷◌, ◌++◌, map, Some, None, refl, sym, ap, subst, ◌∙◌, inl, inr, append_assoc, flat_map}
 use Rattle.std.specs.Prelude.{Option}
 use Rattle.rl_reading.proofs.Names.{Kind, StrictUnit, Itself, QuoteEscape, PlainEscape, AsciiEscape, ByteEscape, UnicodeEscape, LineBreak, strict_text}
 use Rattle.rl_forms.specs.Written.{closer}
@@ -8,37 +8,55 @@ use Rattle.rl_forms.proofs.StrictQuoted.{between}
 use Rattle.rl_writing.specs.RawStrings.{raw_text}
 use Rattle.rl_style.specs.declared.style.Case.{Case}
 use Rattle.rl_style.specs.declared.style.Style.{Style}
-use Rattle.rl_style.specs.Cases.{cased, exponent_letter, float_character}
-use Rattle.rl_style.specs.Rewriting.{HasHashes, HasNoRule, Rewrites, RewritesCooked, RewritesFloat, RewritesInt, RewritesRaw, cased_digit, integer_digits, restyled}
+use Rattle.rl_style.specs.Cases.{cased, drops_underscores, exponent_letter, kept_digits, number_character, significant}
+use Rattle.rl_style.specs.Rewriting.{HasHashes, HasNoRule, Rewrites, RewritesCooked, RewritesFloat, RewritesInt, RewritesRaw, cased_digit, restyled}
+use Rattle.rl_text.specs.Texts.{first_passes}
+use Rattle.rl_lexer.specs.Lexemes.{is_base_letter}
+use Rattle.rl_style.proofs.NumberCharacters.{none_right}
 use Rattle.rl_style.proofs.SameRaw.{raw_followed, raw_string}
 
 -- ---- numbers
 
-row_kept : (row : List ℕ) → map (cased None) row ≡ row
-row_kept [] = refl
-row_kept (c ∷ cs) = ap (λ z. c ∷ z) (row_kept cs)
+character_kept : (style : Style) (drops hex : Bool) (c : ℕ) → HasNoRule style → drops ≡ false
+    → number_character style drops hex c ≡ c ∷ []
+character_kept style drops hex c n d =
+    ap (λ b. cond ((b && c == 95) || ((not hex && style.exponent_plus) && c == 43)) []
+    (cond hex (cased style.hex_digits c) (exponent_letter style.exponent_letter c) ∷ [])) d
+    ∙ ap (λ b. cond ((not hex && b) && c == 43) []
+    (cond hex (cased style.hex_digits c) (exponent_letter style.exponent_letter c) ∷ [])) n.exponent_plus
+    ∙ ap (λ b. cond (b && c == 43) [] (cond hex (cased style.hex_digits c) (exponent_letter style.exponent_letter c) ∷ []))
+    (none_right (not hex))
+    ∙ ap (λ z. cond hex (cased z c) (exponent_letter style.exponent_letter c) ∷ []) n.hex_digits
+    ∙ ap (λ z. cond hex c (exponent_letter z c) ∷ []) n.exponent_letter ∙ ap (λ z. z ∷ []) (either hex)
+  where
+    either : (b : Bool) → cond b c c ≡ c
+    either true = refl
+    either false = refl
 
-digits_kept : (b : Bool) (case : Option Case) (row : List ℕ) → case ≡ None → cond b (map (cased case) row) row ≡ row
-digits_kept true case row e = ap (λ z. map (cased z) row) e ∙ row_kept row
-digits_kept false case row e = refl
+numeral_kept : (style : Style) (drops hex : Bool) (cs : List ℕ) → HasNoRule style → drops ≡ false
+    → flat_map (number_character style drops hex) cs ≡ cs
+numeral_kept style drops hex [] n d = refl
+numeral_kept style drops hex (c ∷ cs) n d =
+    ap (λ z. z ++ flat_map (number_character style drops hex) cs) (character_kept style drops hex c n d)
+    ∙ ap (λ z. c ∷ z) (numeral_kept style drops hex cs n d)
+
+none_dropped : (style : Style) (x : List ℕ) → HasNoRule style → drops_underscores style x ≡ false
+none_dropped style x n = ap (λ b. b && not (first_passes is_base_letter x)) n.underscores
+
+zeros_kept : (style : Style) (base : ℕ) (x row : List ℕ) → HasNoRule style → kept_digits style base x row ≡ row
+zeros_kept style base x row n = ap (λ b. cond ((b && base == 10) && not (first_passes is_base_letter x)) (significant row) row)
+    n.leading_zeros
 
 integer_kept : (style : Style) (t u : List ℕ) → HasNoRule style → RewritesInt style t u → u ≡ t
 integer_kept style t u n c =
-    c.new_is ∙ ap (λ z. c.int.prefix ++ (z ++ c.suffix)) (digits_kept (c.int.base == 16) style.hex_digits c.int.row n.hex_digits)
-    ∙ sym (append_assoc c.int.prefix c.int.row c.suffix) ∙ sym c.int.text
-
-character_kept : (style : Style) (c : ℕ) → HasNoRule style → float_character style c ≡ c ∷ []
-character_kept style c n =
-    ap (λ b. cond (b && c == 43) [] (exponent_letter style.exponent_letter c ∷ [])) n.exponent_plus
-    ∙ ap (λ z. exponent_letter z c ∷ []) n.exponent_letter
-
-numeral_kept : (style : Style) (cs : List ℕ) → HasNoRule style → flat_map (float_character style) cs ≡ cs
-numeral_kept style [] n = refl
-numeral_kept style (c ∷ cs) n =
-    ap (λ z. z ++ flat_map (float_character style) cs) (character_kept style c n) ∙ ap (λ z. c ∷ z) (numeral_kept style cs n)
+    c.new_is ∙ ap (λ z. z ++ c.suffix) (numeral_kept style (drops_underscores style c.suffix) (c.int.base == 16)
+    (c.int.prefix ++ kept_digits style c.int.base c.suffix c.int.row) n (none_dropped style c.suffix n))
+    ∙ ap (λ z. (c.int.prefix ++ z) ++ c.suffix) (zeros_kept style c.int.base c.suffix c.int.row n) ∙ sym c.int.text
 
 float_kept : (style : Style) (t u : List ℕ) → HasNoRule style → RewritesFloat style t u → u ≡ t
-float_kept style t u n c = c.new_is ∙ ap (λ z. z ++ c.suffix) (numeral_kept style c.float.numeral n) ∙ sym c.float.text
+float_kept style t u n c =
+    c.new_is ∙ ap (λ z. z ++ c.suffix) (numeral_kept style (drops_underscores style c.suffix) false c.float.numeral n
+    (none_dropped style c.suffix n)) ∙ sym c.float.text
 
 -- ---- quoted literals
 

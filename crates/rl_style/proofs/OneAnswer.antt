@@ -13,37 +13,53 @@ use Rattle.rl_forms.proofs.StrictQuoted.{between}
 use Rattle.rl_writing.specs.RawStrings.{HasFewestHashes, raw_contents, raw_text}
 use Rattle.rl_style.specs.declared.style.Case.{Case}
 use Rattle.rl_style.specs.declared.style.Style.{Style}
-use Rattle.rl_style.specs.Cases.{float_character}
+use Rattle.rl_style.specs.Cases.{drops_underscores, kept_digits, number_character}
 use Rattle.rl_style.specs.Mirrors.{AreUnits}
-use Rattle.rl_style.specs.Rewriting.{HasHashes, KeepsTruth, Rewrites, RewritesCooked, RewritesFloat, RewritesInt, RewritesRaw, integer_digits, restyled}
+use Rattle.rl_style.specs.Rewriting.{HasHashes, KeepsTruth, Rewrites, RewritesCooked, RewritesFloat, RewritesInt, RewritesRaw, restyled}
 use Rattle.rl_style.proofs.SameRaw.{raw_followed, raw_joined, raw_strict, raw_string}
 use Rattle.rl_style.proofs.SameUnits.{cooked_strict}
 use Rattle.rl_style.proofs.UnitTexts.{texts_once}
-use Rattle.rl_style.proofs.WrittenNumbers.{base_found, digits_apart, sixteen}
+use Rattle.rl_style.proofs.WrittenNumbers.{base_found}
 
 -- ---- numbers
 
-integer_text : (style : Style) (t u : List ℕ) → (c : RewritesInt style t u)
-    → u ≡ integer_digits style c.int.base (c.int.prefix ++ c.int.row) ++ c.suffix
-integer_text style t u c =
-    let i = c.int in
-    c.new_is ∙ sym (append_assoc i.prefix (integer_digits style i.base i.row) c.suffix)
-    ∙ ap (λ z. z ++ c.suffix) (sym (digits_apart (i.base == 16) style.hex_digits i.prefix i.row
-    (λ h. sixteen t c.contents c.suffix i (eqb-true i.base 16 h))))
+-- a base's prefix
+abbrev prefix_of : ℕ → List ℕ
+prefix_of base = cond (base == 2) (48 ∷ 98 ∷ []) (cond (base == 8) (48 ∷ 111 ∷ []) (cond (base == 16) (48 ∷ 120 ∷ []) []))
+
+prefix_is : (t : List ℕ) (v : Contents) (x : List ℕ) → (i : StrictInt t v x) → i.prefix ≡ prefix_of i.base
+prefix_is t v x i =
+    elim i.is_front [
+      | inl f ↦ f.0 ∙ ap prefix_of (sym f.1)
+      | inr f ↦ elim f [
+        | inl g ↦ g.0 ∙ ap prefix_of (sym g.1)
+        | inr g ↦ elim g [
+          | inl b ↦ b.0 ∙ ap prefix_of (sym b.1)
+          | inr b ↦ b.0 ∙ ap prefix_of (sym b.1)
+        ]
+      ]
+    ]
+
+abbrev integer_of : Style → ℕ → List ℕ → List ℕ → List ℕ → List ℕ
+integer_of style base prefix row x =
+    flat_map (number_character style (drops_underscores style x) (base == 16)) (prefix ++ kept_digits style base x row) ++ x
 
 integer_once : (style : Style) (t u w : List ℕ) → RewritesInt style t u → RewritesInt style t w → u ≡ w
 integer_once style t u w a b =
     let suffix : a.suffix ≡ b.suffix = (one_strict t Int Int a.contents b.contents a.suffix b.suffix a.int b.int).2 in
     let base : a.int.base ≡ b.int.base = sym (base_found t a.contents a.suffix a.int)
     ∙ base_found t b.contents b.suffix b.int in
+    let prefix : a.int.prefix ≡ b.int.prefix = prefix_is t a.contents a.suffix a.int ∙ ap prefix_of base
+    ∙ sym (prefix_is t b.contents b.suffix b.int) in
     let front : a.int.prefix ++ a.int.row ≡ b.int.prefix ++ b.int.row =
     append_cancel_right (a.int.prefix ++ a.int.row) (b.int.prefix ++ b.int.row) b.suffix
     (ap (λ z. (a.int.prefix ++ a.int.row) ++ z) (sym suffix) ∙ sym a.int.text ∙ b.int.text) in
-    integer_text style t u a
-    ∙ ap (λ z. integer_digits style z (a.int.prefix ++ a.int.row) ++ a.suffix) base
-    ∙ ap (λ z. integer_digits style b.int.base z ++ a.suffix) front
-    ∙ ap (λ z. integer_digits style b.int.base (b.int.prefix ++ b.int.row) ++ z) suffix
-    ∙ sym (integer_text style t w b)
+    let row : a.int.row ≡ b.int.row = same_tail a.int.prefix a.int.row b.int.row (front
+    ∙ ap (λ z. z ++ b.int.row) (sym prefix)) in
+    a.new_is ∙ ap (λ z. integer_of style z a.int.prefix a.int.row a.suffix) base
+    ∙ ap (λ z. integer_of style b.int.base z a.int.row a.suffix) prefix
+    ∙ ap (λ z. integer_of style b.int.base b.int.prefix z a.suffix) row
+    ∙ ap (integer_of style b.int.base b.int.prefix b.int.row) suffix ∙ sym b.new_is
 
 float_once : (style : Style) (t u w : List ℕ) → RewritesFloat style t u → RewritesFloat style t w → u ≡ w
 float_once style t u w a b =
@@ -51,8 +67,10 @@ float_once style t u w a b =
     let numeral : a.float.numeral ≡ b.float.numeral =
     append_cancel_right a.float.numeral b.float.numeral b.suffix
     (ap (λ z. a.float.numeral ++ z) (sym suffix) ∙ sym a.float.text ∙ b.float.text) in
-    a.new_is ∙ ap (λ z. flat_map (float_character style) z ++ a.suffix) numeral
-    ∙ ap (λ z. flat_map (float_character style) b.float.numeral ++ z) suffix ∙ sym b.new_is
+    a.new_is
+    ∙ ap (λ z. flat_map (number_character style (drops_underscores style a.suffix) false) z ++ a.suffix) numeral
+    ∙ ap (λ z. flat_map (number_character style (drops_underscores style z) false) b.float.numeral ++ z) suffix
+    ∙ sym b.new_is
 
 -- ---- raw literals
 

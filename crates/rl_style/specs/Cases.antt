@@ -1,6 +1,9 @@
--- Letters in one case. A character is its code.
-use Rattle.std.specs.Prelude.{ℕ, ◌+◌, ◌-◌, Bool, true, false, ◌&&◌, ◌==◌, nat_le, List, [], ◌∷◌, Option, Some, None, if◌then◌else◌}
+-- Letters in one case, and what characters of numbers become. A character is its code.
+use Rattle.std.specs.Prelude.{ℕ, ◌+◌, ◌-◌, Bool, true, false, not, ◌&&◌, ◌||◌, ◌==◌, nat_le, List, [], ◌∷◌, Option, Some, None, codes, if◌then◌else◌}
 use Prim.Native.Char.{code}
+use Rattle.rl_text.specs.Classes.{after_run}
+use Rattle.rl_text.specs.Texts.{first_passes}
+use Rattle.rl_lexer.specs.Lexemes.{is_base_letter}
 use Rattle.rl_style.specs.declared.style.Case.{Case}
 use Rattle.rl_style.specs.declared.style.Case.TheVariants.{Lower, Upper}
 use Rattle.rl_style.specs.declared.style.Style.{Style}
@@ -23,8 +26,32 @@ exponent_letter None c = c
 exponent_letter (Some Lower) c = if c == code "E" then code "e" else c
 exponent_letter (Some Upper) c = if c == code "e" then code "E" else c
 
--- what a character of a float becomes, all of whose letters and signs are its exponent's
-abbrev pub float_character : Style → ℕ → List ℕ
-float_character style c =
-    if style.exponent_plus && c == code "+" then []
-    else exponent_letter style.exponent_letter c ∷ []
+-- The number loses its underscores: the rule says so, and its suffix doesn't begin as a base does, so no other number comes
+-- of `0_b1`.
+abbrev pub drops_underscores : Style → List ℕ → Bool
+drops_underscores style suffix = style.underscores && not (first_passes is_base_letter suffix)
+
+-- what a character of a number becomes, by whether its underscores are dropped and its base is 16
+abbrev pub number_character : Style → Bool → Bool → ℕ → List ℕ
+number_character style drops hex c =
+    if (drops && c == code "_") || ((not hex && style.exponent_plus) && c == code "+") then []
+    else (if hex then cased style.hex_digits c else exponent_letter style.exponent_letter c) ∷ []
+
+-- zeros in front of digits, and underscores between them
+abbrev pub is_padding : ℕ → Bool
+is_padding c = c == code "0" || c == code "_"
+
+abbrev pub or_zero : List ℕ → List ℕ
+or_zero [] = codes "0"
+or_zero (c ∷ cs) = c ∷ cs
+
+-- digits without the zeros in front; of zeros alone one
+abbrev pub significant : List ℕ → List ℕ
+significant row = or_zero (after_run is_padding row)
+
+-- An integer of base ten loses those zeros: the rule says so, and its suffix doesn't begin as a base does.
+abbrev pub drops_zeros : Style → ℕ → List ℕ → Bool
+drops_zeros style base suffix = (style.leading_zeros && base == 10) && not (first_passes is_base_letter suffix)
+
+abbrev pub kept_digits : Style → ℕ → List ℕ → List ℕ → List ℕ
+kept_digits style base suffix row = if drops_zeros style base suffix then significant row else row

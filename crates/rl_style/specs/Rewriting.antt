@@ -8,7 +8,7 @@ use Rattle.rl_forms.specs.Strict.{StrictUnit, Itself, QuoteEscape, AsciiEscape, 
 use Rattle.rl_writing.specs.RawStrings.{raw_text, HasFewestHashes}
 use Rattle.rl_style.specs.declared.style.Case.{Case}
 use Rattle.rl_style.specs.declared.style.Style.{Style}
-use Rattle.rl_style.specs.Cases.{cased, float_character}
+use Rattle.rl_style.specs.Cases.{cased, drops_underscores, kept_digits, number_character}
 
 -- Both texts are strict literals of one kind, with the same contents and the same suffix. By the laws of both grammars
 -- they then read alike.
@@ -21,23 +21,21 @@ pub record SameLiteral (old new : List ℕ) : Type 0 where
 
 -- ---- numbers
 
--- an integer's digits: of base 16 in one case
-abbrev pub integer_digits : Style → ℕ → List ℕ → List ℕ
-integer_digits style base row = if base == 16 then map (cased style.hex_digits) row else row
-
--- The old text is an integer; the new one has its prefix, its digits in the style, and its suffix.
+-- The old text is an integer; the new one has its prefix, its digits, perhaps without the zeros in front, and its suffix, and
+-- each character before the suffix is what the style makes of it.
 pub record RewritesInt (style : Style) (old new : List ℕ) : Type 0 where
   pub contents : Contents
   pub suffix : List ℕ
   pub int : StrictInt old contents suffix
-  pub new_is : new ≡ int.prefix ++ (integer_digits style int.base int.row ++ suffix)
+  pub new_is : new ≡ flat_map (number_character style (drops_underscores style suffix) (int.base == 16))
+      (int.prefix ++ kept_digits style int.base suffix int.row) ++ suffix
 
--- The old text is a float; in the new one each character before the suffix is what the style makes of it.
+-- The same of a float, but for the zeros.
 pub record RewritesFloat (style : Style) (old new : List ℕ) : Type 0 where
   pub contents : Contents
   pub suffix : List ℕ
   pub float : StrictFloat old contents suffix
-  pub new_is : new ≡ flat_map (float_character style) float.numeral ++ suffix
+  pub new_is : new ≡ flat_map (number_character style (drops_underscores style suffix) false) float.numeral ++ suffix
 
 -- ---- raw literals
 
@@ -102,6 +100,8 @@ Rewrites style old new =
 -- The style has no rule.
 pub record HasNoRule (style : Style) : Type 0 where
   pub hex_digits : style.hex_digits ≡ None
+  pub underscores : style.underscores ≡ false
+  pub leading_zeros : style.leading_zeros ≡ false
   pub exponent_letter : style.exponent_letter ≡ None
   pub exponent_plus : style.exponent_plus ≡ false
   pub escape_digits : style.escape_digits ≡ None

@@ -9,7 +9,7 @@ use rl_text::room::put_char;
 use rl_text::text::split_char;
 
 /// A hexadecimal digit in the case; whatever else as it is.
-fn cased(case: Option<Case>, c: char) -> char
+pub(crate) fn cased(case: Option<Case>, c: char) -> char
     ensures value { result ≡ cased case c }
     ensures len { length (encode_utf8 result) ≡ length (encode_utf8 c) }
 {

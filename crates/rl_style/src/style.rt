@@ -12,6 +12,12 @@ pub enum Case {
 pub struct Style {
     /// The case of an integer's digits after `0x`.
     pub hex_digits: Option<Case>,
+    /// Whether a number loses its underscores: `1000u8` for `1_000_u8`. One whose suffix begins with `b`, `o` or `x` keeps them:
+    /// `0_b1` without them would be of another base.
+    pub underscores: bool,
+    /// Whether an integer of base ten loses the zeros in front of its digits: `7` for `007`. One whose suffix begins with `b`, `o` or
+    /// `x` keeps them.
+    pub leading_zeros: bool,
     /// The case of the letter before a float's exponent: `1e5` or `1E5`.
     pub exponent_letter: Option<Case>,
     /// Whether a float's exponent loses its `+`: `1e5` for `1e+5`.

@@ -6,7 +6,7 @@ use crate::rl_text::room::put_char;
 use crate::rl_text::text::split_char;
 
 /// A hexadecimal digit in the case; whatever else as it is.
-fn cased(case: Option<Case>, c: char) -> char {
+pub(crate) fn cased(case: Option<Case>, c: char) -> char {
     match case {
         Some(Case::Lower) => match c {
             'A'..='F' => (c as u8 + 32) as char,

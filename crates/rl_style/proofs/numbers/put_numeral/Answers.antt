@@ -18,21 +18,21 @@ loop-c-preserved c =
         xs ++ (first ∷ []),
         cut ∙ ap (λ z. xs ++ z) s.chars
             ∙ sym (append_assoc xs (first ∷ []) (chars c.in-Some.after.now)),
-        numeral_more c.args.style _ _ _ [] xs first bytes (ap encode_utf8_all c.in_default-float_character.ensures.value)
+        numeral_more c.args.style c.args.drops c.args.hex _ _ [] xs first bytes (ap encode_utf8_all c.in_default-number_character.ensures.value)
             (sym (append-nil (take l.end l.out))),
       );
       room = omega (arith, l.invariant.room, long);
       len = l.invariant.len;
     }
 
-pub loop-c-preserved-in-Some-float_character : goal.loop-c-preserved-in-Some-float_character
-loop-c-preserved-in-Some-float_character c =
+pub loop-c-preserved-in-Some-number_character : goal.loop-c-preserved-in-Some-number_character
+loop-c-preserved-in-Some-number_character c =
     let l = c.loop-c in
     let (xs, cut, bytes) = l.invariant.passed in
     let s = c.in-Some.ensures in
     let d = c.put_char-end.ensures in
     let first = c.in-Some.c in
-    let written = c.in-Some-float_character in
+    let written = c.in-Some-number_character in
     let long : length l.rest.now ≡ length (encode_utf8 first) + length c.in-Some.after.now = ap length s.bytes
     ∙ length-append (encode_utf8 first) c.in-Some.after.now in
     record {
@@ -41,7 +41,7 @@ loop-c-preserved-in-Some-float_character c =
         xs ++ (first ∷ []),
         cut ∙ ap (λ z. xs ++ z) s.chars
             ∙ sym (append_assoc xs (first ∷ []) (chars c.in-Some.after.now)),
-        numeral_more c.args.style _ _ _ (encode_utf8 written.written) xs first bytes
+        numeral_more c.args.style c.args.drops c.args.hex _ _ (encode_utf8 written.written) xs first bytes
             (sym (append-nil (encode_utf8 written.written)) ∙ ap encode_utf8_all written.ensures.value) d.bytes,
       );
       room = omega (arith, l.invariant.room, long, d.end, written.ensures.len);
