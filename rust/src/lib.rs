@@ -93,6 +93,8 @@ mod source;
 mod strings;
 #[cfg(feature = "style")]
 mod style;
+#[cfg(feature = "flaws")]
+mod types;
 mod unicode;
 mod value;
 mod words;
@@ -146,6 +148,8 @@ pub use parse_error::{FlawKind, ParseError, ParseErrorKind};
 pub use places::{Places, Segment, SegmentValue, Segments};
 #[cfg(feature = "proc-macro")]
 pub use proc_macros::{next_literal, next_of, LitOfKind, MacroError};
+#[cfg(feature = "flaws")]
+pub use rl_types::TypeFault;
 #[cfg(feature = "settings")]
 pub use setting::{Key, SettingError, SettingErrorKind, Settings};
 #[cfg(feature = "settings")]
