@@ -1,9 +1,8 @@
 //! What Rust's types don't allow of a literal.
 
-ghost use Rattle.std.specs.Prelude.{◌≡◌, ◌≢◌, ◌<◌, ◌≤◌, ◌==◌, ℕ, [], Some, IfNone, IfSome, IsTrue, nat_lt};
-ghost use Rattle.std.specs.List.{list_all};
+ghost use Rattle.std.specs.Prelude.{◌≡◌, ◌≢◌, ◌<◌, ◌≤◌, ◌==◌, ℕ, [], Some, IfNone, IfSome};
 ghost use Rattle.std.specs.Str.{chars};
-ghost use Rattle.rl_text.specs.Texts.{begins, code, first_passes};
+ghost use Rattle.rl_text.specs.Texts.{code, first_passes};
 ghost use Rattle.rl_forms.specs.Numbers.{begins_base as is_of_base};
 ghost use Rattle.rl_forms.specs.declared.kind.Kind.TheVariants.{Int, Float};
 ghost use Rattle.rl_reading.specs.Founds.{IsFound, suffix_in};
@@ -14,6 +13,7 @@ ghost use Rattle.rl_types.specs.TypeFaults.{HasFault, HasType};
 use crate::number_types::{NumberType, greatest, type_named};
 use rl_forms::Kind;
 use rl_reading::Found;
+use rl_text::text::begins;
 
 /// Why no type of Rust has a literal.
 #[derive(Clone, Copy, PartialEq, Eq, Debug)]
@@ -58,14 +58,6 @@ impl TypeFault {
             TypeFault::OutOfRange => "out-of-range",
         }
     }
-}
-
-/// Whether the text begins with these characters, which are ASCII.
-fn begins(text: &str, word: &str) -> bool
-    requires { IsTrue (list_all (λ c. nat_lt c 128) word.now) }
-    ensures { result ≡ begins word.now (chars text.now) }
-{
-    text.starts_with(word)
 }
 
 /// Whether the text begins with the prefix of a base.

@@ -4,6 +4,7 @@
 use crate::rl_types::number_types::{NumberType, greatest, type_named};
 use crate::rl_forms::Kind;
 use crate::rl_reading::Found;
+use crate::rl_text::text::begins;
 
 /// Why no type of Rust has a literal.
 #[derive(Clone, Copy, PartialEq, Eq, Debug)]
@@ -42,11 +43,6 @@ impl TypeFault {
             TypeFault::OutOfRange => "out-of-range",
         }
     }
-}
-
-/// Whether the text begins with these characters, which are ASCII.
-fn begins(text: &str, word: &str) -> bool {
-    text.starts_with(word)
 }
 
 /// Whether the text begins with the prefix of a base.
