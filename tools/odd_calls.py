@@ -39,21 +39,22 @@ def with_streams(source, call):
 # ---- calls of rl_scan
 
 # Which literals are printed, in which form, whether lines are counted, and more; a word without hyphens takes something.
-WHICH = [[], [], [], ['--bad'], ['-b'], ['--hidden'], ['-B'], ['only'], ['find'], ['find'], ['find', 'only']]
-FORMS = [[], [], [], ['--lines'], ['--bytes'], ['-o'], ['--text'], ['--json'], ['--json', '--lines'], ['--text', '-o']]
-COUNTS = [[]] * 20 + [['-c'], ['--count'], ['-l'], ['--files'], ['-q'], ['--quiet']]
-MORE = [[]] * 5 + [['--no-stray'], ['color'], ['color'], ['color', '--no-stray']]
+WHICH = [[], [], [], ['--bad'], ['--bad'], ['--hidden'], ['--hidden'], ['only'], ['find'], ['find', '-i'], ['find', 'only', '-w']]
+FORMS = [[], [], [], ['--lines'], ['--bytes'], ['--text'], ['--json'], ['--json', '--lines'], ['--text', '--bytes']]
+COUNTS = [[]] * 20 + [['-c'], ['--count'], ['-l'], ['--files-with-matches'], ['-q'], ['--quiet'], ['-iw'], ['-lq']]
+MORE = [[]] * 5 + [['--no-stray'], ['color'], ['color'], ['color', '--no-stray'], ['--all'], ['extension']]
 TAKEN = {
     'only': ['Str', 'ByteStr', 'CStr', 'Byte', 'Char', 'Int', 'Float', 'Bool', 'Verbatim', 'str', 'INT', 'str,int', 'cstr,Byte,CHAR'],
     'find': ['a', 'room', 'o', 'b', '\n', '\u00e9', '\\', '"', ' ', '=', '-', '1', '\u202e', '\U0001f600', '114', 'a=b'],
     'color': ['always', 'always', 'never', 'auto'],
+    'extension': ['rs', 'txt', '', '.rs'],
 }
-SHORT = {'only': '-k', 'find': '-f', 'color': '--color'}
+SHORT = {'only': '--only', 'find': '-e', 'color': '--color', 'extension': '--extension'}
 # Words that can't be asked for, and words that can, where others stand that rule them out.
 WRONG = [
-    '--nope', '-x', '-bl', '-bb', '-kStr', '-fa', '-\u00e9', b'-\xff', '---', '--BAD', '--col', '--bad=x', '--json=1', '--lines=',
-    '--only', '-k', '--only=', '--only=Str,', '--only=x', '--only:Str', '--find', '-f', '--find=', b'--find=\xff',
-    '--color', '--color=x', '--color=', '--bad', '-B', '-h', '--help', '-V', '--version', '--', '-',
+    '--nope', '-x', '-b', '-cl', '-cb', '-kStr', '-ea', '-lea', '-\u00e9', '--hiden', '--fnid', b'-\xff', '---', '--BAD', '--col', '--bad=x', '--json=1', '--lines=',
+    '--only', '-k', '--only=', '--only=Str,', '--only=x', '--only:Str', '--find', '-e', '--find=', b'--find=\xff',
+    '--color', '--color=x', '--color=', '--bad', '--hidden', '--extension', '-h', '--help', '-V', '--version', '--', '-',
 ]
 
 

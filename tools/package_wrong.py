@@ -25,6 +25,15 @@ WRONG = [Wrong(*row) for row in [
      'the flaw of a number comes again and again'),
     ('kind.rs', "rl_forms::Kind::ByteStr => Kind::ByteStr,", "rl_forms::Kind::ByteStr => Kind::CStr,",
      'a byte string begins as a C string'),
+    # style.rs
+    ('style.rs', "Case::Lower => rl_style::Case::Lower,", "Case::Lower => rl_style::Case::Upper,",
+     'lower case is upper case'),
+    ('style.rs', "exponent_letter: self.exponent_letter.map(Case::proved),", "exponent_letter: self.hex_digits.map(Case::proved),",
+     'an exponent has the case of hexadecimal digits'),
+    ('style.rs', "raw_hashes: self.raw_hashes,", "raw_hashes: self.quote_escapes,",
+     'hashes are dropped where backslashes are'),
+    ('style.rs', "if room == text.as_bytes() {", "if len == text.len() {",
+     'what is as long as before is returned as it was'),
     # lit.rs
     ('lit.rs', "Lit::Byte(_) => Kind::Byte,", "Lit::Byte(_) => Kind::Char,",
      'a byte is called a character'),

@@ -1,7 +1,7 @@
 //! Reads a server's settings from a file of lines `NAME = LITERAL`, of the names `host`, `port` and `verbose`:
 //! `cargo run --example config FILE`
 
-use navyspindle::{LineIndex, Key, SettingError, Settings};
+use navyspindle::{Key, LineIndex, SettingError, Settings};
 use std::error::Error;
 use std::process::ExitCode;
 use std::{env, fs};

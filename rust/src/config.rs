@@ -3,9 +3,7 @@
 use crate::common::shifted;
 use crate::lit::Lit;
 use crate::rl_lexer::{without_mark, Tokens};
-use crate::rl_settings::{
-    entry_step, first_error, EntryRejection, EntryStep, NextEntry,
-};
+use crate::rl_settings::{entry_step, first_error, EntryRejection, EntryStep, NextEntry};
 use crate::setting::{no_such, without_suffix, Key, SettingError, Settings};
 use crate::settings::{entry_of, rejected, Entry, SettingsSyntaxError};
 use alloc::borrow::Cow;

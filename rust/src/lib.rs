@@ -2,7 +2,7 @@
 //!
 //! [`Lit::parse`] reads one literal, [`source`] those of a whole file, [`literals`] and [`settings`] lists, [`config`] a
 //! configuration file, [`Settings`] what a reader of settings asks for; [`write_str`] and its siblings write values, and
-//! [`LitStr::new`] and its like make literals of them. Places are byte offsets; [`LineIndex`] makes lines and columns of them.
+//! [`LitStr::new`] and its like make literals of them; [`rewrite`] writes literals anew in a [`Style`]. Places are byte offsets; [`LineIndex`] makes lines and columns of them.
 //!
 //! The code in `proved` is rendered from sources in Rattle, which is Rust with contracts: each function is proved there to do what
 //! its contract says, against a written grammar, and the contracts are erased. So every text has one reading, and that is the
@@ -26,7 +26,7 @@
 //!
 //! - On by default: `sources` ([`source`], [`literals`], [`Lit::take_front`], [`skip_blanks`], [`LineIndex`]), `settings`
 //!   ([`settings`], [`config`], [`Settings`]), `flaws` ([`flaws`], [`pieces`], [`looks_like`]), `writers` ([`write_str`] and its
-//!   siblings, [`LitStr::new`] and its like). A macro that only reads single literals builds without them in two thirds of the time.
+//!   siblings, [`LitStr::new`] and its like), `style` ([`rewrite`], [`Style`]). A macro that only reads single literals builds without them in two thirds of the time.
 //! - `proc-macro`: literals from and to the tokens of rustc's own crate `proc_macro`, which [`Lit`] and the structs are then made
 //!   of by `try_from`; `next_literal`, `next_of`, `to_token_stream`, with `settings` also `MacroText`, `macro_settings`, `MacroError`. Off by default.
 #![no_std]
@@ -75,7 +75,8 @@ mod proc_macros;
         feature = "sources",
         feature = "settings",
         feature = "flaws",
-        feature = "writers"
+        feature = "writers",
+        feature = "style"
     )),
     allow(dead_code)
 )]
@@ -90,6 +91,10 @@ mod slices;
 #[cfg(feature = "sources")]
 mod source;
 mod strings;
+#[cfg(feature = "style")]
+mod style;
+#[cfg(feature = "flaws")]
+mod types;
 mod unicode;
 mod value;
 mod words;
@@ -102,7 +107,7 @@ mod write;
 pub mod rendered {
     pub use crate::proved::{
         rl_file_reasons, rl_flaws, rl_forms, rl_leading, rl_lexer, rl_parts, rl_reading,
-        rl_reasons, rl_recovery, rl_settings, rl_strict, rl_text, rl_writing,
+        rl_reasons, rl_recovery, rl_settings, rl_strict, rl_style, rl_text, rl_types, rl_writing,
     };
 }
 
@@ -111,13 +116,14 @@ pub mod rendered {
         feature = "sources",
         feature = "settings",
         feature = "flaws",
-        feature = "writers"
+        feature = "writers",
+        feature = "style"
     )),
     allow(unused_imports)
 )]
 use proved::{
     rl_file_reasons, rl_flaws, rl_forms, rl_leading, rl_lexer, rl_parts, rl_reading, rl_reasons,
-    rl_recovery, rl_settings, rl_strict, rl_text, rl_writing,
+    rl_recovery, rl_settings, rl_strict, rl_style, rl_text, rl_types, rl_writing,
 };
 
 pub use characters::{LitByte, LitChar};
@@ -142,6 +148,8 @@ pub use parse_error::{FlawKind, ParseError, ParseErrorKind};
 pub use places::{Places, Segment, SegmentValue, Segments};
 #[cfg(feature = "proc-macro")]
 pub use proc_macros::{next_literal, next_of, LitOfKind, MacroError};
+#[cfg(feature = "flaws")]
+pub use rl_types::TypeFault;
 #[cfg(feature = "settings")]
 pub use setting::{Key, SettingError, SettingErrorKind, Settings};
 #[cfg(feature = "settings")]
@@ -149,6 +157,8 @@ pub use settings::{settings, Entry, SettingsSyntaxError};
 #[cfg(feature = "sources")]
 pub use source::{source, Recover, Source};
 pub use strings::{LitByteStr, LitCStr, LitStr};
+#[cfg(feature = "style")]
+pub use style::{rewrite, Case, Style};
 pub use value::{Float, Integer, Number, ValueError, ValueErrorKind};
 pub use words::{LitBool, LitVerbatim};
 #[cfg(feature = "writers")]

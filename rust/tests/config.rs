@@ -1,9 +1,7 @@
 //! Configuration files. Where a text is one of TOML too, what it holds and where it is wrong are what Python's `tomllib` says of it;
 //! values that TOML doesn't have are those that rustc makes of the same literal.
 
-use navyspindle::{
-    config, settings, Lit, Part, Key, SettingErrorKind, Settings, SyntaxErrorKind,
-};
+use navyspindle::{config, settings, Key, Lit, Part, SettingErrorKind, Settings, SyntaxErrorKind};
 use std::ops::Range;
 
 /// A value as `tomllib` returns it.

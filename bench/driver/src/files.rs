@@ -73,12 +73,13 @@ pub fn literals(size: usize) -> Vec<String> {
     found
 }
 
-/// Adds the paths that rl_scan reads in the folder: all `*.rs`, without hidden folders, `target` and links.
+/// Adds the paths that rl_scan reads in the folder: all `*.rs`, without hidden folders, the `target` of a package, and links.
 fn add_tree(folder: &Path, paths: &mut Vec<PathBuf>) -> io::Result<()> {
     for entry in fs::read_dir(folder)? {
         let entry = entry?;
         let (kind, path, name) = (entry.file_type()?, entry.path(), entry.file_name());
-        if kind.is_dir() && !name.as_encoded_bytes().starts_with(b".") && name != "target" {
+        let is_built = name == "target" && folder.join("Cargo.toml").is_file();
+        if kind.is_dir() && !name.as_encoded_bytes().starts_with(b".") && !is_built {
             add_tree(&path, paths)?;
         } else if kind.is_file() && path.extension().is_some_and(|ending| ending == "rs") {
             paths.push(path);

@@ -1,6 +1,8 @@
 -- How a call of the program ends.
-use Rattle.std.specs.Prelude.{◌≡◌, ℕ, List, codes, String, Option, IfSome}
-use Rattle.std.specs.Io.KnownBytes.{Keeps}
+use Rattle.std.specs.Prelude.{◌≡◌, ◌⊎◌, ℕ, List, [], ◌∷◌, codes, String, string_bytes, Option, IfSome}
+use Rattle.std.specs.Io.KnownBytes.{Appends, Keeps}
+use Rattle.rl_program.specs.Streams.{AppendsBeginning}
+use Rattle.rl_program.specs.declared.fault.Fault.TheVariants.{Write}
 use Rattle.rl_commands.specs.declared.command.Command.{Command}
 use Rattle.rl_program.specs.declared.fault.Fault.{Fault}
 use Rattle.rl_program.specs.declared.ending.Ending.{Ending}
@@ -12,16 +14,36 @@ use Rattle.rl_commands.specs.Runs.{Prints, IsErrorOf}
 abbrev pub usage_line : List ℕ
 usage_line = codes "usage: rl_tool text|read|attr"
 
--- What a call with these arguments ends as: with what the command that they ask for does, or, where
--- they ask for none, with how the program is used, and nothing is written.
+-- the arguments are a program's own name and the word that asks how it is used
+abbrev pub AskForHelp : {A : Type 0} → List (String A) → Type 0
+AskForHelp [] = ⊥
+AskForHelp (program ∷ []) = ⊥
+AskForHelp (program ∷ word ∷ []) = string_bytes word ≡ codes "--help"
+AskForHelp (program ∷ word ∷ other ∷ others) = ⊥
+
+-- How a call ends that asks so: with how the program is used, of which a beginning was written where a write failed.
+abbrev pub EndsHelp : {B : Type 0} → Option (List ℕ) → Option (List ℕ) → Ending (Fault B) → Type 0
+EndsHelp old new Done = (text : List ℕ) × Appends old new text
+EndsHelp old new (Failed Write) = (text : List ℕ) × AppendsBeginning old new text
+EndsHelp old new _ = ⊥
+
+-- How a call ends that asks for a command: with what that does; or, where the arguments ask for none, with how the
+-- program is used, and nothing is written.
+abbrev pub EndsCommand : {A B : Type 0} → List (String A) → Option (List ℕ) → Option (List ℕ)
+    → Option (List ℕ) → Ending (Fault B) → Type 0
+EndsCommand args input old new Done =
+    (command : Command) × AskFor args command × IfSome input (λ bytes. Prints command bytes old new)
+EndsCommand args input old new FoundBad = ⊥
+EndsCommand args input old new Reported = ⊥
+EndsCommand args input old new Closed = ⊥
+EndsCommand args input old new (Usage line) =
+    ((command : Command) → AskFor args command → ⊥) × (line.now ≡ usage_line) × Keeps old new
+EndsCommand args input old new (Failed fault) =
+    (command : Command) × AskFor args command × IsErrorOf command input old new fault
+
+-- What a call with these arguments ends as.
 abbrev pub EndsAs : {A B : Type 0} → List (String A) → Option (List ℕ) → Option (List ℕ)
     → Option (List ℕ) → Ending (Fault B) → Type 0
-EndsAs args input old new Done =
-    (command : Command) × AskFor args command × IfSome input (λ bytes. Prints command bytes old new)
-EndsAs args input old new FoundBad = ⊥
-EndsAs args input old new Reported = ⊥
-EndsAs args input old new Closed = ⊥
-EndsAs args input old new (Usage line) =
-    ((command : Command) → AskFor args command → ⊥) × (line.now ≡ usage_line) × Keeps old new
-EndsAs args input old new (Failed fault) =
-    (command : Command) × AskFor args command × IsErrorOf command input old new fault
+EndsAs args input old new ending =
+    (AskForHelp args × EndsHelp old new ending)
+    ⊎ ((AskForHelp args → ⊥) × EndsCommand args input old new ending)

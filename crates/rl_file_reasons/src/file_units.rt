@@ -32,9 +32,9 @@ fn after_line_end(text: &str) -> Option<&str>
     strip_byte(line_feed, b'\n')
 }
 
-/// The character at the front as rustc reads it, CR LF as LF, and the text after it.
+/// The first character of a text as rustc reads it, CR LF as LF, and the text after it; `None` at the end.
 #[inline(always)]
-pub(crate) fn split_read(text: &str) -> Option<(char, &str)>
+pub fn split_read(text: &str) -> Option<(char, &str)>
     ensures chars { MatchOption result
         (chars text.now ≡ []) (λ p. lf_text (chars text.now) ≡ p.0 ∷ lf_text (chars p.1.now)) }
     ensures rest { IfSome result (λ p. IsFileRest (chars text.now) (chars p.1.now)) }

@@ -8,3 +8,4 @@ mod file_walk;
 pub mod laws;
 
 pub use crate::file_flaws::{explain_in_file, explain_signed_value_in_file, explain_value_in_file};
+pub use crate::file_units::split_read;

@@ -1,7 +1,6 @@
 -- Names in order, and steps of a walk.
 use Rattle.std.proofs.Common.{◌≡◌, inl, inr, ℕ, ◌+◌, ◌<◌, List, [], ◌∷◌, ◌++◌, length, refl, sym, ap, ◌∙◌, subst, arith, string_bytes}
 use Rattle.std.specs.Prelude.{String, Option, Some, None, Ok, Err, IfSome, Bool, true, ◌⊎◌}
-use Rattle.std.specs.List.{flat_map}
 use Rattle.std.specs.List.Sorted.{IsSorted, IsPermutation}
 use Rattle.std.specs.Cmp.Lexicographic.{slice_cmp}
 use Rattle.std.specs.Ordering.{nat_cmp}
@@ -9,9 +8,10 @@ use Rattle.std.specs.String.{string_cmp}
 use Rattle.std.proofs.lemmas.List.{get_or-map, length-map}
 use Rattle.std.proofs.lemmas.List.Sorted.{IsPermutation-map}
 use Rattle.rl_files.specs.Trees.{World, string_texts}
+use Rattle.rl_files.specs.declared.walk.Selection.{Selection}
 use Rattle.rl_files.specs.declared.tree.PathError.{PathError}
 use Rattle.rl_files.specs.declared.tree.PathError.TheVariants.{NotADirectory, OutOfMemory, NameNotUtf8}
-use Rattle.rl_files.specs.Walks.{Spot, AtDirectory, AtFile, AtBadName, Visited, FileAt, ErrorAt, Visits, VisitsNothing, VisitsFile, VisitsBadName, EntersDirectory, MissesDirectory, IsGivenFile, WalksOn, VisitsFirst, VisitsNone, EntersInOrder, spots_of}
+use Rattle.rl_files.specs.Walks.{Spot, AtDirectory, AtFile, AtBadName, Visited, FileAt, ErrorAt, Visits, VisitsNothing, VisitsFile, VisitsBadName, EntersDirectory, MissesDirectory, IsGivenFile, WalksOn, VisitsFirst, VisitsNone, EntersInOrder, spots_in}
 
 -- texts in order are lists of bytes in order
 pub texts_sorted : {A : Type 0} (xs : List (String A)) → IsSorted string_cmp xs
@@ -25,11 +25,11 @@ texts_sorted {A} (x ∷ xs) h k d low high =
     rw (second, first) (h k x low short)
 
 -- names that were sorted and gone to
-pub enters : {A : Type 0} (directory : List ℕ) (names sorted : List (String A)) (old new : List Spot)
+pub enters : {A : Type 0} (selection : Selection) (directory : List ℕ) (names sorted : List (String A)) (old new : List Spot)
     → IsPermutation names sorted → IsSorted string_cmp sorted → new
-    ≡ flat_map (spots_of directory) (string_texts sorted)
-    ++ old → EntersInOrder directory (string_texts names) old new
-enters {A} directory names sorted old new same inorder is = (
+    ≡ spots_in selection directory (string_texts sorted)
+    ++ old → EntersInOrder selection directory (string_texts names) old new
+enters {A} selection directory names sorted old new same inorder is = (
   string_texts sorted,
   (
     IsPermutation-map (λ (s : String A). string_bytes s) names sorted same,
@@ -40,56 +40,56 @@ enters {A} directory names sorted old new same inorder is = (
 )
 
 -- nothing is left
-pub go_none : (holds : Option World) (old mid : List Spot) → WalksOn holds old mid → mid ≡ [] → VisitsNone holds old
-go_none None old mid on is = tt
-go_none (Some w) old mid on is = on [] (subst (λ (z : List Spot). Visits w z []) (sym is) VisitsNothing)
+pub go_none : (selection : Selection) (holds : Option World) (old mid : List Spot) → WalksOn selection holds old mid → mid ≡ [] → VisitsNone selection holds old
+go_none selection None old mid on is = tt
+go_none selection (Some w) old mid on is = on [] (subst (λ (z : List Spot). Visits selection w z []) (sym is) VisitsNothing)
 
 -- a file is first
-pub go_file : (holds : Option World) (old mid rest : List Spot) (path : List ℕ) → WalksOn holds old mid → mid
-    ≡ AtFile path ∷ rest → VisitsFirst holds old (FileAt path) rest
-go_file None old mid rest path on is = tt
-go_file (Some w) old mid rest path on is = λ visited m. on (FileAt path ∷ visited)
-    (subst (λ (z : List Spot). Visits w z (FileAt path ∷ visited)) (sym is) (VisitsFile m))
+pub go_file : (selection : Selection) (holds : Option World) (old mid rest : List Spot) (path : List ℕ) → WalksOn selection holds old mid → mid
+    ≡ AtFile path ∷ rest → VisitsFirst selection holds old (FileAt path) rest
+go_file selection None old mid rest path on is = tt
+go_file selection (Some w) old mid rest path on is = λ visited m. on (FileAt path ∷ visited)
+    (subst (λ (z : List Spot). Visits selection w z (FileAt path ∷ visited)) (sym is) (VisitsFile m))
 
 -- a name that is no text is first
-pub go_bad_name : (holds : Option World) (old mid rest : List Spot) (path : List ℕ) → WalksOn holds old mid → mid
-    ≡ AtBadName path ∷ rest → VisitsFirst holds old (ErrorAt path NameNotUtf8) rest
-go_bad_name None old mid rest path on is = tt
-go_bad_name (Some w) old mid rest path on is = λ visited m. on (ErrorAt path NameNotUtf8 ∷ visited)
-    (subst (λ (z : List Spot). Visits w z (ErrorAt path NameNotUtf8 ∷ visited)) (sym is) (VisitsBadName m))
+pub go_bad_name : (selection : Selection) (holds : Option World) (old mid rest : List Spot) (path : List ℕ) → WalksOn selection holds old mid → mid
+    ≡ AtBadName path ∷ rest → VisitsFirst selection holds old (ErrorAt path NameNotUtf8) rest
+go_bad_name selection None old mid rest path on is = tt
+go_bad_name selection (Some w) old mid rest path on is = λ visited m. on (ErrorAt path NameNotUtf8 ∷ visited)
+    (subst (λ (z : List Spot). Visits selection w z (ErrorAt path NameNotUtf8 ∷ visited)) (sym is) (VisitsBadName m))
 
 -- a directory is first, and can't be gone into
-pub go_missing : (holds : Option World) (old mid rest : List Spot) (given : Bool) (path : List ℕ) (why : PathError)
-    → WalksOn holds old mid → mid ≡ AtDirectory given path ∷ rest → (why ≡ OutOfMemory)
-    ⊎ IfSome holds (λ w. w.names path ≡ Err why) → VisitsFirst holds old (ErrorAt path why) rest
-go_missing None old mid rest given path why on is found = tt
-go_missing (Some w) old mid rest given path why on is found = λ visited m. on (ErrorAt path why ∷ visited)
-    (subst (λ (z : List Spot). Visits w z (ErrorAt path why ∷ visited)) (sym is) (MissesDirectory why found m))
+pub go_missing : (selection : Selection) (holds : Option World) (old mid rest : List Spot) (given : Bool) (path : List ℕ) (why : PathError)
+    → WalksOn selection holds old mid → mid ≡ AtDirectory given path ∷ rest → (why ≡ OutOfMemory)
+    ⊎ IfSome holds (λ w. w.names path ≡ Err why) → VisitsFirst selection holds old (ErrorAt path why) rest
+go_missing selection None old mid rest given path why on is found = tt
+go_missing selection (Some w) old mid rest given path why on is found = λ visited m. on (ErrorAt path why ∷ visited)
+    (subst (λ (z : List Spot). Visits selection w z (ErrorAt path why ∷ visited)) (sym is) (MissesDirectory why found m))
 
 -- what an argument names is first, and is no directory
-pub go_given : (holds : Option World) (old mid rest : List Spot) (given : Bool) (path : List ℕ) → WalksOn holds old mid
+pub go_given : (selection : Selection) (holds : Option World) (old mid rest : List Spot) (given : Bool) (path : List ℕ) → WalksOn selection holds old mid
     → mid ≡ AtDirectory given path ∷ rest → given ≡ true → (NotADirectory ≡ OutOfMemory)
-    ⊎ IfSome holds (λ w. w.names path ≡ Err NotADirectory) → VisitsFirst holds old (FileAt path) rest
-go_given holds old mid rest given path on is given_is (inl bad) = cc
-go_given None old mid rest given path on is given_is (inr found) = tt
-go_given (Some w) old mid rest given path on is given_is (inr found) = λ visited m. on (FileAt path ∷ visited)
-    (subst (λ (z : List Spot). Visits w z (FileAt path ∷ visited))
+    ⊎ IfSome holds (λ w. w.names path ≡ Err NotADirectory) → VisitsFirst selection holds old (FileAt path) rest
+go_given selection holds old mid rest given path on is given_is (inl bad) = cc
+go_given selection None old mid rest given path on is given_is (inr found) = tt
+go_given selection (Some w) old mid rest given path on is given_is (inr found) = λ visited m. on (FileAt path ∷ visited)
+    (subst (λ (z : List Spot). Visits selection w z (FileAt path ∷ visited))
     (sym (is ∙ ap (λ (b : Bool). AtDirectory b path ∷ rest) given_is)) (IsGivenFile found m))
 
 -- a directory is first, and is gone into
-pub go_enter : (holds : Option World) (old mid rest new : List Spot) (given : Bool) (path : List ℕ)
-    (names : List (List ℕ)) → WalksOn holds old mid → mid ≡ AtDirectory given path ∷ rest
-    → IfSome holds (λ w. w.names path ≡ Ok names) → EntersInOrder path names rest new → WalksOn holds old new
-go_enter None old mid rest new given path names on is found enters = tt
-go_enter (Some w) old mid rest new given path names on is found (sorted, order, new_is) = λ visited m. on visited
-    (subst (λ (z : List Spot). Visits w z visited) (sym is) (EntersDirectory names sorted found order
-    (subst (λ (z : List Spot). Visits w z visited) new_is m)))
+pub go_enter : (selection : Selection) (holds : Option World) (old mid rest new : List Spot) (given : Bool) (path : List ℕ)
+    (names : List (List ℕ)) → WalksOn selection holds old mid → mid ≡ AtDirectory given path ∷ rest
+    → IfSome holds (λ w. w.names path ≡ Ok names) → EntersInOrder selection path names rest new → WalksOn selection holds old new
+go_enter selection None old mid rest new given path names on is found enters = tt
+go_enter selection (Some w) old mid rest new given path names on is found (sorted, order, new_is) = λ visited m. on visited
+    (subst (λ (z : List Spot). Visits selection w z visited) (sym is) (EntersDirectory names sorted found order
+    (subst (λ (z : List Spot). Visits selection w z visited) new_is m)))
 
 -- from any places on something may be visited: of each directory, that memory ran out
-pub some_visits : (w : World) (spots : List Spot) → (visits : List Visited) × Visits w spots visits
-some_visits w [] = ([], VisitsNothing)
-some_visits w (AtFile path ∷ rest) = let more = some_visits w rest in (FileAt path ∷ more.0, VisitsFile more.1)
-some_visits w (AtBadName path ∷ rest) = let more = some_visits w rest in
+pub some_visits : (selection : Selection) (w : World) (spots : List Spot) → (visits : List Visited) × Visits selection w spots visits
+some_visits selection w [] = ([], VisitsNothing)
+some_visits selection w (AtFile path ∷ rest) = let more = some_visits selection w rest in (FileAt path ∷ more.0, VisitsFile more.1)
+some_visits selection w (AtBadName path ∷ rest) = let more = some_visits selection w rest in
     (ErrorAt path NameNotUtf8 ∷ more.0, VisitsBadName more.1)
-some_visits w (AtDirectory given path ∷ rest) = let more = some_visits w rest in
+some_visits selection w (AtDirectory given path ∷ rest) = let more = some_visits selection w rest in
     (ErrorAt path OutOfMemory ∷ more.0, MissesDirectory OutOfMemory (inl refl) more.1)

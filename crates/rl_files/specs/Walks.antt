@@ -1,7 +1,8 @@
 -- A walk of a tree: which files are visited, and in which order.
-use Rattle.std.specs.Prelude.{◌≡◌, ◌⊎◌, ℕ, ◌==◌, Bool, true, false, cond, not, ◌&&◌, ◌||◌, List, [], ◌∷◌, ◌++◌, map, length, codes, string_bytes, Option, IfSome}
+use Rattle.std.specs.Prelude.{◌≡◌, ◌⊎◌, ℕ, ◌==◌, Bool, true, false, cond, not, ◌&&◌, ◌||◌, ◌-◌, List, [], ◌∷◌, ◌++◌, map, take, length, codes, string_bytes, Option, IfSome}
 use Rattle.std.specs.Fmt.{decimal}
-use Rattle.std.specs.List.{starts_with, ends_with, flat_map}
+use Rattle.std.specs.List.{starts_with, ends_with, flat_map, list_any}
+use Rattle.std.specs.Str.{bytes_eq}
 use Rattle.std.specs.List.Sorted.{IsSorted, IsPermutation}
 use Rattle.std.specs.Cmp.Lexicographic.{slice_cmp}
 use Rattle.std.specs.Ordering.{nat_cmp}
@@ -12,6 +13,7 @@ use Rattle.rl_files.specs.declared.walk.WalkError.{WalkError}
 use Rattle.rl_files.specs.declared.walk.WalkError.TheVariants as walk
 use Rattle.rl_files.specs.declared.walk.Pending.{Pending}
 use Rattle.rl_files.specs.declared.walk.Pending.TheVariants.{Directory, File, BadName}
+use Rattle.rl_files.specs.declared.walk.Selection.{Selection}
 use Rattle.rl_files.specs.declared.walk.Visit.{Visit}
 use Rattle.rl_files.specs.declared.walk.Visit.TheVariants as visit
 use Rattle.rl_files.specs.Trees.{World}
@@ -38,12 +40,26 @@ walk_error_message walk.TooManyDirectories = codes "too many directories"
 abbrev pub is_directory : List ℕ → Bool
 is_directory name = ends_with ◌==◌ name (codes "/")
 
--- A walk goes on to directories that are neither hidden nor `target`, and to files whose names end in
--- `.rs`; a name that is no text is visited too.
-abbrev pub is_wanted : List ℕ → Bool
-is_wanted name = cond (is_directory name)
-    (not (starts_with ◌==◌ name (codes ".")) && not (starts_with ◌==◌ name (codes "target/")))
-    (ends_with ◌==◌ name (codes ".rs") || (length name == 0))
+-- the name is a file's that ends with a dot and this
+abbrev pub has_extension : List ℕ → List ℕ → Bool
+has_extension extension name =
+    ends_with ◌==◌ name extension && ends_with ◌==◌ (take (length name - length extension) name) (codes ".")
+
+-- the names are those of a directory that holds a package of Cargo
+abbrev pub are_of_package : List (List ℕ) → Bool
+are_of_package names = list_any (λ name. bytes_eq name (codes "Cargo.toml")) names
+
+-- a directory is left out: a hidden one, and in a package `target`, into which Cargo builds
+abbrev pub is_left_out : Bool → List ℕ → Bool
+is_left_out in_package name =
+    starts_with ◌==◌ name (codes ".") || (in_package && bytes_eq name (codes "target/"))
+
+-- A walk goes on to directories that aren't left out, and to all where all are wanted; and to files of the extension; a name
+-- that is no text is visited too.
+abbrev pub is_wanted : Selection → Bool → List ℕ → Bool
+is_wanted selection in_package name = cond (is_directory name)
+    (selection.all || not (is_left_out in_package name))
+    (has_extension selection.extension.now name || (length name == 0))
 
 -- the path of a name in a directory
 abbrev pub path_in : List ℕ → List ℕ → List ℕ
@@ -75,10 +91,14 @@ abbrev pub given_spots : List (List ℕ) → List Spot
 given_spots paths = map (λ path. AtDirectory true path) paths
 
 -- where a walk goes to for a name in a directory
-abbrev pub spots_of : List ℕ → List ℕ → List Spot
-spots_of directory name = cond (is_wanted name)
+abbrev pub spots_of : Selection → Bool → List ℕ → List ℕ → List Spot
+spots_of selection in_package directory name = cond (is_wanted selection in_package name)
     (cond (is_directory name) (AtDirectory false (path_in directory name))
     (cond (length name == 0) (AtBadName directory) (AtFile (path_in directory name))) ∷ []) []
+
+-- where it goes to for names in a directory
+abbrev pub spots_in : Selection → List ℕ → List (List ℕ) → List Spot
+spots_in selection directory names = flat_map (spots_of selection (are_of_package names) directory) names
 
 -- these are the same names, in the order of their bytes
 abbrev pub IsOrderOf : List (List ℕ) → List (List ℕ) → Type 0
@@ -86,39 +106,39 @@ IsOrderOf names sorted = IsPermutation names sorted × IsSorted (slice_cmp nat_c
 
 -- What is visited from these places on, in order: of a directory what is visited in it, in the order of the
 -- names, before what comes after it.
-pub data Visits (w : World) : List Spot → List Visited → Type 0 where
-  VisitsNothing : Visits w [] []
-  VisitsFile : {path : List ℕ} {rest : List Spot} {visits : List Visited} → Visits w rest visits
-      → Visits w (AtFile path ∷ rest) (FileAt path ∷ visits)
-  VisitsBadName : {directory : List ℕ} {rest : List Spot} {visits : List Visited} → Visits w rest visits
-      → Visits w (AtBadName directory ∷ rest) (ErrorAt directory NameNotUtf8 ∷ visits)
+pub data Visits (selection : Selection) (w : World) : List Spot → List Visited → Type 0 where
+  VisitsNothing : Visits selection w [] []
+  VisitsFile : {path : List ℕ} {rest : List Spot} {visits : List Visited} → Visits selection w rest visits
+      → Visits selection w (AtFile path ∷ rest) (FileAt path ∷ visits)
+  VisitsBadName : {directory : List ℕ} {rest : List Spot} {visits : List Visited} → Visits selection w rest visits
+      → Visits selection w (AtBadName directory ∷ rest) (ErrorAt directory NameNotUtf8 ∷ visits)
   EntersDirectory : {is_given : Bool} {path : List ℕ} {rest : List Spot} {visits : List Visited}
       (names sorted : List (List ℕ))
       → w.names path ≡ Ok names → IsOrderOf names sorted
-      → Visits w (flat_map (spots_of path) sorted ++ rest) visits
-      → Visits w (AtDirectory is_given path ∷ rest) visits
+      → Visits selection w (spots_in selection path sorted ++ rest) visits
+      → Visits selection w (AtDirectory is_given path ∷ rest) visits
   MissesDirectory : {is_given : Bool} {path : List ℕ} {rest : List Spot} {visits : List Visited} (why : PathError)
-      → (why ≡ OutOfMemory) ⊎ (w.names path ≡ Err why) → Visits w rest visits
-      → Visits w (AtDirectory is_given path ∷ rest) (ErrorAt path why ∷ visits)
+      → (why ≡ OutOfMemory) ⊎ (w.names path ≡ Err why) → Visits selection w rest visits
+      → Visits selection w (AtDirectory is_given path ∷ rest) (ErrorAt path why ∷ visits)
   IsGivenFile : {path : List ℕ} {rest : List Spot} {visits : List Visited} → w.names path ≡ Err NotADirectory
-      → Visits w rest visits
-      → Visits w (AtDirectory true path ∷ rest) (FileAt path ∷ visits)
+      → Visits selection w rest visits
+      → Visits selection w (AtDirectory true path ∷ rest) (FileAt path ∷ visits)
 
 -- whatever is visited from the new places on is visited from the old ones on
-abbrev pub WalksOn : Option World → List Spot → List Spot → Type 0
-WalksOn holds old new = IfSome holds (λ w. (visits : List Visited) → Visits w new visits → Visits w old visits)
+abbrev pub WalksOn : Selection → Option World → List Spot → List Spot → Type 0
+WalksOn selection holds old new = IfSome holds (λ w. (visits : List Visited) → Visits selection w new visits → Visits selection w old visits)
 
 -- this is visited first, and then whatever is visited from the new places on
-abbrev pub VisitsFirst : Option World → List Spot → Visited → List Spot → Type 0
-VisitsFirst holds old first new =
-    IfSome holds (λ w. (visits : List Visited) → Visits w new visits → Visits w old (first ∷ visits))
+abbrev pub VisitsFirst : Selection → Option World → List Spot → Visited → List Spot → Type 0
+VisitsFirst selection holds old first new =
+    IfSome holds (λ w. (visits : List Visited) → Visits selection w new visits → Visits selection w old (first ∷ visits))
 
 -- nothing more is visited
-abbrev pub VisitsNone : Option World → List Spot → Type 0
-VisitsNone holds old = IfSome holds (λ w. Visits w old [])
+abbrev pub VisitsNone : Selection → Option World → List Spot → Type 0
+VisitsNone selection holds old = IfSome holds (λ w. Visits selection w old [])
 
 -- a walk goes to the names in a directory, in the order of their bytes, before the other places
-abbrev pub EntersInOrder : List ℕ → List (List ℕ) → List Spot → List Spot → Type 0
-EntersInOrder directory names old new =
+abbrev pub EntersInOrder : Selection → List ℕ → List (List ℕ) → List Spot → List Spot → Type 0
+EntersInOrder selection directory names old new =
     (sorted : List (List ℕ)) × IsOrderOf names sorted
-    × (new ≡ flat_map (spots_of directory) sorted ++ old)
+    × (new ≡ spots_in selection directory sorted ++ old)

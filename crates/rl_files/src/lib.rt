@@ -11,4 +11,4 @@ pub use crate::host::{Host, LONGEST};
 pub use crate::memory::{MemoryDirectory, MemoryFile, MemoryTree};
 pub use crate::tree::{PathError, Tree};
 pub use crate::visible::{is_hiding, make_visible, needs_escape, push_visible};
-pub use crate::walk::{Pending, Visit, Walk, WalkError};
+pub use crate::walk::{Pending, Selection, Visit, Walk, WalkError};

@@ -1,10 +1,10 @@
 //! A walk of a tree: which files are visited, and in which order.
 
-ghost use Rattle.std.specs.Prelude.{◌≡◌, true, [], ◌∷◌, ◌++◌, OnOk, IfOk, MatchOption, string_bytes};
-ghost use Rattle.std.specs.List.{flat_map};
+ghost use Rattle.std.specs.Prelude.{◌≡◌, Bool, true, [], ◌∷◌, ◌++◌, OnOk, IfOk, MatchOption, string_bytes};
 ghost use Rattle.rl_files.specs.declared.walk.Pending.TheVariants.{Directory};
 ghost use Rattle.rl_files.specs.Trees.{string_texts};
-ghost use Rattle.rl_files.specs.Walks.{is_wanted as wanted, is_directory as directory, path_in as path_of, spot, visited, spots_of, given_spots, Spot, EntersInOrder, WalksOn, VisitsFirst, VisitsNone};
+ghost use Rattle.rl_files.specs.declared.walk.Selection.{Selection};
+ghost use Rattle.rl_files.specs.Walks.{has_extension as has_ending, are_of_package as of_package, is_left_out as left_out, is_wanted as wanted, is_directory as directory, path_in as path_of, spot, visited, spots_of, spots_in, given_spots, Spot, EntersInOrder, WalksOn, VisitsFirst, VisitsNone};
 
 use crate::tree::{PathError, Tree};
 use std::alloc::{AllocError, Allocator, Global};
@@ -13,6 +13,15 @@ use std::marker::Model;
 
 /// How many directories a walk goes into at most, from one file to the next.
 const TURNS: u32 = u32::MAX;
+
+/// Which files are read of the directories that a walk goes to.
+#[derive(Clone, Copy)]
+pub struct Selection<'a> {
+    /// Whether those of hidden directories are read too, and those of `target` in a package of Cargo.
+    pub all: bool,
+    /// What their names end with after a dot.
+    pub extension: &'a str,
+}
 
 /// What a walk has still to go to.
 #[derive(Drop)]
@@ -80,15 +89,44 @@ fn is_directory(name: &str) -> bool
     name.as_bytes().ends_with(b"/".as_slice())
 }
 
-/// Whether a walk goes on to a name.
-fn is_wanted(name: &str) -> bool
-    ensures { result ≡ wanted name.now }
+/// Whether a name ends with a dot and this.
+fn has_extension(extension: &str, name: &str) -> bool
+    ensures { result ≡ has_ending extension.now name.now }
 {
     let bytes = name.as_bytes();
+    let ending = extension.as_bytes();
+    bytes.ends_with(ending) && bytes[..bytes.len() - ending.len()].ends_with(b".".as_slice())
+}
+
+/// Whether names are those of a directory that holds a package of Cargo.
+fn are_of_package<A: Allocator>(names: &[String<A>]) -> bool
+    ensures { result ≡ of_package (string_texts names.now) }
+{
+    let mut rest = names;
+    while let [name, after @ ..] = rest {
+        if name.as_str() == "Cargo.toml" {
+            return true;
+        }
+        rest = after;
+    }
+    false
+}
+
+/// Whether a directory is left out: a hidden one, and in a package `target`, into which Cargo builds.
+fn is_left_out(in_package: bool, name: &str) -> bool
+    ensures { result ≡ left_out in_package name.now }
+{
+    name.as_bytes().starts_with(b".".as_slice()) || in_package && name == "target/"
+}
+
+/// Whether a walk goes on to a name.
+fn is_wanted(selection: Selection<'_>, in_package: bool, name: &str) -> bool
+    ensures { result ≡ wanted selection.entry in_package name.now }
+{
     if is_directory(name) {
-        !bytes.starts_with(b".".as_slice()) && !bytes.starts_with(b"target/".as_slice())
+        selection.all || !is_left_out(in_package, name)
     } else {
-        bytes.ends_with(b".rs".as_slice()) || bytes.len() == 0
+        has_extension(selection.extension, name) || name.as_bytes().len() == 0
     }
 }
 
@@ -106,8 +144,9 @@ fn path_in<A: Allocator>(alloc: A, directory: &str, name: &str) -> Result<String
 
 /// Where a walk goes to for a wanted name in a directory.
 fn pending_of<A: Allocator>(alloc: A, directory: &str, name: &str) -> Result<Pending<A>, AllocError>
-    requires { wanted name.now ≡ true }
-    ensures { IfOk result (λ pending. spots_of directory.now name.now ≡ spot pending ∷ []) }
+    ensures { IfOk result (λ pending. (selection : Selection) → (in_package : Bool)
+        → wanted selection in_package name.now ≡ true
+        → spots_of selection in_package directory.now name.now ≡ spot pending ∷ []) }
 {
     if is_directory(name) {
         return Ok(Pending::Directory(false, path_in(alloc, directory, name)?));
@@ -168,10 +207,18 @@ impl<A: Allocator> Walk<A> {
     }
 
     /// Goes to a name in a directory before the other places, if it is wanted.
-    fn push_name(&mut self, alloc: A, directory: &str, name: &str) -> Result<(), AllocError>
-        ensures { OnOk result (self.new ≡ spots_of directory.now name.now ++ self.old) }
+    fn push_name(
+        &mut self,
+        alloc: A,
+        selection: Selection<'_>,
+        in_package: bool,
+        directory: &str,
+        name: &str,
+    ) -> Result<(), AllocError>
+        ensures { OnOk result (self.new
+            ≡ spots_of selection.entry in_package directory.now name.now ++ self.old) }
     {
-        if !is_wanted(name) {
+        if !is_wanted(selection, in_package, name) {
             return Ok(());
         }
         let pending = pending_of(alloc, directory, name)?;
@@ -182,15 +229,18 @@ impl<A: Allocator> Walk<A> {
     fn push_names(
         &mut self,
         alloc: A,
+        selection: Selection<'_>,
         directory: &str,
         names: &mut Vec<String<A>, A>,
     ) -> Result<(), AllocError>
     where
         A: Copy,
-        ensures { OnOk result (self.new ≡ flat_map (spots_of directory.now) (string_texts names.old.items) ++ self.old) }
+        ensures { OnOk result (self.new
+            ≡ spots_in selection.entry directory.now (string_texts names.old.items) ++ self.old) }
     {
+        let in_package = are_of_package(names.as_slice());
         while let Some(name) = names.pop() {
-            self.push_name(alloc, directory, name.as_str())?;
+            self.push_name(alloc, selection, in_package, directory, name.as_str())?;
         }
         Ok(())
     }
@@ -199,15 +249,17 @@ impl<A: Allocator> Walk<A> {
     fn enter(
         &mut self,
         alloc: A,
+        selection: Selection<'_>,
         directory: &str,
         names: &mut Vec<String<A>, A>,
     ) -> Result<(), AllocError>
     where
         A: Copy,
-        ensures { OnOk result (EntersInOrder directory.now (string_texts names.old.items) self.old self.new) }
+        ensures { OnOk result
+            (EntersInOrder selection.entry directory.now (string_texts names.old.items) self.old self.new) }
     {
         names.sort_unstable();
-        self.push_names(alloc, directory, names)?;
+        self.push_names(alloc, selection, directory, names)?;
         Ok(())
     }
 
@@ -216,11 +268,16 @@ impl<A: Allocator> Walk<A> {
     /// # Errors
     ///
     /// Where an allocation failed, or there was no end of directories.
-    pub fn next<T: Tree>(&mut self, alloc: A, tree: &T) -> Result<Option<Visit<A>>, WalkError>
+    pub fn next<T: Tree>(
+        &mut self,
+        alloc: A,
+        selection: Selection<'_>,
+        tree: &T,
+    ) -> Result<Option<Visit<A>>, WalkError>
     where
         A: Copy,
-        ensures { IfOk result (λ r. MatchOption r (VisitsNone (T.holds tree.now) self.old)
-            (λ visit. VisitsFirst (T.holds tree.now) self.old (visited visit) self.new)) }
+        ensures { IfOk result (λ r. MatchOption r (VisitsNone selection.entry (T.holds tree.now) self.old)
+            (λ visit. VisitsFirst selection.entry (T.holds tree.now) self.old (visited visit) self.new)) }
     {
         for _ in 0..TURNS {
             let Some(pending) = self.take() else {
@@ -232,7 +289,7 @@ impl<A: Allocator> Walk<A> {
                     return Ok(Some(Visit::Failed(directory, PathError::NameNotUtf8)));
                 }
                 Pending::Directory(is_given, path) => match tree.names(alloc, path.as_str()) {
-                    Ok(mut names) => match self.enter(alloc, path.as_str(), &mut names) {
+                    Ok(mut names) => match self.enter(alloc, selection, path.as_str(), &mut names) {
                         Ok(()) => {}
                         Err(_) => return Err(WalkError::OutOfMemory),
                     },

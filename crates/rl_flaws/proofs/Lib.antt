@@ -5,5 +5,6 @@ pub mod LookLemmas
 pub mod LookLaws
 pub mod PlaceLemmas
 pub mod FlawLemmas
+pub mod StandLemmas
 pub mod FlawLaws
 pub mod PieceLemmas

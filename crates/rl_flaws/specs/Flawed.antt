@@ -1,6 +1,6 @@
 -- All flaws of a text, one after another: the first is the text's own, and the next is what the text has that is left after that
 -- flaw's piece, where it is read after the same opener.
-use Rattle.std.specs.Prelude.{◌≡◌, ◌⊎◌, ◌+◌, ◌&&◌, ℕ, Bool, true, false, List, [], ◌++◌, length, Option, None, Some, IsFalse, IsTrue, MatchOption}
+use Rattle.std.specs.Prelude.{◌≡◌, ◌⊎◌, ◌+◌, ◌<◌, ◌&&◌, ℕ, suc, Bool, true, false, List, [], ◌++◌, length, Option, None, Some, IsFalse, IsTrue, MatchOption, if◌then◌else◌}
 use Rattle.std.specs.Str.{chars, IsUtf8}
 use Prim.Native.Char.{code}
 use Rattle.rl_text.specs.Texts.{byte_len}
@@ -12,6 +12,7 @@ use Rattle.rl_reasons.specs.StrictFlaws.{ExplainsStrictly}
 use Rattle.rl_reasons.specs.StrictRead.{IsFlawAt}
 use Rattle.rl_strict.specs.StrictShapes.{IsToken}
 use Rattle.rl_flaws.specs.BadPieces.{after_bad_piece, is_of_unit}
+use Rattle.rl_flaws.specs.Inside.{IsEndOf}
 use Rattle.rl_flaws.specs.Looks.{IsStringOpener, OpensSingle, OpensString}
 use Rattle.rl_flaws.specs.declared.bad_piece.BadPiece.{BadPiece}
 
@@ -84,6 +85,27 @@ pub record HasNoFlaw (old new : FlawsState) : Type 0 where
 
 abbrev pub GivesFlaw : FlawsState → Option BadPiece → FlawsState → Type 0
 GivesFlaw old bad new = MatchOption bad (HasNoFlaw old new) (λ it. TakesFlaw old it new)
+
+-- The place is one of what is left.
+pub record IsPlaceInLeft (s : FlawsState) (at : ℕ) : Type 0 where
+  pub front : List ℕ
+  pub back : List ℕ
+  pub text_is : chars s.rest ≡ front ++ back
+  pub at_is : at + byte_len back ≡ s.len
+
+-- how much is left: where all is judged, nothing; else what is left, and its end
+abbrev pub left_count : FlawsState → ℕ
+left_count s = if s.over then 0 else suc (length s.rest)
+
+-- The flaw stands in what was left, and so does its piece where that is a character or an escape; what is left now follows, and is
+-- less.
+pub record StandsInLeft (old : FlawsState) (bad : BadPiece) (new : FlawsState) : Type 0 where
+  pub lo : IsPlaceInLeft old bad.flaw.lo
+  pub hi : IsPlaceInLeft old bad.flaw.hi
+  pub from : IsTrue (is_of_unit bad.flaw.kind) → IsPlaceInLeft old bad.flaw.from
+  pub end : IsTrue (is_of_unit bad.flaw.kind) → IsPlaceInLeft old bad.end
+  pub following : IsEndOf (chars old.rest) (chars new.rest)
+  pub less : left_count new < left_count old
 
 -- what opens a quoted literal of the kind
 abbrev pub IsOpener : Kind → List ℕ → Type 0

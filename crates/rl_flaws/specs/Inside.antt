@@ -39,3 +39,7 @@ abbrev pub StandsUpTo : QuotedForm → Kind → List ℕ → List ℕ → List �
 StandsUpTo CookedForm kind hashes text closing = BeginsStrictUnits kind text closing × HasNoStrictUnit kind closing
 StandsUpTo RawForm kind hashes text closing = IsRawUpTo kind hashes text closing
 StandsUpTo SingleForm kind hashes text closing = IsUnitUpTo kind text closing
+
+-- The rest is the end of the text, from one of its characters on.
+abbrev pub IsEndOf : List ℕ → List ℕ → Type 0
+IsEndOf text rest = (front : List ℕ) × (text ≡ front ++ rest)

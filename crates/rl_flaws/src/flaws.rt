@@ -1,11 +1,11 @@
 //! A cursor over all flaws of a text.
 
-ghost use Rattle.std.specs.Prelude.{◌≡◌, ◌&&◌, [], length, IsTrue, IsFalse};
+ghost use Rattle.std.specs.Prelude.{◌≡◌, ◌&&◌, [], length, IfSome, IsTrue, IsFalse};
 ghost use Rattle.rl_forms.specs.Quoted.{is_string};
 ghost use Rattle.rl_forms.specs.Written.{closer};
 ghost use Rattle.rl_flaws.specs.BadPieces.{after_bad_piece, is_of_unit};
 ghost use Rattle.rl_flaws.specs.declared.flaws.Left.TheVariants.{Whole, Inside, Nothing};
-ghost use Rattle.rl_flaws.specs.Flawed.{AreFlawsOf, GivesFlaw};
+ghost use Rattle.rl_flaws.specs.Flawed.{AreFlawsOf, GivesFlaw, StandsInLeft};
 ghost use Rattle.rl_flaws.specs.Left.{FollowsPiece, IsLeft, IsSameLiteral, StaysOpen, state_of};
 ghost use Rattle.rl_flaws.specs.PiecesLeft.{IsGoodLeft};
 
@@ -77,6 +77,8 @@ pub struct Judged<'t> {
 fn judge_whole(text: &str) -> Judged<'_>
     ensures gives { GivesFlaw (state_of (length text.now) (Whole text.entry)) result.bad
         (state_of (length text.now) result.left) }
+    ensures stands { IfSome result.bad (λ bad. StandsInLeft (state_of (length text.now) (Whole text.entry)) bad
+        (state_of (length text.now) result.left)) }
     ensures left { result.left ≡ Nothing }
     ensures good { result.good.now ≡ [] }
 {
@@ -100,6 +102,8 @@ fn judge_whole(text: &str) -> Judged<'_>
 pub fn judge_inside<'t>(len: usize, opened: Opened<'t>, rest: &'t str) -> Judged<'t>
     requires { IsLeft len (Inside opened rest) }
     ensures gives { GivesFlaw (state_of len (Inside opened.entry rest.entry)) result.bad (state_of len result.left) }
+    ensures stands { IfSome result.bad (λ bad. StandsInLeft (state_of len (Inside opened.entry rest.entry)) bad
+        (state_of len result.left)) }
     ensures left { IsLeft len result.left }
     ensures same { StaysOpen opened.entry result.left }
     ensures good { IsGoodLeft len (Inside opened.entry rest.entry) result.good.now result.end }
@@ -127,6 +131,7 @@ pub fn judge_inside<'t>(len: usize, opened: Opened<'t>, rest: &'t str) -> Judged
 pub fn judge<'t>(len: usize, left: Left<'t>) -> Judged<'t>
     requires { IsLeft len left }
     ensures gives { GivesFlaw (state_of len left.entry) result.bad (state_of len result.left) }
+    ensures stands { IfSome result.bad (λ bad. StandsInLeft (state_of len left.entry) bad (state_of len result.left)) }
     ensures left { IsLeft len result.left }
     ensures same { IsSameLiteral left.entry result.left }
     ensures good { IsGoodLeft len left.entry result.good.now result.end }
@@ -177,7 +182,8 @@ impl<'t> Flaws<'t> {
 
     /// The next flaw; `None` where what is left has none.
     pub fn next(&mut self) -> Option<BadPiece>
-        ensures { GivesFlaw self.old result self.new }
+        ensures gives { GivesFlaw self.old result self.new }
+        ensures stands { IfSome result (λ bad. StandsInLeft self.old bad self.new) }
     {
         let judged = judge(self.len, self.left);
         self.left = judged.left;

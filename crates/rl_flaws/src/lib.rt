@@ -12,4 +12,5 @@ mod walks;
 pub use crate::bad_piece::BadPiece;
 pub use crate::flaws::Flaws;
 pub use crate::looks::looks_like;
+pub use crate::piece_ends::is_of_unit;
 pub use crate::pieces::{Piece, Pieces};

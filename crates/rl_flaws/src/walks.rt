@@ -1,6 +1,6 @@
 //! What stands inside a quoted literal, up to its first flaw or its closer.
 
-ghost use Rattle.std.specs.Prelude.{[], ◌≡◌, ◌∷◌, ◌++◌, ◌⊎◌, ℕ, List, None, IfNone, IfSome, IsTrue, ◌≤◌, replicate};
+ghost use Rattle.std.specs.Prelude.{[], ◌≡◌, ◌≢◌, ◌∷◌, ◌++◌, ◌⊎◌, ℕ, List, None, IfNone, IfSome, IsTrue, ◌≤◌, replicate};
 ghost use Rattle.std.specs.Str.{chars};
 ghost use Rattle.rl_text.specs.Texts.{IsTail, code};
 ghost use Rattle.rl_forms.specs.declared.kind.Kind.{Kind as AnyKind};
@@ -13,7 +13,7 @@ ghost use Rattle.rl_strict.specs.StrictShapes.{IsToken};
 ghost use Rattle.rl_reasons.specs.Mirrors.StrictFlawAt.{raw_stop};
 ghost use Rattle.rl_reasons.specs.StrictRead.{IsFlawAt};
 ghost use Rattle.rl_flaws.specs.BadPieces.{is_of_unit};
-ghost use Rattle.rl_flaws.specs.Inside.{StandsUpTo};
+ghost use Rattle.rl_flaws.specs.Inside.{IsEndOf, StandsUpTo};
 ghost use Rattle.rl_flaws.specs.Looks.{OpensSingle, OpensString};
 ghost use Rattle.rl_flaws.specs.Opened.{IsOpened, opened_front};
 
@@ -39,6 +39,8 @@ fn walk_cooked(kind: Kind, text: &str) -> Stretch<'_>
     ensures good { StandsUpTo CookedForm kind [] (chars text.now) (chars result.closing.now) }
     ensures following { IsTail text.now result.closing.now }
     ensures at { IfSome result.flaw (λ f. IsTrue (is_of_unit f.kind) → f.piece.now ≡ result.closing.now) }
+    ensures some { IfSome result.flaw (λ f. IsTrue (is_of_unit f.kind) → chars result.closing.now ≢ []) }
+    ensures within { IfSome result.flaw (λ f. IsEndOf (chars text.now) (chars f.rest.now)) }
     ensures closes { IfNone result.flaw (ClosesForm CookedForm kind (chars text.now)) }
     ensures stops { IfSome result.flaw (λ f. StopsIn CookedForm kind f.kind (chars text.now) (chars f.piece.now)
         (chars f.rest.now)) }
@@ -62,6 +64,8 @@ fn walk_single(kind: Kind, text: &str) -> Stretch<'_>
     ensures good { StandsUpTo SingleForm kind [] (chars text.now) (chars result.closing.now) }
     ensures following { IsTail text.now result.closing.now }
     ensures at { IfSome result.flaw (λ f. IsTrue (is_of_unit f.kind) → f.piece.now ≡ result.closing.now) }
+    ensures some { IfSome result.flaw (λ f. IsTrue (is_of_unit f.kind) → chars result.closing.now ≢ []) }
+    ensures within { IfSome result.flaw (λ f. IsEndOf (chars text.now) (chars f.rest.now)) }
     ensures closes { IfNone result.flaw (ClosesForm SingleForm kind (chars text.now)) }
     ensures stops { IfSome result.flaw (λ f. StopsIn SingleForm kind f.kind (chars text.now) (chars f.piece.now)
         (chars f.rest.now)) }
@@ -107,6 +111,8 @@ fn walk_raw<'t>(kind: Kind, hashes: &str, text: &'t str) -> Stretch<'t>
     ensures good { StandsUpTo RawForm kind (chars hashes.now) (chars text.now) (chars result.closing.now) }
     ensures following { IsTail text.now result.closing.now }
     ensures at { IfSome result.flaw (λ f. IsTrue (is_of_unit f.kind) → f.piece.now ≡ result.closing.now) }
+    ensures some { IfSome result.flaw (λ f. IsTrue (is_of_unit f.kind) → chars result.closing.now ≢ []) }
+    ensures within { IfSome result.flaw (λ f. IsEndOf (chars text.now) (chars f.rest.now)) }
     ensures closes { IfNone result.flaw (ClosesForm RawForm kind (chars hashes.now ++ (code "\"" ∷ chars text.now))) }
     ensures stops { IfSome result.flaw (λ f. StopsIn RawForm kind f.kind
         (chars hashes.now ++ (code "\"" ∷ chars text.now)) (chars f.piece.now) (chars f.rest.now)) }
@@ -194,6 +200,8 @@ pub fn walk<'t>(opened: Opened<'t>, text: &'t str) -> Stretch<'t>
     ensures good { StandsUpTo opened.entry.form opened.entry.kind (chars opened.entry.hashes.now) (chars text.now) (chars result.closing.now) }
     ensures following { IsTail text.now result.closing.now }
     ensures at { IfSome result.flaw (λ f. IsTrue (is_of_unit f.kind) → f.piece.now ≡ result.closing.now) }
+    ensures some { IfSome result.flaw (λ f. IsTrue (is_of_unit f.kind) → chars result.closing.now ≢ []) }
+    ensures within { IfSome result.flaw (λ f. IsEndOf (chars text.now) (chars f.rest.now)) }
     ensures token { IfNone result.flaw (IsToken (opened_front opened.entry ++ chars text.now)) }
     ensures flaw { IfSome result.flaw (λ f. IsFlawAt (opened_front opened.entry ++ chars text.now) f.kind
         (chars f.piece.now) (chars f.rest.now)) }

@@ -1,10 +1,14 @@
 -- From what std says of bytes to characters.
-use Rattle.rl_text.proofs.Common.{◌≡◌, ◌≢◌, ℕ, ◌+◌, ◌<◌, ◌≤◌, ◌&&◌, Bool, true, false, not, eqb, List, [], ◌∷◌, ◌++◌, length, take, drop, Option, Some, None, refl, sym, ap, subst, ◌∙◌, arith, ◌==◌, encode_utf8_all, list_all, IsUtf8, IsCharBoundary, and_from, both_ways, eq-eqb, eqb-true, not_from_false, list_all-append, encodes-chars, encodes-append, chars-append, chars-nil, IsUtf8-take, IsUtf8-drop}
-use Rattle.rl_reading.proofs.Names.{MatchBool, and_right, IsTail}
+use Rattle.rl_text.proofs.Common.{◌≡◌, ◌≢◌, ℕ, ◌+◌, ◌<◌, ◌≤◌, ◌&&◌, ◌||◌, Bool, true, false, not, eqb, List, [], ◌∷◌, ◌++◌, length, take, drop, Option, Some, None, refl, sym, ap, subst, ◌∙◌, arith, ◌==◌, encode_utf8_all, list_all, IsUtf8, IsCharBoundary, and_from, both_ways, eqb-true, not_from_false, list_all-append, encodes-chars, encodes-append, chars-append, chars-nil, IsUtf8-take, IsUtf8-drop}
+use Rattle.rl_text.proofs.LowBytes.{AllHigh, cases128, encode_is_high, low_front, not_equal}
+use Rattle.std.proofs.Common.{inl, inr, ◌⊎◌}
+use Rattle.std.specs.List.{list_any}
+use Rattle.std.specs.Prelude.{encode_utf8}
+use Rattle.rl_reading.proofs.Names.{IsTail}
 use Rattle.std.proofs.Common.{take-append-drop, length-drop}
 use Rattle.std.specs.Prelude.{IfSome, IfNone, MatchOption}
 use Rattle.std.specs.Str.{chars, NoCharPasses, NonePass}
-use Rattle.std.specs.Str.Pattern.{FindsChar, RFindsChar, HasCharAt}
+use Rattle.std.specs.Str.Pattern.{RFindsChar, HasCharAt}
 use Rattle.std.proofs.lemmas.Str.{chars_from_encodes, chars_past_char, IsUtf8-past_char, IsCharBoundary-before_ascii}
 use Rattle.std.proofs.lemmas.Str.Pattern.{drop_at_char}
 use denote.Ref.{Bor}
@@ -74,18 +78,6 @@ pub rsplit_once_none : (bs : List ℕ) (r : Option (Bor (List ℕ) × Bor (List 
 rsplit_once_none bs None m u = chars_lack 34 bs u m
 rsplit_once_none bs (Some x) m u = tt
 
-pub contains_chars : (c : ℕ) (bs : List ℕ) (r : Bool) → MatchBool r
-    ((i : ℕ) × (j : ℕ) × FindsChar c bs (Some (i, j)) × (i ≤ j) × (j ≤ length bs)) (FindsChar c bs None) → c < 128
-    → IsUtf8 bs → not r ≡ lacks c (chars bs)
-contains_chars c bs true m small u =
-    let a = around c bs m.0 m.1 u small m.2.1 in
-    let xs = chars (take m.0 bs) in
-    let ys = chars (drop m.1 bs) in
-    let here : lacks c (c ∷ ys) ≡ false = ap (λ b. not b && lacks c ys) (eq-eqb c c refl) in
-    sym (ap (lacks c) a.chars_are ∙ list_all-append (λ d. not (eqb d c)) xs (c ∷ ys)
-    ∙ and_right (lacks c xs) (lacks c (c ∷ ys)) here)
-contains_chars c bs false m small u = sym (chars_lack c bs u m)
-
 -- a text has characters where it has bytes
 pub some_text : (t : List ℕ) → IsUtf8 t → is_some_text (chars t) ≡ not (length t == 0)
 some_text t u = tested (length t == 0) t u refl
@@ -99,3 +91,36 @@ some_text t u = tested (length t == 0) t u refl
     tested true (c ∷ cs) u e = absurd (let z = eqb-true (length (c ∷ cs)) 0 e in omega arith)
     tested false t u e = some (chars t) (λ n. both_ways (length t == 0) e
         (ap (λ z. length z == 0) (sym (encodes-chars t u) ∙ ap encode_utf8_all n)))
+
+-- ---- a byte of ASCII that a text lacks is a character that it lacks
+
+lacks_high : (c : ℕ) → c < 128 → (bs : List ℕ) → AllHigh bs → lacks c bs ≡ true
+lacks_high c low [] h = refl
+lacks_high c low (b ∷ bs) h = and_from (not (eqb b c)) (lacks c bs) (not_from_false (eqb b c) (not_equal b c low h.0))
+    (lacks_high c low bs h.1)
+
+lacks_encoded : (c : ℕ) → c < 128 → (cs : List ℕ) → lacks c (encode_utf8_all cs) ≡ lacks c cs
+lacks_encoded c low [] = refl
+lacks_encoded c low (d ∷ cs) = go (cases128 d) (lacks_encoded c low cs)
+  where
+    go : (d < 128) ⊎ (128 ≤ d) → lacks c (encode_utf8_all cs) ≡ lacks c cs
+        → lacks c (encode_utf8_all (d ∷ cs)) ≡ lacks c (d ∷ cs)
+    go (inl small) more = ap (lacks c) (low_front d cs small) ∙ ap (λ b. not (eqb d c) && b) more
+    go (inr past) more =
+        let (h, hs, same, is, all) = encode_is_high d past in
+        list_all-append (λ k. not (eqb k c)) (encode_utf8 d) (encode_utf8_all cs)
+        ∙ ap (λ b. b && lacks c (encode_utf8_all cs)) (ap (lacks c) same
+        ∙ and_from (not (eqb h c)) (lacks c hs) (not_from_false (eqb h c) (not_equal h c low is)) (lacks_high c low hs all))
+        ∙ more ∙ sym (ap (λ b. not b && lacks c cs) (not_equal d c low past))
+
+any_lacks : (c : ℕ) (bs : List ℕ) → not (list_any (λ b. eqb b c) bs) ≡ lacks c bs
+any_lacks c [] = refl
+any_lacks c (b ∷ bs) = go (eqb b c) (any_lacks c bs)
+  where
+    go : (t : Bool) → not (list_any (λ k. eqb k c) bs) ≡ lacks c bs → not (t || list_any (λ k. eqb k c) bs)
+        ≡ (not t && lacks c bs)
+    go true more = refl
+    go false more = more
+
+pub bytes_lack : (c : ℕ) (bs : List ℕ) → c < 128 → IsUtf8 bs → not (list_any (λ b. eqb b c) bs) ≡ lacks c (chars bs)
+bytes_lack c bs low u = any_lacks c bs ∙ ap (lacks c) (sym (encodes-chars bs u)) ∙ lacks_encoded c low (chars bs)

@@ -132,11 +132,10 @@ pub fn split_last_quote(text: &str) -> Option<(&str, &str)>
 }
 
 /// Whether the text holds a NUL.
-#[tactic(auto, using(crate::proofs::CutLemmas::contains_chars))]
 pub(crate) fn has_nul(text: &str) -> bool
     ensures { not result ≡ list_all (λ c. not (c == code "\0")) (chars text.now) }
 {
-    text.contains('\0')
+    text.as_bytes().contains(&b'\0')
 }
 
 /// The text after the quote of the kind, where that stands at the front.

@@ -84,7 +84,48 @@ pub enum FlawKind {
 }
 
 impl FlawKind {
-    ghost use Rattle.rl_reasons.specs.FlawWords.{flaw_message};
+    ghost use Rattle.rl_reasons.specs.FlawWords.{flaw_id, flaw_message};
+
+    /// The kind's name for programs, as `unknown-escape`. It stays, where the words for people may change.
+    pub fn id(self) -> &'static str
+        ensures { result.now ≡ flaw_id self }
+    {
+        match self {
+            FlawKind::Empty => "empty",
+            FlawKind::NoLiteral => "no-literal",
+            FlawKind::Unfinished => "unfinished",
+            FlawKind::NoQuote => "no-quote",
+            FlawKind::NoNumber => "no-number",
+            FlawKind::Unclosed => "unclosed-quote",
+            FlawKind::UnknownEscape => "unknown-escape",
+            FlawKind::NoUnicode => "unicode-escape-in-bytes",
+            FlawKind::NoHexDigit => "no-hexadecimal-digit",
+            FlawKind::NoBrace => "no-brace",
+            FlawKind::EmptyBraces => "empty-braces",
+            FlawKind::TooManyDigits => "too-many-digits",
+            FlawKind::PastAscii => "past-ascii",
+            FlawKind::PastUnicode => "past-unicode",
+            FlawKind::Surrogate => "surrogate",
+            FlawKind::Nul => "nul",
+            FlawKind::NotAscii => "not-ascii",
+            FlawKind::MustEscape => "must-escape",
+            FlawKind::NoCharacter => "no-character",
+            FlawKind::TwoCharacters => "two-characters",
+            FlawKind::NoExponentDigit => "no-exponent-digit",
+            FlawKind::BadSuffix => "bad-suffix",
+            FlawKind::TooLarge => "integer-too-large",
+            FlawKind::Minus => "minus",
+            FlawKind::TooManyHashes => "too-many-hashes",
+            FlawKind::CarriageReturn => "carriage-return",
+            FlawKind::EarlyQuote => "early-quote",
+            FlawKind::ExtraHash => "extra-hash",
+            FlawKind::UnderscoreSuffix => "underscore-suffix",
+            FlawKind::NoDigits => "no-digits",
+            FlawKind::DigitOfBase => "digit-of-base",
+            FlawKind::BasedFloat => "based-float",
+            FlawKind::NoFractionDigit => "no-fraction-digit",
+        }
+    }
 
     /// What is wrong, in words.
     pub fn words(self) -> &'static str

@@ -43,7 +43,7 @@ pub front_none : (command : Command) (holds : Option World) (spots : List Spot) 
     → IfSome holds (λ w. WritesFront command w spots (record { out_old = o; out_new = o; err_old = e; err_new = e }))
 front_none command None spots o e = tt
 front_none command (Some w) spots o e =
-    let more = some_visits w spots in
+    let more = some_visits command.selection w spots in
     ([], more.0, nothing, more.1, refl, ((0, Appends-nil o), (0, Appends-nil e)))
 
 pub ends_unstarted : (B : Type 0) (command : Command) (wishes : Wishes) (is_terminal : Bool) (holds : Option World)

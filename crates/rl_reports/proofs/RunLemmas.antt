@@ -7,19 +7,19 @@ use Rattle.std.specs.Io.KnownBytes.{Appends, Keeps}
 use Rattle.std.proofs.KnownBytes.{Appends-nil, Appends-trans, Appends-kept}
 use Rattle.rl_program.specs.Streams.{AppendsBeginning}
 use Rattle.rl_files.specs.Trees.{World}
-use Rattle.rl_files.specs.Walks.{Spot, Visited, Visits, VisitsNone, VisitsFirst}
+use Rattle.rl_files.specs.Walks.{Spot, Visited, Visits, VisitsFirst}
 use Rattle.rl_files.proofs.WalkLemmas.{some_visits}
 use Rattle.rl_reports.specs.declared.command.Command.{Command}
 use Rattle.rl_reports.specs.declared.runs.Tally.{Tally}
 use Rattle.rl_reports.specs.Reports.{Findings, IsReport, AreReports, nothing, both_of}
-use Rattle.rl_reports.specs.Runs.{Streams, IsWritten, WritesReport, WritesSome, WritesWalk, WritesFront}
+use Rattle.rl_reports.specs.Runs.{Streams, IsWritten, WritesReport, WritesSome, WritesFront}
 
 -- what was written so far, of what was visited so far, and what is visited from the new places on comes
 -- after it
 pub record Ran (command : Command) (w : World) (old new : List Spot) (streams : Streams) (tally : Tally) : Type 0 where
   pub visits : List Visited
   pub printed : Findings
-  pub goes : (more : List Visited) → Visits w new more → Visits w old (visits ++ more)
+  pub goes : (more : List Visited) → Visits command.selection w new more → Visits command.selection w old (visits ++ more)
   pub reports : AreReports command w visits printed
   pub written : IsWritten streams printed tally
 
@@ -89,7 +89,7 @@ pub ran_more : (command : Command) (holds : Option World) (old mid new : List Sp
     (o0 o1 o2 e0 e1 e2 : Option (List ℕ)) (before more after : Tally)
     → IfSome holds (λ w. Ran command w old mid (record { out_old = o0; out_new = o1; err_old = e0; err_new = e1 })
     before)
-    → VisitsFirst holds mid visit new
+    → VisitsFirst command.selection holds mid visit new
     → IfSome holds (λ w. WritesReport command w visit (record { out_old = o1; out_new = o2; err_old = e1; err_new = e2 }) more)
     → after.found ≡ (before.found || more.found) → after.failed ≡ (before.failed || more.failed)
     → IfSome holds (λ w. Ran command w old new (record { out_old = o0; out_new = o2; err_old = e0; err_new = e2 })
@@ -99,7 +99,7 @@ ran_more command (Some w) old mid new visit o0 o1 o2 e0 e1 e2 before more after 
     failed = record {
       visits = ran.visits ++ visit ∷ [];
       printed = both_of ran.printed one;
-      goes = λ others m. subst (λ (z : List Visited). Visits w old z)
+      goes = λ others m. subst (λ (z : List Visited). Visits command.selection w old z)
           (sym (append_assoc ran.visits (visit ∷ []) others))
           (ran.goes (visit ∷ others) (visits others m));
       reports = reports_more command w ran.visits visit ran.printed one ran.reports is;
@@ -128,7 +128,7 @@ pub ran_front : (command : Command) (holds : Option World) (old mid : List Spot)
     → IfSome holds (λ w. Ran command w old mid streams tally) → IfSome holds (λ w. WritesFront command w old streams)
 ran_front command None old mid streams tally ran = tt
 ran_front command (Some w) old mid streams tally ran =
-    let more = some_visits w mid in (
+    let more = some_visits command.selection w mid in (
       ran.visits,
       more.0,
       ran.printed,
@@ -150,12 +150,12 @@ pub ran_some : (command : Command) (holds : Option World) (old mid new : List Sp
     (o0 o1 o2 e0 e1 e2 : Option (List ℕ)) (before : Tally)
     → IfSome holds (λ w. Ran command w old mid (record { out_old = o0; out_new = o1; err_old = e0; err_new = e1 })
     before)
-    → VisitsFirst holds mid visit new
+    → VisitsFirst command.selection holds mid visit new
     → IfSome holds (λ w. WritesSome command w visit (record { out_old = o1; out_new = o2; err_old = e1; err_new = e2 }))
     → IfSome holds (λ w. WritesFront command w old (record { out_old = o0; out_new = o2; err_old = e0; err_new = e2 }))
 ran_some command None old mid new visit o0 o1 o2 e0 e1 e2 before ran visits writes = tt
 ran_some command (Some w) old mid new visit o0 o1 o2 e0 e1 e2 before ran visits (inl (same, quiet)) =
-    let more = some_visits w mid in (
+    let more = some_visits command.selection w mid in (
       ran.visits,
       more.0,
       ran.printed,
@@ -168,11 +168,11 @@ ran_some command (Some w) old mid new visit o0 o1 o2 e0 e1 e2 before ran visits 
       ),
     )
 ran_some command (Some w) old mid new visit o0 o1 o2 e0 e1 e2 before ran visits (inr (one, is, begun)) =
-    let more = some_visits w new in (
+    let more = some_visits command.selection w new in (
       ran.visits ++ visit ∷ [],
       more.0,
       both_of ran.printed one,
-      subst (λ (z : List Visited). Visits w old z)
+      subst (λ (z : List Visited). Visits command.selection w old z)
           (sym (append_assoc ran.visits (visit ∷ []) more.0)) (ran.goes (visit ∷ more.0) (visits more.0 more.1)),
       reports_more command w ran.visits visit ran.printed one ran.reports is,
       (

@@ -4,7 +4,7 @@ use Rattle.std.specs.Prelude.{IfNone, IfSome, MatchOption, String}
 use Rattle.std.specs.Str.Pattern.{FindsTextPrefix}
 use Rattle.rl_reports.specs.declared.flags.Next.{Next}
 use Rattle.rl_reports.specs.declared.flags.Operand.{Operand}
-use Rattle.rl_reports.specs.declared.flags.Operand.TheVariants.{Kinds, Text, Color}
+use Rattle.rl_reports.specs.declared.flags.Operand.TheVariants.{Kinds, Text, Color, Extension}
 use Rattle.rl_reports.specs.declared.words.WordError.{WordError}
 use Rattle.rl_reports.specs.Endings.{AskForWishes, CannotAsk}
 use Rattle.rl_reports.specs.Words.{Wishes, joined_word, IsStep, AreSteps, AskSoFar, Asks, IsRejectedWord, AreRejected}
@@ -27,10 +27,12 @@ front_none n bs (Some x) m = tt
 -- a word begins as none of an option that takes something
 pub no_joined : (word : List ℕ) → ((rest : List ℕ) → word ≢ codes "--only=" ++ rest)
     → ((rest : List ℕ) → word ≢ codes "--find=" ++ rest) → ((rest : List ℕ) → word ≢ codes "--color=" ++ rest)
+    → ((rest : List ℕ) → word ≢ codes "--extension=" ++ rest)
     → (operand : Operand) (text : List ℕ) → word ≢ joined_word operand text
-no_joined word kinds text color Kinds x = kinds x
-no_joined word kinds text color Text x = text x
-no_joined word kinds text color Color x = color x
+no_joined word kinds text color extension Kinds x = kinds x
+no_joined word kinds text color extension Text x = text x
+no_joined word kinds text color extension Color x = color x
+no_joined word kinds text color extension Extension x = extension x
 
 -- ---- one word after another
 
@@ -80,7 +82,7 @@ pub word_rejected : {S A : Type 0} (has_colors : Bool) (bytes : S → List ℕ) 
     (word : List ℕ) (between : Next) (middle : Wishes) (error : WordError A) → i < length words
     → item ≡ get_or words i item → word ≡ bytes item
     → AskSoFar has_colors (map bytes (take i words)) between middle
-    → IsRejectedWord between middle word error
+    → IsRejectedWord has_colors between middle word error
     → AreRejected has_colors (map bytes words) error
 word_rejected hc bytes words i item word between middle error within is word_is steps rejected = inr (
   map bytes (take i words),

@@ -1,3 +1,4 @@
+pub mod Meant
 pub mod Words
 pub mod Reports
 pub mod Runs

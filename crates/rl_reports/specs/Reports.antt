@@ -72,10 +72,12 @@ IsPathIn form path (Some shown) =
 pub record IsOptionsFor (command : Command) (path : List ℕ) (options : Options) : Type 0 where
   pub shown : options.shown ≡ command.shown
   pub finds : options.finds ≡ command.finds
+  pub matching : options.matching ≡ command.matching
   pub spelling : options.spelling ≡ command.spelling
   pub form : options.form ≡ command.form
   pub by_line : options.by_line ≡ is_by_line command.places path
   pub rejects_strays : options.rejects_strays ≡ command.rejects_strays
+  pub any_suffix : options.any_suffix ≡ command.any_suffix
   pub explains : options.explains ≡ is_bad command.shown
   pub before : IsPathIn command.form path options.path
 

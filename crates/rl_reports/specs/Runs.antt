@@ -32,7 +32,7 @@ WritesReport command w visit streams tally =
 -- What was written of a walk from these places on: what is reported of all that is visited, in order.
 abbrev pub WritesWalk : Command → World → List Spot → Streams → Tally → Type 0
 WritesWalk command w spots streams tally =
-    (visits : List Visited) × (printed : Findings) × Visits w spots visits
+    (visits : List Visited) × (printed : Findings) × Visits command.selection w spots visits
     × AreReports command w visits printed × IsWritten streams printed tally
 
 -- a beginning of this was written
@@ -51,7 +51,7 @@ WritesSome command w visit streams =
 -- visits.
 abbrev pub WritesFront : Command → World → List Spot → Streams → Type 0
 WritesFront command w spots streams =
-    (visits others : List Visited) × (printed : Findings) × Visits w spots (visits ++ others)
+    (visits others : List Visited) × (printed : Findings) × Visits command.selection w spots (visits ++ others)
     × AreReports command w visits printed × WritesBeginning streams printed
 
 -- The status of a run: 2 where an error was reported; else 1 where what is bad was asked for, or what

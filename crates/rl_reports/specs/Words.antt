@@ -1,6 +1,7 @@
 -- What the words of a command line ask for. Words are lists of bytes.
-use Rattle.std.specs.Prelude.{◌≡◌, ◌≢◌, ◌⊎◌, ℕ, ◌==◌, Bool, true, false, cond, not, ◌||◌, List, [], ◌∷◌, ◌++◌, codes, string_bytes, ⊤, Option, Some, None}
+use Rattle.std.specs.Prelude.{◌≡◌, ◌≢◌, ◌⊎◌, ℕ, ◌==◌, Bool, true, false, cond, not, ◌||◌, List, [], ◌∷◌, ◌++◌, codes, encode_utf8, string_bytes, ⊤, Option, Some, None}
 use denote.Ref.{Bor}
+use Prim.Native.Char.{code}
 use Rattle.std.specs.List.{All, starts_with}
 use Rattle.std.specs.Str.{chars, bytes_eq}
 use Rattle.rl_files.specs.Trees.{string_texts}
@@ -19,7 +20,7 @@ use Rattle.rl_sources.specs.declared.options.Spelling.{Spelling}
 use Rattle.rl_sources.specs.declared.options.Spelling.TheVariants.{Value, Source}
 use Rattle.rl_sources.specs.declared.options.Shown.TheVariants as shown
 use Rattle.rl_reports.specs.declared.flags.Flag.{Flag}
-use Rattle.rl_reports.specs.declared.flags.Flag.TheVariants.{Bad, Hidden, Only, Find, Text, Json, Color, Bytes, Lines, NoStray, Count, Files, Quiet, Help, Version, Paths}
+use Rattle.rl_reports.specs.declared.flags.Flag.TheVariants.{Bad, Hidden, Only, Find, IgnoreCase, WholeWords, Text, Json, Color, Bytes, Lines, NoStray, AnySuffix, AllDirectories, Extension, Count, Files, Quiet, Help, Version, Paths}
 use Rattle.rl_reports.specs.declared.flags.Operand.{Operand}
 use Rattle.rl_reports.specs.declared.flags.Operand.TheVariants as takes
 use Rattle.rl_reports.specs.declared.flags.Next.{Next}
@@ -28,39 +29,59 @@ use Rattle.rl_reports.specs.declared.flags.When.{When}
 use Rattle.rl_reports.specs.declared.flags.When.TheVariants.{Auto, Always, Never}
 use Rattle.rl_reports.specs.declared.words.Asked.{Asked}
 use Rattle.rl_reports.specs.declared.words.WordError.{WordError}
-use Rattle.rl_reports.specs.declared.words.WordError.TheVariants.{Memory, UnknownOption, UnknownKind, NoKinds, TwoChoices, NoText, EmptyText, BadAndFind, NoColor, UnknownColor}
+use Rattle.rl_reports.specs.declared.words.WordError.TheVariants.{Memory, UnknownOption, UnknownKind, NoKinds, TwoChoices, NoText, EmptyText, BadAndFind, NoColor, UnknownColor, NoExtension}
 use Rattle.rl_sources.specs.Options.{Names, words_of}
+use Rattle.rl_reports.specs.Meant.{IsMeant}
 
--- the words of an option
+-- the word of an option
 abbrev pub IsOptionWord : Flag → List ℕ → Type 0
-IsOptionWord Bad word = (word ≡ codes "-b") ⊎ (word ≡ codes "--bad")
-IsOptionWord Hidden word = (word ≡ codes "-B") ⊎ (word ≡ codes "--hidden")
-IsOptionWord Only word = (word ≡ codes "-k") ⊎ (word ≡ codes "--only")
-IsOptionWord Find word = (word ≡ codes "-f") ⊎ (word ≡ codes "--find")
+IsOptionWord Bad word = word ≡ codes "--bad"
+IsOptionWord Hidden word = word ≡ codes "--hidden"
+IsOptionWord Only word = word ≡ codes "--only"
+IsOptionWord Find word = word ≡ codes "--find"
+IsOptionWord IgnoreCase word = word ≡ codes "--ignore-case"
+IsOptionWord WholeWords word = word ≡ codes "--word"
 IsOptionWord Text word = word ≡ codes "--text"
 IsOptionWord Json word = word ≡ codes "--json"
 IsOptionWord Color word = word ≡ codes "--color"
-IsOptionWord Bytes word = (word ≡ codes "-o") ⊎ (word ≡ codes "--bytes")
+IsOptionWord Bytes word = word ≡ codes "--bytes"
 IsOptionWord Lines word = word ≡ codes "--lines"
 IsOptionWord NoStray word = word ≡ codes "--no-stray"
-IsOptionWord Count word = (word ≡ codes "-c") ⊎ (word ≡ codes "--count")
-IsOptionWord Files word = (word ≡ codes "-l") ⊎ (word ≡ codes "--files")
-IsOptionWord Quiet word = (word ≡ codes "-q") ⊎ (word ≡ codes "--quiet")
-IsOptionWord Help word = (word ≡ codes "-h") ⊎ (word ≡ codes "--help")
-IsOptionWord Version word = (word ≡ codes "-V") ⊎ (word ≡ codes "--version")
+IsOptionWord AnySuffix word = word ≡ codes "--any-suffix"
+IsOptionWord AllDirectories word = word ≡ codes "--all"
+IsOptionWord Extension word = word ≡ codes "--extension"
+IsOptionWord Count word = word ≡ codes "--count"
+IsOptionWord Files word = word ≡ codes "--files-with-matches"
+IsOptionWord Quiet word = word ≡ codes "--quiet"
+IsOptionWord Help word = word ≡ codes "--help"
+IsOptionWord Version word = word ≡ codes "--version"
 IsOptionWord Paths word = word ≡ codes "--"
+
+-- the letter of an option, which stands after a dash
+abbrev pub IsLetter : Flag → ℕ → Type 0
+IsLetter Find c = c ≡ code "e"
+IsLetter IgnoreCase c = c ≡ code "i"
+IsLetter WholeWords c = c ≡ code "w"
+IsLetter Count c = c ≡ code "c"
+IsLetter Files c = c ≡ code "l"
+IsLetter Quiet c = c ≡ code "q"
+IsLetter Help c = c ≡ code "h"
+IsLetter Version c = c ≡ code "V"
+IsLetter _ c = ⊥
 
 -- an option and, after `=`, what it takes, in one word
 abbrev pub joined_word : Operand → List ℕ → List ℕ
 joined_word takes.Kinds text = codes "--only=" ++ text
 joined_word takes.Text text = codes "--find=" ++ text
 joined_word takes.Color text = codes "--color=" ++ text
+joined_word takes.Extension text = codes "--extension=" ++ text
 
 -- the option that takes it
 abbrev pub taken_by : Operand → Flag
 taken_by takes.Kinds = Only
 taken_by takes.Text = Find
 taken_by takes.Color = Color
+taken_by takes.Extension = Extension
 
 -- the word that says when lines have colours
 abbrev pub color_word : When → List ℕ
@@ -126,11 +147,16 @@ pub record Wishes : Type 0 where
   pub wish : Wish
   pub wanted : Wanted
   pub finds : Option (List ℕ)
+  pub ignores_case : Bool
+  pub whole_words : Bool
   pub places : PlaceForm
   pub output : Output
   pub rejects_strays : Bool
+  pub any_suffix : Bool
   pub spelling : Spelling
   pub form : Form
+  pub all_directories : Bool
+  pub extension : List ℕ
   pub paths : List (List ℕ)
 
 -- what is asked for where nothing is said
@@ -139,11 +165,16 @@ first_wishes has_colors = record {
   wish = wish.Scan;
   wanted = AllWanted;
   finds = None;
+  ignores_case = false;
+  whole_words = false;
   places = form.Usual;
   output = output.Lines;
   rejects_strays = false;
+  any_suffix = false;
   spelling = Value;
   form = colored_form has_colors Auto;
+  all_directories = false;
+  extension = codes "rs";
   paths = [];
 }
 
@@ -153,11 +184,16 @@ wishes_of command paths = record {
   wish = command.wish;
   wanted = wanted_of command.shown;
   finds = sought_of command.finds;
+  ignores_case = command.matching.ignores_case;
+  whole_words = command.matching.whole_words;
   places = command.places;
   output = command.output;
   rejects_strays = command.rejects_strays;
+  any_suffix = command.any_suffix;
   spelling = command.spelling;
   form = command.form;
+  all_directories = command.selection.all;
+  extension = command.selection.extension.now;
   paths = paths;
 }
 
@@ -187,12 +223,17 @@ with_flag Bad w = record w { wanted = BadWanted }
 with_flag Hidden w = record w { wanted = HiddenWanted }
 with_flag Only w = w
 with_flag Find w = w
+with_flag IgnoreCase w = record w { ignores_case = true }
+with_flag WholeWords w = record w { whole_words = true }
 with_flag Text w = record w { spelling = Source }
 with_flag Json w = record w { form = written.Json }
 with_flag Color w = w
 with_flag Bytes w = record w { places = form.Bytes }
 with_flag Lines w = record w { places = form.Lines }
 with_flag NoStray w = record w { rejects_strays = true }
+with_flag AnySuffix w = record w { any_suffix = true }
+with_flag AllDirectories w = record w { all_directories = true }
+with_flag Extension w = w
 with_flag Count w = record w { output = output.Count }
 with_flag Files w = record w { output = output.Path }
 with_flag Quiet w = record w { output = output.Nothing }
@@ -200,12 +241,13 @@ with_flag Help w = record w { wish = wish.Help }
 with_flag Version w = record w { wish = wish.Version }
 with_flag Paths w = w
 
--- after `--only` stands a list of kinds, after `--find` a text, after `--color` when there are colours,
--- after `--` stand paths
+-- after `--only` stands a list of kinds, after `--find` a text, after `--color` when there are colours, after
+-- `--extension` what names end with, after `--` stand paths
 abbrev pub next_after : Flag → Next
 next_after Only = next.Operand takes.Kinds
 next_after Find = next.Operand takes.Text
 next_after Color = next.Operand takes.Color
+next_after Extension = next.Operand takes.Extension
 next_after Paths = next.Path
 next_after _ = next.Any
 
@@ -218,6 +260,9 @@ with_kinds list w = record w { wanted = OnlyWanted list }
 abbrev pub with_text : List ℕ → Wishes → Wishes
 with_text text w = record w { finds = Some text }
 
+abbrev pub with_extension : List ℕ → Wishes → Wishes
+with_extension extension w = record w { extension = extension }
+
 -- With this option more, so much is asked for, and such a word may stand next.
 abbrev pub IsAdded : Flag → Wishes → Next → Wishes → Type 0
 IsAdded flag old then new = MayStand flag old × (then ≡ next_after flag) × (new ≡ with_flag flag old)
@@ -229,6 +274,21 @@ IsTaken has_colors takes.Text old text new = (text ≢ []) × (new ≡ with_text
 IsTaken has_colors takes.Color old word new =
     (when : When) × (word ≡ color_word when)
     × (new ≡ record old { form = recolored old.form (colored_form has_colors when) })
+IsTaken has_colors takes.Extension old text new = new ≡ with_extension text old
+
+-- With these letters, one after another, so much is asked for, and such a word may stand next: what an option
+-- takes stands after its letter, or is the next word.
+pub data AreLetters (has_colors : Bool) : Wishes → List ℕ → Next → Wishes → Type 0 where
+  NoLetters : {old : Wishes} → AreLetters has_colors old [] next.Any old
+  Letter : {old new : Wishes} {then : Next} {more : List ℕ} (flag : Flag) (c : ℕ) (middle : Wishes)
+      → IsLetter flag c → IsAdded flag old next.Any middle → AreLetters has_colors middle more then new
+      → AreLetters has_colors old (c ∷ more) then new
+  LastLetter : {old new : Wishes} (flag : Flag) (operand : Operand) (c : ℕ)
+      → IsLetter flag c → IsAdded flag old (next.Operand operand) new
+      → AreLetters has_colors old (c ∷ []) (next.Operand operand) new
+  LetterAndText : {old new : Wishes} {text : List ℕ} (operand : Operand) (c : ℕ)
+      → IsLetter (taken_by operand) c → MayStand (taken_by operand) old → text ≢ []
+      → IsTaken has_colors operand old text new → AreLetters has_colors old (c ∷ text) next.Any new
 
 -- With this word more, where such a word may stand, so much is asked for, and such a word may stand
 -- next.
@@ -241,6 +301,7 @@ IsStep has_colors next.Any old word then new =
     ⊎ ((flag : Flag) × (is_path_word word ≡ false) × IsOptionWord flag word × IsAdded flag old then new)
     ⊎ ((operand : Operand) × (text : List ℕ) × (word ≡ joined_word operand text)
     × MayStand (taken_by operand) old × (then ≡ next.Any) × IsTaken has_colors operand old text new)
+    ⊎ ((letters : List ℕ) × (word ≡ codes "-" ++ letters) × AreLetters has_colors old letters then new)
 
 abbrev pub AreSteps : Bool → Next → Wishes → List (List ℕ) → Next → Wishes → Type 0
 AreSteps has_colors first old [] then new = (then ≡ first) × (new ≡ old)
@@ -261,8 +322,10 @@ Asks has_colors words wishes =
 -- what is wrong
 abbrev pub word_message : {A : Type 0} → WordError A → List ℕ
 word_message Memory = codes "out of memory"
-word_message (UnknownOption word) =
+word_message (UnknownOption word None) =
     codes "unknown option '" ++ (string_bytes word ++ codes "': rl_scan --help lists them")
+word_message (UnknownOption word (Some meant)) =
+    codes "unknown option '" ++ (string_bytes word ++ (codes "': did you mean '" ++ (meant.now ++ codes "'?")))
 word_message (UnknownKind word) =
     codes "unknown kind '" ++ (string_bytes word
     ++ codes "': one of Str, ByteStr, CStr, Byte, Char, Int, Float, Bool, Verbatim")
@@ -274,6 +337,7 @@ word_message BadAndFind = codes "--bad, --hidden and --find: one of them, once"
 word_message NoColor = codes "--color: when? one of auto, always, never"
 word_message (UnknownColor word) =
     codes "unknown colour '" ++ (string_bytes word ++ codes "': one of auto, always, never")
+word_message NoExtension = codes "--extension: which? as in --extension rs.in"
 
 -- why this option doesn't go with what is asked for
 abbrev pub IsRejectedFlag : {A : Type 0} → Flag → Wishes → WordError A → Type 0
@@ -299,35 +363,57 @@ IsRejectedJoined operand old text error =
     IsRejectedFlag (taken_by operand) old error
     ⊎ (MayStand (taken_by operand) old × IsRejectedText operand text error)
 
+-- the error names the word as one of no option, and the option that it was likely meant to be
+abbrev pub NamesUnknown : {A : Type 0} → List ℕ → WordError A → Type 0
+NamesUnknown word (UnknownOption said meant) =
+    (chars (string_bytes said) ≡ visible (chars word)) × IsMeant word meant
+NamesUnknown word _ = ⊥
+
 -- there is no option of this word
 abbrev pub IsUnknownOption : {A : Type 0} → List ℕ → WordError A → Type 0
-IsUnknownOption word (UnknownOption said) =
+IsUnknownOption word error =
     (is_path_word word ≡ false) × ((flag : Flag) → IsOptionWord flag word → ⊥)
-    × ((operand : Operand) → (text : List ℕ) → word ≢ joined_word operand text)
-    × (chars (string_bytes said) ≡ visible (chars word))
-IsUnknownOption word _ = ⊥
+    × ((operand : Operand) → (text : List ℕ) → word ≢ joined_word operand text) × NamesUnknown word error
+
+-- Why these letters of a word can't be asked for: one is no option's; or an option doesn't go with what is
+-- asked for, or takes no such text.
+pub data AreRejectedLetters {A : Type 0} (has_colors : Bool) (word : List ℕ) (error : WordError A)
+    : Wishes → List ℕ → Type 0 where
+  UnknownLetter : {old : Wishes} {letters : List ℕ} (c : ℕ) (more : List ℕ) → letters ≡ encode_utf8 c ++ more
+      → ((flag : Flag) → IsLetter flag c → ⊥) → NamesUnknown word error
+      → AreRejectedLetters has_colors word error old letters
+  RejectedLetter : {old : Wishes} {more : List ℕ} (flag : Flag) (c : ℕ) → IsLetter flag c
+      → IsRejectedFlag flag old error → AreRejectedLetters has_colors word error old (c ∷ more)
+  RejectedText : {old : Wishes} {text : List ℕ} (operand : Operand) (c : ℕ) → IsLetter (taken_by operand) c
+      → IsRejectedJoined operand old text error → AreRejectedLetters has_colors word error old (c ∷ text)
+  LaterLetter : {old : Wishes} {more : List ℕ} (flag : Flag) (c : ℕ) (middle : Wishes) → IsLetter flag c
+      → IsAdded flag old next.Any middle → AreRejectedLetters has_colors word error middle more
+      → AreRejectedLetters has_colors word error old (c ∷ more)
 
 -- why this word can't be asked for, where any may stand: an allocation failed; there is no such option; it
 -- doesn't go with what is asked for; or what it takes can't be asked for
-abbrev pub IsRejectedOption : {A : Type 0} → Wishes → List ℕ → WordError A → Type 0
-IsRejectedOption old word error =
+abbrev pub IsRejectedOption : {A : Type 0} → Bool → Wishes → List ℕ → WordError A → Type 0
+IsRejectedOption has_colors old word error =
     (error ≡ Memory)
     ⊎ IsUnknownOption word error
     ⊎ ((flag : Flag) × IsOptionWord flag word × IsRejectedFlag flag old error)
     ⊎ ((operand : Operand) × (text : List ℕ) × (word ≡ joined_word operand text)
     × IsRejectedJoined operand old text error)
+    ⊎ ((letters : List ℕ) × (word ≡ codes "-" ++ letters)
+    × AreRejectedLetters has_colors word error old letters)
 
 -- why this word can't be asked for, where such a word may stand
-abbrev pub IsRejectedWord : {A : Type 0} → Next → Wishes → List ℕ → WordError A → Type 0
-IsRejectedWord (next.Operand operand) old word error = IsRejectedText operand word error
-IsRejectedWord next.Any old word error = IsRejectedOption old word error
-IsRejectedWord next.Path old word error = error ≡ Memory
+abbrev pub IsRejectedWord : {A : Type 0} → Bool → Next → Wishes → List ℕ → WordError A → Type 0
+IsRejectedWord has_colors (next.Operand operand) old word error = IsRejectedText operand word error
+IsRejectedWord has_colors next.Any old word error = IsRejectedOption has_colors old word error
+IsRejectedWord has_colors next.Path old word error = error ≡ Memory
 
 -- this is wrong where the words end before what an option takes
 abbrev pub IsMissing : {A : Type 0} → Operand → WordError A → Type 0
 IsMissing takes.Kinds error = error ≡ NoKinds
 IsMissing takes.Text error = error ≡ NoText
 IsMissing takes.Color error = error ≡ NoColor
+IsMissing takes.Extension error = error ≡ NoExtension
 
 -- Why the words can't be asked for: where they end, what an option takes is missing; or they ask for something
 -- up to one that can't be asked for.
@@ -337,4 +423,4 @@ AreRejected has_colors words error =
     × AskSoFar has_colors words (next.Operand operand) old)
     ⊎ ((before after : List (List ℕ)) × (word : List ℕ) × (first : Next) × (old : Wishes)
     × (words ≡ before ++ word ∷ after) × AskSoFar has_colors before first old
-    × IsRejectedWord first old word error)
+    × IsRejectedWord has_colors first old word error)

@@ -20,28 +20,61 @@ use std::io::Write;
 pub const HELP: &str = "usage: rl_scan [OPTIONS] [PATH..]
 Prints the literals of Rust sources, or what is wrong with them.
 
-  PATH   a file, or a directory: all *.rs below it, in the order of their names, without hidden directories and
-         `target`; links aren't followed. `-` is standard input, as is no PATH, unless input is a terminal (then `.`)
-What is printed (every literal, if nothing is said; of -b, -B and -k one, and -f with -k alone)
-  -b, --bad            what Rust rejects: bad literals, quotes and comments left open, and why
-  -B, --hidden         literals with raw characters in them that turn or hide text, such as U+202E; not comments
-  -k, --only KIND,..   Str ByteStr CStr Byte Char Int Float Bool Verbatim, in any case
-  -f, --find TEXT      what holds TEXT in its contents, however it is written, at the place where TEXT begins
+A PATH is a file, or a directory: then all *.rs below it are read, in the order
+of their names, without hidden directories and the `target` of a package; links
+in it aren't followed. `-` is standard input, as is no PATH, unless input is a
+terminal: then it is `.`.
+
+What is printed: every literal; or one of --bad, --hidden, --only; or --find
+      --bad            what Rust rejects: bad literals, quotes and comments left
+                       open, and why
+      --any-suffix     of --bad: literals may have any suffix and value, as
+                       macros may take 1u9; else those of Rust's types alone
+      --hidden         characters that turn or hide text, such as U+202E,
+                       wherever they stand
+      --only KIND,..   literals of these kinds: Str ByteStr CStr Byte Char Int
+                       Float Bool Verbatim, in any case
+  -e, --find TEXT      literals that hold TEXT, however it is written, at its
+                       place; goes with --only
+  -i, --ignore-case    of --find: small and large letters of ASCII are the same
+  -w, --word           of --find: TEXT as whole words
       --no-stray       a character that begins no token is an error
-How it is printed
-                       PATH:LINE:COLUMN: KIND VALUE SUFFIX      PATH:LINE:COLUMN: error: REASON: PIECE
-                       LO..HI KIND VALUE SUFFIX                 of standard input
-  -o, --bytes          LO..HI in place of LINE:COLUMN
-      --lines          LINE:COLUMN in place of LO..HI
-      --text           the literal as it is written, in place of KIND VALUE SUFFIX
-      --json           an object of JSON: path, lo, hi, line, column; kind, text, value, suffix; or text, error, piece
-      --color WHEN     auto (on a terminal, unless NO_COLOR is set or TERM is dumb), always or never
-  -c, --count          how many lines a file has      -l, --files   its path      -q, --quiet   nothing
+
+Which files are read:
+      --all            hidden directories and `target` too
+      --extension EXT  *.EXT in place of *.rs
+
+How it is printed:
+      --bytes          places as LO..HI, in bytes, as those of standard input
+      --lines          places as LINE:COLUMN, as those of files
+      --text           literals as they are written
+      --json           an object of JSON for each line
+      --color WHEN     auto, always or never; auto is on a terminal, unless
+                       NO_COLOR is set or TERM is dumb
+  -c, --count          how many lines each file has
+  -l, --files-with-matches
+                       the path of each file that has lines
+  -q, --quiet          nothing
       --               what follows is a PATH
-  -h, --help           -V, --version
-In one word: --only=KIND,.. --find=TEXT --color=WHEN
-Status: 0 all was read; 1 --bad or --hidden found something, or --find nothing; 2 wrong arguments, or a file that can't
-be read to its end: each has a line on standard error, and the others are still read
+  -h, --help           this
+  -V, --version        the version
+
+Lines:
+  PATH:LINE:COLUMN: KIND VALUE SUFFIX
+  PATH:LINE:COLUMN: error: REASON: PIECE
+  PATH:LINE:COLUMN: U+202E RIGHT-TO-LEFT OVERRIDE
+  LO..HI KIND VALUE SUFFIX
+
+Status:
+  0  all was read
+  1  --bad or --hidden found something, or --find nothing
+  2  wrong arguments, or a file that can't be read to its end: it has a line on
+     standard error, and the others are still read
+
+Examples:
+  rl_scan --bad src
+  rl_scan -wie todo src tests
+  git ls-files -z '*.rs' | xargs -0 rl_scan --hidden --
 ";
 
 /// Which version it is.

@@ -1,19 +1,23 @@
 //! The words of the command line.
 
-ghost use Rattle.std.specs.Prelude.{◌≡◌, ◌≢◌, ◌↔◌, ℕ, false, List, [], map, string_bytes, IsTrue, IfOk, IfErr, IfSome, IfNone, MatchBool, MatchOption, OnOk};
+ghost use Rattle.std.specs.Prelude.{◌≡◌, ◌≢◌, ◌⊎◌, ◌++◌, ◌↔◌, ℕ, false, List, [], map, codes, string_bytes, IsTrue, IfOk, IfErr, IfSome, IfNone, MatchBool, MatchOption, OnOk};
 ghost use Rattle.rl_files.specs.Trees.{string_texts};
 ghost use Rattle.rl_reports.specs.declared.flags.Next.TheVariants as next;
 ghost use Rattle.rl_reports.specs.declared.flags.Operand.{Operand};
 ghost use Rattle.rl_reports.specs.declared.flags.Operand.TheVariants as takes;
-ghost use Rattle.rl_reports.specs.Words.{IsKindWord, AreKindWords, IsUnknownKind, is_path_word, taken_by as flag_before, first_wishes, wishes_of, wishes_in, MayStand, with_kinds, with_path, with_text, IsAdded, IsTaken, IsStep, Asks, IsRejectedFlag, IsRejectedText, IsRejectedJoined, IsRejectedWord, IsMissing, AreRejected};
+ghost use Rattle.rl_reports.specs.declared.words.WordError.TheVariants.{Memory};
+ghost use Rattle.rl_reports.specs.Words.{IsKindWord, AreKindWords, IsUnknownKind, is_path_word, taken_by as flag_before, next_after as follows, NamesUnknown, AreLetters, AreRejectedLetters, first_wishes, wishes_of, wishes_in, MayStand, with_kinds, with_path, with_text, with_extension, IsAdded, IsTaken, IsStep, Asks, IsRejectedFlag, IsRejectedText, IsRejectedJoined, IsRejectedWord, IsMissing, AreRejected};
 
 use crate::command::{Command, Output, PlaceForm, Wish};
 use crate::flags::{
-    Flag, Next, Operand, When, add_flag, flag_of, form_when, joined_of, next_after, recolored,
-    taken_by, when_of,
+    Flag, Next, Operand, When, add_flag, after_front, flag_of, form_when, joined_of, letter_of,
+    next_after, recolored, taken_by, when_of,
 };
+use crate::meant::meant_by;
 use crate::report::visible_text;
-use rl_sources::{Shown, Spelling, names};
+use rl_files::Selection;
+use rl_sources::{Matching, Shown, Spelling, names};
+use rl_tokens::text::split_char;
 use std::alloc::{AllocError, Allocator, Global};
 use std::fmt;
 
@@ -22,8 +26,8 @@ use std::fmt;
 pub enum WordError<A: Allocator = Global> {
     /// An allocation failed.
     Memory,
-    /// There is no such option.
-    UnknownOption(String<A>),
+    /// There is no such option; the one that was likely meant.
+    UnknownOption(String<A>, Option<&'static str>),
     /// There is no such kind of literal.
     UnknownKind(String<A>),
     /// After `--only` stands no list of kinds.
@@ -40,6 +44,8 @@ pub enum WordError<A: Allocator = Global> {
     NoColor,
     /// After `--color` stands a word that is none of the three.
     UnknownColor(String<A>),
+    /// After `--extension` no word stands.
+    NoExtension,
 }
 
 impl<A: Allocator> From<AllocError> for WordError<A> {
@@ -62,8 +68,11 @@ impl<A: Allocator> fmt::Display for WordError<A> {
     fn fmt<W: fmt::Write>(&self, f: &mut fmt::Formatter<W>) -> fmt::Result {
         match self {
             WordError::Memory => write!(f, "out of memory"),
-            WordError::UnknownOption(word) => {
+            WordError::UnknownOption(word, None) => {
                 write!(f, "unknown option '{word}': rl_scan --help lists them")
+            }
+            WordError::UnknownOption(word, Some(meant)) => {
+                write!(f, "unknown option '{word}': did you mean '{meant}'?")
             }
             WordError::UnknownKind(word) => write!(
                 f,
@@ -78,6 +87,7 @@ impl<A: Allocator> fmt::Display for WordError<A> {
             WordError::UnknownColor(word) => {
                 write!(f, "unknown colour '{word}': one of auto, always, never")
             }
+            WordError::NoExtension => write!(f, "--extension: which? as in --extension rs.in"),
         }
     }
 }
@@ -122,7 +132,38 @@ fn missing<A: Allocator>(operand: Operand) -> WordError<A>
         Operand::Kinds => WordError::NoKinds,
         Operand::Text => WordError::NoText,
         Operand::Color => WordError::NoColor,
+        Operand::Extension => WordError::NoExtension,
     }
+}
+
+/// The error that names a word as one of no option.
+fn unknown_option<A: Allocator>(alloc: A, word: &str) -> Result<WordError<A>, AllocError>
+    ensures { IfOk result (NamesUnknown word.now) }
+{
+    Ok(WordError::UnknownOption(visible_text(alloc, word)?, meant_by(word)))
+}
+
+/// The letters of a word, after its dash: none where it begins with two.
+fn letters_of(word: &str) -> Option<&str>
+    ensures { IfSome result (λ letters. word.now ≡ codes "-" ++ letters.now) }
+{
+    let letters = after_front("-", word)?;
+    if letters.as_bytes().starts_with(b"-".as_slice()) {
+        return None;
+    }
+    Some(letters)
+}
+
+/// What an option takes, where it takes something and the letters go on after its own.
+#[tactic(auto, using(crate::proofs::LetterLemmas::taken_flag, crate::proofs::LetterLemmas::takes_nothing))]
+fn operand_in(flag: Flag, rest: &str) -> Option<Operand>
+    ensures some { IfSome result (λ operand. (flag ≡ flag_before operand) × (rest.now ≢ [])) }
+    ensures none { IfNone result ((rest.now ≡ []) ⊎ (follows flag ≡ next.Any) ⊎ (follows flag ≡ next.Path)) }
+{
+    if rest.is_empty() {
+        return None;
+    }
+    operand_of(next_after(flag))
 }
 
 /// What has to follow, where the option before takes something.
@@ -188,6 +229,14 @@ impl<'a, A: Allocator + Copy> Asked<'a, A> {
         Ok(())
     }
 
+    /// Takes what the names of files end with.
+    fn take_extension(&mut self, extension: &'a str)
+        ensures wishes { wishes_in self.new ≡ with_extension extension.now (wishes_in self.old) }
+        ensures next { self.new.next ≡ self.old.next }
+    {
+        self.command.selection.extension = extension;
+    }
+
     /// Takes what an option takes; any word may stand after that.
     fn take_operand(
         &mut self,
@@ -206,6 +255,10 @@ impl<'a, A: Allocator + Copy> Asked<'a, A> {
             Operand::Kinds => self.take_kinds(alloc, text),
             Operand::Text => self.take_text(text),
             Operand::Color => self.take_color(alloc, has_colors, text),
+            Operand::Extension => {
+                self.take_extension(text);
+                Ok(())
+            }
         }
     }
 
@@ -243,19 +296,54 @@ impl<'a, A: Allocator + Copy> Asked<'a, A> {
         }
     }
 
-    /// Takes a word that is no path: an option, or one and what it takes.
+    /// Takes the letters of a word, each an option; what one takes may stand after it.
+    fn take_letters(
+        &mut self,
+        alloc: A,
+        has_colors: bool,
+        word: &str,
+        letters: &'a str,
+    ) -> Result<(), WordError<A>>
+        requires { self.old.next ≡ next.Any }
+        ensures letters { OnOk result
+            (AreLetters has_colors (wishes_in self.old) letters.now self.new.next (wishes_in self.new)) }
+        ensures rejected { IfErr result (λ error. (error ≡ Memory)
+            ⊎ AreRejectedLetters has_colors word.now error (wishes_in self.old) letters.now) }
+    {
+        let mut rest = letters;
+        while let Some((c, after)) = split_char(rest) {
+            let Some(flag) = letter_of(c) else {
+                return Err(unknown_option(alloc, word)?);
+            };
+            if let Some(operand) = operand_in(flag, after) {
+                return self.take_joined(alloc, has_colors, operand, after);
+            }
+            match self.take_flag(flag) {
+                Ok(()) => {}
+                Err(error) => return Err(error),
+            }
+            rest = after;
+        }
+        Ok(())
+    }
+
+    /// Takes a word that is no path: an option, or one and what it takes, or letters.
     fn take_option(&mut self, alloc: A, has_colors: bool, word: &'a str) -> Result<(), WordError<A>>
-        requires { is_path_word word.now ≡ false }
+        requires word { is_path_word word.now ≡ false }
+        requires next { self.old.next ≡ next.Any }
         ensures step { OnOk result
             (IsStep has_colors next.Any (wishes_in self.old) word.now self.new.next (wishes_in self.new)) }
-        ensures rejected { IfErr result (IsRejectedWord next.Any (wishes_in self.old) word.now) }
+        ensures rejected { IfErr result (IsRejectedWord has_colors next.Any (wishes_in self.old) word.now) }
     {
         if let Some(flag) = flag_of(word) {
             return self.take_flag(flag);
         }
-        match joined_of(word) {
-            Some((operand, text)) => self.take_joined(alloc, has_colors, operand, text),
-            None => Err(WordError::UnknownOption(visible_text(alloc, word)?)),
+        if let Some((operand, text)) = joined_of(word) {
+            return self.take_joined(alloc, has_colors, operand, text);
+        }
+        match letters_of(word) {
+            Some(letters) => self.take_letters(alloc, has_colors, word, letters),
+            None => Err(unknown_option(alloc, word)?),
         }
     }
 
@@ -263,7 +351,7 @@ impl<'a, A: Allocator + Copy> Asked<'a, A> {
     fn take_word(&mut self, alloc: A, has_colors: bool, word: &'a str) -> Result<(), WordError<A>>
         ensures step { OnOk result
             (IsStep has_colors self.old.next (wishes_in self.old) word.now self.new.next (wishes_in self.new)) }
-        ensures rejected { IfErr result (IsRejectedWord self.old.next (wishes_in self.old) word.now) }
+        ensures rejected { IfErr result (IsRejectedWord has_colors self.old.next (wishes_in self.old) word.now) }
     {
         match self.next {
             Next::Operand(operand) => self.take_operand(alloc, has_colors, operand, word),
@@ -282,11 +370,20 @@ fn first_command<'a>(has_colors: bool) -> Command<'a>
         wish: Wish::Scan,
         shown: Shown::All,
         finds: None,
+        matching: Matching {
+            ignores_case: false,
+            whole_words: false,
+        },
         places: PlaceForm::Usual,
         output: Output::Lines,
         rejects_strays: false,
+        any_suffix: false,
         spelling: Spelling::Value,
         form: form_when(has_colors, When::Auto),
+        selection: Selection {
+            all: false,
+            extension: "rs",
+        },
     }
 }
 

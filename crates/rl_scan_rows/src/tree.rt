@@ -39,10 +39,31 @@ const HELD: &str = "\"\\u{61}b\" b\"ab\" c\"\\x61b\" 'a' b'a'
    ab\" r#\"ab\"# \"äab\" \"\\\\u{61}\" // \"ab\"
 \"ba\" 'b'";
 
-/// Characters that aren't seen, in literals and out of them.
-const HIDES: &str = "\"a\\u{202e}b\" \"a\u{202e}b\"
+/// Literals that hold `ab` in one case or another, as a word or not.
+const WORDS: &str =
+    "\"ab\" \"AB\" \"cab aB\" \"abc\" \"ab_\" \"éab ab.\" \"-ab-\" b\"ab\\xff ab\\n\"
+\"abab ab\" \"é e é\" '-' \"a-b\" \"3ab a b\" r\"\\ab\"";
+
+/// Characters that turn or hide text, in literals, comments, names and between tokens, and some that don't: escapes, tabs, a form
+/// feed, CR LF, a variation selector.
+const HIDES: &str = "\u{feff}\"a\\u{202e}b\" \"a\u{202e}b\"
 '\u{200b}' r\"ä\u{feff}\" b\"\u{202e}\" // \"\u{202e}\"
-\"a\tb\" 1 \"\u{fe0f}\" \"\u{1bca3}\"";
+\"a\tb\" 1 \"\u{fe0f}\" \"\u{1bca3}\"\r
+\u{c}let a\u{200b}b\u{ad}; \"\x1b[8m\" // a\rb\x07\x00\u{85}\u{2028}\r";
+
+/// What is published of Trojan Source (CVE-2021-42574) for Rust: a comment that is shown as code, a string whose end is shown
+/// elsewhere, a call that is shown as another.
+const TROJAN: &str = "fn main() {
+    let is_admin = false;
+    /*\u{202e} } \u{2066}if is_admin\u{2069} \u{2066} begin admins only */
+        println!(\"You are an admin.\");
+    /* end admins only \u{202e} { \u{2066}*/
+    let access_level = \"user\";
+    if access_level != \"user\u{202e} \u{2066}// Check if admin\u{2069} \u{2066}\" {
+        println!(\"You are an admin.\");
+    }
+}
+// \u{61c}\u{200e}\u{200f}\u{202a}\u{202b}\u{202c}\u{202d}\u{2067}\u{2068} \"";
 
 /// A byte order mark at the front, which has no column, and one that has.
 const MARKED: &str = "\u{feff}\"a\" '\\q' 1\n\u{feff}2";
@@ -52,6 +73,14 @@ const LARGE: &str = "340282366920938463463374607431768211456f64
 -340282366920938463463374607431768211456_f32
 340282366920938463463374607431768211456f16
 0x340282366920938463463374607431768211456f64";
+
+/// Literals with several flaws, one of them across lines that end with CR LF.
+const MANY: &str = "\"\\xff \\q\\u{1234567}\" b\"é\\u{41}\"\r\n\"\\q\r\n\\xg é\\z\"";
+
+/// Suffixes that Rust takes, or only a macro, and values of their types and past them.
+const TYPED: &str = "1u8 256u8 -128i8 129i8 1u9
+\"a\"x 'b'y b\"c\"d r\"e\"u8
+1.0u8 0b1f32 1e5f64 1_f32 0xFFi8 1f16 true";
 
 /// What a file of the tree holds that is a text.
 fn text_at(path: &str) -> Option<&'static str> {
@@ -66,13 +95,22 @@ fn text_at(path: &str) -> Option<&'static str> {
         "bad.rs" => Some(BAD),
         "crlf.rs" => Some("\"a\r\nb\" \"a\r\n\\q\" \"c\r\nd\re\" \"\\\r\n x\""),
         "held" => Some(HELD),
+        "words" => Some(WORDS),
         "json" => Some(JSON),
         "large" => Some(LARGE),
+        "many" => Some(MANY),
+        "typed" => Some(TYPED),
         "hides" => Some(HIDES),
+        "trojan.rs" => Some(TROJAN),
         "marked" => Some(MARKED),
         "marks" => Some("\u{feff}\u{feff}1"),
         "./.git/x.rs" => Some("4"),
         "./target/x.rs" => Some("5"),
+        "package/.hidden/x.rs" => Some("6"),
+        "package/src/target/x.rs" => Some("7"),
+        "package/target/x.rs" => Some("8"),
+        "package/src/.rs" => Some("9"),
+        "./x.txt" => Some("10"),
         _ => None,
     }
 }
@@ -93,9 +131,14 @@ fn bytes_at(path: &str) -> Result<&'static [u8], PathError> {
 /// The names in a directory of the tree, with a bar between them.
 fn names_at(path: &str) -> Result<&'static str, PathError> {
     match path {
-        "." => Ok("n.rs|b/|t\n.rs|b.rs|x.txt|.git/|target/|none.rs|a.rs|locked/||targets/"),
+        "." => Ok(
+            "n.rs|b/|t\n.rs|b.rs|Cargo.toml|x.txt|.git/|target/|none.rs|a.rs|locked/||targets/",
+        ),
         "./b/" => Ok("c.rs"),
         "./.git/" | "./target/" => Ok("x.rs"),
+        "package" => Ok("target/|src/|Cargo.toml|.hidden/"),
+        "package/src/" => Ok("target/|.rs|x.rs.in"),
+        "package/target/" | "package/src/target/" | "package/.hidden/" => Ok("x.rs"),
         "./targets/" => Ok("none"),
         "./locked/" => Err(PathError::PermissionDenied),
         _ => Err(PathError::NotADirectory),

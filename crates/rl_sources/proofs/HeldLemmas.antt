@@ -6,7 +6,8 @@ use Rattle.rl_reading.proofs.FoundContents.{found_kind, unit_of}
 use Rattle.rl_reading.specs.Decoded.{in_bytes}
 use Rattle.rl_reading.specs.declared.found.Found.{Found}
 use Rattle.rl_reading.specs.Founds.{IsFound, is_quoted}
-use Rattle.rl_sources.specs.Held.{AreContentsOf, Holds, StandsFrom}
+use Rattle.rl_sources.specs.declared.options.Matching.{Matching}
+use Rattle.rl_sources.specs.Held.{AreContentsOf, Holds, MatchesAt}
 
 -- ---- one text has one contents
 
@@ -36,10 +37,11 @@ same_contents text kind other bytes others a b =
 
 -- ---- where nothing is held
 
-pub holds_none : (sought text : List ℕ) (kind : Kind) (bytes : List ℕ) → AreContentsOf text kind bytes
-    → ((at : ℕ) → StandsFrom sought bytes at → ⊥) → Holds sought text → ⊥
-holds_none sought text kind bytes are none (other, others, at, is, stands) =
-    none at (subst (λ (z : List ℕ). StandsFrom sought z at) (same_contents text other kind others bytes is are) stands)
+pub holds_none : (matching : Matching) (sought text : List ℕ) (kind : Kind) (bytes : List ℕ)
+    → AreContentsOf text kind bytes → ((at : ℕ) → MatchesAt matching sought bytes at → ⊥)
+    → Holds matching sought text → ⊥
+holds_none matching sought text kind bytes are none (other, others, at, is, stands) =
+    none at (subst (λ (z : List ℕ). MatchesAt matching sought z at) (same_contents text other kind others bytes is are) stands)
 
 -- what has such contents has quotes
 has_quotes : (kind : Kind) (text v x : List ℕ) → Reads text kind (quoted_contents kind v) x → is_quoted kind ≡ true
@@ -52,9 +54,9 @@ has_quotes Int text v x r = let e = r.contents_is in absurd (cc)
 has_quotes Float text v x r = let e = r.contents_is in absurd (cc)
 has_quotes BoolKind text v x r = let e = r.contents_is in absurd (cc)
 
-pub holds_no_quotes : (sought text : List ℕ) (found : Found) → IsFound text found → is_quoted found.kind ≡ false
-    → Holds sought (chars text) → ⊥
-holds_no_quotes sought text found is other (kind, bytes, at, are, stands) =
+pub holds_no_quotes : (matching : Matching) (sought text : List ℕ) (found : Found) → IsFound text found → is_quoted found.kind ≡ false
+    → Holds matching sought (chars text) → ⊥
+holds_no_quotes matching sought text found is other (kind, bytes, at, are, stands) =
     let same = found_kind kind text found (_, are.contents.0, are.contents.1) is in
     both_ways (is_quoted found.kind) other (ap is_quoted same
     ∙ has_quotes kind (chars text) are.value are.contents.0 are.contents.1)

@@ -1,6 +1,6 @@
 -- What is looked for begins with a character, and stands where one begins in the literal's text.
-use Rattle.rl_text.proofs.Common.{◌≡◌, ◌⊎◌, inl, inr, ℕ, zero, suc, ◌+◌, ◌-◌, ◌<◌, ◌≤◌, ◌==◌, Bool, true, false, cond, ltb, List, and_parts, eqb-true, [], ◌∷◌, ◌++◌, length, drop, get_or, refl, replicate, sym, ap, subst, ◌∙◌, arith, append-nil, append_assoc, encode_utf8, length-encode, IsUtf8, IsCharBoundary-start, ⊤}
-use Rattle.std.proofs.lemmas.Bool.{false≢true}
+use Rattle.rl_text.proofs.Common.{◌≡◌, ◌⊎◌, inl, inr, ℕ, zero, suc, ◌+◌, ◌-◌, ◌<◌, ◌≤◌, ◌==◌, Bool, true, false, cond, ltb, List, and_parts, eqb-true, [], ◌∷◌, ◌++◌, length, drop, get_or, refl, replicate, sym, ap, subst, ◌∙◌, arith, append-nil, append_assoc, encode_utf8, length-encode, IsUtf8, IsCharBoundary-start, map, nat_tests, ⊤}
+use Rattle.std.proofs.lemmas.Bool.{cases_lt, false≢true}
 use Rattle.std.proofs.lemmas.List.{get_or_append_left}
 use Rattle.std.proofs.lemmas.Str.{inside_one, len_utf8_ascii}
 use Rattle.std.specs.List.{starts_with}
@@ -13,7 +13,9 @@ use Rattle.rl_reading.proofs.SegmentLemmas.{run_bytes, run_texts, tested}
 use Rattle.rl_reading.proofs.SegmentStarts.{quoted_kind, quoted_reads_as}
 use Rattle.rl_reading.specs.Decoded.{in_bytes}
 use Rattle.rl_reading.specs.Segments.{AreUnitsOf, IsBytePlace, begins_in, is_itself, unit_bytes, unit_place, units_bytes}
-use Rattle.rl_sources.specs.Held.{AreContentsOf, IsCutAt, StandsFirst}
+use Rattle.std.specs.Char.{to_ascii_lowercase}
+use Rattle.rl_sources.specs.declared.options.Matching.{Matching}
+use Rattle.rl_sources.specs.Held.{AreContentsOf, FirstMatchAt, IsCutAt, MatchesFirst, compared}
 use Rattle.rl_sources.proofs.HeldLemmas.{same_contents}
 
 -- ---- the bytes of a character
@@ -227,19 +229,77 @@ first_is [] at b bs h = absurd (false≢true (nothing at ∙ h))
 first_is (c ∷ cs) zero b bs h = sym (eqb-true b c (and_parts (b == c) _ h).0)
 first_is (c ∷ cs) (suc at) b bs h = first_is cs at b bs h
 
-begins_first : (sought bytes : List ℕ) (at : ℕ) → IsUtf8 sought → StandsFirst sought bytes at → Begins bytes at
-begins_first [] bytes zero utf8 first = inl refl
-begins_first [] bytes (suc at) utf8 first = absurd (first.1 0 (omega arith) (omega arith, refl))
-begins_first (b ∷ bs) bytes at utf8 first =
-    inr (subst IsLead (sym (first_is bytes at b bs first.0.1)) ((IsCharBoundary-start (b ∷ bs) utf8).1 (omega arith)))
+-- what is looked for begins so
+abbrev BeginsLead : List ℕ → Type 0
+BeginsLead [] = ⊤
+BeginsLead (b ∷ bs) = IsLead b
+
+begins_lead : (sought : List ℕ) → IsUtf8 sought → BeginsLead sought
+begins_lead [] utf8 = tt
+begins_lead (b ∷ bs) utf8 = (IsCharBoundary-start (b ∷ bs) utf8).1 (omega arith)
+
+begins_exactly : (whole : Bool) (sought bytes : List ℕ) (at : ℕ) → BeginsLead sought
+    → MatchesFirst whole sought bytes at → Begins bytes at
+begins_exactly whole [] bytes zero lead first = inl refl
+begins_exactly whole [] bytes (suc at) lead first =
+    absurd (first.1 0 (omega arith) ((omega arith, refl), λ words some. absurd (some refl)))
+begins_exactly whole (b ∷ bs) bytes at lead first = inr (subst IsLead (sym (first_is bytes at b bs first.0.0.1)) lead)
+
+-- small letters for large ones change no byte past ASCII
+lower_low : (b : ℕ) → b < 128 → to_ascii_lowercase b < 128
+lower_low b h = grind (arith, nat_tests)
+
+lower_high : (b : ℕ) → 128 ≤ b → to_ascii_lowercase b ≡ b
+lower_high b h = grind (arith, nat_tests)
+
+lead_lowered : (b : ℕ) → IsLead b → IsLead (to_ascii_lowercase b)
+lead_lowered b lead high = go (cases_lt b 128)
+  where
+    go : (b < 128) ⊎ (128 ≤ b) → 192 ≤ to_ascii_lowercase b
+    go (inl h) = absurd (omega (arith, lower_low b h, high))
+    go (inr h) = omega (arith, lead h, lower_high b h)
+
+lead_back : (b : ℕ) → IsLead (to_ascii_lowercase b) → IsLead b
+lead_back b lead h = omega (arith, lead (omega (arith, h, lower_high b h)), lower_high b h)
+
+lead_back_at : (bytes : List ℕ) (at : ℕ) → IsLead (get_or (map to_ascii_lowercase bytes) at 0)
+    → IsLead (get_or bytes at 0)
+lead_back_at [] at lead = λ high. absurd (omega (arith, high, nothing at))
+  where
+    nothing : (n : ℕ) → ◌≡◌ {A = ℕ} (get_or [] n 0) 0
+    nothing zero = refl
+    nothing (suc n) = refl
+lead_back_at (c ∷ cs) zero lead = lead_back c lead
+lead_back_at (c ∷ cs) (suc at) lead = lead_back_at cs at lead
+
+begins_lowered : (sought : List ℕ) → BeginsLead sought → BeginsLead (map to_ascii_lowercase sought)
+begins_lowered [] lead = tt
+begins_lowered (b ∷ bs) lead = lead_lowered b lead
+
+begins_compared : (ignores_case whole : Bool) (sought bytes : List ℕ) (at : ℕ) → BeginsLead sought
+    → MatchesFirst whole (compared ignores_case sought) (compared ignores_case bytes) at → Begins bytes at
+begins_compared false whole sought bytes at lead first = begins_exactly whole sought bytes at lead first
+begins_compared true whole sought bytes at lead first =
+    go (begins_exactly whole (map to_ascii_lowercase sought) (map to_ascii_lowercase bytes) at
+    (begins_lowered sought lead) first)
+  where
+    go : Begins (map to_ascii_lowercase bytes) at → Begins bytes at
+    go (inl first) = inl first
+    go (inr lead) = inr (lead_back_at bytes at lead)
+
+begins_first : (matching : Matching) (sought bytes : List ℕ) (at : ℕ) → IsUtf8 sought
+    → FirstMatchAt matching sought bytes at → Begins bytes at
+begins_first matching sought bytes at utf8 first =
+    begins_compared matching.ignores_case matching.whole_words sought bytes at (begins_lead sought utf8) first
 
 -- the literal's text is cut where what gives it begins
-pub held_cut : (sought text : List ℕ) (kind : Kind) (bytes : List ℕ) (at place : ℕ) → IsUtf8 sought
-    → AreContentsOf text kind bytes → StandsFirst sought bytes at → IsBytePlace kind text at place → IsCutAt text place
-held_cut sought text kind bytes at place utf8 contents first p =
+pub held_cut : (matching : Matching) (sought text : List ℕ) (kind : Kind) (bytes : List ℕ) (at place : ℕ)
+    → IsUtf8 sought → AreContentsOf text kind bytes → FirstMatchAt matching sought bytes at
+    → IsBytePlace kind text at place → IsCutAt text place
+held_cut matching sought text kind bytes at place utf8 contents first p =
     let same : bytes ≡ units_bytes kind p.units = same_contents text kind kind bytes (units_bytes kind p.units) contents
     (units_contents kind text p.units p.lo p.units_are) in
     let begins : Begins (units_bytes kind p.units) at = subst (λ (z : List ℕ). Begins z at) same
-    (begins_first sought bytes at utf8 first) in
+    (begins_first matching sought bytes at utf8 first) in
     subst (IsCutAt text) (sym p.place_is) (whole_cut kind text p.units p.lo (unit_place begins_in kind p.units at)
     p.units_are (in_units kind p.units at begins))

@@ -1,125 +1,114 @@
--- Characters that turn or hide text.
-use Rattle.rl_text.proofs.Common.{Bool, IsAscii, IsUtf8, List, None, Option, Some, [], ap, append-nil, append_assoc, arith, chars, chars-IsAscii, encode_utf8, encode_utf8_all, false, length, length-append, nat_tests, refl, subst, suc, sym, true, ℕ, ◌++◌, ◌+◌, ◌-◌, ◌<◌, ◌||◌, ◌∙◌, ◌∷◌, ◌≡◌, ◌≤◌, list_any}
-use Rattle.std.specs.Prelude.{◌↔◌, IfNone, IfSome, IsTrue, is_some}
-use Rattle.std.proofs.lemmas.Bool.{false≢true}
+-- The lines of what turns or hides text.
+use Rattle.rl_text.proofs.Common.{Bool, IsUtf8, List, [], ap, append-nil, append_assoc, arith, chars, chars-nil, codes, encode_utf8, encode_utf8_all, false, inl, inr, length, length-append, nat_tests, not, refl, subst, sym, true, ℕ, ◌&&◌, ◌++◌, ◌+◌, ◌∙◌, ◌∷◌, ◌≡◌, ◌≤◌}
 use Rattle.rl_text.specs.Texts.{byte_len}
-use Rattle.rl_lexer.proofs.CutLemmas.{byte_len-append}
+use Rattle.rl_lexer.specs.Cursors.{IsCursorState}
 use Rattle.rl_lexer.proofs.ErrorKinds.{char_len}
-use Rattle.rl_files.specs.Visible.{is_hiding}
-use Rattle.rl_sources.specs.Held.{IsCutAt}
-use Rattle.rl_sources.specs.Hidden.{HoldsHidden, IsHiddenAt}
+use Rattle.rl_lines.specs.Lines.{Appends}
+use Rattle.rl_lines.proofs.LineLemmas.{pushed}
+use Rattle.rl_sources.specs.declared.options.Options.{Options}
+use Rattle.rl_sources.specs.declared.place.Place.{Place}
+use Rattle.rl_sources.specs.Hidden.{AreHiddenLines, IsHiddenLine, IsShownCharacter, character_words, hidden_end, hides, is_layout}
+use Rattle.rl_files.specs.Visible.{needs_escape}
+use Rattle.rl_sources.specs.Places.{line_front, IsPlaceIn}
+use Rattle.rl_sources.proofs.JsonLemmas.{two_pieces}
+use Rattle.rl_sources.specs.Json.{string_member}
 
--- ASCII hides nothing
-low_not_hiding : (c : ℕ) → c < 128 → is_hiding c ≡ false
-low_not_hiding c h = grind (arith, nat_tests)
+-- ASCII that prints hides nothing
+plain_shown : (c : ℕ) → 32 ≤ c → c ≤ 126 → needs_escape c ≡ false
+plain_shown c low high = grind (arith, nat_tests)
 
-low_none : (bs : List ℕ) → IsAscii bs → list_any is_hiding bs ≡ false
-low_none [] h = refl
-low_none (b ∷ bs) h =
-    ap (λ (t : Bool). t || list_any is_hiding bs) (low_not_hiding b (h 0)) ∙ low_none bs (λ i. h (suc i))
+pub plain_hides : (c : ℕ) (after : List ℕ) → 32 ≤ c → c ≤ 126 → hides c after ≡ false
+plain_hides c after low high = ap (λ (t : Bool). t && not (is_layout c after)) (plain_shown c low high)
 
-pub ascii_none : (bs : List ℕ) → IsAscii bs → HoldsHidden (chars bs) → ⊥
-ascii_none bs h holds =
-    false≢true (sym (ap (λ (z : List ℕ). list_any is_hiding z) (chars-IsAscii bs h) ∙ low_none bs h) ∙ holds)
+-- These are the lines of what was passed: with those of the rest after them, they are the lines of all.
+pub record PassesHidden (options : Options) (whole all rest lines : List ℕ) : Type 0 where
+  pub goes_on : (more : List ℕ) → AreHiddenLines options whole rest more
+      → AreHiddenLines options whole all (lines ++ more)
 
--- one more that hides nothing
-or_with : (t a b : Bool) → (a ≡ true → b ≡ true) → (t || a) ≡ true → (t || b) ≡ true
-or_with true a b goes h = refl
-or_with false a b goes h = goes h
-
-any_push : (xs : List ℕ) (c : ℕ) → is_hiding c ≡ false → HoldsHidden (xs ++ c ∷ []) → HoldsHidden xs
-any_push [] c plain h = absurd (false≢true (sym (ap (λ (t : Bool). t || false) plain) ∙ h))
-any_push (x ∷ xs) c plain h = or_with (is_hiding x) (list_any is_hiding (xs ++ c ∷ [])) (list_any is_hiding xs)
-    (any_push xs c plain) h
-
--- one that does
-or_true : (b : Bool) → (b || true) ≡ true
-or_true true = refl
-or_true false = refl
-
-any_at : (xs ys : List ℕ) (c : ℕ) → is_hiding c ≡ true → HoldsHidden (xs ++ c ∷ ys)
-any_at [] ys c hides = ap (λ (t : Bool). t || list_any is_hiding ys) hides
-any_at (x ∷ xs) ys c hides = ap (λ (t : Bool). is_hiding x || t) (any_at xs ys c hides) ∙ or_true (is_hiding x)
-
--- What was passed over of the text, up to the rest, hides nothing.
-pub record Passed (text rest : List ℕ) : Type 0 where
-  pub front : List ℕ
-  pub text_is : chars text ≡ front ++ chars rest
-  pub none : HoldsHidden front → ⊥
-  pub is_text : IsUtf8 rest
-
-pub passed_none : (text : List ℕ) → IsUtf8 text → Passed text text
-passed_none text utf8 = record { front = []; text_is = refl; none = λ e. false≢true e; is_text = utf8 }
-
-pub passed_more : (text rest after : List ℕ) (c : ℕ) → Passed text rest → chars rest ≡ c ∷ chars after
-    → is_hiding c ≡ false → IsUtf8 after → Passed text after
-passed_more text rest after c p split plain utf8 = record {
-  front = p.front ++ c ∷ [];
-  text_is = p.text_is ∙ ap (λ (z : List ℕ). p.front ++ z) split ∙ sym (append_assoc p.front (c ∷ []) (chars after));
-  none = λ h. p.none (any_push p.front c plain h);
-  is_text = utf8;
+pub passes_none : (options : Options) (whole all rest lines : List ℕ) → rest ≡ all → lines ≡ []
+    → PassesHidden options whole all rest (chars lines)
+passes_none options whole all rest lines same nil = record {
+  goes_on = λ more is.
+      let none : [] ≡ chars lines = sym (ap chars nil ∙ chars-nil) in
+      subst (λ (z : List ℕ). AreHiddenLines options whole all (z ++ more)) none
+      (subst (λ (r : List ℕ). AreHiddenLines options whole r more) same is);
 }
 
-pub passed_len : (text rest : List ℕ) → IsUtf8 text → (p : Passed text rest)
-    → byte_len p.front + length rest ≡ length text
-passed_len text rest utf8 p = omega (
-  arith,
-  char_len text utf8,
-  char_len rest p.is_text,
-  ap byte_len p.text_is,
-  byte_len-append p.front (chars rest),
-)
+-- a character more
+pub passes_more : (options : Options) (whole all rest after lines longer : List ℕ) (c : ℕ)
+    → PassesHidden options whole all rest lines → rest ≡ c ∷ after
+    → Appends (IsShownCharacter options whole c after) lines longer → PassesHidden options whole all after longer
+passes_more options whole all rest after lines longer c passes split (line, is_line, longer_is) = record {
+  goes_on = λ more is.
+      let here : AreHiddenLines options whole (c ∷ after) (line ++ more) = (line, more, is_line, is, refl) in
+      let joined : lines ++ (line ++ more) ≡ longer ++ more = sym (append_assoc lines line more)
+      ∙ ap (λ (z : List ℕ). z ++ more) (sym longer_is) in
+      subst (AreHiddenLines options whole all) joined (passes.goes_on (line ++ more)
+      (subst (λ (r : List ℕ). AreHiddenLines options whole r (line ++ more)) (sym split) here));
+}
 
-pub passed_shorter : (text rest : List ℕ) → IsUtf8 text → Passed text rest → length rest ≤ length text
-passed_shorter text rest utf8 p = omega (arith, passed_len text rest utf8 p)
+-- what is shown of one that hides, and of another
+pub shown_hidden : (options : Options) (whole after old new : List ℕ) (c : ℕ) → hides c after ≡ true
+    → Appends (IsHiddenLine options whole c after) old new → Appends (IsShownCharacter options whole c after) old new
+shown_hidden options whole after old new c hider (line, is, e) = (line, inl (hider, is), e)
 
--- nothing was left
-pub passed_all : (text rest : List ℕ) → Passed text rest → chars rest ≡ [] → HoldsHidden (chars text) → ⊥
-passed_all text rest p nil holds =
-    p.none (subst HoldsHidden (p.text_is ∙ ap (λ (z : List ℕ). p.front ++ z) nil ∙ append-nil p.front) holds)
+pub shown_plain : (options : Options) (whole after old : List ℕ) (c : ℕ) → hides c after ≡ false
+    → Appends (IsShownCharacter options whole c after) old old
+shown_plain options whole after old c plain = ([], inr (plain, refl), sym (append-nil old))
 
--- one that hides comes next
-pub hidden_next : (text rest after : List ℕ) (c : ℕ) → IsUtf8 text → Passed text rest → chars rest ≡ c ∷ chars after
-    → rest ≡ encode_utf8 c ++ after → is_hiding c ≡ true
-    → IsHiddenAt (chars text) (length text - length rest) (length text - length after)
-hidden_next text rest after c utf8 p split bytes hides =
-    let len = passed_len text rest utf8 p in
-    let cut : length rest ≡ length (encode_utf8 c) + length after = ap length bytes
-    ∙ length-append (encode_utf8 c) after in
-    record {
-      front = p.front;
-      hiding = c;
-      back = chars after;
-      text_is = p.text_is ∙ ap (λ (z : List ℕ). p.front ++ z) split;
-      hides = hides;
-      none_before = p.none;
-      lo_is = omega (arith, len);
-      hi_is = omega (arith, len, cut);
-    }
-
--- its bytes are some of the text's
-pub hidden_cut : (text : List ℕ) (lo hi : ℕ) → IsHiddenAt text lo hi → IsCutAt text lo
-hidden_cut text lo hi at = record { front = at.front; back = at.hiding ∷ at.back; text_is = at.text_is; at_is = at.lo_is }
-
-pub hidden_within : (text : List ℕ) (lo hi : ℕ) → IsHiddenAt text lo hi → hi ≤ byte_len text
-hidden_within text lo hi at =
-    let last : byte_len (at.hiding ∷ at.back) ≡ length (encode_utf8 at.hiding) + byte_len at.back =
-    length-append (encode_utf8 at.hiding) (encode_utf8_all at.back) in
-    omega (
+-- the line of a character
+pub hidden_line : (options : Options) (whole rest after : List ℕ) (c lo hi : ℕ) (place : Place)
+    (old mid new : List ℕ) → IsCursorState whole rest → IsCursorState whole after → chars rest ≡ c ∷ chars after
+    → lo + length rest ≡ length whole → hi + length after ≡ length whole
+    → IsPlaceIn options (chars whole) lo hi place → mid ≡ old ++ line_front options.form options.path place
+    → new ≡ mid ++ hidden_end options.form c → Appends (IsHiddenLine options (chars whole) c (chars after)) old new
+hidden_line options whole rest after c lo hi place old mid new at_rest at_after split lo_is hi_is place_is front end =
+    let of_whole = char_len whole at_rest.is_text in
+    let of_rest = char_len rest at_rest.following.is_text in
+    let of_after = char_len after at_after.following.is_text in
+    let cut : byte_len (c ∷ chars after) ≡ length (encode_utf8 c) + byte_len (chars after) =
+    length-append (encode_utf8 c) (encode_utf8_all (chars after)) in
+    let ends : hi ≡ lo + length (encode_utf8 c) = omega (
       arith,
-      at.lo_is,
-      at.hi_is,
-      ap byte_len at.text_is,
-      byte_len-append at.front (at.hiding ∷ at.back),
-      last,
+      lo_is,
+      hi_is,
+      of_whole,
+      of_rest,
+      of_after,
+      cut,
+      ap byte_len split,
+    ) in (
+      line_front options.form options.path place ++ hidden_end options.form c,
+      record {
+        lo = lo;
+        lo_is = omega (arith, lo_is, of_whole, of_rest, ap byte_len split);
+        place = place;
+        place_is = subst (λ (n : ℕ). IsPlaceIn options (chars whole) lo n place) ends place_is;
+        line_is = refl;
+      },
+      two_pieces old mid new (line_front options.form options.path place) (hidden_end options.form c) front end,
     )
 
--- whether one is found says whether the text holds one
-pub hidden_held : (text : List ℕ) (r : Option (ℕ × ℕ)) (b : Bool) → b ≡ is_some r
-    → IfSome r (λ range. IsHiddenAt text range.0 range.1) → IfNone r (HoldsHidden text → ⊥)
-    → IsTrue b ↔ HoldsHidden text
-hidden_held text (Some range) b is at none = (
-  λ _. subst HoldsHidden (sym at.text_is) (any_at at.front at.back at.hiding at.hides),
-  λ _. is,
-)
-hidden_held text None b is at none = (λ t. absurd (false≢true (sym is ∙ t)), λ h. absurd (none h))
+-- nothing is left
+pub passes_all : (options : Options) (whole all rest lines : List ℕ) → PassesHidden options whole all rest lines
+    → rest ≡ [] → AreHiddenLines options whole all lines
+passes_all options whole all rest lines passes nil =
+    subst (AreHiddenLines options whole all) (append-nil lines) (passes.goes_on []
+    (subst (λ (r : List ℕ). AreHiddenLines options whole r []) (sym nil) refl))
+
+-- the words of a character, and the line's end
+pub words_line : (old a new words : List ℕ) (c : ℕ) → IsUtf8 old → words ≡ character_words c → a ≡ old ++ words
+    → chars new ≡ chars a ++ codes "\n" → chars new ≡ chars old ++ (chars (character_words c) ++ codes "\n")
+words_line old a new words c utf8 words_are pushes ends =
+    ends ∙ ap (λ (z : List ℕ). z ++ codes "\n") (pushed old a words utf8 pushes
+    ∙ ap (λ (z : List ℕ). chars old ++ chars z) words_are)
+    ∙ append_assoc (chars old) (chars (character_words c)) (codes "\n")
+
+-- the member of an object, and its end
+pub words_member : (old mid new words : List ℕ) (c : ℕ) → words ≡ character_words c
+    → mid ≡ old ++ string_member (codes "hidden") (chars words) → new ≡ mid ++ codes "}\n"
+    → new ≡ old ++ (string_member (codes "hidden") (chars (character_words c)) ++ codes "}\n")
+words_member old mid new words c words_are member ends =
+    ends ∙ ap (λ (z : List ℕ). z ++ codes "}\n") (member
+    ∙ ap (λ (z : List ℕ). old ++ string_member (codes "hidden") (chars z)) words_are)
+    ∙ append_assoc old (string_member (codes "hidden") (chars (character_words c))) (codes "}\n")

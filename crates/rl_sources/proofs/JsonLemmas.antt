@@ -6,8 +6,8 @@ use Rattle.std.proofs.lemmas.Str.{IsAscii-append}
 use Rattle.std.proofs.lemmas.Str.Ascii.{IsAscii-nil, IsAscii-cons}
 use Rattle.rl_lexer.specs.LexErrors.{lex_message}
 use Rattle.rl_lexer.specs.declared.lex_error.LexKind.{LexKind}
-use Rattle.rl_reasons.specs.FlawWords.{flaw_message}
-use Rattle.rl_reasons.specs.declared.flaws.FlawKind.{FlawKind}
+use Rattle.rl_sources.specs.Findings.{reason_id, reason_message}
+use Rattle.rl_sources.specs.declared.finding.Reason.{Reason}
 use Rattle.rl_reading.specs.declared.found.Found.{Found}
 use Rattle.rl_reading.specs.Founds.{IsFound}
 use Rattle.rl_reading.proofs.FoundContents.{unit_of}
@@ -20,7 +20,7 @@ use Rattle.rl_lines.proofs.LineLemmas.{pushed}
 use Rattle.rl_sources.specs.Held.{AreContentsOf}
 use Rattle.rl_sources.specs.Json.{more_numbers, number_array, json_value, string_member, literal_members, IsJsonLiteral, IsJsonValueOf}
 use Rattle.rl_sources.specs.JsonStrings.{json_string}
-use Rattle.rl_sources.proofs.ReasonLemmas.{message_low, lex_low}
+use Rattle.rl_sources.proofs.ReasonLemmas.{id_low, lex_low, reason_low}
 use Rattle.rl_sources.proofs.StepLemmas.{decimal_ascii, low_text}
 
 -- ---- pieces
@@ -148,8 +148,11 @@ truth_value text old new found same is e =
 
 -- ---- what is wrong
 
-pub flaw_words_are : (kind : FlawKind) (new : List ℕ) → new ≡ flaw_message kind → chars new ≡ flaw_message kind
-flaw_words_are kind new e = ap chars e ∙ ascii_chars (flaw_message kind) (message_low kind)
+pub reason_words_are : (why : Reason) (new : List ℕ) → new ≡ reason_message why → chars new ≡ reason_message why
+reason_words_are why new e = ap chars e ∙ ascii_chars (reason_message why) (reason_low why)
+
+pub reason_id_is : (why : Reason) (new : List ℕ) → new ≡ reason_id why → chars new ≡ reason_id why
+reason_id_is why new e = ap chars e ∙ ascii_chars (reason_id why) (id_low why)
 
 pub error_words_are : (kind : LexKind) (new : List ℕ) → new ≡ lex_message kind → chars new ≡ lex_message kind
 error_words_are kind new e = ap chars e ∙ ascii_chars (lex_message kind) (lex_low kind)

@@ -5,6 +5,8 @@ pub mod HeldLemmas
 pub mod HeldPlaces
 pub mod SearchLemmas
 pub mod ReasonLemmas
+pub mod InFileLemmas
+pub mod FlawLineLemmas
 pub mod ColorLemmas
 pub mod HiddenLemmas
 pub mod WriteLemmas

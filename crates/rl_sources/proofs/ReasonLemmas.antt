@@ -16,18 +16,22 @@ use Rattle.rl_reasons.specs.declared.flaws.FlawKind.{FlawKind}
 use Rattle.rl_reasons.specs.declared.flaws.FlawKind.TheVariants.{Empty, NoLiteral, Unfinished, NoQuote, NoNumber, Unclosed, UnknownEscape, NoUnicode, NoHexDigit, NoBrace, EmptyBraces, TooManyDigits, PastAscii, PastUnicode, Surrogate, Nul, NotAscii, MustEscape, NoCharacter, TwoCharacters, NoExponentDigit, BadSuffix, TooLarge, Minus, TooManyHashes, CarriageReturn, EarlyQuote, ExtraHash, UnderscoreSuffix, NoDigits, DigitOfBase, BasedFloat, NoFractionDigit}
 use Rattle.rl_reasons.specs.Flaws.{first_len}
 use Rattle.rl_reasons.specs.Limits.{IsLimitFlaw}
-use Rattle.rl_reasons.specs.FlawWords.{flaw_message}
+use Rattle.rl_reasons.specs.FlawWords.{flaw_id, flaw_message}
 use Rattle.std.proofs.Common.{rules}
 use Rattle.std.proofs.lemmas.Bool.{false≢true}
 use Rattle.rl_files.specs.Visible.{visible}
-use Rattle.rl_lines.specs.Lines.{Appends}
 use Rattle.rl_lines.proofs.LineLemmas.{pushed}
 use Rattle.rl_file_reasons.specs.FileTexts.{ExplainsInFile}
-use Rattle.rl_sources.specs.declared.options.Options.{Options}
-use Rattle.rl_sources.specs.declared.place.Place.{Place}
 use Rattle.rl_sources.specs.Held.{IsCutAt}
-use Rattle.rl_sources.specs.Places.{line_front, HoldsPlaces, IsPlaceIn}
-use Rattle.rl_sources.specs.Scans.{FindsFlaw, IsFlawLine, IsFlawLineAt, IsFlawPiece, IsSlice, error_reason, flaw_end}
+use Rattle.rl_sources.specs.Places.{HoldsPlaces}
+use Rattle.rl_types.specs.FaultWords.{fault_id, fault_message}
+use Rattle.rl_types.specs.declared.faults.TypeFault.{TypeFault}
+use Rattle.rl_types.specs.declared.faults.TypeFault.TheVariants.{QuotedSuffix, UnknownSuffix, FloatSuffix, BasedFloat as BasedFloatSuffix, OutOfRange}
+use Rattle.rl_sources.specs.declared.finding.Finding.{Finding}
+use Rattle.rl_sources.specs.declared.finding.Reason.{Reason}
+use Rattle.rl_sources.specs.declared.finding.Reason.TheVariants as reason
+use Rattle.rl_sources.specs.Findings.{FindsFlaw, IsPieceOf, IsSlice, reason_id, reason_message}
+use Rattle.rl_sources.specs.Scans.{error_reason}
 use Rattle.rl_sources.specs.Steps.{BeginsRest, HasPlace}
 use Rattle.rl_sources.proofs.StepLemmas.{back_utf8, low_text}
 
@@ -180,6 +184,63 @@ message_low DigitOfBase = refl
 message_low BasedFloat = refl
 message_low NoFractionDigit = refl
 
+fault_low : (fault : TypeFault) → list_all is_ascii (fault_message fault) ≡ true
+fault_low QuotedSuffix = refl
+fault_low UnknownSuffix = refl
+fault_low FloatSuffix = refl
+fault_low BasedFloatSuffix = refl
+fault_low OutOfRange = refl
+
+pub reason_low : (why : Reason) → list_all is_ascii (reason_message why) ≡ true
+reason_low (reason.Flaw kind) = message_low kind
+reason_low (reason.Type fault) = fault_low fault
+
+flaw_id_low : (kind : FlawKind) → list_all is_ascii (flaw_id kind) ≡ true
+flaw_id_low Empty = refl
+flaw_id_low NoLiteral = refl
+flaw_id_low Unfinished = refl
+flaw_id_low NoQuote = refl
+flaw_id_low NoNumber = refl
+flaw_id_low Unclosed = refl
+flaw_id_low UnknownEscape = refl
+flaw_id_low NoUnicode = refl
+flaw_id_low NoHexDigit = refl
+flaw_id_low NoBrace = refl
+flaw_id_low EmptyBraces = refl
+flaw_id_low TooManyDigits = refl
+flaw_id_low PastAscii = refl
+flaw_id_low PastUnicode = refl
+flaw_id_low Surrogate = refl
+flaw_id_low Nul = refl
+flaw_id_low NotAscii = refl
+flaw_id_low MustEscape = refl
+flaw_id_low NoCharacter = refl
+flaw_id_low TwoCharacters = refl
+flaw_id_low NoExponentDigit = refl
+flaw_id_low BadSuffix = refl
+flaw_id_low TooLarge = refl
+flaw_id_low Minus = refl
+flaw_id_low TooManyHashes = refl
+flaw_id_low CarriageReturn = refl
+flaw_id_low EarlyQuote = refl
+flaw_id_low ExtraHash = refl
+flaw_id_low UnderscoreSuffix = refl
+flaw_id_low NoDigits = refl
+flaw_id_low DigitOfBase = refl
+flaw_id_low BasedFloat = refl
+flaw_id_low NoFractionDigit = refl
+
+fault_id_low : (fault : TypeFault) → list_all is_ascii (fault_id fault) ≡ true
+fault_id_low QuotedSuffix = refl
+fault_id_low UnknownSuffix = refl
+fault_id_low FloatSuffix = refl
+fault_id_low BasedFloatSuffix = refl
+fault_id_low OutOfRange = refl
+
+pub id_low : (why : Reason) → list_all is_ascii (reason_id why) ≡ true
+id_low (reason.Flaw kind) = flaw_id_low kind
+id_low (reason.Type fault) = fault_id_low fault
+
 -- the words of an error, as they are written
 message_ascii : (message after : List ℕ) → list_all is_ascii message ≡ true → list_all is_ascii after ≡ true
     → IsAscii (codes ": " ++ (message ++ after))
@@ -217,26 +278,26 @@ source_error kind word old a new utf8 said written =
     ∙ append_assoc (chars old) word (error_reason (lex_message kind) [])
 
 -- without a piece
-pub error_alone : (kind : FlawKind) (piece old new : List ℕ) → (length piece == 0) ≡ true → IsUtf8 old
-    → new ≡ old ++ (codes ": " ++ (flaw_message kind ++ codes "\n"))
-    → chars new ≡ chars old ++ error_reason (flaw_message kind) (chars piece)
-error_alone kind [] old new none utf8 written =
-    words_written (flaw_message kind) (codes "\n") old new (message_low kind) refl utf8 written
-    ∙ ap (λ z. chars old ++ error_reason (flaw_message kind) z) (sym chars-nil)
-error_alone kind (b ∷ bs) old new none utf8 written = absurd (false≢true (sym (not_empty (length bs)) ∙ none))
+pub error_alone : (why : Reason) (piece old new : List ℕ) → (length piece == 0) ≡ true → IsUtf8 old
+    → new ≡ old ++ (codes ": " ++ (reason_message why ++ codes "\n"))
+    → chars new ≡ chars old ++ error_reason (reason_message why) (chars piece)
+error_alone why [] old new none utf8 written =
+    words_written (reason_message why) (codes "\n") old new (reason_low why) refl utf8 written
+    ∙ ap (λ z. chars old ++ error_reason (reason_message why) z) (sym chars-nil)
+error_alone why (b ∷ bs) old new none utf8 written = absurd (false≢true (sym (not_empty (length bs)) ∙ none))
   where
     not_empty : (n : ℕ) → (suc n == 0) ≡ false
     not_empty n = search rules
 
 -- with one
-pub error_of_piece : (kind : FlawKind) (piece old a b new : List ℕ) → (length piece == 0) ≡ false → IsUtf8 piece
-    → IsUtf8 old → IsUtf8 b → a ≡ old ++ (codes ": " ++ (flaw_message kind ++ codes ": "))
+pub error_of_piece : (why : Reason) (piece old a b new : List ℕ) → (length piece == 0) ≡ false → IsUtf8 piece
+    → IsUtf8 old → IsUtf8 b → a ≡ old ++ (codes ": " ++ (reason_message why ++ codes ": "))
     → chars b ≡ chars a ++ visible (chars piece) → new ≡ b ++ codes "\n"
-    → chars new ≡ chars old ++ error_reason (flaw_message kind) (chars piece)
-error_of_piece kind piece old a b new some utf8 u v begun shown ended = go (chars piece) refl shown
+    → chars new ≡ chars old ++ error_reason (reason_message why) (chars piece)
+error_of_piece why piece old a b new some utf8 u v begun shown ended = go (chars piece) refl shown
   where
     message : List ℕ
-    message = flaw_message kind
+    message = reason_message why
 
     tail : (cs : List ℕ) → chars b ≡ chars a ++ visible cs → chars new
         ≡ chars old ++ (codes ": " ++ (message ++ (codes ": " ++ (visible cs ++ codes "\n"))))
@@ -244,7 +305,7 @@ error_of_piece kind piece old a b new some utf8 u v begun shown ended = go (char
         pushed b new (codes "\n") v ended
         ∙ ap (λ z. chars b ++ z) (chars-IsAscii (codes "\n") (low_text (codes "\n") refl))
         ∙ ap (λ z. z ++ codes "\n") e
-        ∙ ap (λ z. (z ++ visible cs) ++ codes "\n") (words_written message (codes ": ") old a (message_low kind) refl u
+        ∙ ap (λ z. (z ++ visible cs) ++ codes "\n") (words_written message (codes ": ") old a (reason_low why) refl u
         begun)
         ∙ append_assoc (chars old ++ (codes ": " ++ (message ++ codes ": "))) (visible cs) (codes "\n")
         ∙ append_assoc (chars old) (codes ": " ++ (message ++ codes ": ")) (visible cs ++ codes "\n")
@@ -269,39 +330,18 @@ source_shown text old b new u shown ended =
     ∙ ap (λ z. z ++ codes "\n") shown
     ∙ append_assoc (chars old) (visible text) (codes "\n")
 
--- what stands before the line, and what is wrong
-pub flaw_shown : (options : Options) (text : List ℕ) (flaw : Flaw) (place : Place) (piece old a new : List ℕ)
-    → IsFlawPiece text flaw piece → a ≡ old ++ line_front options.form options.path place
-    → new ≡ a ++ flaw_end options.form text (flaw_message flaw.kind) piece
-    → Appends (IsFlawLineAt options text flaw place) old new
-flaw_shown options text flaw place piece old a new is_piece begun ended =
-    let front = line_front options.form options.path place in
-    let end = flaw_end options.form text (flaw_message flaw.kind) piece in (
-      front ++ end,
-      (piece, is_piece, refl),
-      ended ∙ ap (λ z. z ++ end) begun ∙ append_assoc old front end,
-    )
-
--- the flaw, at its place
-pub flaw_placed : (options : Options) (whole text : List ℕ) (lo : ℕ) (flaw : Flaw) (place : Place)
-    (old new : List ℕ) → FindsFlaw text flaw
-    → IsPlaceIn options whole (lo + flaw.lo) (lo + flaw.hi) place
-    → Appends (IsFlawLineAt options text flaw place) old new → Appends (IsFlawLine options whole text lo) old new
-flaw_placed options whole text lo flaw place old new explains is_place (shown, is, e) =
-    (shown, (flaw, place, explains, is_place, is), e)
-
 -- ---- the piece
 
-pub piece_is : (text piece : List ℕ) (flaw : Flaw) → IsUtf8 text → IsUtf8 piece → IsSlice text flaw.from flaw.hi
-    → piece ≡ take (flaw.hi - flaw.from) (drop flaw.from text) → IsFlawPiece (chars text) flaw (chars piece)
-piece_is text piece flaw u v slice is =
+pub piece_is : (text piece : List ℕ) (finding : Finding) → IsUtf8 text → IsUtf8 piece → IsSlice text finding.from finding.to
+    → piece ≡ take (finding.to - finding.from) (drop finding.from text) → IsPieceOf (chars text) finding (chars piece)
+piece_is text piece finding u v slice is =
     let same = encodes-chars text u in
     inl (
-      subst (λ (t : List ℕ). IsSlice t flaw.from flaw.hi) (sym same) slice,
-      encodes-chars piece v ∙ is ∙ ap (λ t. take (flaw.hi - flaw.from) (drop flaw.from t)) (sym same),
+      subst (λ (t : List ℕ). IsSlice t finding.from finding.to) (sym same) slice,
+      encodes-chars piece v ∙ is ∙ ap (λ t. take (finding.to - finding.from) (drop finding.from t)) (sym same),
     )
 
-pub no_piece : (text : List ℕ) (flaw : Flaw) → IsUtf8 text → (IsSlice text flaw.from flaw.hi → ⊥)
-    → IsFlawPiece (chars text) flaw (chars [])
-no_piece text flaw u none =
-    inr (λ slice. none (subst (λ (t : List ℕ). IsSlice t flaw.from flaw.hi) (encodes-chars text u) slice), chars-nil)
+pub no_piece : (text : List ℕ) (finding : Finding) → IsUtf8 text → (IsSlice text finding.from finding.to → ⊥)
+    → IsPieceOf (chars text) finding (chars [])
+no_piece text finding u none =
+    inr (λ slice. none (subst (λ (t : List ℕ). IsSlice t finding.from finding.to) (encodes-chars text u) slice), chars-nil)

@@ -2,18 +2,18 @@
 use Rattle.rl_text.proofs.Common.{AllByRecursion, Bool, IsCharBoundary, IsTrue, IsUtf8, List, Option, [], ap, append_assoc, arith, chars, chars-nil, drop, encode_utf8_all, encodes-append, encodes-chars, eqb-true, false, inl, inr, length, not, refl, subst, sym, take, true, ℕ, ◌++◌, ◌+◌, ◌-◌, ◌==◌, ◌||◌, ◌∙◌, ◌∷◌, ◌≡◌, ◌≢◌}
 use Rattle.std.specs.Prelude.{◌↔◌}
 use Rattle.std.specs.Io.KnownBytes.{Appends as AppendsBytes}
-use Rattle.std.proofs.KnownBytes.{Appends-nil, Appends-trans}
+use Rattle.std.proofs.KnownBytes.{Appends-trans}
 use Rattle.std.proofs.lemmas.Bool.{false≢true}
 use Rattle.std.proofs.Math.Seq.{take-append-add}
 use Rattle.std.proofs.lemmas.List.{append-nil}
-use Rattle.std.proofs.lemmas.List.Elements.{All-nil, All-push}
+use Rattle.std.proofs.lemmas.List.Elements.{All-push}
 use Rattle.rl_text.specs.Texts.{IsTail, byte_len}
 use Rattle.rl_lexer.specs.Cursors.{CursorState, IsCursorState}
 use Rattle.rl_lexer.specs.Lexemes.{LiteralForm, IdentifierForm, DelimiterForm, MarkForm}
-use Rattle.rl_lexer.specs.Sources.{source_text, source_end, source_view, source_kind, SourceKind, PlainKind, RawIdentifierKind, LifetimeKind, DocCommentKind, StrayKind, CutSource, IsCutUpTo, IsBorrowedSource, TakesSource, IsLiteralText, IsNoLiteral, PassesTo}
+use Rattle.rl_lexer.specs.Sources.{source_text, source_end, source_view, source_kind, SourceKind, PlainKind, RawIdentifierKind, LifetimeKind, DocCommentKind, StrayKind, CutSource, IsBorrowedSource, TakesSource, IsLiteralText, IsNoLiteral, PassesTo}
 use Rattle.rl_lexer.specs.declared.sources.SourceToken.{SourceToken}
 use Rattle.rl_lexer.specs.declared.lex_error.LexError.{LexError}
-use Rattle.rl_text.proofs.TailLemmas.{tail_self, tail_step, cut_boundary, cut_drop}
+use Rattle.rl_text.proofs.TailLemmas.{tail_step, cut_boundary, cut_drop}
 use Rattle.rl_lexer.proofs.ErrorKinds.{char_len, chars_some}
 use Rattle.rl_program.specs.Streams.{AppendsBeginning}
 use Rattle.rl_lines.specs.Lines.{Appends, Joins}
@@ -312,7 +312,7 @@ any_cases false true shown lines utf8 is k =
     (λ e. absurd (false≢true e), λ some. absurd (some nil))
 
 -- whether anything was written
-any_more : (any more : Bool) (shown lines : List ℕ) → IsUtf8 lines → (IsTrue any ↔ (shown ≢ [])) → more
+pub any_more : (any more : Bool) (shown lines : List ℕ) → IsUtf8 lines → (IsTrue any ↔ (shown ≢ [])) → more
     ≡ (any || not (length lines == 0)) → IsTrue more ↔ ((shown ++ chars lines) ≢ [])
 any_more any more shown lines utf8 is more_is =
     subst (λ (b : Bool). IsTrue b ↔ ((shown ++ chars lines) ≢ [])) (sym more_is)

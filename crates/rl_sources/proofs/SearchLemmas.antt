@@ -1,11 +1,16 @@
 -- A search by borders.
-use Rattle.std.proofs.Common.{◌≡◌, ◌≢◌, ℕ, zero, suc, ◌+◌, ◌-◌, ◌<◌, ◌≤◌, ◌==◌, true, List, [], ◌∷◌, ◌++◌, length, length-append, get_or, take, drop, refl, sym, ap, subst, ◌∙◌, arith, inl, inr, ◌⊎◌}
+use Rattle.std.proofs.Common.{◌≡◌, ◌≢◌, ℕ, zero, suc, ◌+◌, ◌-◌, ◌<◌, ◌≤◌, ◌==◌, Bool, false, true, List, [], ◌∷◌, ◌++◌, length, length-append, get_or, take, drop, refl, sym, ap, subst, ◌∙◌, arith, inl, inr, ◌⊎◌}
 use Rattle.std.proofs.lemmas.Bool.{and_parts, and_from, eqb-true, eq-eqb, cases_lt}
 use Rattle.std.proofs.lemmas.Bool.{false≢true}
 use Rattle.std.proofs.Common.{length-drop}
-use Rattle.std.proofs.lemmas.List.{get_or-drop, get_or_append_left, get_or_at}
+use Rattle.std.proofs.lemmas.List.{get_or-drop, get_or_append_left, get_or_at, length-map}
+use Rattle.std.specs.Prelude.{not, IfNone, IfOk, None, Option, Some}
+use Rattle.std.specs.declared.result.Result.{Result}
+use Rattle.std.specs.declared.result.Result.TheVariants.{Err, Ok}
+use Rattle.std.specs.Char.{to_ascii_lowercase}
 use lib.Pointwise.{pointwise}
-use Rattle.rl_sources.specs.Held.{StandsFirst, StandsFrom}
+use Rattle.rl_sources.specs.declared.options.Matching.{Matching}
+use Rattle.rl_sources.specs.Held.{FirstMatchAt, IsAsWanted, MatchesAt, MatchesFirst, MatchesFrom, StandsFrom, compared}
 use Rattle.rl_sources.specs.Searches.{Agrees, AreBorders, IsLongestBorder, IsShift}
 
 -- ---- what agrees
@@ -219,6 +224,7 @@ pub shift_of_none : (sought : List ℕ) → IsShift sought 0 1 0
 shift_of_none sought = record {
   moves = omega arith;
   within = omega arith;
+  within_some = λ some. absurd (omega arith);
   ends = λ i low. absurd (omega arith);
   agrees = λ i low. absurd (omega arith);
   none = λ at more low high ends same. absurd (omega arith);
@@ -231,6 +237,7 @@ shift_by_border sought held kept b =
     subst (λ (by : ℕ). IsShift sought held by kept) (sym by_is) (record {
       moves = b.later;
       within = omega (arith, b.ends);
+      within_some = λ some. omega (arith, b.ends);
       ends = λ i low. omega (arith, b.ends);
       agrees = b.agrees;
       none = b.longest;
@@ -238,47 +245,47 @@ shift_by_border sought held kept b =
 
 -- ---- the search
 
--- What is looked for stands at no place before this one, where so many of its bytes agree.
-pub record IsSearchedTo (sought bytes : List ℕ) (at held : ℕ) : Type 0 where
+-- What is looked for stands, as it is wanted, at no place before this one, where so many of its bytes agree.
+pub record IsSearchedTo (whole : Bool) (sought bytes : List ℕ) (at held : ℕ) : Type 0 where
   pub within : at ≤ length bytes
   pub held_within : held ≤ length sought
   pub agrees : Agrees sought bytes at held
-  pub none : (other : ℕ) → other < at → StandsFrom sought bytes other → ⊥
+  pub none : (other : ℕ) → other < at → MatchesFrom whole sought bytes other → ⊥
 
-pub search_begins : (sought bytes : List ℕ) → IsSearchedTo sought bytes 0 0
-search_begins sought bytes = record {
+pub search_begins : (whole : Bool) (sought bytes : List ℕ) → IsSearchedTo whole sought bytes 0 0
+search_begins whole sought bytes = record {
   within = omega arith;
   held_within = omega arith;
   agrees = λ i low. absurd (omega arith);
   none = λ other low. absurd (omega arith);
 }
 
-pub search_goes_on : (sought bytes : List ℕ) (at held count by kept : ℕ) → IsSearchedTo sought bytes at held
-    → at + length sought ≤ length bytes → count < length sought → Agrees sought bytes at count
-    → get_or sought count 0 ≢ get_or bytes (at + count) 0 → IsShift sought count by kept
-    → IsSearchedTo sought bytes (at + by) kept
-search_goes_on sought bytes at held count by kept before fits short agrees differs shift = record {
-  within = omega (arith, shift.within);
+search_on : (whole : Bool) (sought bytes : List ℕ) (at held count by kept : ℕ)
+    → IsSearchedTo whole sought bytes at held → at + by ≤ length bytes → count ≤ length sought
+    → Agrees sought bytes at count → (MatchesFrom whole sought bytes at → ⊥) → IsShift sought count by kept
+    → IsSearchedTo whole sought bytes (at + by) kept
+search_on whole sought bytes at held count by kept before fits short agrees no_match shift = record {
+  within = fits;
   held_within = kept_within (cases_lt 0 kept);
   agrees = agree_twice sought bytes at count by kept agrees shift.ends shift.agrees;
   none = none;
 }
   where
     kept_within : (0 < kept) ⊎ (kept ≤ 0) → kept ≤ length sought
-    kept_within (inl h) = omega (arith, shift.ends (kept - 1) (omega arith))
+    kept_within (inl h) = omega (arith, short, shift.ends (kept - 1) (omega arith))
     kept_within (inr h) = omega arith
 
-    none : (other : ℕ) → other < at + by → StandsFrom sought bytes other → ⊥
-    none other low stands = go (cases_lt other at)
+    none : (other : ℕ) → other < at + by → MatchesFrom whole sought bytes other → ⊥
+    none other low matches = go (cases_lt other at)
       where
         go : (other < at) ⊎ (at ≤ other) → ⊥
-        go (inl h) = before.none other h stands
-        go (inr h) = further (cases_lt at other) (stands_agrees sought bytes other stands).1
+        go (inl h) = before.none other h matches
+        go (inr h) = further (cases_lt at other) (stands_agrees sought bytes other matches.0).1
           where
             further : (at < other) ⊎ (other ≤ at) → Agrees sought bytes other (length sought) → ⊥
             further (inr same) all =
                 let e : other ≡ at = omega arith in
-                differs (all count short ∙ ap (λ (k : ℕ). get_or bytes (k + count) 0) e)
+                no_match (subst (MatchesFrom whole sought bytes) e matches)
             further (inl later) all =
                 let on : ℕ = other - at in
                 let more : ℕ = count - on in
@@ -288,20 +295,75 @@ search_goes_on sought bytes at held count by kept before fits short agrees diffe
                 shift.none on more (omega arith) (omega arith) ends
                 (agree_between sought bytes at count on more agrees (omega (arith, ends))
                 (subst (λ (k : ℕ). Agrees sought bytes k more) (sym other_is)
-                (fewer sought bytes other (length sought) more (omega arith) all)))
+                (fewer sought bytes other (length sought) more (omega (arith, short)) all)))
 
-pub search_finds : (sought bytes : List ℕ) (at held : ℕ) → IsSearchedTo sought bytes at held
-    → at + length sought ≤ length bytes → Agrees sought bytes at (length sought) → StandsFirst sought bytes at
-search_finds sought bytes at held before fits agrees = (agrees_stands sought bytes at fits agrees, before.none)
+-- fewer bytes agree than are looked for
+pub search_goes_on : (whole : Bool) (sought bytes : List ℕ) (at held count by kept : ℕ)
+    → IsSearchedTo whole sought bytes at held → at + length sought ≤ length bytes → count < length sought
+    → Agrees sought bytes at count → get_or sought count 0 ≢ get_or bytes (at + count) 0
+    → IsShift sought count by kept → IsSearchedTo whole sought bytes (at + by) kept
+search_goes_on whole sought bytes at held count by kept before fits short agrees differs shift =
+    search_on whole sought bytes at held count by kept before (omega (arith, shift.within)) (omega arith) agrees
+    (λ matches. differs ((stands_agrees sought bytes at matches.0).1 count short)) shift
 
-pub search_ends : (sought bytes : List ℕ) (at held : ℕ) → IsSearchedTo sought bytes at held
-    → length bytes < at + length sought → (other : ℕ) → StandsFrom sought bytes other → ⊥
-search_ends sought bytes at held before past other stands = go (cases_lt other at)
+-- all agree, but not as they are wanted
+pub search_passes : (whole : Bool) (sought bytes : List ℕ) (at held by kept : ℕ)
+    → IsSearchedTo whole sought bytes at held → at + length sought ≤ length bytes
+    → Agrees sought bytes at (length sought) → (IsAsWanted whole sought bytes at → ⊥)
+    → IsShift sought (length sought) by kept → IsSearchedTo whole sought bytes (at + by) kept
+search_passes whole [] bytes at held by kept before fits agrees unwanted shift =
+    absurd (unwanted (λ words some. absurd (some refl)))
+search_passes whole (b ∷ bs) bytes at held by kept before fits agrees unwanted shift =
+    search_on whole (b ∷ bs) bytes at held (length (b ∷ bs)) by kept before
+    (omega (arith, fits, shift.within_some (omega arith))) (omega arith) agrees (λ matches. unwanted matches.1) shift
+
+pub search_finds : (whole : Bool) (sought bytes : List ℕ) (at held : ℕ) → IsSearchedTo whole sought bytes at held
+    → at + length sought ≤ length bytes → Agrees sought bytes at (length sought) → IsAsWanted whole sought bytes at
+    → MatchesFirst whole sought bytes at
+search_finds whole sought bytes at held before fits agrees wanted =
+    ((agrees_stands sought bytes at fits agrees, wanted), before.none)
+
+pub search_ends : (whole : Bool) (sought bytes : List ℕ) (at held : ℕ) → IsSearchedTo whole sought bytes at held
+    → length bytes < at + length sought → (other : ℕ) → MatchesFrom whole sought bytes other → ⊥
+search_ends whole sought bytes at held before past other matches = go (cases_lt other at)
   where
     go : (other < at) ⊎ (at ≤ other) → ⊥
-    go (inl h) = before.none other h stands
-    go (inr h) = absurd (omega (arith, (stands_agrees sought bytes other stands).0))
+    go (inl h) = before.none other h matches
+    go (inr h) = absurd (omega (arith, (stands_agrees sought bytes other matches.0).0))
 
-pub longer_stands_nowhere : (sought bytes : List ℕ) → length bytes < length sought → (at : ℕ)
-    → StandsFrom sought bytes at → ⊥
-longer_stands_nowhere sought bytes longer at stands = absurd (omega (arith, (stands_agrees sought bytes at stands).0))
+pub longer_stands_nowhere : (whole : Bool) (sought bytes : List ℕ) → length bytes < length sought → (at : ℕ)
+    → MatchesFrom whole sought bytes at → ⊥
+longer_stands_nowhere whole sought bytes longer at matches =
+    absurd (omega (arith, (stands_agrees sought bytes at matches.0).0))
+
+-- ---- bytes as they are compared
+
+pub compared_length : (ignores_case : Bool) (bytes : List ℕ) → length (compared ignores_case bytes) ≡ length bytes
+compared_length false bytes = refl
+compared_length true bytes = length-map bytes to_ascii_lowercase
+
+-- a match lies within the bytes
+pub match_fits : (matching : Matching) (sought bytes : List ℕ) (at : ℕ) → FirstMatchAt matching sought bytes at
+    → at + length sought ≤ length bytes
+match_fits matching sought bytes at first = omega (
+  arith,
+  (stands_agrees (compared matching.ignores_case sought) (compared matching.ignores_case bytes) at first.0.0).0,
+  compared_length matching.ignores_case sought,
+  compared_length matching.ignores_case bytes,
+)
+
+pub turned : (b r : Bool) → not b ≡ r → b ≡ not r
+turned false r is = ap not is
+turned true r is = ap not is
+
+-- nothing matches, where nothing does among what is compared
+pub none_compared : {E : Type 0} (matching : Matching) (sought bytes said among : List ℕ) (b : Bool)
+    (r : Result (Option ℕ) E) → matching.ignores_case ≡ b → said ≡ compared b sought → among ≡ compared b bytes
+    → IfOk r (λ found. IfNone found ((at : ℕ) → MatchesFrom matching.whole_words said among at → ⊥))
+    → IfOk r (λ found. IfNone found ((at : ℕ) → MatchesAt matching sought bytes at → ⊥))
+none_compared matching sought bytes said among b (Ok None) is said_is among_is none = λ at matches.
+    none at (subst (λ (z : List ℕ). MatchesFrom matching.whole_words said z at) (sym among_is)
+    (subst (λ (z : List ℕ). MatchesFrom matching.whole_words z (compared b bytes) at) (sym said_is)
+    (subst (λ (t : Bool). MatchesFrom matching.whole_words (compared t sought) (compared t bytes) at) is matches)))
+none_compared matching sought bytes said among b (Ok (Some at)) is said_is among_is none = tt
+none_compared matching sought bytes said among b (Err e) is said_is among_is none = tt

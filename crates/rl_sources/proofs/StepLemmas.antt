@@ -30,9 +30,13 @@ use Rattle.rl_lexer.specs.declared.lines.LineColumn.{LineColumn}
 use Rattle.rl_sources.specs.Json.{place_members}
 use Rattle.rl_sources.specs.Places.{line_front, place_text, IsPlaceIn}
 use Rattle.rl_sources.specs.Held.{Holds, IsHeldAt}
-use Rattle.rl_sources.specs.Hidden.{HoldsHidden, IsHiddenAt}
-use Rattle.rl_sources.specs.Scans.{FindsFlaw, FindsNoFlaw, IsAskedLine, IsBad, IsPicked, IsPlacedLine, IsFlawLine, IsHeldLine, IsHiddenLine, IsLineAt, IsLineEnd, IsLineIn, IsPickedLine, IsPrintedAs, IsShownLiteral}
+use Rattle.rl_sources.specs.Scans.{IsAskedLine, IsPicked, IsPlacedLine, AreReasonLines, IsHeldLine, IsLineAt, IsLineEnd, IsLineIn, IsPickedLine, IsPrintedAs, IsShownLiteral}
 use Rattle.rl_sources.specs.Steps.{LooksForFlaws}
+use Rattle.rl_sources.specs.Findings.{FindsFlaw, FindsNoFlaw, HasFoundFault, HasFoundType, IsBad, IsFoundIn, IsRight, IsWrong}
+use Rattle.rl_sources.specs.declared.finding.Wrong.{Wrong}
+use Rattle.rl_sources.specs.declared.finding.Wrong.TheVariants as wrong
+use Rattle.rl_types.specs.declared.faults.TypeFault.{TypeFault}
+use Rattle.rl_types.proofs.Exclusions.{no_both}
 use Rattle.rl_reasons.specs.Limits.{IsFloatBySuffix}
 use Rattle.rl_file_reasons.proofs.FilePlaces.{signed_same}
 use Rattle.rl_reasons.proofs.LimitLemmas.{read_within}
@@ -191,92 +195,86 @@ pub placed : (options : Options) (whole text : List ℕ) (lo hi : ℕ) (place : 
     → Appends (IsPlacedLine options whole text lo hi) old new
 placed options whole text lo hi place old new is_place (shown, is, e) = (shown, (place, is_place, is), e)
 
--- a line that says why
-pub explained : (options : Options) (whole text : List ℕ) (lo hi : ℕ) (old new : List ℕ) → IsTrue options.explains
-    → Appends (IsFlawLine options whole text lo) old new → Appends (IsLineIn options whole text lo hi) old new
-explained options whole text lo hi old new asked (shown, is, e) = (shown, inl (asked, is), e)
+-- lines that say why
+pub explained : (options : Options) (whole text : List ℕ) (found : Option Found) (lo hi : ℕ) (old new : List ℕ)
+    → IsFoundIn text found → IsTrue options.explains → Appends (AreReasonLines options whole text found lo) old new
+    → Appends (IsLineIn options whole (chars text) lo hi) old new
+explained options whole text found lo hi old new read asked (shown, is, e) =
+    (shown, (text, found, refl, read, inl (asked, is)), e)
 
 -- a line that doesn't
-pub unexplained : (options : Options) (whole text : List ℕ) (lo hi : ℕ) (old new : List ℕ)
-    → (IsTrue options.explains → FindsNoFlaw text)
-    → Appends (IsPlacedLine options whole text lo hi) old new
-    → Appends (IsLineIn options whole text lo hi) old new
-unexplained options whole text lo hi old new passes (shown, is, e) = (shown, inr (passes, is), e)
+pub unexplained : (options : Options) (whole text : List ℕ) (found : Option Found) (lo hi : ℕ) (old new : List ℕ)
+    → IsFoundIn text found → (IsTrue options.explains → IsRight options.any_suffix text found)
+    → Appends (IsPlacedLine options whole (chars text) lo hi) old new
+    → Appends (IsLineIn options whole (chars text) lo hi) old new
+unexplained options whole text found lo hi old new read passes (shown, is, e) =
+    (shown, (text, found, refl, read, inr (passes, is)), e)
 
--- where lines tell flaws, a literal without one passes
-pub passes_unasked : (options : Options) (text : List ℕ) (flaw : Option Flaw)
-    → IfNone flaw (LooksForFlaws options → FindsNoFlaw text) → (IsTrue options.explains → flaw ≡ None)
-    → IsTrue options.explains → FindsNoFlaw text
-passes_unasked options text (Some f) none asked is = absurd (none-some f (sym (asked is)))
-passes_unasked options text None none asked is = none (inl is)
+-- where lines say what is wrong, a literal without anything passes
+pub passes_unasked : (options : Options) (text : List ℕ) (found : Option Found) (bad : Option Wrong)
+    → IfNone bad (LooksForFlaws options → IsRight options.any_suffix text found) → (IsTrue options.explains → bad ≡ None)
+    → IsTrue options.explains → IsRight options.any_suffix text found
+passes_unasked options text found (Some f) none asked is = absurd (none-some f (sym (asked is)))
+passes_unasked options text found None none asked is = none (inl is)
 
--- a text without a flaw isn't bad
-not_bad : (text : List ℕ) (flaw : Flaw) → FindsNoFlaw text → FindsFlaw text flaw → ⊥
-not_bad text flaw (token, reads) (inl e) = e.explains.no_token token
-not_bad text flaw (token, reads) (inr (_, (signed, e, no_float))) = elim reads [
+-- what is right isn't bad
+no_flaw_found : (text : List ℕ) (flaw : Flaw) → FindsNoFlaw text → FindsFlaw text flaw → ⊥
+no_flaw_found text flaw (token, reads) (inl e) = e.explains.no_token token
+no_flaw_found text flaw (token, reads) (inr (_, (signed, e, no_float))) = elim reads [
   | inl r ↦ read_within text (subst HasReading (signed_same text signed) r) e.past
   | inr f ↦ no_float (subst IsFloatBySuffix (signed_same text signed) f)
 ]
 
+no_fault_found : (text : List ℕ) (found : Option Found) (fault : TypeFault) → HasFoundType text found
+    → HasFoundFault text found fault → ⊥
+no_fault_found text None fault has is = is
+no_fault_found text (Some f) fault has is =
+    no_both fault f.kind (chars text) f.magnitude true (suffix_in text f.body) is has
+
+not_bad : (any : Bool) (text : List ℕ) (found : Option Found) (bad : Wrong) → IsRight any text found
+    → IsWrong any text found bad → ⊥
+not_bad any text found (wrong.Flaw flaw) right is = no_flaw_found (chars text) flaw right.0 is
+not_bad any text found (wrong.Type fault) right is = elim right.1 [
+  | inl t ↦ false≢true (sym is.0 ∙ t)
+  | inr has ↦ no_fault_found text found fault has is.2
+]
+
 -- what was looked for says whether a literal is picked
-pub picks_found : (options : Options) (text label : List ℕ) (flaw : Option Flaw) (r h b : Bool) → r ≡ is_some flaw
-    → IfSome flaw (FindsFlaw text)
-    → IfNone flaw (LooksForFlaws options → FindsNoFlaw text)
-    → (options.shown ≡ Hidden → IsTrue h ↔ HoldsHidden text)
-    → IsTrue b ↔ Picks options.shown label (IsTrue r) (IsTrue h) → IsTrue b ↔ IsPicked options text label
-picks_found options text label flaw r h b is found none hides picks = go options.shown refl picks
+pub picks_found : (options : Options) (text : List ℕ) (found : Option Found) (label : List ℕ) (bad : Option Wrong) (r b : Bool)
+    → r ≡ is_some bad → IfSome bad (IsWrong options.any_suffix text found)
+    → IfNone bad (LooksForFlaws options → IsRight options.any_suffix text found)
+    → IsTrue b ↔ Picks options.shown label (IsTrue r) → IsTrue b ↔ IsPicked options text found label
+picks_found options text found label wrongs r b is some none picks = go options.shown refl picks
   where
-    bad : (f : Option Flaw) → r ≡ is_some f → IfSome f (FindsFlaw text)
-        → IfNone f (LooksForFlaws options → FindsNoFlaw text) → LooksForFlaws options
-        → IsTrue r ↔ IsBad text
-    bad (Some f) e finds nothing looks = (λ _. (f, finds), λ _. e)
+    bad : (o : Option Wrong) → r ≡ is_some o → IfSome o (IsWrong options.any_suffix text found)
+        → IfNone o (LooksForFlaws options → IsRight options.any_suffix text found) → LooksForFlaws options
+        → IsTrue r ↔ IsBad options.any_suffix text found
+    bad (Some w) e finds nothing looks = (λ _. (w, finds), λ _. e)
     bad None e finds nothing looks = (
       λ t. absurd (false≢true (sym e ∙ t)),
-      λ (f, finds). absurd (not_bad text f (nothing looks) finds),
+      λ (w, finds). absurd (not_bad options.any_suffix text found w (nothing looks) finds),
     )
 
-    go : (shown : Shown) → options.shown ≡ shown → IsTrue b ↔ Picks shown label (IsTrue r) (IsTrue h)
-        → IsTrue b ↔ Picks shown label (IsBad text) (HoldsHidden text)
+    go : (shown : Shown) → options.shown ≡ shown → IsTrue b ↔ Picks shown label (IsTrue r)
+        → IsTrue b ↔ Picks shown label (IsBad options.any_suffix text found)
     go All e p = p
     go (Only list) e p = p
     go Bad e p =
-        let both = bad flaw is found none (inr e) in
+        let both = bad wrongs is some none (inr e) in
         (λ t. both.0 (p.0 t), λ t. p.1 (both.1 t))
-    go Hidden e p =
-        let both = hides e in
-        (λ t. both.0 (p.0 t), λ t. p.1 (both.1 t))
+    go Hidden e p = p
 
 -- the line where the contents hold what is looked for
 pub at_held : (sought : List ℕ) (options : Options) (whole text : List ℕ) (lo first last : ℕ) (old new : List ℕ)
-    → IsHeldAt sought text first last
+    → IsHeldAt options.matching sought text first last
     → Appends (IsPlacedLine options whole text (lo + first) (lo + last)) old new
     → Appends (IsHeldLine sought options whole text lo) old new
 at_held sought options whole text lo first last old new held (shown, is, e) =
     (shown, inl (first, last, held, is), e)
 
--- the line at the first character that hides
-pub at_hidden : (options : Options) (whole text : List ℕ) (lo first last : ℕ) (old new : List ℕ)
-    → IsHiddenAt text first last → Appends (IsPlacedLine options whole text (lo + first) (lo + last)) old new
-    → Appends (IsHiddenLine options whole text lo) old new
-at_hidden options whole text lo first last old new at (shown, is, e) = (shown, inl (first, last, at, is), e)
-
--- nothing where none hides
-pub not_hidden : (options : Options) (whole text : List ℕ) (lo : ℕ) (old : List ℕ) → (HoldsHidden text → ⊥)
-    → Appends (IsHiddenLine options whole text lo) old old
-not_hidden options whole text lo old none = ([], inr (none, refl), sym (append-nil old))
-
--- the line where hiding characters aren't asked for
-pub asked_line : (wanted : Shown) (options : Options) (whole text : List ℕ) (lo hi : ℕ) (old new : List ℕ)
-    → (wanted ≡ Hidden → ⊥) → Appends (IsLineIn options whole text lo hi) old new
-    → Appends (IsAskedLine wanted options whole text lo hi) old new
-asked_line All options whole text lo hi old new other is = is
-asked_line (Only list) options whole text lo hi old new other is = is
-asked_line Bad options whole text lo hi old new other is = is
-asked_line Hidden options whole text lo hi old new other is = absurd (other refl)
-
 -- nothing of a literal whose contents don't hold what is looked for
 pub not_held : (sought : List ℕ) (options : Options) (whole text : List ℕ) (lo : ℕ) (old : List ℕ)
-    → (Holds sought text → ⊥) → Appends (IsHeldLine sought options whole text lo) old old
+    → (Holds options.matching sought text → ⊥) → Appends (IsHeldLine sought options whole text lo) old old
 not_held sought options whole text lo old none = ([], inr (none, refl), sym (append-nil old))
 
 -- the word of a text's line, by what was found
@@ -291,19 +289,19 @@ found_label text label kind (Some f) none is k e = (
 found_label text label kind None none is k e = (None, none, e ∙ ap label_of k)
 
 -- the line of a text that is picked
-pub picked_line : (options : Options) (whole text label : List ℕ) (lo hi : ℕ) (old new : List ℕ)
-    → IsLabelOf text label → IsPicked options text label
-    → Appends (IsPickedLine options.finds options whole text lo hi) old new
-    → Appends (IsShownLiteral options whole text lo hi) old new
-picked_line options whole text label lo hi old new is_label picked (shown, is, e) =
-    (shown, (label, is_label, inl (picked, is)), e)
+pub picked_line : (options : Options) (whole text : List ℕ) (found : Option Found) (label : List ℕ) (lo hi : ℕ)
+    (old new : List ℕ) → IsLabelOf (chars text) label → IsFoundIn text found → IsPicked options text found label
+    → Appends (IsPickedLine options.finds options whole (chars text) lo hi) old new
+    → Appends (IsShownLiteral options whole (chars text) lo hi) old new
+picked_line options whole text found label lo hi old new is_label read picked (shown, is, e) =
+    (shown, (label, text, found, is_label, refl, read, inl (picked, is)), e)
 
 -- nothing of a text that isn't picked
-pub not_picked : (options : Options) (whole text label : List ℕ) (lo hi : ℕ) (old : List ℕ) → IsLabelOf text label
-    → (IsPicked options text label → ⊥)
-    → Appends (IsShownLiteral options whole text lo hi) old old
-not_picked options whole text label lo hi old is_label none =
-    ([], (label, is_label, inr (none, refl)), sym (append-nil old))
+pub not_picked : (options : Options) (whole text : List ℕ) (found : Option Found) (label : List ℕ) (lo hi : ℕ) (old : List ℕ)
+    → IsLabelOf (chars text) label → IsFoundIn text found → (IsPicked options text found label → ⊥)
+    → Appends (IsShownLiteral options whole (chars text) lo hi) old old
+not_picked options whole text found label lo hi old is_label read none =
+    ([], (label, text, found, is_label, refl, read, inr (none, refl)), sym (append-nil old))
 
 -- no token begins what is left, and no error stands there: it is the end
 pub at_end : (old new : CursorState) → BeginsNoSource (chars old.rest) → new ≡ old → (new.rest ≡ [])

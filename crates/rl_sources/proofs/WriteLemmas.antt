@@ -1,5 +1,5 @@
 -- What a scan has written after a step.
-use Rattle.rl_text.proofs.Common.{Bool, IsUtf8, List, Option, [], ap, chars, length, not, subst, sym, ℕ, ◌==◌, ◌||◌, ◌∙◌, ◌≡◌}
+use Rattle.rl_text.proofs.Common.{Bool, IsUtf8, List, Option, [], ap, chars, encodes-chars, false, length, not, refl, subst, sym, ℕ, ◌==◌, ◌||◌, ◌∙◌, ◌≡◌}
 use Rattle.std.specs.Io.KnownBytes.{Appends}
 use Rattle.rl_text.specs.Texts.{byte_len}
 use Rattle.rl_lexer.specs.Cursors.{CursorState}
@@ -12,10 +12,12 @@ use Rattle.rl_sources.specs.declared.place.Place.{Place}
 use Rattle.rl_sources.specs.declared.scan_error.ScanError.TheVariants.{Fault, Source}
 use Rattle.rl_sources.specs.declared.step.Step.{Step}
 use Rattle.rl_sources.specs.declared.step.Step.TheVariants.{More, End, Error}
+use Rattle.std.proofs.lemmas.Bool.{false≢true}
+use Rattle.rl_sources.specs.Hidden.{ShowsHidden}
 use Rattle.rl_sources.specs.Places.{IsPlaceIn}
-use Rattle.rl_sources.specs.Scans.{Scans, FailsScan}
+use Rattle.rl_sources.specs.Scans.{ScansHidden, ScansTokens, FailsHidden, FailsTokens}
 use Rattle.rl_sources.specs.Steps.{Adds, IsStepOf}
-use Rattle.rl_sources.proofs.ScanLemmas.{HasWritten, written_more, written_beginning, step_adds}
+use Rattle.rl_sources.proofs.ScanLemmas.{HasWritten, any_more, written_more, written_beginning, step_adds}
 
 -- the step's piece, with the text as the scan has it
 of_text : (options : Options) (text : List ℕ) (old : CursorState) (rest piece : List ℕ) → old.text ≡ text
@@ -28,10 +30,10 @@ pub write_fails : {A : Type 0} (options : Options) (text lines : List ℕ) (old 
     (step : Step) (any : Bool) (out mid after : Option (List ℕ)) (fault : RunFault A) → old.text ≡ text
     → HasWritten options (chars text) (chars old.rest) any out mid → IsStepOf options old (chars lines) new places step
     → IsUtf8 lines → (fault ≡ Write) × AppendsBeginning mid after lines
-    → FailsScan {A = A} options (chars text) out after (Fault fault)
+    → FailsTokens {A = A} options (chars text) out after (Fault fault)
 write_fails {A = A} options text lines old new places step any out mid after fault same has is utf8 (fault_is, begins) =
     let found = step_adds options old (chars lines) new places step is in
-    subst (λ (f : RunFault A). FailsScan {A = A} options (chars text) out after (Fault f)) (sym fault_is)
+    subst (λ (f : RunFault A). FailsTokens {A = A} options (chars text) out after (Fault f)) (sym fault_is)
     (written_beginning options (chars text) (chars old.rest) found.0 lines any out mid after has
     (of_text options text old found.0 (chars lines) same found.1) utf8 begins)
 
@@ -48,7 +50,7 @@ writes_on options text lines old new places any more out mid after same has is u
 pub writes_all : (options : Options) (text lines : List ℕ) (old new : CursorState) (places : List ℕ) (any more : Bool)
     (out mid after : Option (List ℕ)) → old.text ≡ text → HasWritten options (chars text) (chars old.rest) any out mid
     → IsStepOf options old (chars lines) new places End → IsUtf8 lines → Appends mid after lines → more
-    ≡ (any || not (length lines == 0)) → Scans options (chars text) out after more
+    ≡ (any || not (length lines == 0)) → ScansTokens options (chars text) out after more
 writes_all options text lines old new places any more out mid after same has is utf8 appends more_is =
     let all = written_more options (chars text) (chars old.rest) [] lines any more out mid after has
     (of_text options text old [] (chars lines) same is) utf8 appends more_is in
@@ -59,7 +61,7 @@ pub writes_up_to : (A : Type 0) (options : Options) (text lines : List ℕ) (old
     (place : Place) (kind : LexKind) (any more : Bool) (out mid after : Option (List ℕ)) → old.text ≡ text
     → HasWritten options (chars text) (chars old.rest) any out mid
     → IsStepOf options old (chars lines) new places (Error place kind) → IsUtf8 lines → Appends mid after lines → more
-    ≡ (any || not (length lines == 0)) → FailsScan {A = A} options (chars text) out after (Source place kind)
+    ≡ (any || not (length lines == 0)) → FailsTokens {A = A} options (chars text) out after (Source place kind)
 writes_up_to A options text lines old new places place kind any more out mid after same has
     (at, rest, adds, error, rest_place, is_place) utf8 appends more_is =
     let all = written_more options (chars text) (chars old.rest) rest lines any more out mid after has
@@ -75,4 +77,26 @@ writes_up_to A options text lines old new places place kind any more out mid aft
         place_is = subst (λ (t : List ℕ). IsPlaceIn options (chars t) at at place) same is_place;
       },
       all.written,
+    )
+
+-- what turns or hides text was written
+pub hidden_written : (options : Options) (text lines : List ℕ) (empty : Bool) (old new : Option (List ℕ))
+    → IsUtf8 lines → ShowsHidden options text (chars lines) → empty ≡ (length lines == 0) → Appends old new lines
+    → ScansHidden options text old new (not empty)
+hidden_written options text lines empty old new utf8 shows empty_is appends = (
+  chars lines,
+  shows,
+  any_more false (not empty) [] lines utf8 (λ t. absurd (false≢true t), λ some. absurd (some refl)) (ap not empty_is),
+  subst (λ (z : List ℕ). Appends old new z) (sym (encodes-chars lines utf8)) appends,
+)
+
+-- a write failed
+pub hidden_unwritten : {A : Type 0} (options : Options) (text lines : List ℕ) (old new : Option (List ℕ))
+    (fault : RunFault A) → IsUtf8 lines → ShowsHidden options text (chars lines)
+    → (fault ≡ Write) × AppendsBeginning old new lines → FailsHidden {A = A} options text old new (Fault fault)
+hidden_unwritten {A = A} options text lines old new fault utf8 shows (fault_is, begins) =
+    subst (λ (f : RunFault A). FailsHidden {A = A} options text old new (Fault f)) (sym fault_is) (
+      chars lines,
+      shows,
+      subst (λ (z : List ℕ). AppendsBeginning old new z) (sym (encodes-chars lines utf8)) begins,
     )

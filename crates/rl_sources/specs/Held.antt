@@ -1,12 +1,14 @@
 -- Where a text stands in what a literal stands for. Contents and texts that are looked for are lists
 -- of bytes, texts of literals lists of characters.
-use Rattle.std.specs.Prelude.{◌≡◌, ℕ, ◌+◌, ◌-◌, ◌<◌, ◌≤◌, ◌==◌, List, ◌++◌, length, drop, IsTrue}
+use Rattle.std.specs.Prelude.{◌≡◌, ◌≢◌, ℕ, ◌+◌, ◌-◌, ◌<◌, ◌≤◌, ◌==◌, nat_le, Bool, cond, not, ◌||◌, ◌&&◌, List, [], ◌++◌, length, map, drop, slice_index, IsTrue}
+use Rattle.std.specs.Char.{is_ascii_alphanumeric, to_ascii_lowercase}
 use Rattle.std.specs.List.{starts_with}
 use Rattle.rl_text.specs.Texts.{byte_len}
 use Rattle.rl_forms.specs.declared.kind.Kind.{Kind}
 use Rattle.rl_forms.specs.Reading.{HasContents, quoted_contents}
 use Rattle.rl_reading.specs.Decoded.{in_bytes}
 use Rattle.rl_reading.specs.Segments.{IsBytePlace, IsByteEnd}
+use Rattle.rl_sources.specs.declared.options.Matching.{Matching}
 
 -- The text is a quoted literal of the kind, and these bytes are its contents, those of characters in
 -- UTF-8.
@@ -19,25 +21,59 @@ pub record AreContentsOf (text : List ℕ) (kind : Kind) (bytes : List ℕ) : Ty
 abbrev pub StandsFrom : List ℕ → List ℕ → ℕ → Type 0
 StandsFrom sought bytes at = (at ≤ length bytes) × IsTrue (starts_with ◌==◌ (drop at bytes) sought)
 
+-- a byte of a word: a letter or a digit of ASCII, `_`, or one past ASCII
+abbrev pub is_word_part : ℕ → Bool
+is_word_part b = is_ascii_alphanumeric b || (b == 95) || nat_le 128 b
+
+-- no byte of a word stands on either side of the bytes from one place to another
+abbrev pub is_bounded : List ℕ → ℕ → ℕ → Bool
+is_bounded bytes at end =
+    ((at == 0) || not (is_word_part (slice_index bytes (at - 1))))
+    && (nat_le (length bytes) end || not (is_word_part (slice_index bytes end)))
+
+-- bytes as they are compared: where case doesn't count, small letters of ASCII stand for large ones
+abbrev pub compared : Bool → List ℕ → List ℕ
+compared ignores_case bytes = cond ignores_case (map to_ascii_lowercase bytes) bytes
+
+-- what stands there, and isn't empty, is bounded where whole words are looked for
+abbrev pub IsAsWanted : Bool → List ℕ → List ℕ → ℕ → Type 0
+IsAsWanted whole_words sought bytes at =
+    IsTrue whole_words → sought ≢ [] → IsTrue (is_bounded bytes at (at + length sought))
+
+-- among the bytes, from this one on, stand those that are looked for, as they are wanted
+abbrev pub MatchesFrom : Bool → List ℕ → List ℕ → ℕ → Type 0
+MatchesFrom whole_words sought bytes at =
+    StandsFrom sought bytes at × IsAsWanted whole_words sought bytes at
+
 -- there they stand first
-abbrev pub StandsFirst : List ℕ → List ℕ → ℕ → Type 0
-StandsFirst sought bytes at =
-    StandsFrom sought bytes at × ((other : ℕ) → other < at → StandsFrom sought bytes other → ⊥)
+abbrev pub MatchesFirst : Bool → List ℕ → List ℕ → ℕ → Type 0
+MatchesFirst whole_words sought bytes at =
+    MatchesFrom whole_words sought bytes at
+    × ((other : ℕ) → other < at → MatchesFrom whole_words sought bytes other → ⊥)
+
+-- the same of bytes as they are compared
+abbrev pub MatchesAt : Matching → List ℕ → List ℕ → ℕ → Type 0
+MatchesAt matching sought bytes at =
+    MatchesFrom matching.whole_words (compared matching.ignores_case sought) (compared matching.ignores_case bytes) at
+
+abbrev pub FirstMatchAt : Matching → List ℕ → List ℕ → ℕ → Type 0
+FirstMatchAt matching sought bytes at =
+    MatchesFirst matching.whole_words (compared matching.ignores_case sought) (compared matching.ignores_case bytes) at
 
 -- the contents of the literal hold them
-abbrev pub Holds : List ℕ → List ℕ → Type 0
-Holds sought text =
+abbrev pub Holds : Matching → List ℕ → List ℕ → Type 0
+Holds matching sought text =
     (kind : Kind) × (bytes : List ℕ) × (at : ℕ) × AreContentsOf text kind bytes
-    × StandsFrom sought bytes at
+    × MatchesAt matching sought bytes at
 
 -- The contents of the literal hold them, and these bytes of its text are what gives them where they
 -- stand first: from where what gives the first byte begins to where what gives the last ends.
-pub record IsHeldAt (sought text : List ℕ) (lo hi : ℕ) : Type 0 where
+pub record IsHeldAt (matching : Matching) (sought text : List ℕ) (lo hi : ℕ) : Type 0 where
   pub kind : Kind
   pub bytes : List ℕ
   pub contents : AreContentsOf text kind bytes
   pub at : ℕ
-  pub first : StandsFirst sought bytes at
+  pub first : FirstMatchAt matching sought bytes at
   pub begins : IsBytePlace kind text at lo
   pub ends : IsByteEnd kind text (at + (length sought - 1)) hi
 

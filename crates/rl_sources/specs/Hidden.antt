@@ -1,20 +1,75 @@
--- Characters of a literal that turn or hide text, as they are written.
-use Rattle.std.specs.Prelude.{◌≡◌, ℕ, ◌+◌, List, ◌∷◌, ◌++◌, length, encode_utf8, IsTrue}
-use Rattle.std.specs.List.{list_any}
-use Rattle.rl_text.specs.Texts.{byte_len}
-use Rattle.rl_files.specs.Visible.{is_hiding}
+-- Characters of a source that turn or hide text, wherever they stand. Texts are lists of characters.
+use Rattle.std.specs.Prelude.{◌≡◌, ◌⊎◌, ℕ, ◌+◌, ◌-◌, ◌^◌, ◌==◌, Bool, true, false, cond, not, ◌||◌, ◌&&◌, List, [], ◌∷◌, ◌++◌, length, codes, encode_utf8}
+use Rattle.std.specs.Str.{chars}
+use Rattle.std.specs.Fmt.{digits, format_spec, padded_integral}
+use Rattle.rl_text.specs.Texts.{byte_len, begins_char}
+use Rattle.rl_files.specs.Visible.{needs_escape}
+use Rattle.rl_lexer.specs.Sources.{without_mark}
+use Rattle.rl_sources.specs.declared.options.Form.{Form}
+use Rattle.rl_sources.specs.declared.options.Options.{Options}
+use Rattle.rl_sources.specs.declared.place.Place.{Place}
+use Rattle.rl_sources.specs.Json.{is_json, string_member}
+use Rattle.rl_sources.specs.Places.{line_front, IsPlaceIn}
 
--- the text holds one
-abbrev pub HoldsHidden : List ℕ → Type 0
-HoldsHidden text = IsTrue (list_any is_hiding text)
+-- a control character of the layout: a tab, an LF, a form feed, and a CR before an LF
+abbrev pub is_layout : ℕ → List ℕ → Bool
+is_layout c after = (c == 9) || (c == 10) || (c == 12) || ((c == 13) && begins_char 10 after)
 
--- The first that the text holds takes these bytes of it.
-pub record IsHiddenAt (text : List ℕ) (lo hi : ℕ) : Type 0 where
-  pub front : List ℕ
-  pub hiding : ℕ
-  pub back : List ℕ
-  pub text_is : text ≡ front ++ hiding ∷ back
-  pub hides : IsTrue (is_hiding hiding)
-  pub none_before : HoldsHidden front → ⊥
-  pub lo_is : lo ≡ byte_len front
-  pub hi_is : hi ≡ lo + length (encode_utf8 hiding)
+-- the character, which stands before this, turns or hides text: what is printed as an escape, but for the layout
+abbrev pub hides : ℕ → List ℕ → Bool
+hides c after = needs_escape c && not (is_layout c after)
+
+-- what Unicode calls a character that turns the direction of text, after a space; of others nothing
+abbrev pub direction_name : ℕ → List ℕ
+direction_name c =
+    cond (c == 0x61C) (codes " ARABIC LETTER MARK")
+    (cond (c == 0x200E) (codes " LEFT-TO-RIGHT MARK")
+    (cond (c == 0x200F) (codes " RIGHT-TO-LEFT MARK")
+    (cond (c == 0x202A) (codes " LEFT-TO-RIGHT EMBEDDING")
+    (cond (c == 0x202B) (codes " RIGHT-TO-LEFT EMBEDDING")
+    (cond (c == 0x202C) (codes " POP DIRECTIONAL FORMATTING")
+    (cond (c == 0x202D) (codes " LEFT-TO-RIGHT OVERRIDE")
+    (cond (c == 0x202E) (codes " RIGHT-TO-LEFT OVERRIDE")
+    (cond (c == 0x2066) (codes " LEFT-TO-RIGHT ISOLATE")
+    (cond (c == 0x2067) (codes " RIGHT-TO-LEFT ISOLATE")
+    (cond (c == 0x2068) (codes " FIRST STRONG ISOLATE")
+    (cond (c == 0x2069) (codes " POP DIRECTIONAL ISOLATE") [])))))))))))
+
+-- a number in base sixteen, of four digits at least
+abbrev pub four_digits : ℕ → List ℕ
+four_digits n = padded_integral (format_spec 32 0 4 4 (2 ^ 64 - 1)) false [] (digits 16 true n)
+
+-- the words of a character, in bytes: its number, as `U+202E`, and its name where it turns the direction of text
+abbrev pub character_words : ℕ → List ℕ
+character_words c = codes "U+" ++ (four_digits c ++ direction_name c)
+
+-- what stands after the place in its line: the words, or the member of its object
+abbrev pub hidden_end : Form → ℕ → List ℕ
+hidden_end form c =
+    cond (is_json form) (string_member (codes "hidden") (chars (character_words c)) ++ codes "}\n")
+    (chars (character_words c) ++ codes "\n")
+
+-- The line of a character of the whole source, of which so much stands after it.
+pub record IsHiddenLine (options : Options) (whole : List ℕ) (c : ℕ) (after line : List ℕ) : Type 0 where
+  pub lo : ℕ
+  pub lo_is : lo + byte_len (c ∷ after) ≡ byte_len whole
+  pub place : Place
+  pub place_is : IsPlaceIn options whole lo (lo + length (encode_utf8 c)) place
+  pub line_is : line ≡ line_front options.form options.path place ++ hidden_end options.form c
+
+-- what is shown of a character of the whole source: where it turns or hides text its line, else nothing
+abbrev pub IsShownCharacter : Options → List ℕ → ℕ → List ℕ → List ℕ → Type 0
+IsShownCharacter options whole c after line =
+    ((hides c after ≡ true) × IsHiddenLine options whole c after line)
+    ⊎ ((hides c after ≡ false) × (line ≡ []))
+
+-- what is shown of what is left of the whole source: of each character, in order
+abbrev pub AreHiddenLines : Options → List ℕ → List ℕ → List ℕ → Type 0
+AreHiddenLines options whole [] lines = lines ≡ []
+AreHiddenLines options whole (c ∷ after) lines =
+    (line more : List ℕ) × IsShownCharacter options whole c after line
+    × AreHiddenLines options whole after more × (lines ≡ line ++ more)
+
+-- what is shown of the whole source; a byte order mark at its front marks only its encoding
+abbrev pub ShowsHidden : Options → List ℕ → List ℕ → Type 0
+ShowsHidden options whole lines = AreHiddenLines options whole (without_mark whole) lines

@@ -10,6 +10,8 @@ use Rattle.rl_lexer.specs.declared.lines.LineColumn.{LineColumn}
 use Rattle.rl_lines.specs.Lines.{kind_label}
 use Rattle.rl_sources.specs.declared.options.Form.{Form}
 use Rattle.rl_sources.specs.declared.options.Form.TheVariants.{Plain, Colored, Json}
+use Rattle.rl_sources.specs.Findings.{reason_id, reason_message}
+use Rattle.rl_sources.specs.declared.finding.Reason.{Reason}
 use Rattle.rl_sources.specs.JsonStrings.{json_string}
 
 -- whether lines are objects
@@ -68,12 +70,13 @@ abbrev pub IsJsonValueOf : Kind → List ℕ → List ℕ → Type 0
 IsJsonValueOf kind text value =
     (contents : Contents) × HasContents kind text contents × (value ≡ json_value contents)
 
--- the members of a flaw, and the object's end: the literal's text, what is wrong, and the piece that it
--- spoils, which is empty where there is none
-abbrev pub flaw_members : List ℕ → List ℕ → List ℕ → List ℕ
-flaw_members text message piece =
-    string_member (codes "text") text ++ (string_member (codes "error") message
-    ++ (string_member (codes "piece") piece ++ codes "}\n"))
+-- the members of a finding, and the object's end: the literal's text, what is wrong, by a name that stays and in words, and the
+-- piece that is shown, which is empty where there is none
+abbrev pub finding_members : List ℕ → Reason → List ℕ → List ℕ
+finding_members text reason piece =
+    string_member (codes "text") text ++ (string_member (codes "id") (reason_id reason)
+    ++ (string_member (codes "error") (reason_message reason)
+    ++ (string_member (codes "piece") piece ++ codes "}\n")))
 
 -- the member of a source's error, and the object's end
 abbrev pub error_members : List ℕ → List ℕ

@@ -2,6 +2,8 @@ pub mod Options
 pub mod Colors
 pub mod Hidden
 pub mod Places
+pub mod InFile
+pub mod Findings
 pub mod Scans
 pub mod Steps
 pub mod ScanErrors

@@ -18,10 +18,9 @@ words_of list = slice_split (λ b. b == code ",") list
 abbrev pub Names : List ℕ → List ℕ → Type 0
 Names list word = Any (λ w. IsSameWord w word) (words_of list)
 
--- a literal is shown whose line begins with this word; of which it holds or not that it is bad, and that
--- it holds characters which turn or hide text
-abbrev pub Picks : Shown → List ℕ → Type 0 → Type 0 → Type 0
-Picks All label is_bad is_hidden = ⊤
-Picks (Only list) label is_bad is_hidden = Names list.now label
-Picks Bad label is_bad is_hidden = is_bad
-Picks Hidden label is_bad is_hidden = is_hidden
+-- a literal is shown whose line begins with this word; of which it holds or not that it is bad
+abbrev pub Picks : Shown → List ℕ → Type 0 → Type 0
+Picks All label is_bad = ⊤
+Picks (Only list) label is_bad = Names list.now label
+Picks Bad label is_bad = is_bad
+Picks Hidden label is_bad = ⊥

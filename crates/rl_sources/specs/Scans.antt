@@ -1,22 +1,23 @@
 -- What is shown of a source: a line for each of its literals, after its place, or where it is asked
--- for one that says why it is bad. Texts and what is shown are lists of characters, what
+-- for one that says why it is bad; or a line for each character that turns or hides text. Texts and what is shown are lists of characters, what
 -- is written lists of bytes.
-use Rattle.std.specs.Prelude.{◌≡◌, ◌≢◌, ◌⊎◌, ◌↔◌, ℕ, ◌+◌, ◌-◌, ◌≤◌, Bool, cond, List, [], ◌++◌, IsTrue, take, drop, codes, encode_utf8_all, Option, Some, None}
+use Rattle.std.specs.Prelude.{◌≡◌, ◌≢◌, ◌⊎◌, ◌↔◌, ℕ, ◌+◌, Bool, cond, List, [], ◌++◌, IsTrue, codes, encode_utf8_all, Option, Some, None}
 use denote.Ref.{Bor}
 use Rattle.std.specs.List.{All}
 use Rattle.std.specs.Str.{IsCharBoundary}
-use Rattle.std.specs.Io.KnownBytes.{Appends}
+use Rattle.std.specs.Io.KnownBytes.{Appends, Keeps}
 use Rattle.rl_text.specs.Texts.{byte_len}
 use Rattle.rl_lexer.specs.Lexemes.{LiteralForm, IdentifierForm}
-use Rattle.rl_forms.specs.Reading.{HasReading, truth_text}
+use Rattle.rl_forms.specs.Reading.{truth_text}
 use Rattle.rl_lexer.specs.Sources.{source_text, SourceKind, PlainKind, StrayKind, source_kind, CutSource, source_end, IsCutUpTo, SourceBefore, SourceErrorAt}
 use Rattle.rl_lexer.specs.declared.lex_error.LexKind.{LexKind}
 use Rattle.rl_lexer.specs.declared.lex_error.LexKind.TheVariants.{StrayCharacter}
 use Rattle.rl_reasons.specs.declared.flaws.Flaw.{Flaw}
-use Rattle.rl_reasons.specs.Limits.{IsFloatBySuffix}
-use Rattle.rl_reasons.specs.FlawWords.{flaw_message}
+use Rattle.rl_reasons.specs.Limits.{ExplainsLimit}
+use Rattle.rl_flaws.specs.Flawed.{AreFlawsOf, FlawsState}
+use Rattle.rl_flaws.specs.declared.bad_piece.BadPiece.{BadPiece}
 use Rattle.rl_strict.specs.StrictShapes.{IsToken}
-use Rattle.rl_file_reasons.specs.FileTexts.{lf_text, ExplainsValueInFile}
+use Rattle.rl_file_reasons.specs.FileTexts.{lf_text}
 use Rattle.rl_lines.specs.Lines.{IsLineOf, IsLabelOf, Joins}
 use Rattle.rl_files.specs.Visible.{visible, visible_lines}
 use Rattle.rl_program.specs.Streams.{AppendsBeginning}
@@ -33,23 +34,18 @@ use Rattle.rl_sources.specs.declared.place.Place.{Place}
 use Rattle.rl_sources.specs.declared.scan_error.ScanError.{ScanError}
 use Rattle.rl_sources.specs.declared.scan_error.ScanError.TheVariants.{Fault, Source}
 use Rattle.rl_sources.specs.Colors.{painted}
+use Rattle.rl_sources.specs.Findings.{AreFlawsLeft, IsBad, IsFlawFinding, IsFoundIn, IsLimitFinding, IsPieceOf, IsRight, IsTypeFinding, IsWrong, reason_message}
+use Rattle.rl_sources.specs.declared.finding.Finding.{Finding}
+use Rattle.rl_sources.specs.declared.finding.Reason.{Reason}
+use Rattle.rl_sources.specs.declared.finding.Wrong.TheVariants as wrong
+use Rattle.rl_reading.specs.declared.found.Found.{Found}
+use Rattle.rl_types.specs.declared.faults.TypeFault.{TypeFault}
+use Rattle.std.specs.Str.{chars}
 use Rattle.rl_sources.specs.Held.{Holds, IsHeldAt}
-use Rattle.rl_sources.specs.Hidden.{HoldsHidden, IsHiddenAt}
-use Rattle.rl_sources.specs.Json.{is_json, IsJsonLiteral, flaw_members, error_members}
+use Rattle.rl_sources.specs.Hidden.{ShowsHidden}
+use Rattle.rl_sources.specs.Json.{is_json, IsJsonLiteral, finding_members, error_members}
 use Rattle.rl_sources.specs.Options.{Picks}
 use Rattle.rl_sources.specs.Places.{line_front, IsPlaceIn}
-
--- the flaw of the text of a literal: as rustc reads it, it is no token; or it is an integer past 128 bits, and no float
-abbrev pub FindsFlaw : List ℕ → Flaw → Type 0
-FindsFlaw = ExplainsValueInFile
-
--- as rustc reads it, the text is a token, and has a reading or is a float by its suffix
-abbrev pub FindsNoFlaw : List ℕ → Type 0
-FindsNoFlaw text = IsToken (lf_text text) × (HasReading (lf_text text) ⊎ IsFloatBySuffix (lf_text text))
-
--- the text has a flaw
-abbrev pub IsBad : List ℕ → Type 0
-IsBad text = (flaw : Flaw) × FindsFlaw text flaw
 
 -- what is printed of a literal: the line of its text as a literal, or the text as it is written
 abbrev pub IsPrintedAs : Spelling → List ℕ → List ℕ → Type 0
@@ -74,18 +70,6 @@ abbrev pub IsPlacedLine : Options → List ℕ → List ℕ → ℕ → ℕ → 
 IsPlacedLine options whole text lo hi shown =
     (place : Place) × IsPlaceIn options whole lo hi place × IsLineAt options text place shown
 
--- the bytes from `lo` to `hi` are a text
-abbrev pub IsSlice : List ℕ → ℕ → ℕ → Type 0
-IsSlice text lo hi = (lo ≤ hi) × IsCharBoundary text lo × IsCharBoundary text hi
-
--- the piece of a text that the flaw spoils, up to the character that makes it no literal; nothing
--- where that is no piece of it
-abbrev pub IsFlawPiece : List ℕ → Flaw → List ℕ → Type 0
-IsFlawPiece text flaw piece =
-    (IsSlice (encode_utf8_all text) flaw.from flaw.hi
-    × (encode_utf8_all piece ≡ take (flaw.hi - flaw.from) (drop flaw.from (encode_utf8_all text))))
-    ⊎ ((IsSlice (encode_utf8_all text) flaw.from flaw.hi → ⊥) × (piece ≡ []))
-
 -- what is wrong: a message and, where there is one, a piece as it is printed
 abbrev pub error_reason : List ℕ → List ℕ → List ℕ
 error_reason message [] = codes ": " ++ (message ++ codes "\n")
@@ -95,77 +79,96 @@ error_reason message piece = codes ": " ++ (message ++ (codes ": " ++ (visible p
 abbrev pub error_words : Form → List ℕ → List ℕ → List ℕ
 error_words form message piece = painted form paint.Error (codes "error") ++ error_reason message piece
 
--- what stands after the place in the line of a flaw, and in that of a source's error
-abbrev pub flaw_end : Form → List ℕ → List ℕ → List ℕ → List ℕ
-flaw_end form text message piece =
-    cond (is_json form) (flaw_members text message piece) (error_words form message piece)
+-- what stands after the place in the line of a finding, and in that of a source's error
+abbrev pub finding_end : Form → List ℕ → Reason → List ℕ → List ℕ
+finding_end form text reason piece =
+    cond (is_json form) (finding_members text reason piece) (error_words form (reason_message reason) piece)
 
 abbrev pub error_end : Form → List ℕ → List ℕ
 error_end form message = cond (is_json form) (error_members message) (error_words form message [])
 
--- the line that says why a text is bad, after this place: what is wrong, and the piece that the flaw
--- spoils
-abbrev pub IsFlawLineAt : Options → List ℕ → Flaw → Place → List ℕ → Type 0
-IsFlawLineAt options text flaw place shown =
-    (piece : List ℕ) × IsFlawPiece text flaw piece
-    × (shown ≡ line_front options.form options.path place
-    ++ flaw_end options.form text (flaw_message flaw.kind) piece)
+-- the line of a finding in a text that begins at this byte of the whole source: its place, what is wrong, and the piece
+abbrev pub IsFindingLine : Options → List ℕ → List ℕ → ℕ → Finding → List ℕ → Type 0
+IsFindingLine options whole text lo finding shown =
+    (place : Place) × (piece : List ℕ) × IsPlaceIn options whole (lo + finding.lo) (lo + finding.hi) place
+    × IsPieceOf text finding piece
+    × (shown ≡ line_front options.form options.path place ++ finding_end options.form text finding.reason piece)
 
--- the line that says why a text, which begins at this byte of the whole source, is bad: of its flaw, at
--- the flaw's place
-abbrev pub IsFlawLine : Options → List ℕ → List ℕ → ℕ → List ℕ → Type 0
-IsFlawLine options whole text lo shown =
-    (flaw : Flaw) × (place : Place) × FindsFlaw text flaw
-    × IsPlaceIn options whole (lo + flaw.lo) (lo + flaw.hi) place
-    × IsFlawLineAt options text flaw place shown
+-- the line of a flaw of a text as rustc reads it
+abbrev pub IsFlawLine : Options → List ℕ → List ℕ → ℕ → BadPiece → List ℕ → Type 0
+IsFlawLine options whole text lo read shown =
+    (finding : Finding) × IsFlawFinding text read finding × IsFindingLine options whole text lo finding shown
 
--- the line of a text: where it is asked for, and the text is bad, the line that says why; else its
+-- the lines of flaws that a cursor gives from here on, in order
+abbrev pub AreFlawLines : Options → List ℕ → List ℕ → ℕ → FlawsState → List ℕ → Type 0
+AreFlawLines options whole text lo start shown =
+    (flaws : List BadPiece) × AreFlawsLeft start flaws × Joins (IsFlawLine options whole text lo) flaws shown
+
+-- the lines of all flaws of a text that is no token as rustc reads it
+abbrev pub AreAllFlawLines : Options → List ℕ → List ℕ → ℕ → List ℕ → Type 0
+AreAllFlawLines options whole text lo shown =
+    (IsToken (lf_text text) → ⊥) × ((start : FlawsState) × AreFlawsOf (encode_utf8_all (lf_text text)) start
+    × AreFlawLines options whole text lo start shown)
+
+-- the line of an integer past 128 bits
+abbrev pub IsLimitLine : Options → List ℕ → List ℕ → ℕ → List ℕ → Type 0
+IsLimitLine options whole text lo shown =
+    IsToken (lf_text text) × ((flaw : Flaw) × (finding : Finding) × ExplainsLimit text flaw
+    × IsLimitFinding text flaw finding × IsFindingLine options whole text lo finding shown)
+
+-- the line of a literal, its text in bytes, that Rust has no type for
+abbrev pub IsTypeLine : Options → List ℕ → List ℕ → Option Found → ℕ → List ℕ → Type 0
+IsTypeLine options whole text found lo shown =
+    (fault : TypeFault) × (finding : Finding) × IsWrong options.any_suffix text found (wrong.Type fault)
+    × IsTypeFinding (chars text) fault finding × IsFindingLine options whole (chars text) lo finding shown
+
+-- the lines that say why a literal, its text in bytes, which begins at this byte of the whole source, is bad: one for each of its
+-- flaws, or the one of an integer past 128 bits, or of what Rust has no type for
+abbrev pub AreReasonLines : Options → List ℕ → List ℕ → Option Found → ℕ → List ℕ → Type 0
+AreReasonLines options whole text found lo shown =
+    AreAllFlawLines options whole (chars text) lo shown ⊎ IsLimitLine options whole (chars text) lo shown
+    ⊎ IsTypeLine options whole text found lo shown
+
+-- the lines of a literal, its text in bytes, of what was found: where it is asked for, and it is bad, those that say why; else its
 -- line as a literal
+abbrev pub IsLineOfFound : Options → List ℕ → List ℕ → Option Found → ℕ → ℕ → List ℕ → Type 0
+IsLineOfFound options whole text found lo hi shown =
+    (IsTrue options.explains × AreReasonLines options whole text found lo shown)
+    ⊎ ((IsTrue options.explains → IsRight options.any_suffix text found)
+    × IsPlacedLine options whole (chars text) lo hi shown)
+
+-- the same of a text, which is read
 abbrev pub IsLineIn : Options → List ℕ → List ℕ → ℕ → ℕ → List ℕ → Type 0
 IsLineIn options whole text lo hi shown =
-    (IsTrue options.explains × IsFlawLine options whole text lo shown)
-    ⊎ ((IsTrue options.explains → FindsNoFlaw text) × IsPlacedLine options whole text lo hi shown)
+    (bytes : List ℕ) × (found : Option Found) × (chars bytes ≡ text) × IsFoundIn bytes found
+    × IsLineOfFound options whole bytes found lo hi shown
 
 -- what is shown where this is looked for: where the contents of the literal hold it, the literal's
 -- line, at the place of what gives it where it stands first; else nothing
 abbrev pub IsHeldLine : List ℕ → Options → List ℕ → List ℕ → ℕ → List ℕ → Type 0
 IsHeldLine sought options whole text lo shown =
-    ((first : ℕ) × (last : ℕ) × IsHeldAt sought text first last
+    ((first : ℕ) × (last : ℕ) × IsHeldAt options.matching sought text first last
     × IsPlacedLine options whole text (lo + first) (lo + last) shown)
-    ⊎ ((Holds sought text → ⊥) × (shown ≡ []))
-
--- what is shown where characters are asked for which turn or hide text: where the text holds one, the
--- literal's line, at the place of the first; else nothing
-abbrev pub IsHiddenLine : Options → List ℕ → List ℕ → ℕ → List ℕ → Type 0
-IsHiddenLine options whole text lo shown =
-    ((first : ℕ) × (last : ℕ) × IsHiddenAt text first last
-    × IsPlacedLine options whole text (lo + first) (lo + last) shown)
-    ⊎ ((HoldsHidden text → ⊥) × (shown ≡ []))
-
--- what is shown where no text is looked for, by what is asked for
-abbrev pub IsAskedLine : Shown → Options → List ℕ → List ℕ → ℕ → ℕ → List ℕ → Type 0
-IsAskedLine asked.All options whole text lo hi shown = IsLineIn options whole text lo hi shown
-IsAskedLine (asked.Only list) options whole text lo hi shown = IsLineIn options whole text lo hi shown
-IsAskedLine asked.Bad options whole text lo hi shown = IsLineIn options whole text lo hi shown
-IsAskedLine asked.Hidden options whole text lo hi shown = IsHiddenLine options whole text lo shown
+    ⊎ ((Holds options.matching sought text → ⊥) × (shown ≡ []))
 
 -- what is shown of a literal that is picked
 abbrev pub IsPickedLine : Option (Bor (List ℕ)) → Options → List ℕ → List ℕ → ℕ → ℕ → List ℕ → Type 0
-IsPickedLine None options whole text lo hi shown = IsAskedLine options.shown options whole text lo hi shown
+IsPickedLine None options whole text lo hi shown = IsLineIn options whole text lo hi shown
 IsPickedLine (Some sought) options whole text lo hi shown =
     IsHeldLine sought.now options whole text lo shown
 
--- the literal is picked, whose line begins with this word
-abbrev pub IsPicked : Options → List ℕ → List ℕ → Type 0
-IsPicked options text label = Picks options.shown label (IsBad text) (HoldsHidden text)
+-- the literal, its text in bytes, of what was found, is picked, whose line begins with this word
+abbrev pub IsPicked : Options → List ℕ → Option Found → List ℕ → Type 0
+IsPicked options text found label = Picks options.shown label (IsBad options.any_suffix text found)
 
 -- what is shown of a literal: where it is picked, what is shown of it then, else nothing
 abbrev pub IsShownLiteral : Options → List ℕ → List ℕ → ℕ → ℕ → List ℕ → Type 0
 IsShownLiteral options whole text lo hi shown =
-    (label : List ℕ) × IsLabelOf text label
-    × ((IsPicked options text label
+    (label : List ℕ) × (bytes : List ℕ) × (found : Option Found) × IsLabelOf text label × (chars bytes ≡ text)
+    × IsFoundIn bytes found
+    × ((IsPicked options bytes found label
     × IsPickedLine options.finds options whole text lo hi shown)
-    ⊎ ((IsPicked options text label → ⊥) × (shown ≡ [])))
+    ⊎ ((IsPicked options bytes found label → ⊥) × (shown ≡ [])))
 
 -- what is shown of a token: of a literal, and of the words `true` and `false`, what is shown of
 -- that literal; of anything else nothing
@@ -217,22 +220,61 @@ pub record StopsAtError (options : Options) (whole shown : List ℕ) (place : Pl
   pub rest_place : at + byte_len rest ≡ byte_len whole
   pub place_is : IsPlaceIn options whole at at place
 
--- What was written is what is shown of the whole source, and it says whether that is anything.
-abbrev pub Scans : Options → List ℕ → Option (List ℕ) → Option (List ℕ) → Bool → Type 0
-Scans options whole old new any =
+-- What was written is what is shown of the whole source, token after token, and it says whether that is
+-- anything.
+abbrev pub ScansTokens : Options → List ℕ → Option (List ℕ) → Option (List ℕ) → Bool → Type 0
+ScansTokens options whole old new any =
     (cuts : List CutSource) × (shown : List ℕ) × ShowsUpTo options whole cuts [] shown
     × (IsTrue any ↔ (shown ≢ [])) × Appends old new (encode_utf8_all shown)
 
--- What was written before an error: what is shown of the source up to the place of the error; of a
+-- The same of what turns or hides text in it.
+abbrev pub ScansHidden : Options → List ℕ → Option (List ℕ) → Option (List ℕ) → Bool → Type 0
+ScansHidden options whole old new any =
+    (shown : List ℕ) × ShowsHidden options whole shown × (IsTrue any ↔ (shown ≢ []))
+    × Appends old new (encode_utf8_all shown)
+
+-- The same of what is asked for.
+abbrev pub ScansFor : Shown → Options → List ℕ → Option (List ℕ) → Option (List ℕ) → Bool → Type 0
+ScansFor asked.All options whole old new any = ScansTokens options whole old new any
+ScansFor (asked.Only list) options whole old new any = ScansTokens options whole old new any
+ScansFor asked.Bad options whole old new any = ScansTokens options whole old new any
+ScansFor asked.Hidden options whole old new any = ScansHidden options whole old new any
+
+abbrev pub Scans : Options → List ℕ → Option (List ℕ) → Option (List ℕ) → Bool → Type 0
+Scans options whole old new any = ScansFor options.shown options whole old new any
+
+-- What was written of the tokens before an error: what is shown of the source up to the place of the error; of a
 -- front of it where an allocation failed; a beginning of that where a write failed.
-abbrev pub FailsScan : {A : Type 0} → Options → List ℕ → Option (List ℕ) → Option (List ℕ)
+abbrev pub FailsTokens : {A : Type 0} → Options → List ℕ → Option (List ℕ) → Option (List ℕ)
     → ScanError A → Type 0
-FailsScan options whole old new (Source place kind) =
+FailsTokens options whole old new (Source place kind) =
     (shown : List ℕ) × StopsAtError options whole shown place kind
     × Appends old new (encode_utf8_all shown)
-FailsScan options whole old new (Fault Memory) =
+FailsTokens options whole old new (Fault Memory) =
     (shown : List ℕ) × ShowsFront options whole shown × Appends old new (encode_utf8_all shown)
-FailsScan options whole old new (Fault Write) =
+FailsTokens options whole old new (Fault Write) =
     (shown : List ℕ) × ShowsFront options whole shown
     × AppendsBeginning old new (encode_utf8_all shown)
-FailsScan options whole old new (Fault _) = ⊥
+FailsTokens options whole old new (Fault _) = ⊥
+
+-- What was written of what turns or hides text: nothing where an allocation failed; a beginning where a
+-- write failed. It has no errors of the source.
+abbrev pub FailsHidden : {A : Type 0} → Options → List ℕ → Option (List ℕ) → Option (List ℕ)
+    → ScanError A → Type 0
+FailsHidden options whole old new (Source place kind) = ⊥
+FailsHidden options whole old new (Fault Memory) = Keeps old new
+FailsHidden options whole old new (Fault Write) =
+    (shown : List ℕ) × ShowsHidden options whole shown × AppendsBeginning old new (encode_utf8_all shown)
+FailsHidden options whole old new (Fault _) = ⊥
+
+-- The same of what is asked for.
+abbrev pub FailsFor : {A : Type 0} → Shown → Options → List ℕ → Option (List ℕ) → Option (List ℕ)
+    → ScanError A → Type 0
+FailsFor asked.All options whole old new error = FailsTokens options whole old new error
+FailsFor (asked.Only list) options whole old new error = FailsTokens options whole old new error
+FailsFor asked.Bad options whole old new error = FailsTokens options whole old new error
+FailsFor asked.Hidden options whole old new error = FailsHidden options whole old new error
+
+abbrev pub FailsScan : {A : Type 0} → Options → List ℕ → Option (List ℕ) → Option (List ℕ)
+    → ScanError A → Type 0
+FailsScan options whole old new error = FailsFor options.shown options whole old new error

@@ -21,11 +21,12 @@ AreBorders bytes count borders =
     (length borders ≡ count)
     × ((k : ℕ) → k < count → IsLongestBorder bytes (k + 1) (slice_index borders k))
 
--- Where so many bytes agree, and the next doesn't, what is looked for may stand so many bytes further, at
--- no place before, and there so many agree.
+-- Where so many bytes agree, what is looked for may stand so many bytes further, at no place before, and there
+-- so many agree.
 pub record IsShift (sought : List ℕ) (held by kept : ℕ) : Type 0 where
   pub moves : 0 < by
   pub within : by ≤ held + 1
+  pub within_some : 0 < held → by ≤ held
   pub ends : (i : ℕ) → i < kept → by + i < held
   pub agrees : Agrees sought sought by kept
   pub none : (at more : ℕ) → 0 < at → at < by → at + more ≡ held → Agrees sought sought at more → ⊥

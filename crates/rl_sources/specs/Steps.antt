@@ -2,13 +2,10 @@
 use Rattle.std.specs.Prelude.{◌≡◌, ◌≢◌, ◌⊎◌, ℕ, ◌+◌, ◌<◌, ◌≤◌, Bool, List, [], ◌++◌, length, IsTrue, Option, IfNone, IfSome}
 use Rattle.std.specs.Str.{chars}
 use Rattle.rl_text.specs.Texts.{byte_len, IsTail}
-use Rattle.rl_forms.specs.Reading.{HasNoReading}
 use Rattle.rl_lexer.specs.Cursors.{CursorState, IsCursorState}
 use Rattle.rl_lexer.specs.Sources.{CutSource, StrayKind, source_view, TakesSource, IsLiteralText}
 use Rattle.rl_lexer.specs.declared.lex_error.LexError.{LexError}
 use Rattle.rl_lexer.specs.declared.sources.SourceToken.{SourceToken}
-use Rattle.rl_reading.specs.declared.found.Found.{Found}
-use Rattle.rl_reading.specs.Founds.{IsFound}
 use Rattle.rl_reasons.specs.declared.flaws.Flaw.{Flaw}
 use Rattle.rl_sources.specs.declared.literal.Literal.{Literal}
 use Rattle.rl_sources.specs.declared.options.Options.{Options}
@@ -16,7 +13,8 @@ use Rattle.rl_sources.specs.declared.options.Shown.TheVariants.{Bad}
 use Rattle.rl_sources.specs.declared.step.Step.{Step}
 use Rattle.rl_sources.specs.declared.step.Step.TheVariants.{More, End, Error}
 use Rattle.rl_sources.specs.Places.{IsPlaceIn}
-use Rattle.rl_sources.specs.Scans.{ShowsUpTo, IsErrorAt, FindsFlaw, FindsNoFlaw}
+use Rattle.rl_sources.specs.Findings.{IsFoundIn, IsRight, IsWrong}
+use Rattle.rl_sources.specs.Scans.{ShowsUpTo, IsErrorAt}
 
 -- flaws are looked for: the line of a bad literal says why it is bad, or bad ones are shown
 abbrev pub LooksForFlaws : Options → Type 0
@@ -43,18 +41,13 @@ pub record BeginsRest (token : SourceToken) (text rest : List ℕ) : Type 0 wher
   pub after : List ℕ
   pub begins : chars rest ≡ chars token.text.now ++ after
 
--- The text was read, and this was found.
-pub record IsFoundIn (text : List ℕ) (found : Option Found) : Type 0 where
-  pub none : IfNone found (HasNoReading (chars text))
-  pub some : IfSome found (IsFound text)
-
--- The literal stands in the text, it was read, and its flaw was looked for.
+-- The literal stands in the text, it was read, and what is wrong with it was looked for.
 pub record IsLiteralOf (options : Options) (text : List ℕ) (literal : Literal) : Type 0 where
   pub begins : BeginsRest literal.token.now text literal.rest.now
   pub is_read : IsFoundIn literal.token.now.text.now literal.found.now
-  pub flaw : IfSome literal.flaw (FindsFlaw (chars literal.token.now.text.now))
-  pub no_flaw : IfNone literal.flaw
-      (LooksForFlaws options → FindsNoFlaw (chars literal.token.now.text.now))
+  pub wrong : IfSome literal.wrong (IsWrong options.any_suffix literal.token.now.text.now literal.found.now)
+  pub right : IfNone literal.wrong
+      (LooksForFlaws options → IsRight options.any_suffix literal.token.now.text.now literal.found.now)
 
 -- The cursor over tokens goes over the text whose places are looked for.
 pub record IsCursorOver (tokens : CursorState) (places : List ℕ) : Type 0 where

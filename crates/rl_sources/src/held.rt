@@ -10,6 +10,7 @@ ghost use Rattle.rl_reading.specs.Founds.{IsFound, is_quoted};
 ghost use Rattle.rl_reading.specs.Segments.{IsBytePlace, IsByteEnd};
 ghost use Rattle.rl_sources.specs.Held.{AreContentsOf, Holds, IsCutAt, IsHeldAt};
 
+use crate::options::Matching;
 use crate::search::first_in;
 use rl_forms::Kind;
 use rl_fronts::{bytes_of_body, str_of_body};
@@ -112,15 +113,16 @@ pub(crate) fn held_at<A: Allocator + Copy>(
     alloc: A,
     text: &str,
     found: Option<Found>,
+    matching: Matching,
     sought: &str,
 ) -> Result<Option<(usize, usize)>, AllocError>
     requires none { IfNone found (HasNoReading (chars text.now)) }
     requires found { IfSome found (IsFound text.now) }
     ensures some { IfOk result (λ held. IfSome held
-        (λ range. IsHeldAt sought.now (chars text.now) range.0 range.1)) }
+        (λ range. IsHeldAt matching sought.now (chars text.now) range.0 range.1)) }
     ensures cut { IfOk result (λ held. IfSome held (λ range. IsCutAt (chars text.now) range.0)) }
     ensures within { IfOk result (λ held. IfSome held (λ range. range.1 ≤ byte_len (chars text.now))) }
-    ensures none { IfOk result (λ held. IfNone held (Holds sought.now (chars text.now) → ⊥)) }
+    ensures none { IfOk result (λ held. IfNone held (Holds matching sought.now (chars text.now) → ⊥)) }
 {
     let Some(found) = found else {
         return Ok(None);
@@ -128,7 +130,7 @@ pub(crate) fn held_at<A: Allocator + Copy>(
     let Some(contents) = contents_of(alloc, text, &found)? else {
         return Ok(None);
     };
-    let Some(at) = first_in(alloc, contents.as_slice(), sought.as_bytes())? else {
+    let Some(at) = first_in(alloc, matching, contents.as_slice(), sought.as_bytes())? else {
         return Ok(None);
     };
     let last = at + sought.len().saturating_sub(1);

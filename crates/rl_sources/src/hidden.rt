@@ -1,40 +1,167 @@
-//! Characters of a literal that turn or hide text, as they are written.
+//! Characters of a source that turn or hide text, wherever they stand.
 
-ghost use Rattle.std.specs.Prelude.{◌≡◌, ◌↔◌, IsTrue, IfNone, IfSome};
+ghost use Rattle.std.specs.Prelude.{◌≡◌, ◌+◌, ◌++◌, ◌∷◌, IfOk, OnOk, length, string_bytes};
 ghost use Rattle.std.specs.Str.{chars};
-ghost use Rattle.rl_sources.specs.Hidden.{HoldsHidden, IsHiddenAt};
-ghost use Rattle.rl_sources.specs.declared.options.Shown.TheVariants.{Hidden};
+ghost use Rattle.rl_text.specs.Texts.{IsTail};
+ghost use Rattle.rl_lexer.specs.Cursors.{IsCursorState};
+ghost use Rattle.rl_lexer.specs.Sources.{without_mark as unmarked};
+ghost use Rattle.rl_lines.specs.Lines.{Appends};
+ghost use Rattle.rl_sources.specs.Hidden.{IsHiddenLine, IsShownCharacter, ShowsHidden, character_words, direction_name as name_of, hidden_end, hides as is_hider, is_layout as layout};
 
-use crate::options::Shown;
-use rl_files::is_hiding;
-use rl_tokens::text::split_char;
+use crate::json::{is_json, push_ascii, push_member};
+use crate::options::{Form, Options};
+use crate::place::{Places, place_of, push_front};
+use rl_files::needs_escape;
+use rl_tokens::text::{begins_with, split_char};
+use std::alloc::{AllocError, Allocator};
 
-/// Which bytes of a text its first character takes that turns or hides text: `None` where it holds none.
-#[inline(never)]
-pub(crate) fn hidden_at(text: &str) -> Option<(usize, usize)>
-    ensures some { IfSome result (λ range. IsHiddenAt (chars text.now) range.0 range.1) }
-    ensures none { IfNone result (HoldsHidden (chars text.now) → ⊥) }
+/// Whether a character is a control character of the layout: a tab, an LF, a form feed, or a CR before an LF.
+fn is_layout(c: char, after: &str) -> bool
+    ensures { result ≡ layout c (chars after.now) }
 {
-    if text.is_ascii() {
-        return None;
-    }
-    let mut rest = text;
-    while let Some((c, after)) = split_char(rest) {
-        if is_hiding(c) {
-            return Some((text.len() - rest.len(), text.len() - after.len()));
-        }
-        rest = after;
-    }
-    None
+    matches!(c, '\t' | '\n' | '\u{c}') || c == '\r' && begins_with(after, '\n')
 }
 
-/// Whether a text holds a character that turns or hides text, where that is asked for.
+/// Whether a character turns or hides text: one that is printed as an escape, but for the layout.
+#[tactic(auto, using(crate::proofs::HiddenLemmas::plain_hides))]
 #[inline(always)]
-pub(crate) fn is_hidden(shown: Shown<'_>, text: &str) -> bool
-    ensures { shown.entry ≡ Hidden → (IsTrue result ↔ HoldsHidden (chars text.now)) }
+fn hides(c: char, after: &str) -> bool
+    ensures { result ≡ is_hider c (chars after.now) }
 {
-    match shown {
-        Shown::Hidden => hidden_at(text).is_some(),
-        _ => false,
+    if c >= ' ' && c <= '~' {
+        return false;
     }
+    needs_escape(c) && !is_layout(c, after)
+}
+
+/// What Unicode calls a character that turns the direction of text, after a space; of others nothing.
+fn direction_name(c: char) -> &'static str
+    ensures { result.now ≡ name_of c }
+{
+    match c {
+        '\u{61c}' => " ARABIC LETTER MARK",
+        '\u{200e}' => " LEFT-TO-RIGHT MARK",
+        '\u{200f}' => " RIGHT-TO-LEFT MARK",
+        '\u{202a}' => " LEFT-TO-RIGHT EMBEDDING",
+        '\u{202b}' => " RIGHT-TO-LEFT EMBEDDING",
+        '\u{202c}' => " POP DIRECTIONAL FORMATTING",
+        '\u{202d}' => " LEFT-TO-RIGHT OVERRIDE",
+        '\u{202e}' => " RIGHT-TO-LEFT OVERRIDE",
+        '\u{2066}' => " LEFT-TO-RIGHT ISOLATE",
+        '\u{2067}' => " RIGHT-TO-LEFT ISOLATE",
+        '\u{2068}' => " FIRST STRONG ISOLATE",
+        '\u{2069}' => " POP DIRECTIONAL ISOLATE",
+        _ => "",
+    }
+}
+
+/// The words of a character: its number, and its name where it turns the direction of text.
+fn words_of<A: Allocator>(alloc: A, c: char) -> Result<String<A>, AllocError>
+    ensures { IfOk result (λ words. string_bytes words ≡ character_words c) }
+{
+    let number = c as u32;
+    let name = direction_name(c);
+    format!(in alloc; "U+{number:04X}{name}")
+}
+
+/// Appends what stands after the place in the line of a character.
+fn push_hidden_end<A: Allocator>(
+    alloc: A,
+    out: &mut String<A>,
+    form: Form,
+    c: char,
+) -> Result<(), AllocError>
+    ensures { OnOk result (chars (string_bytes out.new)
+        ≡ chars (string_bytes out.old) ++ hidden_end form c) }
+{
+    let words = words_of(alloc, c)?;
+    if is_json(form) {
+        push_member(out, "hidden", words.as_str())?;
+        return push_ascii(out, "}\n");
+    }
+    out.push_str(words.as_str())?;
+    push_ascii(out, "\n")
+}
+
+/// Appends the line of the character that begins a rest of the source, and after which so much is left.
+#[inline(never)]
+fn push_hidden_line<'t, A: Allocator>(
+    alloc: A,
+    out: &mut String<A>,
+    options: &Options<'_>,
+    places: &mut Places<'t>,
+    rest: &'t str,
+    c: char,
+    after: &'t str,
+) -> Result<(), AllocError>
+    requires begins { chars rest.now ≡ c ∷ chars after.now }
+    requires rest { IsCursorState places.old rest.now }
+    requires after { IsCursorState places.old after.now }
+    ensures line { OnOk result (Appends (IsHiddenLine options.now (chars places.old) c (chars after.now))
+        (chars (string_bytes out.old)) (chars (string_bytes out.new))) }
+    ensures same { places.new ≡ places.old }
+{
+    let lo = places.byte_of(rest);
+    let hi = places.byte_of(after);
+    let place = place_of(options, places, rest, lo, hi);
+    push_front(out, options.form, options.path, &place)?;
+    push_hidden_end(alloc, out, options.form, c)
+}
+
+/// Appends what is shown of the character that begins a rest of the source, and after which so much is left.
+#[inline(always)]
+fn push_character<'t, A: Allocator>(
+    alloc: A,
+    out: &mut String<A>,
+    options: &Options<'_>,
+    places: &mut Places<'t>,
+    rest: &'t str,
+    c: char,
+    after: &'t str,
+) -> Result<(), AllocError>
+    requires begins { chars rest.now ≡ c ∷ chars after.now }
+    requires rest { IsCursorState places.old rest.now }
+    requires after { IsCursorState places.old after.now }
+    ensures shown { OnOk result (Appends (IsShownCharacter options.now (chars places.old) c (chars after.now))
+        (chars (string_bytes out.old)) (chars (string_bytes out.new))) }
+    ensures same { places.new ≡ places.old }
+{
+    if !hides(c, after) {
+        return Ok(());
+    }
+    push_hidden_line(alloc, out, options, places, rest, c, after)
+}
+
+/// The text after a byte order mark at its front.
+fn after_mark(text: &str) -> &str
+    ensures rest { chars result.now ≡ unmarked (chars text.now) }
+    ensures following { IsTail text.now result.now }
+{
+    match split_char(text) {
+        Some(('\u{feff}', after)) => after,
+        _ => text,
+    }
+}
+
+/// The lines of the characters of a source that turn or hide text, in order: the place of each, and after it its number,
+/// with its name where it turns the direction of text.
+///
+/// # Errors
+///
+/// An allocation failure.
+pub(crate) fn hidden_lines<A: Allocator + Copy>(
+    alloc: A,
+    options: &Options<'_>,
+    text: &str,
+) -> Result<String<A>, AllocError>
+    ensures { IfOk result (λ lines. ShowsHidden options.now (chars text.now) (chars (string_bytes lines))) }
+{
+    let mut lines = String::new(alloc);
+    let mut places = Places::new(text);
+    let mut rest = after_mark(text);
+    while let Some((c, after)) = split_char(rest) {
+        push_character(alloc, &mut lines, options, &mut places, rest, c, after)?;
+        rest = after;
+    }
+    Ok(lines)
 }

@@ -9,10 +9,10 @@ ghost use Rattle.rl_forms.specs.Reading.{HasNoReading, truth_text};
 ghost use Rattle.rl_lexer.specs.LexErrors.{lex_message};
 ghost use Rattle.rl_lines.specs.Lines.{Appends};
 ghost use Rattle.rl_reading.specs.Founds.{IsFound};
-ghost use Rattle.rl_reasons.specs.FlawWords.{flaw_message};
-ghost use Rattle.rl_sources.specs.Json.{is_json as prints_json, more_numbers, number_array, object_front, string_member, IsJsonLiteral, IsJsonValueOf, flaw_members, error_members};
+ghost use Rattle.rl_sources.specs.Json.{is_json as prints_json, more_numbers, number_array, object_front, string_member, IsJsonLiteral, IsJsonValueOf, finding_members, error_members};
 ghost use Rattle.rl_sources.specs.JsonStrings.{json_string};
 
+use crate::finding::Reason;
 use crate::held::{byte_contents, bytes_contents};
 use crate::json_string::push_json_string;
 use crate::options::Form;
@@ -20,7 +20,6 @@ use rl_forms::Kind;
 use rl_fronts::{digits_of_found, str_of_body};
 use rl_lines::label_of;
 use rl_reading::Found;
-use rl_reasons::FlawKind;
 use rl_tokens::LexKind;
 use std::alloc::{AllocError, Allocator};
 
@@ -33,7 +32,7 @@ pub fn is_json(form: Form) -> bool
 }
 
 /// Appends ASCII.
-fn push_ascii<A: Allocator>(out: &mut String<A>, piece: &str) -> Result<(), AllocError>
+pub(crate) fn push_ascii<A: Allocator>(out: &mut String<A>, piece: &str) -> Result<(), AllocError>
     requires { list_all is_ascii piece.now ≡ true }
     ensures { OnOk result
         (chars (string_bytes out.new) ≡ chars (string_bytes out.old) ++ piece.now) }
@@ -85,7 +84,11 @@ pub(crate) fn push_object_front<A: Allocator>(
 }
 
 /// Appends a member after others, whose value is a string.
-fn push_member<A: Allocator>(out: &mut String<A>, name: &str, text: &str) -> Result<(), AllocError>
+pub(crate) fn push_member<A: Allocator>(
+    out: &mut String<A>,
+    name: &str,
+    text: &str,
+) -> Result<(), AllocError>
     requires { list_all is_ascii name.now ≡ true }
     ensures { OnOk result (chars (string_bytes out.new)
         ≡ chars (string_bytes out.old) ++ string_member name.now (chars text.now)) }
@@ -281,21 +284,20 @@ pub(crate) fn push_json_literal<A: Allocator>(
     }
 }
 
-/// Appends the members of a flaw: the literal's text, what is wrong, and the piece that it spoils, and the end of its
-/// object.
-pub(crate) fn push_json_flaw<A: Allocator>(
-    alloc: A,
+/// Appends the members of a finding: the literal's text, what is wrong, by a name that stays and in words, and the piece that is
+/// shown, and the end of its object.
+pub(crate) fn push_json_finding<A: Allocator>(
     out: &mut String<A>,
     text: &str,
-    kind: FlawKind,
+    reason: Reason,
     piece: &str,
 ) -> Result<(), AllocError>
     ensures { OnOk result (chars (string_bytes out.new) ≡ chars (string_bytes out.old)
-        ++ flaw_members (chars text.now) (flaw_message kind) (chars piece.now)) }
+        ++ finding_members (chars text.now) reason (chars piece.now)) }
 {
-    let words = format!(in alloc; "{kind}")?;
     push_member(out, "text", text)?;
-    push_member(out, "error", words.as_str())?;
+    push_member(out, "id", reason.id())?;
+    push_member(out, "error", reason.words())?;
     push_member(out, "piece", piece)?;
     push_ascii(out, "}\n")
 }

@@ -1,13 +1,15 @@
-//! The flaw of a literal of a source, as rustc finds it.
+//! What is wrong with a literal of a source, as rustc finds it.
 
 ghost use Rattle.std.specs.Prelude.{◌≡◌, ◌↔◌, None, Some, IsTrue, IfNone, IfSome};
 ghost use Rattle.std.specs.Str.{chars};
-ghost use Rattle.rl_sources.specs.Scans.{FindsFlaw, FindsNoFlaw};
+ghost use Rattle.rl_sources.specs.Findings.{HasFoundFault, HasFoundType, IsFoundIn, IsRight, IsWrong};
 ghost use Rattle.rl_sources.specs.Steps.{LooksForFlaws};
 
+use crate::finding::Wrong;
 use crate::options::{Options, Shown};
 use rl_file_reasons::explain_value_in_file;
-use rl_reasons::Flaw;
+use rl_reading::Found;
+use rl_types::{TypeFault, type_fault};
 
 /// Whether flaws are looked for.
 fn looks_for_flaws(options: &Options<'_>) -> bool
@@ -16,22 +18,43 @@ fn looks_for_flaws(options: &Options<'_>) -> bool
     options.explains || matches!(options.shown, Shown::Bad)
 }
 
-/// The flaw of a literal's text, where flaws are looked for.
-pub(crate) fn flaw_of(options: &Options<'_>, text: &str) -> Option<Flaw>
-    ensures some { IfSome result (FindsFlaw (chars text.now)) }
-    ensures none { IfNone result (LooksForFlaws options.now → FindsNoFlaw (chars text.now)) }
+/// Why Rust has no type for a literal, of what reading it found; a minus may stand before it.
+fn fault_of(text: &str, found: &Option<Found>) -> Option<TypeFault>
+    requires { IsFoundIn text.now found.now }
+    ensures some { IfSome result (HasFoundFault text.now found.now) }
+    ensures none { IfNone result (HasFoundType text.now found.now) }
 {
-    if looks_for_flaws(options) {
-        explain_value_in_file(text)
-    } else {
-        None
+    match found {
+        Some(found) => type_fault(text, found, true),
+        None => None,
     }
 }
 
-/// The flaw that the line of a literal reports, where lines do so.
-pub(crate) fn reason_of(explains: bool, flaw: Option<Flaw>) -> Option<Flaw>
-    ensures some { IfSome result (λ reason. IsTrue explains × (flaw ≡ Some reason)) }
-    ensures none { IfNone result (IsTrue explains → flaw ≡ None) }
+/// What is wrong with a literal, where that is looked for.
+pub(crate) fn wrong_in(options: &Options<'_>, text: &str, found: &Option<Found>) -> Option<Wrong>
+    requires { IsFoundIn text.now found.now }
+    ensures some { IfSome result (IsWrong options.now.any_suffix text.now found.now) }
+    ensures none { IfNone result (LooksForFlaws options.now → IsRight options.now.any_suffix text.now found.now) }
 {
-    if explains { flaw } else { None }
+    if !looks_for_flaws(options) {
+        return None;
+    }
+    if let Some(flaw) = explain_value_in_file(text) {
+        return Some(Wrong::Flaw(flaw));
+    }
+    if options.any_suffix {
+        return None;
+    }
+    match fault_of(text, found) {
+        Some(fault) => Some(Wrong::Type(fault)),
+        None => None,
+    }
+}
+
+/// What the lines of a literal report, where lines do so.
+pub(crate) fn reason_of(explains: bool, wrong: Option<Wrong>) -> Option<Wrong>
+    ensures some { IfSome result (λ reason. IsTrue explains × (wrong ≡ Some reason)) }
+    ensures none { IfNone result (IsTrue explains → wrong ≡ None) }
+{
+    if explains { wrong } else { None }
 }

@@ -2,9 +2,9 @@
 
 ghost use Rattle.std.specs.Prelude.{◌≡◌, None, Some, MatchOption};
 
+use crate::finding::Wrong;
 use rl_forms::Kind;
 use rl_reading::Found;
-use rl_reasons::Flaw;
 use rl_tokens::SourceToken;
 
 /// A literal of a source.
@@ -16,8 +16,8 @@ pub(crate) struct Literal<'a, 't> {
     pub(crate) rest: &'t str,
     /// What reading its text found.
     pub(crate) found: &'a Option<Found>,
-    /// Its flaw, where flaws are looked for.
-    pub(crate) flaw: Option<Flaw>,
+    /// What is wrong with it, where that is looked for.
+    pub(crate) wrong: Option<Wrong>,
 }
 
 /// The kind of what was found.

@@ -30,10 +30,21 @@ pub enum Shown<'a> {
     All,
     /// Those whose lines begin with one of these words, in any case of their letters; commas separate the words.
     Only(&'a str),
-    /// Those that are bad: no literal tokens of Rust, where a CR LF of the file is an LF, or integers past 128 bits.
+    /// Those that are bad: no literal tokens of Rust, where a CR LF of the file is an LF, integers past 128 bits, or literals that
+    /// Rust has no type for.
     Bad,
-    /// Those that hold characters which turn or hide text, as they are written.
+    /// None: in their place the characters of the source are shown that turn or hide text, wherever they stand.
     Hidden,
+}
+
+/// How a text is looked for.
+#[derive(Clone, Copy)]
+pub struct Matching {
+    /// Whether small letters of ASCII and large ones are the same.
+    pub ignores_case: bool,
+    /// Whether it has to stand as whole words: between bytes that are no letter and no digit of ASCII, no `_`, and not past
+    /// ASCII.
+    pub whole_words: bool,
 }
 
 /// How a source is scanned.
@@ -43,6 +54,8 @@ pub struct Options<'a> {
     pub shown: Shown<'a>,
     /// A text that is looked for: only literals are shown whose contents hold it, at the place where it begins there.
     pub finds: Option<&'a str>,
+    /// How it is looked for.
+    pub matching: Matching,
     /// How they are printed.
     pub spelling: Spelling,
     /// How each line is written.
@@ -51,8 +64,10 @@ pub struct Options<'a> {
     pub by_line: bool,
     /// Whether a stray character is an error, as it is in Rust.
     pub rejects_strays: bool,
-    /// Whether the line of a bad literal says why it is bad.
+    /// Whether the lines of a bad literal say why it is bad.
     pub explains: bool,
+    /// Whether a literal may have any suffix, as where a macro takes it, and any value.
+    pub any_suffix: bool,
     /// What stands before each place: a file's path as it is printed, or for the form `Json` as it is.
     pub path: Option<&'a str>,
 }
@@ -66,24 +81,31 @@ impl Default for Options<'_> {
     ghost is_default = { λ options. options ≡ record {
       shown = All;
       finds = None;
+      matching = record { ignores_case = false; whole_words = false };
       spelling = Value;
       form = Plain;
       by_line = false;
       rejects_strays = false;
       explains = false;
+      any_suffix = false;
       path = None;
     } };
 
-    /// All literals, each by its value after its place in bytes, without reasons.
+    /// All literals, each by its value after its place in bytes, without reasons; texts are looked for as they are.
     fn default() -> Self {
         Options {
             shown: Shown::All,
             finds: None,
+            matching: Matching {
+                ignores_case: false,
+                whole_words: false,
+            },
             spelling: Spelling::Value,
             form: Form::Plain,
             by_line: false,
             rejects_strays: false,
             explains: false,
+            any_suffix: false,
             path: None,
         }
     }
@@ -97,16 +119,15 @@ pub fn names(list: &str, label: &str) -> bool
 }
 
 impl Shown<'_> {
-    /// Whether a literal is shown whose line begins with this word, which is bad or not, and which holds characters that
-    /// turn or hide text or not.
-    pub fn picks(self, label: &str, is_bad: bool, is_hidden: bool) -> bool
-        ensures { IsTrue result ↔ Picks self.entry label.now (IsTrue is_bad) (IsTrue is_hidden) }
+    /// Whether a literal is shown whose line begins with this word, and which is bad or not.
+    pub fn picks(self, label: &str, is_bad: bool) -> bool
+        ensures { IsTrue result ↔ Picks self.entry label.now (IsTrue is_bad) }
     {
         match self {
             Shown::All => true,
             Shown::Only(list) => names(list, label),
             Shown::Bad => is_bad,
-            Shown::Hidden => is_hidden,
+            Shown::Hidden => false,
         }
     }
 }

@@ -196,6 +196,14 @@ impl<'t> Places<'t> {
         &self.text[lo..]
     }
 
+    /// The byte where a rest of the text begins.
+    pub(crate) fn byte_of(&self, rest: &'t str) -> usize
+        requires { IsCursorState self.now rest.now }
+        ensures { result + length rest.now ≡ length self.now }
+    {
+        self.text.len() - rest.len()
+    }
+
     /// The line and column where a rest of the text begins.
     fn at(&mut self, rest: &'t str) -> LineColumn
         requires { IsCursorState self.old rest.now }

@@ -8,18 +8,18 @@ ghost use Rattle.rl_lexer.specs.Sources.{TakesSource};
 ghost use Rattle.rl_files.specs.Visible.{visible};
 ghost use Rattle.rl_lines.specs.Lines.{Appends};
 ghost use Rattle.rl_sources.specs.Held.{IsCutAt};
-ghost use Rattle.rl_sources.specs.Scans.{IsAskedLine, IsErrorAt, IsHeldLine, IsHiddenLine, IsLineAt, IsLineEnd, IsLineIn, IsPickedLine, IsPlacedLine, IsPrintedAs, IsShownLiteral};
+ghost use Rattle.rl_sources.specs.Scans.{IsErrorAt, IsHeldLine, IsLineAt, IsLineEnd, IsLineIn, IsPickedLine, IsPlacedLine, IsPrintedAs, IsShownLiteral};
 ghost use Rattle.rl_sources.specs.declared.options.Spelling.TheVariants.{Value};
-ghost use Rattle.rl_sources.specs.Steps.{BeginsRest, EndsUnshown, IsAcceptedToken, IsCursorOver, IsLiteralOf, IsFoundIn, IsStepOf, StopsUnshown, TakesShown};
+ghost use Rattle.rl_sources.specs.Steps.{BeginsRest, EndsUnshown, IsAcceptedToken, IsCursorOver, IsLiteralOf, IsStepOf, StopsUnshown, TakesShown};
+ghost use Rattle.rl_sources.specs.Findings.{IsFoundIn};
 
+use crate::flaw_lines::push_wrong;
 use crate::held::held_at;
-use crate::hidden::{hidden_at, is_hidden};
 use crate::json::push_json_literal;
-use crate::judge::{flaw_of, reason_of};
+use crate::judge::{reason_of, wrong_in};
 use crate::literal::{Literal, kind_of};
-use crate::options::{Form, Options, Shown, Spelling};
+use crate::options::{Form, Options, Spelling};
 use crate::place::{Place, Places, place_inside, place_of, push_front};
-use crate::reason::push_flaw;
 use rl_files::{make_visible, push_visible};
 use rl_lines::{bare_value, label_of, push_bare, push_found};
 use rl_reading::{Found, find};
@@ -176,7 +176,7 @@ fn push_inside<'t, A: Allocator + Copy>(
     push_line_at(alloc, out, options, literal, place)
 }
 
-/// Appends the line of a literal: its own, or where lines report flaws and it has one, the line that says why it is bad.
+/// Appends the lines of a literal: its own, or where lines report what is wrong and something is, those that say so.
 #[inline(always)]
 fn push_line_in<'t, A: Allocator + Copy>(
     alloc: A,
@@ -192,8 +192,8 @@ fn push_line_in<'t, A: Allocator + Copy>(
         (chars (string_bytes out.old)) (chars (string_bytes out.new))) }
     ensures same { places.new ≡ places.old }
 {
-    match reason_of(options.explains, literal.flaw) {
-        Some(flaw) => push_flaw(alloc, out, options, literal, places, flaw),
+    match reason_of(options.explains, literal.wrong) {
+        Some(wrong) => push_wrong(alloc, out, options, literal, places, wrong),
         None => push_placed(alloc, out, options, literal, places),
     }
 }
@@ -215,54 +215,17 @@ fn push_held_line<'t, A: Allocator + Copy>(
         (chars (string_bytes out.old)) (chars (string_bytes out.new))) }
     ensures same { places.new ≡ places.old }
 {
-    let Some(range) = held_at(alloc, literal.token.text, *literal.found, sought)? else {
+    let Some(range) = held_at(
+        alloc,
+        literal.token.text,
+        *literal.found,
+        options.matching,
+        sought,
+    )?
+    else {
         return Ok(());
     };
     push_inside(alloc, out, options, literal, places, range)
-}
-
-/// Appends the line of a literal whose text holds a character that turns or hides text, at the place of the first.
-#[inline(never)]
-fn push_hidden_line<'t, A: Allocator + Copy>(
-    alloc: A,
-    out: &mut String<A>,
-    options: &Options<'_>,
-    literal: &Literal<'_, 't>,
-    places: &mut Places<'t>,
-) -> Result<(), AllocError>
-    requires { IsLiteralOf options.now places.old literal.now }
-    ensures shown { OnOk result (Appends
-        (IsHiddenLine options.now (chars places.old) (chars literal.now.token.now.text.now) literal.now.token.now.lo)
-        (chars (string_bytes out.old)) (chars (string_bytes out.new))) }
-    ensures same { places.new ≡ places.old }
-{
-    let Some(range) = hidden_at(literal.token.text) else {
-        return Ok(());
-    };
-    push_inside(alloc, out, options, literal, places, range)
-}
-
-/// Appends what is shown of a literal where no text is looked for: its line, which stands at the first character that
-/// turns or hides text where these are asked for.
-#[inline(always)]
-fn push_asked<'t, A: Allocator + Copy>(
-    alloc: A,
-    out: &mut String<A>,
-    options: &Options<'_>,
-    literal: &Literal<'_, 't>,
-    places: &mut Places<'t>,
-) -> Result<(), AllocError>
-    requires { IsLiteralOf options.now places.old literal.now }
-    ensures shown { OnOk result (Appends
-        (IsAskedLine options.now.shown options.now (chars places.old)
-        (chars literal.now.token.now.text.now) literal.now.token.now.lo literal.now.token.now.hi)
-        (chars (string_bytes out.old)) (chars (string_bytes out.new))) }
-    ensures same { places.new ≡ places.old }
-{
-    match options.shown {
-        Shown::Hidden => push_hidden_line(alloc, out, options, literal, places),
-        _ => push_line_in(alloc, out, options, literal, places),
-    }
 }
 
 /// Appends what is shown of a literal that is picked: where a text is looked for, its line where its contents hold that.
@@ -282,7 +245,7 @@ fn push_picked<'t, A: Allocator + Copy>(
     ensures same { places.new ≡ places.old }
 {
     match options.finds {
-        None => push_asked(alloc, out, options, literal, places),
+        None => push_line_in(alloc, out, options, literal, places),
         Some(sought) => push_held_line(alloc, out, options, literal, places, sought),
     }
 }
@@ -305,19 +268,16 @@ fn push_literal_token<'t, A: Allocator + Copy>(
     ensures same { places.new ≡ places.old }
 {
     let found = find(token.text);
-    let flaw = flaw_of(options, token.text);
-    let hides = is_hidden(options.shown, token.text);
-    if !options
-        .shown
-        .picks(label_of(kind_of(&found)), flaw.is_some(), hides)
-    {
+    let wrong = wrong_in(options, token.text, &found);
+    let label = label_of(kind_of(&found));
+    if !options.shown.picks(label, wrong.is_some()) {
         return Ok(());
     }
     let literal = Literal {
         token: &token,
         rest,
         found: &found,
-        flaw,
+        wrong,
     };
     push_picked(alloc, out, options, &literal, places)
 }

@@ -12,7 +12,8 @@ mod proved;
 pub mod rattle_std;
 
 use navyspindle::rendered::{
-    rl_file_reasons, rl_forms, rl_lexer, rl_parts, rl_reading, rl_reasons, rl_settings, rl_text,
+    rl_file_reasons, rl_flaws, rl_forms, rl_lexer, rl_parts, rl_reading, rl_reasons, rl_settings,
+    rl_text, rl_types,
 };
 #[cfg(not(feature = "rendered"))]
 use proved::{

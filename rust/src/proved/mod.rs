@@ -11,5 +11,7 @@ pub mod rl_reasons;
 pub mod rl_recovery;
 pub mod rl_settings;
 pub mod rl_strict;
+pub mod rl_style;
 pub mod rl_text;
+pub mod rl_types;
 pub mod rl_writing;

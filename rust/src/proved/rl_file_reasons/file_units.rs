@@ -15,9 +15,9 @@ fn after_line_end(text: &str) -> Option<&str> {
     strip_byte(line_feed, b'\n')
 }
 
-/// The character at the front as rustc reads it, CR LF as LF, and the text after it.
+/// The first character of a text as rustc reads it, CR LF as LF, and the text after it; `None` at the end.
 #[inline(always)]
-pub(crate) fn split_read(text: &str) -> Option<(char, &str)> {
+pub fn split_read(text: &str) -> Option<(char, &str)> {
     match after_line_end(text) {
         Some(rest) => Some(('\n', rest)),
         None => {

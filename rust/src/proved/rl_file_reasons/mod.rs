@@ -9,3 +9,4 @@ mod file_walk;
 pub use crate::rl_file_reasons::file_flaws::{explain_signed_value_in_file, explain_value_in_file};
 #[cfg(feature = "rendered")]
 pub use crate::rl_file_reasons::file_flaws::explain_in_file;
+pub use crate::rl_file_reasons::file_units::split_read;

@@ -11,4 +11,5 @@ mod walks;
 pub use crate::rl_flaws::bad_piece::BadPiece;
 pub use crate::rl_flaws::flaws::Flaws;
 pub use crate::rl_flaws::looks::looks_like;
+pub use crate::rl_flaws::piece_ends::is_of_unit;
 pub use crate::rl_flaws::pieces::{Piece, Pieces};

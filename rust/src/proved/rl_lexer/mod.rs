@@ -16,5 +16,5 @@ pub use crate::rl_lexer::lex_error::{LexError, LexKind};
 pub use crate::rl_lexer::lexeme::Form;
 #[cfg(feature = "rendered")]
 pub use crate::rl_lexer::lines::{LineColumn, Lines};
-pub use crate::rl_lexer::source::{SourceForm, first_source};
+pub use crate::rl_lexer::source::{SourceForm, first_source, without_mark};
 pub use crate::rl_lexer::sources::{SourceToken, Sources};

@@ -5,7 +5,7 @@ use crate::rl_lexer::lex_error::LexKind;
 use crate::rl_lexer::lexeme::{begins_hashed_quote, begins_marked_identifier};
 use crate::rl_forms::kind::{BYTE_OPENER, BYTE_STR_OPENER, C_STR_OPENER, CHAR_OPENER, STR_OPENER};
 use crate::rl_text::characters::is_start;
-use crate::rl_text::text::{begins_with, split_char};
+use crate::rl_text::text::{begins, begins_with, split_char};
 
 /// Why no token begins the text, by its first characters.
 pub(crate) fn error_kind(rest: &str) -> LexKind {
@@ -36,11 +36,6 @@ pub(crate) fn source_error_kind(rest: &str) -> LexKind {
 /// Whether the text begins as a quoted literal, or as a block comment.
 pub(crate) fn opens(text: &str) -> bool {
     begins(text, "/*") || (begins_quote(text) || begins_with(text, '\''))
-}
-
-/// Whether the text begins with these characters, which are ASCII.
-fn begins(text: &str, word: &str) -> bool {
-    text.starts_with(word)
 }
 
 fn begins_doc_comment(text: &str) -> bool {

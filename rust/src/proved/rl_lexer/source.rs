@@ -224,7 +224,7 @@ pub(crate) fn without_preamble(text: &str) -> &str {
 }
 
 /// The text without a byte order mark at its front.
-pub(crate) fn without_mark(text: &str) -> &str {
+pub fn without_mark(text: &str) -> &str {
     match split_char(text) {
         Some(('\u{feff}', following)) => following,
         _ => text,

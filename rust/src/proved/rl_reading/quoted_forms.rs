@@ -92,7 +92,7 @@ pub fn split_last_quote(text: &str) -> Option<(&str, &str)> {
 
 /// Whether the text holds a NUL.
 pub(crate) fn has_nul(text: &str) -> bool {
-    text.contains('\0')
+    text.as_bytes().contains(&b'\0')
 }
 
 /// The text after the quote of the kind, where that stands at the front.

@@ -2,7 +2,7 @@
 //! Which error stands at the front of a text, and where reading goes on after it.
 
 use crate::rl_lexer::LexKind;
-use crate::rl_text::text::{begins_with, split_char};
+use crate::rl_text::text::{begins, begins_with, split_char};
 
 /// Why no token begins the text, where none does.
 pub(crate) fn error_kind(text: &str) -> LexKind {
@@ -55,9 +55,4 @@ fn begins_character(text: &str) -> bool {
         Some(('b', following)) => begins_with(following, '\''),
         _ => false,
     }
-}
-
-/// Whether the text begins with these characters, which are ASCII.
-fn begins(text: &str, word: &str) -> bool {
-    text.starts_with(word)
 }

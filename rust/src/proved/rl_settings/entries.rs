@@ -5,7 +5,6 @@ use crate::rl_settings::settings::{is_mark, missed, take_literal, take_mark, tak
 use crate::rl_settings::syntax_error::{Part, SyntaxError};
 use crate::rl_lexer::{Lexeme, Tokens};
 use crate::rl_reading::NextLiteral;
-use crate::rl_text::text::split_char;
 
 /// A name: an identifier, or some with a dot between two, as `server.port`. Nothing stands beside a dot.
 #[derive(Clone, Copy)]
@@ -163,7 +162,7 @@ fn take_entry<'t>(tokens: &mut Tokens<'t>, text: &str) -> Result<NextEntry<'t>, 
 /// is missed. No memory is taken, so whether a name stood before is for the caller.
 ///
 /// Each group is closed in a text that has no [`first_error`](crate::rl_settings::first_error). A byte order mark at the text's front is for
-/// [`without_mark`].
+/// [`crate::rl_lexer::without_mark`].
 pub fn entry_step<'t>(tokens: &mut Tokens<'t>, text: &str) -> EntryStep<'t> {
     if tokens.rest().is_empty() {
         return EntryStep::End;
@@ -175,13 +174,5 @@ pub fn entry_step<'t>(tokens: &mut Tokens<'t>, text: &str) -> EntryStep<'t> {
             EntryStep::Entry(entry)
         }
         Err(rejection) => EntryStep::Rejected(rejection),
-    }
-}
-
-/// The text without a byte order mark at its front.
-pub fn without_mark(text: &str) -> &str {
-    match split_char(text) {
-        Some(('\u{feff}', following)) => following,
-        _ => text,
     }
 }

@@ -7,9 +7,7 @@ mod groups;
 mod settings;
 mod syntax_error;
 
-pub use crate::rl_settings::entries::{
-    DottedName, EntryRejection, EntryStep, NextEntry, entry_step, without_mark,
-};
+pub use crate::rl_settings::entries::{DottedName, EntryRejection, EntryStep, NextEntry, entry_step};
 pub use crate::rl_settings::groups::first_error;
 pub use crate::rl_settings::settings::{NextSetting, SettingRejection, SettingStep, settings_step};
 pub use crate::rl_settings::syntax_error::{Part, SyntaxError, SyntaxErrorKind, lexer_error, list_error};

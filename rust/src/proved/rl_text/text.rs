@@ -38,6 +38,11 @@ pub fn begins_with(text: &str, c: char) -> bool {
     }
 }
 
+/// Whether the text begins with these characters, which are ASCII.
+pub fn begins(text: &str, word: &str) -> bool {
+    text.starts_with(word)
+}
+
 /// The text after its first character.
 pub fn without_first(text: &str) -> &str {
     match split_char(text) {

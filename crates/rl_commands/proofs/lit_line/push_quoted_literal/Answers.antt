@@ -1,4 +1,4 @@
-use Rattle.rl_text.proofs.Common.{◌≡◌, ap, chars, on_ok_weaker, subst}
+use Rattle.rl_text.proofs.Common.{chars, on_ok_weaker, subst}
 use Rattle.rl_reading.proofs.Names.{Kind, ReadsAs}
 use Rattle.rl_reading.proofs.FoundLemmas.{found_reads}
 use Rattle.rl_lines.specs.Lines.{IsLineOf}

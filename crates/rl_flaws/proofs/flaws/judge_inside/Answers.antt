@@ -4,6 +4,7 @@ use Rattle.rl_flaws.specs.BadPieces.{is_of_unit}
 use Rattle.rl_flaws.proofs.WalkLemmas.{flaw_bytes}
 use Rattle.rl_flaws.proofs.FlawLemmas.{inside_left, inside_takes, some_of, stays_open}
 use Rattle.rl_flaws.proofs.PieceLemmas.{good_left}
+use Rattle.rl_flaws.proofs.StandLemmas.{inside_stands}
 use Rattle.rl_flaws.proofs.flaws.judge_inside.Goals as goal
 
 pub placed-requires-clause-piece : goal.placed-requires-clause-piece
@@ -50,3 +51,13 @@ returns-in-None-clause-good c =
     let closing : IsUtf8 c.walk-stretch.result.closing.now = search rules in
     good_left c.args.opened c.args.rest _ _ _ _ c.requires.0 c.requires.1 c.before-good.utf8 closing c.before-good.ensures.cut
     c.before-good.ensures.chars c.walk-stretch.ensures.good refl
+
+pub returns-in-Some-clause-stands : goal.returns-in-Some-clause-stands
+returns-in-Some-clause-stands c =
+    let closing : IsUtf8 c.walk-stretch.result.closing.now = search rules in
+    let rest : IsUtf8 c.in-Some.found.rest.now = search rules in
+    inside_stands c.args.opened c.args.rest _ _ c.in-Some.found _ _ _ closing rest c.walk-stretch.ensures.following
+    (_, c.before-good.ensures.chars) (some_of _ _ _ c.in-Some.is c.walk-stretch.ensures.within)
+    c.placed.ensures.kind c.placed.ensures.from c.placed.ensures.lo c.placed.ensures.hi c.placed.ensures.end
+    (some_of _ _ _ c.in-Some.is c.walk-stretch.ensures.at) (some_of _ _ _ c.in-Some.is c.walk-stretch.ensures.some)
+    c.left_after.ensures.inside c.left_after.ensures.nothing

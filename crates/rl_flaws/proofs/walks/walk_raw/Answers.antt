@@ -1,4 +1,4 @@
-use Rattle.rl_text.proofs.Common.{◌∙◌, ap}
+use Rattle.rl_text.proofs.Common.{◌∙◌, ◌∷◌, ◌++◌, ap, sym}
 use Rattle.std.specs.Str.{chars}
 use Rattle.rl_reading.proofs.CutLemmas.{tail_chars}
 use Rattle.rl_reasons.proofs.ReadQuoted.{raw_ending, raw_going}
@@ -6,6 +6,7 @@ use Rattle.rl_reasons.proofs.StrictRawFlaws.{raw_end_none, raw_ended, raw_spoile
 use Rattle.rl_reading.specs.declared.quoted_forms.QuotedForm.TheVariants.{Raw as RawForm}
 use Rattle.rl_flaws.proofs.RawLemmas.{raw_up_to}
 use Rattle.rl_flaws.proofs.WalkLemmas.{raw_none, raw_some, suffix_at}
+use Rattle.rl_flaws.proofs.StandLemmas.{some_of_unit, some_text, suffix_within}
 use Rattle.rl_flaws.proofs.walks.walk_raw.Goals as goal
 
 pub returns-in_default-clause-good : goal.returns-in_default-clause-good
@@ -65,3 +66,25 @@ returns-in-None-clause-stops c =
 
 pub returns-in-Some-after_closer-clause-at : goal.returns-in-Some-after_closer-clause-at
 returns-in-Some-after_closer-clause-at c = suffix_at RawForm _ _ _ c.suffix_flaw.ensures.flaw
+
+pub returns-in_default-clause-within : goal.returns-in_default-clause-within
+returns-in_default-clause-within c =
+    let s = returns-in_default-clause-good c in (s.body, s.text_is ∙ ap (λ z. s.body ++ chars z) (sym c.make_flaw.ensures.1))
+
+pub returns-in-Some-after_closer-clause-some : goal.returns-in-Some-after_closer-clause-some
+returns-in-Some-after_closer-clause-some c = some_of_unit _ _ (some_text _ _ _ c.in-Some.ensures.chars)
+
+pub returns-in-Some-after_closer-clause-within : goal.returns-in-Some-after_closer-clause-within
+returns-in-Some-after_closer-clause-within c =
+    let s = returns-in-Some-after_closer-clause-good c in
+    let closer = c.in-Some-after_closer.ensures.some in
+    suffix_within RawForm _ _ _ _ (s.body, s.text_is)
+    (c.in-Some.c ∷ chars c.args.hashes.now, c.in-Some.ensures.chars ∙ ap (λ z. c.in-Some.c ∷ z) closer.1)
+    c.suffix_flaw.ensures.flaw
+
+pub returns-in-None-clause-some : goal.returns-in-None-clause-some
+returns-in-None-clause-some c = λ _. some_text _ _ _ c.in-Some.ensures.chars
+
+pub returns-in-None-clause-within : goal.returns-in-None-clause-within
+returns-in-None-clause-within c =
+    let s = returns-in-None-clause-good c in (s.body, s.text_is ∙ ap (λ z. s.body ++ chars z) (sym c.make_flaw-in-None.ensures.1))

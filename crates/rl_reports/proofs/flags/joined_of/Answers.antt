@@ -1,5 +1,10 @@
 use Rattle.std.proofs.Common.{rules}
+use Rattle.rl_reports.proofs.WordLemmas.{no_joined}
 use Rattle.rl_reports.proofs.flags.joined_of.Goals as goal
 
 pub returns-in-Some-after_front-clause-some : goal.returns-in-Some-after_front-clause-some
 returns-in-Some-after_front-clause-some c = search rules steps 300000
+
+pub returns-clause-none : goal.returns-clause-none
+returns-clause-none c = no_joined c.args.word.now c.in_default.ensures.none c.in_default-after_front.ensures.none
+    c.in_default-after_front-2.ensures.none c.in_default-after_front-3.ensures.none

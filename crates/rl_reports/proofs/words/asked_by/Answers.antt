@@ -1,5 +1,6 @@
-use Rattle.rl_text.proofs.Common.{arith, string_bytes}
-use Rattle.rl_reports.specs.Words.{wishes_in}
+use Rattle.rl_text.proofs.Common.{arith, inl, map, string_bytes, subst}
+use Rattle.rl_reports.specs.declared.flags.Next.{Next}
+use Rattle.rl_reports.specs.Words.{AskSoFar, wishes_in}
 use Rattle.rl_reports.proofs.WordLemmas.{all_taken, word_taken, word_rejected}
 use Rattle.rl_reports.proofs.words.asked_by.Goals as goal
 
@@ -19,4 +20,15 @@ returns-clause-asked g c = (
   all_taken c.args.has_colors string_bytes c.args.words.now c.loop-word.word-index c.loop-word.asked.next
       (wishes_in c.loop-word.asked) (omega (arith, c.loop-word-test.false)) c.loop-word.invariant,
   c.in_default.ensures.none,
+)
+
+pub returns-in-Some-clause-rejected : goal.returns-in-Some-clause-rejected
+returns-in-Some-clause-rejected g c = inl (
+  c.in-Some.operand,
+  wishes_in c.loop-word.asked,
+  c.missing.ensures,
+  subst (λ (n : Next). AskSoFar c.args.has_colors (map string_bytes c.args.words.now) n (wishes_in c.loop-word.asked))
+      c.in-Some.ensures.some (all_taken c.args.has_colors string_bytes c.args.words.now c.loop-word.word-index
+      c.loop-word.asked.next (wishes_in c.loop-word.asked) (omega (arith, c.loop-word-test.false))
+      c.loop-word.invariant),
 )

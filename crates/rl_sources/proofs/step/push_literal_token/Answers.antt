@@ -1,32 +1,41 @@
 use Rattle.rl_text.proofs.Common.{chars, on_ok_weaker, refl, string_bytes}
 use Rattle.std.proofs.lemmas.Bool.{false≢true}
+use Rattle.rl_sources.specs.Findings.{IsFoundIn}
 use Rattle.rl_sources.proofs.StepLemmas.{found_label, not_picked, picked_line, picks_found}
 use Rattle.rl_sources.proofs.step.push_literal_token.Goals as goal
 
 pub returns-then-not-picks-clause-shown : goal.returns-then-not-picks-clause-shown
 returns-then-not-picks-clause-shown g c =
     let text = c.args.token.text.now in
-    let is_label = found_label text c.label_of.result.now c.kind_of.result c.find-found.result c.find-found.ensures.none
-    c.find-found.ensures.found c.kind_of.ensures c.label_of.ensures in
-    let picks = picks_found c.args.options.now (chars text) _ _ _ _ _ c.is_some.ensures c.flaw_of-flaw.ensures.some
-    c.flaw_of-flaw.ensures.none c.is_hidden-hides.ensures c.if-not-picks.ensures in
-    not_picked c.args.options.now (chars c.args.places.now) (chars text) _ c.args.token.lo c.args.token.hi
-    (chars (string_bytes c.args.out.now)) is_label (λ p. false≢true (picks.1 p))
+    let is_label = found_label text c.label_of-label.result.now c.kind_of.result c.find-found.result c.find-found.ensures.none
+    c.find-found.ensures.found c.kind_of.ensures c.label_of-label.ensures in
+    let read : IsFoundIn text c.find-found.result = record {
+      none = c.find-found.ensures.none;
+      some = c.find-found.ensures.found;
+    } in
+    let picks = picks_found c.args.options.now text c.find-found.result _ _ _ _ c.is_some.ensures c.wrong_in-wrong.ensures.some
+    c.wrong_in-wrong.ensures.none c.if-not-picks.ensures in
+    not_picked c.args.options.now (chars c.args.places.now) text c.find-found.result _ c.args.token.lo c.args.token.hi
+    (chars (string_bytes c.args.out.now)) is_label read (λ p. false≢true (picks.1 p))
 
 pub push_picked-requires : goal.push_picked-requires
 push_picked-requires g c = record {
   begins = c.requires;
   is_read = record { none = c.find-found.ensures.none; some = c.find-found.ensures.found };
-  flaw = c.flaw_of-flaw.ensures.some;
-  no_flaw = c.flaw_of-flaw.ensures.none;
+  wrong = c.wrong_in-wrong.ensures.some;
+  right = c.wrong_in-wrong.ensures.none;
 }
 
 pub returns-clause-shown : goal.returns-clause-shown
 returns-clause-shown g c =
     let text = c.args.token.text.now in
-    let is_label = found_label text c.label_of.result.now c.kind_of.result c.find-found.result c.find-found.ensures.none
-    c.find-found.ensures.found c.kind_of.ensures c.label_of.ensures in
-    let picks = picks_found c.args.options.now (chars text) _ _ _ _ _ c.is_some.ensures c.flaw_of-flaw.ensures.some
-    c.flaw_of-flaw.ensures.none c.is_hidden-hides.ensures c.if-not-picks.ensures in
-    on_ok_weaker c.push_picked.result (picked_line c.args.options.now (chars c.args.places.now) (chars text) _
-    c.args.token.lo c.args.token.hi _ _ is_label (picks.0 refl)) c.push_picked.ensures.shown
+    let is_label = found_label text c.label_of-label.result.now c.kind_of.result c.find-found.result c.find-found.ensures.none
+    c.find-found.ensures.found c.kind_of.ensures c.label_of-label.ensures in
+    let read : IsFoundIn text c.find-found.result = record {
+      none = c.find-found.ensures.none;
+      some = c.find-found.ensures.found;
+    } in
+    let picks = picks_found c.args.options.now text c.find-found.result _ _ _ _ c.is_some.ensures c.wrong_in-wrong.ensures.some
+    c.wrong_in-wrong.ensures.none c.if-not-picks.ensures in
+    on_ok_weaker c.push_picked.result (picked_line c.args.options.now (chars c.args.places.now) text c.find-found.result _
+    c.args.token.lo c.args.token.hi _ _ is_label read (picks.0 refl)) c.push_picked.ensures.shown

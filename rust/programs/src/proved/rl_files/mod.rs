@@ -11,4 +11,4 @@ pub use crate::rl_files::host::{Host, LONGEST};
 pub use crate::rl_files::memory::{MemoryDirectory, MemoryFile, MemoryTree};
 pub use crate::rl_files::tree::{PathError, Tree};
 pub use crate::rl_files::visible::{is_hiding, make_visible, needs_escape, push_visible};
-pub use crate::rl_files::walk::{Pending, Visit, Walk, WalkError};
+pub use crate::rl_files::walk::{Pending, Selection, Visit, Walk, WalkError};

@@ -9,6 +9,15 @@ use crate::rattle_std::fmt;
 /// How many directories a walk goes into at most, from one file to the next.
 const TURNS: u32 = u32::MAX;
 
+/// Which files are read of the directories that a walk goes to.
+#[derive(Clone, Copy)]
+pub struct Selection<'a> {
+    /// Whether those of hidden directories are read too, and those of `target` in a package of Cargo.
+    pub all: bool,
+    /// What their names end with after a dot.
+    pub extension: &'a str,
+}
+
 /// What a walk has still to go to.
 pub enum Pending<A: Allocator = Global> {
     /// A directory; one that an argument names may be a file.
@@ -56,13 +65,36 @@ fn is_directory(name: &str) -> bool {
     name.as_bytes().ends_with(b"/".as_slice())
 }
 
-/// Whether a walk goes on to a name.
-fn is_wanted(name: &str) -> bool {
+/// Whether a name ends with a dot and this.
+fn has_extension(extension: &str, name: &str) -> bool {
     let bytes = name.as_bytes();
+    let ending = extension.as_bytes();
+    bytes.ends_with(ending) && bytes[..bytes.len() - ending.len()].ends_with(b".".as_slice())
+}
+
+/// Whether names are those of a directory that holds a package of Cargo.
+fn are_of_package<A: Allocator>(names: &[String<A>]) -> bool {
+    let mut rest = names;
+    while let [name, after @ ..] = rest {
+        if name.as_str() == "Cargo.toml" {
+            return true;
+        }
+        rest = after;
+    }
+    false
+}
+
+/// Whether a directory is left out: a hidden one, and in a package `target`, into which Cargo builds.
+fn is_left_out(in_package: bool, name: &str) -> bool {
+    name.as_bytes().starts_with(b".".as_slice()) || in_package && name == "target/"
+}
+
+/// Whether a walk goes on to a name.
+fn is_wanted(selection: Selection<'_>, in_package: bool, name: &str) -> bool {
     if is_directory(name) {
-        !bytes.starts_with(b".".as_slice()) && !bytes.starts_with(b"target/".as_slice())
+        selection.all || !is_left_out(in_package, name)
     } else {
-        bytes.ends_with(b".rs".as_slice()) || bytes.len() == 0
+        has_extension(selection.extension, name) || name.as_bytes().len() == 0
     }
 }
 
@@ -127,8 +159,15 @@ impl<A: Allocator> Walk<A> {
     }
 
     /// Goes to a name in a directory before the other places, if it is wanted.
-    fn push_name(&mut self, alloc: A, directory: &str, name: &str) -> Result<(), AllocError> {
-        if !is_wanted(name) {
+    fn push_name(
+        &mut self,
+        alloc: A,
+        selection: Selection<'_>,
+        in_package: bool,
+        directory: &str,
+        name: &str,
+    ) -> Result<(), AllocError> {
+        if !is_wanted(selection, in_package, name) {
             return Ok(());
         }
         let pending = pending_of(alloc, directory, name)?;
@@ -139,13 +178,15 @@ impl<A: Allocator> Walk<A> {
     fn push_names(
         &mut self,
         alloc: A,
+        selection: Selection<'_>,
         directory: &str,
         names: &mut Vec<String<A>, A>,
     ) -> Result<(), AllocError>
     where
         A: Copy, {
+        let in_package = are_of_package(names.as_slice());
         while let Some(name) = names.pop() {
-            self.push_name(alloc, directory, name.as_str())?;
+            self.push_name(alloc, selection, in_package, directory, name.as_str())?;
         }
         Ok(())
     }
@@ -154,13 +195,14 @@ impl<A: Allocator> Walk<A> {
     fn enter(
         &mut self,
         alloc: A,
+        selection: Selection<'_>,
         directory: &str,
         names: &mut Vec<String<A>, A>,
     ) -> Result<(), AllocError>
     where
         A: Copy, {
         names.sort_unstable();
-        self.push_names(alloc, directory, names)?;
+        self.push_names(alloc, selection, directory, names)?;
         Ok(())
     }
 
@@ -169,7 +211,12 @@ impl<A: Allocator> Walk<A> {
     /// # Errors
     ///
     /// Where an allocation failed, or there was no end of directories.
-    pub fn next<T: Tree>(&mut self, alloc: A, tree: &T) -> Result<Option<Visit<A>>, WalkError>
+    pub fn next<T: Tree>(
+        &mut self,
+        alloc: A,
+        selection: Selection<'_>,
+        tree: &T,
+    ) -> Result<Option<Visit<A>>, WalkError>
     where
         A: Copy, {
         for _ in 0..TURNS {
@@ -182,7 +229,7 @@ impl<A: Allocator> Walk<A> {
                     return Ok(Some(Visit::Failed(directory, PathError::NameNotUtf8)));
                 }
                 Pending::Directory(is_given, path) => match tree.names(alloc, path.as_str()) {
-                    Ok(mut names) => match self.enter(alloc, path.as_str(), &mut names) {
+                    Ok(mut names) => match self.enter(alloc, selection, path.as_str(), &mut names) {
                         Ok(()) => {}
                         Err(_) => return Err(WalkError::OutOfMemory),
                     },

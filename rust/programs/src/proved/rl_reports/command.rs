@@ -1,7 +1,8 @@
 // Rendered from crates/rl_reports/src/command.rt by tools/render, which erases contracts: change that file, and render anew.
 //! What a call of the program asks for.
 
-use crate::rl_sources::{Form, Shown, Spelling};
+use crate::rl_files::Selection;
+use crate::rl_sources::{Form, Matching, Shown, Spelling};
 
 /// What a call asks for.
 #[derive(Clone, Copy)]
@@ -47,6 +48,8 @@ pub struct Command<'a> {
     pub shown: Shown<'a>,
     /// The text that their contents have to hold, where one is looked for.
     pub finds: Option<&'a str>,
+    /// How it is looked for.
+    pub matching: Matching,
     /// How they are printed.
     pub spelling: Spelling,
     /// How each line is written.
@@ -57,6 +60,10 @@ pub struct Command<'a> {
     pub output: Output,
     /// Whether a stray character is an error, as it is in Rust.
     pub rejects_strays: bool,
+    /// Whether a literal may have any suffix and any value, as where a macro takes it.
+    pub any_suffix: bool,
+    /// Which files are read of directories.
+    pub selection: Selection<'a>,
 }
 
 /// What a call knows of where it runs.

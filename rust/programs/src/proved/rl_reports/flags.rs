@@ -13,12 +13,17 @@ pub(crate) enum Flag {
     Hidden,
     Only,
     Find,
+    IgnoreCase,
+    WholeWords,
     Text,
     Json,
     Color,
     Bytes,
     Lines,
     NoStray,
+    AnySuffix,
+    AllDirectories,
+    Extension,
     Count,
     Files,
     Quiet,
@@ -36,6 +41,8 @@ pub(crate) enum Operand {
     Text,
     /// When lines have colours.
     Color,
+    /// What the names of files end with.
+    Extension,
 }
 
 /// What the next word may be.
@@ -61,28 +68,48 @@ pub(crate) enum When {
 /// The option that a word is.
 pub(crate) fn flag_of(word: &str) -> Option<Flag> {
     match word {
-        "-b" | "--bad" => Some(Flag::Bad),
-        "-B" | "--hidden" => Some(Flag::Hidden),
-        "-k" | "--only" => Some(Flag::Only),
-        "-f" | "--find" => Some(Flag::Find),
+        "--bad" => Some(Flag::Bad),
+        "--hidden" => Some(Flag::Hidden),
+        "--only" => Some(Flag::Only),
+        "--find" => Some(Flag::Find),
+        "--ignore-case" => Some(Flag::IgnoreCase),
+        "--word" => Some(Flag::WholeWords),
         "--text" => Some(Flag::Text),
         "--json" => Some(Flag::Json),
         "--color" => Some(Flag::Color),
-        "-o" | "--bytes" => Some(Flag::Bytes),
+        "--bytes" => Some(Flag::Bytes),
         "--lines" => Some(Flag::Lines),
         "--no-stray" => Some(Flag::NoStray),
-        "-c" | "--count" => Some(Flag::Count),
-        "-l" | "--files" => Some(Flag::Files),
-        "-q" | "--quiet" => Some(Flag::Quiet),
-        "-h" | "--help" => Some(Flag::Help),
-        "-V" | "--version" => Some(Flag::Version),
+        "--any-suffix" => Some(Flag::AnySuffix),
+        "--all" => Some(Flag::AllDirectories),
+        "--extension" => Some(Flag::Extension),
+        "--count" => Some(Flag::Count),
+        "--files-with-matches" => Some(Flag::Files),
+        "--quiet" => Some(Flag::Quiet),
+        "--help" => Some(Flag::Help),
+        "--version" => Some(Flag::Version),
         "--" => Some(Flag::Paths),
         _ => None,
     }
 }
 
+/// The option that a letter after a dash is.
+pub(crate) fn letter_of(c: char) -> Option<Flag> {
+    match c {
+        'e' => Some(Flag::Find),
+        'i' => Some(Flag::IgnoreCase),
+        'w' => Some(Flag::WholeWords),
+        'c' => Some(Flag::Count),
+        'l' => Some(Flag::Files),
+        'q' => Some(Flag::Quiet),
+        'h' => Some(Flag::Help),
+        'V' => Some(Flag::Version),
+        _ => None,
+    }
+}
+
 /// What stands after the front of a word, where the word begins with that.
-fn after_front<'w>(front: &str, word: &'w str) -> Option<&'w str> {
+pub(crate) fn after_front<'w>(front: &str, word: &'w str) -> Option<&'w str> {
     word.strip_prefix(front)
 }
 
@@ -94,8 +121,13 @@ pub(crate) fn joined_of(word: &str) -> Option<(Operand, &str)> {
     if let Some(text) = after_front("--find=", word) {
         return Some((Operand::Text, text));
     }
-    let when = after_front("--color=", word)?;
-    Some((Operand::Color, when))
+    if let Some(when) = after_front("--color=", word) {
+        return Some((Operand::Color, when));
+    }
+    if let Some(extension) = after_front("--extension=", word) {
+        return Some((Operand::Extension, extension));
+    }
+    None
 }
 
 /// The option that takes this.
@@ -104,6 +136,7 @@ pub(crate) fn taken_by(operand: Operand) -> Flag {
         Operand::Kinds => Flag::Only,
         Operand::Text => Flag::Find,
         Operand::Color => Flag::Color,
+        Operand::Extension => Flag::Extension,
     }
 }
 
@@ -115,12 +148,16 @@ fn with_flag(command: Command<'_>, flag: Flag) -> Option<Command<'_>> {
         (Flag::Hidden, Shown::All) => next.shown = Shown::Hidden,
         (Flag::Only, Shown::All) => {}
         (Flag::Bad | Flag::Hidden | Flag::Only, _) => return None,
-        (Flag::Find | Flag::Color | Flag::Paths, _) => {}
+        (Flag::Find | Flag::Color | Flag::Extension | Flag::Paths, _) => {}
+        (Flag::IgnoreCase, _) => next.matching.ignores_case = true,
+        (Flag::WholeWords, _) => next.matching.whole_words = true,
+        (Flag::AllDirectories, _) => next.selection.all = true,
         (Flag::Text, _) => next.spelling = Spelling::Source,
         (Flag::Json, _) => next.form = Form::Json,
         (Flag::Bytes, _) => next.places = PlaceForm::Bytes,
         (Flag::Lines, _) => next.places = PlaceForm::Lines,
         (Flag::NoStray, _) => next.rejects_strays = true,
+        (Flag::AnySuffix, _) => next.any_suffix = true,
         (Flag::Count, _) => next.output = Output::Count,
         (Flag::Files, _) => next.output = Output::Path,
         (Flag::Quiet, _) => next.output = Output::Nothing,
@@ -164,6 +201,7 @@ pub(crate) fn next_after(flag: Flag) -> Next {
         Flag::Only => Next::Operand(Operand::Kinds),
         Flag::Find => Next::Operand(Operand::Text),
         Flag::Color => Next::Operand(Operand::Color),
+        Flag::Extension => Next::Operand(Operand::Extension),
         Flag::Paths => Next::Path,
         _ => Next::Any,
     }

@@ -78,10 +78,12 @@ fn options_for<'a>(command: Command<'a>, path: &'a str, shown: Option<&'a str>) 
     Options {
         shown: command.shown,
         finds: command.finds,
+        matching: command.matching,
         spelling: command.spelling,
         form: command.form,
         by_line: is_by_line(command.places, path),
         rejects_strays: command.rejects_strays,
+        any_suffix: command.any_suffix,
         explains: is_bad(command.shown),
         path: path_in(command.form, path, shown),
     }

@@ -104,7 +104,7 @@ pub fn run<A: Allocator + Copy, T: Tree, W: Write, E: Write>(
         failed: false,
     };
     for _ in 0..u64::MAX {
-        match walk.next(alloc, tree) {
+        match walk.next(alloc, command.selection, tree) {
             Err(error) => return Err(RunStop::Walk(error)),
             Ok(None) => return Ok(tally),
             Ok(Some(visit)) => match write_report(alloc, command, tree, &visit, out, err) {

@@ -4,11 +4,14 @@
 use crate::rattle_std::prelude::{String, Vec};
 use crate::rl_reports::command::{Command, Output, PlaceForm, Wish};
 use crate::rl_reports::flags::{
-    Flag, Next, Operand, When, add_flag, flag_of, form_when, joined_of, next_after, recolored,
-    taken_by, when_of,
+    Flag, Next, Operand, When, add_flag, after_front, flag_of, form_when, joined_of, letter_of,
+    next_after, recolored, taken_by, when_of,
 };
+use crate::rl_reports::meant::meant_by;
 use crate::rl_reports::report::visible_text;
-use crate::rl_sources::{Shown, Spelling, names};
+use crate::rl_files::Selection;
+use crate::rl_sources::{Matching, Shown, Spelling, names};
+use crate::rl_tokens::text::split_char;
 use crate::rattle_std::alloc::{AllocError, Allocator, Global};
 use crate::rattle_std::fmt;
 
@@ -16,8 +19,8 @@ use crate::rattle_std::fmt;
 pub enum WordError<A: Allocator = Global> {
     /// An allocation failed.
     Memory,
-    /// There is no such option.
-    UnknownOption(String<A>),
+    /// There is no such option; the one that was likely meant.
+    UnknownOption(String<A>, Option<&'static str>),
     /// There is no such kind of literal.
     UnknownKind(String<A>),
     /// After `--only` stands no list of kinds.
@@ -34,6 +37,8 @@ pub enum WordError<A: Allocator = Global> {
     NoColor,
     /// After `--color` stands a word that is none of the three.
     UnknownColor(String<A>),
+    /// After `--extension` no word stands.
+    NoExtension,
 }
 
 impl<A: Allocator> From<AllocError> for WordError<A> {
@@ -46,8 +51,11 @@ impl<A: Allocator> fmt::Display for WordError<A> {
     fn fmt(&self, f: &mut fmt::Formatter<'_>) -> fmt::Result {
         match self {
             WordError::Memory => write!(f, "out of memory"),
-            WordError::UnknownOption(word) => {
+            WordError::UnknownOption(word, None) => {
                 write!(f, "unknown option '{word}': rl_scan --help lists them")
+            }
+            WordError::UnknownOption(word, Some(meant)) => {
+                write!(f, "unknown option '{word}': did you mean '{meant}'?")
             }
             WordError::UnknownKind(word) => write!(
                 f,
@@ -62,6 +70,7 @@ impl<A: Allocator> fmt::Display for WordError<A> {
             WordError::UnknownColor(word) => {
                 write!(f, "unknown colour '{word}': one of auto, always, never")
             }
+            WordError::NoExtension => write!(f, "--extension: which? as in --extension rs.in"),
         }
     }
 }
@@ -97,7 +106,30 @@ fn missing<A: Allocator>(operand: Operand) -> WordError<A> {
         Operand::Kinds => WordError::NoKinds,
         Operand::Text => WordError::NoText,
         Operand::Color => WordError::NoColor,
+        Operand::Extension => WordError::NoExtension,
     }
+}
+
+/// The error that names a word as one of no option.
+fn unknown_option<A: Allocator>(alloc: A, word: &str) -> Result<WordError<A>, AllocError> {
+    Ok(WordError::UnknownOption(visible_text(alloc, word)?, meant_by(word)))
+}
+
+/// The letters of a word, after its dash: none where it begins with two.
+fn letters_of(word: &str) -> Option<&str> {
+    let letters = after_front("-", word)?;
+    if letters.as_bytes().starts_with(b"-".as_slice()) {
+        return None;
+    }
+    Some(letters)
+}
+
+/// What an option takes, where it takes something and the letters go on after its own.
+fn operand_in(flag: Flag, rest: &str) -> Option<Operand> {
+    if rest.is_empty() {
+        return None;
+    }
+    operand_of(next_after(flag))
 }
 
 /// What has to follow, where the option before takes something.
@@ -142,6 +174,11 @@ impl<'a, A: Allocator + Copy> Asked<'a, A> {
         Ok(())
     }
 
+    /// Takes what the names of files end with.
+    fn take_extension(&mut self, extension: &'a str) {
+        self.command.selection.extension = extension;
+    }
+
     /// Takes what an option takes; any word may stand after that.
     fn take_operand(
         &mut self,
@@ -155,6 +192,10 @@ impl<'a, A: Allocator + Copy> Asked<'a, A> {
             Operand::Kinds => self.take_kinds(alloc, text),
             Operand::Text => self.take_text(text),
             Operand::Color => self.take_color(alloc, has_colors, text),
+            Operand::Extension => {
+                self.take_extension(text);
+                Ok(())
+            }
         }
     }
 
@@ -182,14 +223,42 @@ impl<'a, A: Allocator + Copy> Asked<'a, A> {
         }
     }
 
-    /// Takes a word that is no path: an option, or one and what it takes.
+    /// Takes the letters of a word, each an option; what one takes may stand after it.
+    fn take_letters(
+        &mut self,
+        alloc: A,
+        has_colors: bool,
+        word: &str,
+        letters: &'a str,
+    ) -> Result<(), WordError<A>> {
+        let mut rest = letters;
+        while let Some((c, after)) = split_char(rest) {
+            let Some(flag) = letter_of(c) else {
+                return Err(unknown_option(alloc, word)?);
+            };
+            if let Some(operand) = operand_in(flag, after) {
+                return self.take_joined(alloc, has_colors, operand, after);
+            }
+            match self.take_flag(flag) {
+                Ok(()) => {}
+                Err(error) => return Err(error),
+            }
+            rest = after;
+        }
+        Ok(())
+    }
+
+    /// Takes a word that is no path: an option, or one and what it takes, or letters.
     fn take_option(&mut self, alloc: A, has_colors: bool, word: &'a str) -> Result<(), WordError<A>> {
         if let Some(flag) = flag_of(word) {
             return self.take_flag(flag);
         }
-        match joined_of(word) {
-            Some((operand, text)) => self.take_joined(alloc, has_colors, operand, text),
-            None => Err(WordError::UnknownOption(visible_text(alloc, word)?)),
+        if let Some((operand, text)) = joined_of(word) {
+            return self.take_joined(alloc, has_colors, operand, text);
+        }
+        match letters_of(word) {
+            Some(letters) => self.take_letters(alloc, has_colors, word, letters),
+            None => Err(unknown_option(alloc, word)?),
         }
     }
 
@@ -210,11 +279,20 @@ fn first_command<'a>(has_colors: bool) -> Command<'a> {
         wish: Wish::Scan,
         shown: Shown::All,
         finds: None,
+        matching: Matching {
+            ignores_case: false,
+            whole_words: false,
+        },
         places: PlaceForm::Usual,
         output: Output::Lines,
         rejects_strays: false,
+        any_suffix: false,
         spelling: Spelling::Value,
         form: form_when(has_colors, When::Auto),
+        selection: Selection {
+            all: false,
+            extension: "rs",
+        },
     }
 }
 

@@ -2,6 +2,7 @@
 //! Where a text stands in what a literal stands for.
 
 use crate::rattle_std::prelude::{String, Vec};
+use crate::rl_sources::options::Matching;
 use crate::rl_sources::search::first_in;
 use crate::rl_forms::Kind;
 use crate::rl_fronts::{bytes_of_body, str_of_body};
@@ -79,6 +80,7 @@ pub(crate) fn held_at<A: Allocator + Copy>(
     alloc: A,
     text: &str,
     found: Option<Found>,
+    matching: Matching,
     sought: &str,
 ) -> Result<Option<(usize, usize)>, AllocError> {
     let Some(found) = found else {
@@ -87,7 +89,7 @@ pub(crate) fn held_at<A: Allocator + Copy>(
     let Some(contents) = contents_of(alloc, text, &found)? else {
         return Ok(None);
     };
-    let Some(at) = first_in(alloc, contents.as_slice(), sought.as_bytes())? else {
+    let Some(at) = first_in(alloc, matching, contents.as_slice(), sought.as_bytes())? else {
         return Ok(None);
     };
     let last = at + sought.len().saturating_sub(1);

@@ -1,31 +1,130 @@
 // Rendered from crates/rl_sources/src/hidden.rt by tools/render, which erases contracts: change that file, and render anew.
-//! Characters of a literal that turn or hide text, as they are written.
+//! Characters of a source that turn or hide text, wherever they stand.
 
-use crate::rl_sources::options::Shown;
-use crate::rl_files::is_hiding;
-use crate::rl_tokens::text::split_char;
+use crate::rattle_std::prelude::{String, format};
+use crate::rl_sources::json::{is_json, push_ascii, push_member};
+use crate::rl_sources::options::{Form, Options};
+use crate::rl_sources::place::{Places, place_of, push_front};
+use crate::rl_files::needs_escape;
+use crate::rl_tokens::text::{begins_with, split_char};
+use crate::rattle_std::alloc::{AllocError, Allocator};
 
-/// Which bytes of a text its first character takes that turns or hides text: `None` where it holds none.
-#[inline(never)]
-pub(crate) fn hidden_at(text: &str) -> Option<(usize, usize)> {
-    if text.is_ascii() {
-        return None;
-    }
-    let mut rest = text;
-    while let Some((c, after)) = split_char(rest) {
-        if is_hiding(c) {
-            return Some((text.len() - rest.len(), text.len() - after.len()));
-        }
-        rest = after;
-    }
-    None
+/// Whether a character is a control character of the layout: a tab, an LF, a form feed, or a CR before an LF.
+fn is_layout(c: char, after: &str) -> bool {
+    matches!(c, '\t' | '\n' | '\u{c}') || c == '\r' && begins_with(after, '\n')
 }
 
-/// Whether a text holds a character that turns or hides text, where that is asked for.
+/// Whether a character turns or hides text: one that is printed as an escape, but for the layout.
 #[inline(always)]
-pub(crate) fn is_hidden(shown: Shown<'_>, text: &str) -> bool {
-    match shown {
-        Shown::Hidden => hidden_at(text).is_some(),
-        _ => false,
+fn hides(c: char, after: &str) -> bool {
+    if c >= ' ' && c <= '~' {
+        return false;
     }
+    needs_escape(c) && !is_layout(c, after)
+}
+
+/// What Unicode calls a character that turns the direction of text, after a space; of others nothing.
+fn direction_name(c: char) -> &'static str {
+    match c {
+        '\u{61c}' => " ARABIC LETTER MARK",
+        '\u{200e}' => " LEFT-TO-RIGHT MARK",
+        '\u{200f}' => " RIGHT-TO-LEFT MARK",
+        '\u{202a}' => " LEFT-TO-RIGHT EMBEDDING",
+        '\u{202b}' => " RIGHT-TO-LEFT EMBEDDING",
+        '\u{202c}' => " POP DIRECTIONAL FORMATTING",
+        '\u{202d}' => " LEFT-TO-RIGHT OVERRIDE",
+        '\u{202e}' => " RIGHT-TO-LEFT OVERRIDE",
+        '\u{2066}' => " LEFT-TO-RIGHT ISOLATE",
+        '\u{2067}' => " RIGHT-TO-LEFT ISOLATE",
+        '\u{2068}' => " FIRST STRONG ISOLATE",
+        '\u{2069}' => " POP DIRECTIONAL ISOLATE",
+        _ => "",
+    }
+}
+
+/// The words of a character: its number, and its name where it turns the direction of text.
+fn words_of<A: Allocator>(alloc: A, c: char) -> Result<String<A>, AllocError> {
+    let number = c as u32;
+    let name = direction_name(c);
+    format!(in alloc; "U+{number:04X}{name}")
+}
+
+/// Appends what stands after the place in the line of a character.
+fn push_hidden_end<A: Allocator>(
+    alloc: A,
+    out: &mut String<A>,
+    form: Form,
+    c: char,
+) -> Result<(), AllocError> {
+    let words = words_of(alloc, c)?;
+    if is_json(form) {
+        push_member(out, "hidden", words.as_str())?;
+        return push_ascii(out, "}\n");
+    }
+    out.push_str(words.as_str())?;
+    push_ascii(out, "\n")
+}
+
+/// Appends the line of the character that begins a rest of the source, and after which so much is left.
+#[inline(never)]
+fn push_hidden_line<'t, A: Allocator>(
+    alloc: A,
+    out: &mut String<A>,
+    options: &Options<'_>,
+    places: &mut Places<'t>,
+    rest: &'t str,
+    c: char,
+    after: &'t str,
+) -> Result<(), AllocError> {
+    let lo = places.byte_of(rest);
+    let hi = places.byte_of(after);
+    let place = place_of(options, places, rest, lo, hi);
+    push_front(out, options.form, options.path, &place)?;
+    push_hidden_end(alloc, out, options.form, c)
+}
+
+/// Appends what is shown of the character that begins a rest of the source, and after which so much is left.
+#[inline(always)]
+fn push_character<'t, A: Allocator>(
+    alloc: A,
+    out: &mut String<A>,
+    options: &Options<'_>,
+    places: &mut Places<'t>,
+    rest: &'t str,
+    c: char,
+    after: &'t str,
+) -> Result<(), AllocError> {
+    if !hides(c, after) {
+        return Ok(());
+    }
+    push_hidden_line(alloc, out, options, places, rest, c, after)
+}
+
+/// The text after a byte order mark at its front.
+fn after_mark(text: &str) -> &str {
+    match split_char(text) {
+        Some(('\u{feff}', after)) => after,
+        _ => text,
+    }
+}
+
+/// The lines of the characters of a source that turn or hide text, in order: the place of each, and after it its number,
+/// with its name where it turns the direction of text.
+///
+/// # Errors
+///
+/// An allocation failure.
+pub(crate) fn hidden_lines<A: Allocator + Copy>(
+    alloc: A,
+    options: &Options<'_>,
+    text: &str,
+) -> Result<String<A>, AllocError> {
+    let mut lines = String::new(alloc);
+    let mut places = Places::new(text);
+    let mut rest = after_mark(text);
+    while let Some((c, after)) = split_char(rest) {
+        push_character(alloc, &mut lines, options, &mut places, rest, c, after)?;
+        rest = after;
+    }
+    Ok(lines)
 }

@@ -2,6 +2,7 @@
 //! What is printed of a source as JSON: an object a line.
 
 use crate::rattle_std::prelude::{String, format};
+use crate::rl_sources::finding::Reason;
 use crate::rl_sources::held::{byte_contents, bytes_contents};
 use crate::rl_sources::json_string::push_json_string;
 use crate::rl_sources::options::Form;
@@ -9,7 +10,6 @@ use crate::rl_forms::Kind;
 use crate::rl_fronts::{digits_of_found, str_of_body};
 use crate::rl_lines::label_of;
 use crate::rl_reading::Found;
-use crate::rl_reasons::FlawKind;
 use crate::rl_tokens::LexKind;
 use crate::rattle_std::alloc::{AllocError, Allocator};
 
@@ -20,7 +20,7 @@ pub fn is_json(form: Form) -> bool {
 }
 
 /// Appends ASCII.
-fn push_ascii<A: Allocator>(out: &mut String<A>, piece: &str) -> Result<(), AllocError> {
+pub(crate) fn push_ascii<A: Allocator>(out: &mut String<A>, piece: &str) -> Result<(), AllocError> {
     out.push_str(piece)?;
     Ok(())
 }
@@ -59,7 +59,11 @@ pub(crate) fn push_object_front<A: Allocator>(
 }
 
 /// Appends a member after others, whose value is a string.
-fn push_member<A: Allocator>(out: &mut String<A>, name: &str, text: &str) -> Result<(), AllocError> {
+pub(crate) fn push_member<A: Allocator>(
+    out: &mut String<A>,
+    name: &str,
+    text: &str,
+) -> Result<(), AllocError> {
     push_ascii(out, ",\"")?;
     push_ascii(out, name)?;
     push_ascii(out, "\":")?;
@@ -203,18 +207,17 @@ pub(crate) fn push_json_literal<A: Allocator>(
     }
 }
 
-/// Appends the members of a flaw: the literal's text, what is wrong, and the piece that it spoils, and the end of its
-/// object.
-pub(crate) fn push_json_flaw<A: Allocator>(
-    alloc: A,
+/// Appends the members of a finding: the literal's text, what is wrong, by a name that stays and in words, and the piece that is
+/// shown, and the end of its object.
+pub(crate) fn push_json_finding<A: Allocator>(
     out: &mut String<A>,
     text: &str,
-    kind: FlawKind,
+    reason: Reason,
     piece: &str,
 ) -> Result<(), AllocError> {
-    let words = format!(in alloc; "{kind}")?;
     push_member(out, "text", text)?;
-    push_member(out, "error", words.as_str())?;
+    push_member(out, "id", reason.id())?;
+    push_member(out, "error", reason.words())?;
     push_member(out, "piece", piece)?;
     push_ascii(out, "}\n")
 }

@@ -1,25 +1,43 @@
 // Rendered from crates/rl_sources/src/judge.rt by tools/render, which erases contracts: change that file, and render anew.
-//! The flaw of a literal of a source, as rustc finds it.
+//! What is wrong with a literal of a source, as rustc finds it.
 
+use crate::rl_sources::finding::Wrong;
 use crate::rl_sources::options::{Options, Shown};
 use crate::rl_file_reasons::explain_value_in_file;
-use crate::rl_reasons::Flaw;
+use crate::rl_reading::Found;
+use crate::rl_types::{TypeFault, type_fault};
 
 /// Whether flaws are looked for.
 fn looks_for_flaws(options: &Options<'_>) -> bool {
     options.explains || matches!(options.shown, Shown::Bad)
 }
 
-/// The flaw of a literal's text, where flaws are looked for.
-pub(crate) fn flaw_of(options: &Options<'_>, text: &str) -> Option<Flaw> {
-    if looks_for_flaws(options) {
-        explain_value_in_file(text)
-    } else {
-        None
+/// Why Rust has no type for a literal, of what reading it found; a minus may stand before it.
+fn fault_of(text: &str, found: &Option<Found>) -> Option<TypeFault> {
+    match found {
+        Some(found) => type_fault(text, found, true),
+        None => None,
     }
 }
 
-/// The flaw that the line of a literal reports, where lines do so.
-pub(crate) fn reason_of(explains: bool, flaw: Option<Flaw>) -> Option<Flaw> {
-    if explains { flaw } else { None }
+/// What is wrong with a literal, where that is looked for.
+pub(crate) fn wrong_in(options: &Options<'_>, text: &str, found: &Option<Found>) -> Option<Wrong> {
+    if !looks_for_flaws(options) {
+        return None;
+    }
+    if let Some(flaw) = explain_value_in_file(text) {
+        return Some(Wrong::Flaw(flaw));
+    }
+    if options.any_suffix {
+        return None;
+    }
+    match fault_of(text, found) {
+        Some(fault) => Some(Wrong::Type(fault)),
+        None => None,
+    }
+}
+
+/// What the lines of a literal report, where lines do so.
+pub(crate) fn reason_of(explains: bool, wrong: Option<Wrong>) -> Option<Wrong> {
+    if explains { wrong } else { None }
 }

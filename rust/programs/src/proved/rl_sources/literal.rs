@@ -1,9 +1,9 @@
 // Rendered from crates/rl_sources/src/literal.rt by tools/render, which erases contracts: change that file, and render anew.
 //! A literal of a source.
 
+use crate::rl_sources::finding::Wrong;
 use crate::rl_forms::Kind;
 use crate::rl_reading::Found;
-use crate::rl_reasons::Flaw;
 use crate::rl_tokens::SourceToken;
 
 /// A literal of a source.
@@ -15,8 +15,8 @@ pub(crate) struct Literal<'a, 't> {
     pub(crate) rest: &'t str,
     /// What reading its text found.
     pub(crate) found: &'a Option<Found>,
-    /// Its flaw, where flaws are looked for.
-    pub(crate) flaw: Option<Flaw>,
+    /// What is wrong with it, where that is looked for.
+    pub(crate) wrong: Option<Wrong>,
 }
 
 /// The kind of what was found.

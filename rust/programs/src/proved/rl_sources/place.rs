@@ -146,6 +146,11 @@ impl<'t> Places<'t> {
         &self.text[lo..]
     }
 
+    /// The byte where a rest of the text begins.
+    pub(crate) fn byte_of(&self, rest: &'t str) -> usize {
+        self.text.len() - rest.len()
+    }
+
     /// The line and column where a rest of the text begins.
     fn at(&mut self, rest: &'t str) -> LineColumn {
         if rest.len() > self.rest.len() {

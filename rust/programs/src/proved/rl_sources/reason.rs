@@ -3,12 +3,12 @@
 
 use crate::rattle_std::prelude::{String};
 use crate::rl_sources::color::push_error_word;
-use crate::rl_sources::json::{is_json, push_json_error, push_json_flaw};
+use crate::rl_sources::finding::{Finding, Reason};
+use crate::rl_sources::json::{is_json, push_json_error, push_json_finding};
 use crate::rl_sources::literal::Literal;
 use crate::rl_sources::options::{Form, Options};
 use crate::rl_sources::place::{Place, Places, place_inside, push_front};
 use crate::rl_files::push_visible;
-use crate::rl_reasons::{Flaw, FlawKind};
 use crate::rl_tokens::LexKind;
 use crate::rattle_std::alloc::{AllocError, Allocator};
 
@@ -17,10 +17,10 @@ fn is_slice(text: &str, lo: usize, hi: usize) -> bool {
     lo <= hi && text.is_char_boundary(lo) && text.is_char_boundary(hi)
 }
 
-/// The piece of a text that a flaw spoils, up to the character that makes it no literal.
-fn piece_of(text: &str, flaw: Flaw) -> &str {
-    if is_slice(text, flaw.from, flaw.hi) {
-        return &text[flaw.from..flaw.hi];
+/// The piece of a text that is shown of a finding.
+fn piece_of(text: &str, finding: Finding) -> &str {
+    if is_slice(text, finding.from, finding.to) {
+        return &text[finding.from..finding.to];
     }
     ""
 }
@@ -28,67 +28,48 @@ fn piece_of(text: &str, flaw: Flaw) -> &str {
 /// Appends what is wrong: a message, and a piece of the text where there is one.
 fn push_reason<A: Allocator>(
     out: &mut String<A>,
-    kind: FlawKind,
+    reason: Reason,
     piece: &str,
 ) -> Result<(), AllocError> {
+    let words = reason.words();
     if piece.is_empty() {
-        return writeln!(out, ": {kind}");
+        return writeln!(out, ": {words}");
     }
-    write!(out, ": {kind}: ")?;
+    write!(out, ": {words}: ")?;
     push_visible(out, piece)?;
     out.push_str("\n")?;
     Ok(())
 }
 
-/// Appends what stands after the place in the line of a flaw.
-fn push_flaw_end<A: Allocator>(
-    alloc: A,
+/// Appends what stands after the place in the line of a finding.
+fn push_finding_end<A: Allocator>(
     out: &mut String<A>,
     form: Form,
     text: &str,
-    kind: FlawKind,
+    reason: Reason,
     piece: &str,
 ) -> Result<(), AllocError> {
     if is_json(form) {
-        return push_json_flaw(alloc, out, text, kind, piece);
+        return push_json_finding(out, text, reason, piece);
     }
     push_error_word(out, form)?;
-    push_reason(out, kind, piece)
+    push_reason(out, reason, piece)
 }
 
-/// Appends the line that says why a text is bad, after this place.
-fn push_flaw_at<A: Allocator>(
-    alloc: A,
-    out: &mut String<A>,
-    options: &Options<'_>,
-    text: &str,
-    flaw: Flaw,
-    place: Place,
-) -> Result<(), AllocError> {
-    push_front(out, options.form, options.path, &place)?;
-    push_flaw_end(
-        alloc,
-        out,
-        options.form,
-        text,
-        flaw.kind,
-        piece_of(text, flaw),
-    )
-}
-
-/// Appends the line that says why a literal is bad, and where.
+/// Appends the line of a finding in a literal, at its place.
 #[inline(never)]
-pub(crate) fn push_flaw<'t, A: Allocator>(
-    alloc: A,
+pub(crate) fn push_finding<'t, A: Allocator>(
     out: &mut String<A>,
     options: &Options<'_>,
     literal: &Literal<'_, 't>,
     places: &mut Places<'t>,
-    flaw: Flaw,
+    finding: Finding,
 ) -> Result<(), AllocError> {
     let token = *literal.token;
-    let place = place_inside(options, places, token, literal.rest, flaw.lo, flaw.hi);
-    push_flaw_at(alloc, out, options, literal.token.text, flaw, place)
+    let place = place_inside(options, places, token, literal.rest, finding.lo, finding.hi);
+    let piece = piece_of(token.text, finding);
+    push_front(out, options.form, options.path, &place)?;
+    push_finding_end(out, options.form, token.text, finding.reason, piece)
 }
 
 /// Appends what stands after the place in the line of a source's error.

@@ -1,8 +1,9 @@
 // Rendered from crates/rl_sources/src/scanner.rt by tools/render, which erases contracts: change that file, and render anew.
-//! The lines of a whole source, written as they are made.
+//! The lines of a whole source.
 
 use crate::rattle_std::prelude::{String};
-use crate::rl_sources::options::Options;
+use crate::rl_sources::hidden::hidden_lines;
+use crate::rl_sources::options::{Options, Shown};
 use crate::rl_sources::place::Places;
 use crate::rl_sources::scan_error::ScanError;
 use crate::rl_sources::step::{Step, gather};
@@ -16,21 +17,8 @@ fn is_any(before: bool, lines: &[u8]) -> bool {
     before || !lines.is_empty()
 }
 
-/// Writes a line for each literal of a source, in order: its place, after the path where there is one, and what
-/// `rl_lines` prints of its text, with escapes for what turns or hides text; with `explains` the line of a literal that
-/// Rust rejects has the place and the reason of its flaw, as `rl_grammar` explains it. With `finds` only literals whose
-/// contents hold that text have a line, with the place of what gives it where it stands first. With `Hidden` a line has
-/// the place of the first character that turns or hides text. In the form `Json` a line is an object: `path`, `lo`, `hi`,
-/// `line`, `column`, and of a literal `kind`, `text`, `value` and `suffix`, of a flaw `text`, `error` and `piece`. Tokens are
-/// cut by [`Sources`]; the words `true` and `false` are literals too. Lines are written as they are made, 64 KB at once.
-/// Returns whether any line was written.
-///
-/// # Errors
-///
-/// `Source` at the first error of the source, after the lines of all literals before it. `Memory`
-/// where an allocation failed, after the lines of some of the first. `Write` where a write failed;
-/// a beginning of the lines may have been written then.
-pub fn scan<A: Allocator + Copy, W: Write>(
+/// Writes what is shown of the tokens of a source.
+fn scan_tokens<A: Allocator + Copy, W: Write>(
     alloc: A,
     options: Options<'_>,
     text: &str,
@@ -55,5 +43,48 @@ pub fn scan<A: Allocator + Copy, W: Write>(
             Step::End => return Ok(any),
             Step::Error(place, kind) => return Err(ScanError::Source(place, kind)),
         }
+    }
+}
+
+/// Writes the lines of what turns or hides text in a source, all at once.
+fn scan_hidden<A: Allocator + Copy, W: Write>(
+    alloc: A,
+    options: Options<'_>,
+    text: &str,
+    out: &mut W,
+) -> Result<bool, ScanError<A>> {
+    let Ok(lines) = hidden_lines(alloc, &options, text) else {
+        return Err(ScanError::Fault(Fault::Memory));
+    };
+    let written = write_whole(out, lines.as_bytes());
+    match written {
+        Ok(()) => Ok(!lines.as_bytes().is_empty()),
+        Err(fault) => Err(ScanError::Fault(fault)),
+    }
+}
+
+/// Writes a line for each literal of a source, in order: its place, after the path where there is one, and what
+/// `rl_lines` prints of its text, with escapes for what turns or hides text; with `explains` the line of a literal that
+/// Rust rejects has the place and the reason of its flaw, as `rl_grammar` explains it. With `finds` only literals whose
+/// contents hold that text have a line, with the place of what gives it where it stands first. With `Hidden` no literal has a
+/// line, but each character that turns or hides text, wherever it stands, with its number. In the form `Json` a line is an
+/// object: `path`, `lo`, `hi`, `line`, `column`, and of a literal `kind`, `text`, `value` and `suffix`, of a flaw `text`,
+/// `error` and `piece`, of such a character `hidden`. Tokens are cut by [`Sources`]; the words `true` and `false` are literals
+/// too. Lines are written as they are made, 64 KB at once; with `Hidden` all at once. Returns whether any line was written.
+///
+/// # Errors
+///
+/// `Source` at the first error of the source, after the lines of all literals before it; never with `Hidden`. `Memory`
+/// where an allocation failed, after the lines of some of the first. `Write` where a write failed;
+/// a beginning of the lines may have been written then.
+pub fn scan<A: Allocator + Copy, W: Write>(
+    alloc: A,
+    options: Options<'_>,
+    text: &str,
+    out: &mut W,
+) -> Result<bool, ScanError<A>> {
+    match options.shown {
+        Shown::Hidden => scan_hidden(alloc, options, text, out),
+        _ => scan_tokens(alloc, options, text, out),
     }
 }

@@ -2,14 +2,13 @@
 //! What is shown of the tokens of a source, one after another.
 
 use crate::rattle_std::prelude::{String};
+use crate::rl_sources::flaw_lines::push_wrong;
 use crate::rl_sources::held::held_at;
-use crate::rl_sources::hidden::{hidden_at, is_hidden};
 use crate::rl_sources::json::push_json_literal;
-use crate::rl_sources::judge::{flaw_of, reason_of};
+use crate::rl_sources::judge::{reason_of, wrong_in};
 use crate::rl_sources::literal::{Literal, kind_of};
-use crate::rl_sources::options::{Form, Options, Shown, Spelling};
+use crate::rl_sources::options::{Form, Options, Spelling};
 use crate::rl_sources::place::{Place, Places, place_inside, place_of, push_front};
-use crate::rl_sources::reason::push_flaw;
 use crate::rl_files::{make_visible, push_visible};
 use crate::rl_lines::{bare_value, label_of, push_bare, push_found};
 use crate::rl_reading::{Found, find};
@@ -126,7 +125,7 @@ fn push_inside<'t, A: Allocator + Copy>(
     push_line_at(alloc, out, options, literal, place)
 }
 
-/// Appends the line of a literal: its own, or where lines report flaws and it has one, the line that says why it is bad.
+/// Appends the lines of a literal: its own, or where lines report what is wrong and something is, those that say so.
 #[inline(always)]
 fn push_line_in<'t, A: Allocator + Copy>(
     alloc: A,
@@ -135,8 +134,8 @@ fn push_line_in<'t, A: Allocator + Copy>(
     literal: &Literal<'_, 't>,
     places: &mut Places<'t>,
 ) -> Result<(), AllocError> {
-    match reason_of(options.explains, literal.flaw) {
-        Some(flaw) => push_flaw(alloc, out, options, literal, places, flaw),
+    match reason_of(options.explains, literal.wrong) {
+        Some(wrong) => push_wrong(alloc, out, options, literal, places, wrong),
         None => push_placed(alloc, out, options, literal, places),
     }
 }
@@ -151,41 +150,17 @@ fn push_held_line<'t, A: Allocator + Copy>(
     places: &mut Places<'t>,
     sought: &str,
 ) -> Result<(), AllocError> {
-    let Some(range) = held_at(alloc, literal.token.text, *literal.found, sought)? else {
+    let Some(range) = held_at(
+        alloc,
+        literal.token.text,
+        *literal.found,
+        options.matching,
+        sought,
+    )?
+    else {
         return Ok(());
     };
     push_inside(alloc, out, options, literal, places, range)
-}
-
-/// Appends the line of a literal whose text holds a character that turns or hides text, at the place of the first.
-#[inline(never)]
-fn push_hidden_line<'t, A: Allocator + Copy>(
-    alloc: A,
-    out: &mut String<A>,
-    options: &Options<'_>,
-    literal: &Literal<'_, 't>,
-    places: &mut Places<'t>,
-) -> Result<(), AllocError> {
-    let Some(range) = hidden_at(literal.token.text) else {
-        return Ok(());
-    };
-    push_inside(alloc, out, options, literal, places, range)
-}
-
-/// Appends what is shown of a literal where no text is looked for: its line, which stands at the first character that
-/// turns or hides text where these are asked for.
-#[inline(always)]
-fn push_asked<'t, A: Allocator + Copy>(
-    alloc: A,
-    out: &mut String<A>,
-    options: &Options<'_>,
-    literal: &Literal<'_, 't>,
-    places: &mut Places<'t>,
-) -> Result<(), AllocError> {
-    match options.shown {
-        Shown::Hidden => push_hidden_line(alloc, out, options, literal, places),
-        _ => push_line_in(alloc, out, options, literal, places),
-    }
 }
 
 /// Appends what is shown of a literal that is picked: where a text is looked for, its line where its contents hold that.
@@ -198,7 +173,7 @@ fn push_picked<'t, A: Allocator + Copy>(
     places: &mut Places<'t>,
 ) -> Result<(), AllocError> {
     match options.finds {
-        None => push_asked(alloc, out, options, literal, places),
+        None => push_line_in(alloc, out, options, literal, places),
         Some(sought) => push_held_line(alloc, out, options, literal, places, sought),
     }
 }
@@ -214,19 +189,16 @@ fn push_literal_token<'t, A: Allocator + Copy>(
     places: &mut Places<'t>,
 ) -> Result<(), AllocError> {
     let found = find(token.text);
-    let flaw = flaw_of(options, token.text);
-    let hides = is_hidden(options.shown, token.text);
-    if !options
-        .shown
-        .picks(label_of(kind_of(&found)), flaw.is_some(), hides)
-    {
+    let wrong = wrong_in(options, token.text, &found);
+    let label = label_of(kind_of(&found));
+    if !options.shown.picks(label, wrong.is_some()) {
         return Ok(());
     }
     let literal = Literal {
         token: &token,
         rest,
         found: &found,
-        flaw,
+        wrong,
     };
     push_picked(alloc, out, options, &literal, places)
 }

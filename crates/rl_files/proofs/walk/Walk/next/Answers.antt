@@ -2,24 +2,24 @@ use Rattle.rl_files.proofs.WalkLemmas.{go_none, go_file, go_bad_name, go_missing
 use Rattle.rl_files.proofs.walk.Walk.next.Goals as goal
 
 pub returns-in_default : goal.returns-in_default
-returns-in_default g c = go_none _ _ _ c.loop.invariant c.in_default.ensures
+returns-in_default g c = go_none c.args.selection _ _ _ c.loop.invariant c.in_default.ensures
 
 pub returns-in-File : goal.returns-in-File
-returns-in-File g c = go_file _ _ _ _ _ c.loop.invariant (rw c.in-File.is at c.in-Some.ensures)
+returns-in-File g c = go_file c.args.selection _ _ _ _ _ c.loop.invariant (rw c.in-File.is at c.in-Some.ensures)
 
 pub returns-in-BadName : goal.returns-in-BadName
-returns-in-BadName g c = go_bad_name _ _ _ _ _ c.loop.invariant (rw c.in-BadName.is at c.in-Some.ensures)
+returns-in-BadName g c = go_bad_name c.args.selection _ _ _ _ _ c.loop.invariant (rw c.in-BadName.is at c.in-Some.ensures)
 
 pub returns-in-Err-NotADirectory : goal.returns-in-Err-NotADirectory
-returns-in-Err-NotADirectory g c = go_given _ _ _ _ c.in-Directory.is_given _ c.loop.invariant
+returns-in-Err-NotADirectory g c = go_given c.args.selection _ _ _ _ c.in-Directory.is_given _ c.loop.invariant
     (rw c.in-Directory.is at c.in-Some.ensures) c.if-is_given.true
     (rw (c.as_str.ensures.value, c.in-Err-NotADirectory.field-0-is) at c.in-Err-NotADirectory.ensures)
 
 pub returns-in-Err : goal.returns-in-Err
-returns-in-Err g c = go_missing _ _ _ _ c.in-Directory.is_given _ _ c.loop.invariant
+returns-in-Err g c = go_missing c.args.selection _ _ _ _ c.in-Directory.is_given _ _ c.loop.invariant
     (rw c.in-Directory.is at c.in-Some.ensures) (rw (c.as_str.ensures.value, ← c.in-Err.why-is) at c.in-Err.ensures)
 
 pub loop-preserved : goal.loop-preserved
-loop-preserved g c = go_enter _ _ _ _ _ c.in-Directory.is_given _ _ c.loop.invariant
+loop-preserved g c = go_enter c.args.selection _ _ _ _ _ c.in-Directory.is_given _ _ c.loop.invariant
     (rw c.in-Directory.is at c.in-Some.ensures) (rw c.as_str.ensures.value at c.in-Ok.ensures)
     (rw c.as_str-in-Ok.ensures.value at c.in-Ok-enter.ensures)

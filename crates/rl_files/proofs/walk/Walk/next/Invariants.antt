@@ -2,4 +2,4 @@ use Rattle.rl_files.specs.Walks.{WalksOn}
 use Rattle.rl_files.proofs.walk.Walk.next.Given as goal
 
 abbrev pub invariant-loop : goal.invariant-loop
-invariant-loop g l = WalksOn (g.T.Tree.holds l.tree) l.initial.self l.self
+invariant-loop g l = WalksOn l.selection (g.T.Tree.holds l.tree) l.initial.self l.self

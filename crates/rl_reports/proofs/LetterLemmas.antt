@@ -1,0 +1,285 @@
+-- Letters after a dash, one after another.
+use Rattle.rl_text.proofs.Common.{List, [], ap, arith, encode_utf8, inl, inr, length, length-append, length-encode, len_utf8_bounds, encode_ascii, refl, subst, sym, ℕ, ◌++◌, ◌<◌, ◌∙◌, ◌∷◌, ◌≡◌, ◌≢◌, ◌⊎◌, Bool}
+use Rattle.std.specs.Prelude.{IfErr, OnOk}
+use Rattle.std.specs.declared.result.Result.{Result}
+use Rattle.std.specs.declared.result.Result.TheVariants.{Err, Ok}
+use Rattle.rl_reports.specs.declared.flags.Flag.{Flag}
+use Rattle.rl_reports.specs.declared.flags.Flag.TheVariants.{Bad, Hidden, Only, Find, IgnoreCase, WholeWords, Text, Json, Color, Bytes, Lines, NoStray, AnySuffix, AllDirectories, Extension, Count, Files, Quiet, Help, Version, Paths}
+use Rattle.rl_reports.specs.declared.flags.Operand.{Operand}
+use Rattle.rl_reports.specs.declared.flags.Operand.TheVariants as takes
+use Rattle.rl_reports.specs.declared.flags.Next.{Next}
+use Rattle.rl_reports.specs.declared.flags.Next.TheVariants as next
+use Rattle.rl_reports.specs.declared.words.WordError.{WordError}
+use Rattle.rl_reports.specs.Words.{Wishes, AreLetters, AreRejectedLetters, IsAdded, IsLetter, IsRejectedFlag, IsRejectedJoined, IsTaken, LastLetter, LaterLetter, Letter, LetterAndText, MayStand, NamesUnknown, NoLetters, RejectedLetter, RejectedText, UnknownLetter, next_after, taken_by}
+
+-- letters are of ASCII
+letter_low : (flag : Flag) (c : ℕ) → IsLetter flag c → c < 128
+letter_low Find c is = omega (arith, is)
+letter_low IgnoreCase c is = omega (arith, is)
+letter_low WholeWords c is = omega (arith, is)
+letter_low Count c is = omega (arith, is)
+letter_low Files c is = omega (arith, is)
+letter_low Quiet c is = omega (arith, is)
+letter_low Help c is = omega (arith, is)
+letter_low Version c is = omega (arith, is)
+letter_low Bad c is = absurd is
+letter_low Hidden c is = absurd is
+letter_low Only c is = absurd is
+letter_low Text c is = absurd is
+letter_low Json c is = absurd is
+letter_low Color c is = absurd is
+letter_low Bytes c is = absurd is
+letter_low Lines c is = absurd is
+letter_low NoStray c is = absurd is
+letter_low AnySuffix c is = absurd is
+letter_low AllDirectories c is = absurd is
+letter_low Extension c is = absurd is
+letter_low Paths c is = absurd is
+
+-- a letter begins the bytes
+letter_front : (flag : Flag) (c : ℕ) (rest after : List ℕ) → IsLetter flag c → rest ≡ encode_utf8 c ++ after
+    → rest ≡ c ∷ after
+letter_front flag c rest after is split =
+    split ∙ ap (λ (z : List ℕ). z ++ after) (encode_ascii c (letter_low flag c is))
+
+-- The letters are left that begin `rest`: with them more, so much is asked for as with all.
+pub record AreOpen (A : Type 0) (has_colors : Bool) (word : List ℕ) (old : Wishes) (letters : List ℕ) (now : Wishes)
+    (then : Next) (rest : List ℕ) : Type 0 where
+  pub any : then ≡ next.Any
+  pub goes_on : (last : Next) (new : Wishes) → AreLetters has_colors now rest last new
+      → AreLetters has_colors old letters last new
+  pub rejected : (error : WordError A) → AreRejectedLetters has_colors word error now rest
+      → AreRejectedLetters has_colors word error old letters
+
+-- so, or none is left, and what the last takes may be the next word
+abbrev pub AreLeft : (A : Type 0) → Bool → List ℕ → Wishes → List ℕ → Wishes → Next → List ℕ → Type 0
+AreLeft A has_colors word old letters now then rest =
+    AreOpen A has_colors word old letters now then rest
+    ⊎ ((rest ≡ []) × AreLetters has_colors old letters then now)
+
+pub letters_begin : (A : Type 0) (has_colors : Bool) (word : List ℕ) (old : Wishes) (letters : List ℕ) (then : Next)
+    → then ≡ next.Any → AreLeft A has_colors word old letters old then letters
+letters_begin A hc word old letters then any = inl (record {
+  any = any;
+  goes_on = λ last new are. are;
+  rejected = λ error are. are;
+})
+
+-- a character is left
+some_left : (c : ℕ) (after : List ℕ) → encode_utf8 c ++ after ≡ [] → ⊥
+some_left c after nil = absurd (omega (arith, ap length nil, length-append (encode_utf8 c) after, length-encode c, (len_utf8_bounds c).0))
+
+pub still_open : (A : Type 0) (has_colors : Bool) (word : List ℕ) (old : Wishes) (letters : List ℕ) (now : Wishes)
+    (then : Next) (rest after : List ℕ) (c : ℕ) → rest ≡ encode_utf8 c ++ after
+    → AreLeft A has_colors word old letters now then rest → AreOpen A has_colors word old letters now then rest
+still_open A hc word old letters now then rest after c split (inl left) = left
+still_open A hc word old letters now then rest after c split (inr (nil, are)) =
+    absurd (some_left c after (sym split ∙ nil))
+
+-- an option that takes nothing
+open_more : (A : Type 0) (has_colors : Bool) (word : List ℕ) (old : Wishes) (letters : List ℕ) (now new : Wishes)
+    (then last : Next) (rest after : List ℕ) (c : ℕ) (flag : Flag)
+    → AreOpen A has_colors word old letters now then rest → rest ≡ c ∷ after → IsLetter flag c
+    → IsAdded flag now last new → last ≡ next.Any → AreOpen A has_colors word old letters new last after
+open_more A hc word old letters now new then last rest after c flag left split is added any =
+    let added_any : IsAdded flag now next.Any new = subst (λ (n : Next). IsAdded flag now n new) any added in
+    record {
+      any = any;
+      goes_on = λ end newest are. left.goes_on end newest
+          (subst (λ (z : List ℕ). AreLetters hc now z end newest) (sym split) (Letter flag c new is added_any are));
+      rejected = λ error are. left.rejected error
+          (subst (λ (z : List ℕ). AreRejectedLetters hc word error now z) (sym split)
+          (LaterLetter flag c new is added_any are));
+    }
+
+-- the last takes what the next word is
+closed : (A : Type 0) (has_colors : Bool) (word : List ℕ) (old : Wishes) (letters : List ℕ) (now new : Wishes)
+    (then last : Next) (rest after : List ℕ) (c : ℕ) (flag : Flag) (operand : Operand)
+    → AreOpen A has_colors word old letters now then rest → rest ≡ c ∷ after → IsLetter flag c
+    → IsAdded flag now last new → last ≡ next.Operand operand → after ≡ [] → AreLetters has_colors old letters last new
+closed A hc word old letters now new then last rest after c flag operand left split is added takes nil =
+    let only : rest ≡ c ∷ [] = split ∙ ap (λ (z : List ℕ). c ∷ z) nil in
+    let added_last : IsAdded flag now (next.Operand operand) new = subst (λ (n : Next). IsAdded flag now n new) takes
+    added in
+    subst (λ (n : Next). AreLetters hc old letters n new) (sym takes) (left.goes_on (next.Operand operand) new
+    (subst (λ (z : List ℕ). AreLetters hc now z (next.Operand operand) new) (sym only)
+    (LastLetter flag operand c is added_last)))
+
+abbrev TakesNothing : Flag → List ℕ → Type 0
+TakesNothing flag after = (after ≡ []) ⊎ (next_after flag ≡ next.Any) ⊎ (next_after flag ≡ next.Path)
+
+-- a letter was taken
+pub letter_taken : (A : Type 0) (has_colors : Bool) (word : List ℕ) (old : Wishes) (letters : List ℕ)
+    (now new : Wishes) (then last : Next) (rest after : List ℕ) (c : ℕ) (flag : Flag) → rest ≡ encode_utf8 c ++ after
+    → IsLetter flag c → TakesNothing flag after → AreLeft A has_colors word old letters now then rest
+    → IsAdded flag now last new → AreLeft A has_colors word old letters new last after
+letter_taken A hc word old letters now new then last rest after c flag split is none left added =
+    go flag is none added (letter_front flag c rest after is split)
+  where
+    begun : AreOpen A hc word old letters now then rest
+    begun = still_open A hc word old letters now then rest after c split left
+
+    plain : (f : Flag) → next_after f ≡ next.Any → IsLetter f c → IsAdded f now last new → rest ≡ c ∷ after
+        → AreLeft A hc word old letters new last after
+    plain f any is added front = inl (open_more A hc word old letters now new then last rest after c f begun front is
+        added (added.1 ∙ any))
+
+    no_text : TakesNothing Find after → after ≡ []
+    no_text (inl nil) = nil
+    no_text (inr (inl e)) = absurd (cc)
+    no_text (inr (inr e)) = absurd (cc)
+
+    go : (f : Flag) → IsLetter f c → TakesNothing f after → IsAdded f now last new → rest ≡ c ∷ after
+        → AreLeft A hc word old letters new last after
+    go Find is none added front = inr (
+      no_text none,
+      closed A hc word old letters now new then last rest after c Find
+          takes.Text begun front is added added.1 (no_text none),
+    )
+    go IgnoreCase is none added front = plain IgnoreCase refl is added front
+    go WholeWords is none added front = plain WholeWords refl is added front
+    go Count is none added front = plain Count refl is added front
+    go Files is none added front = plain Files refl is added front
+    go Quiet is none added front = plain Quiet refl is added front
+    go Help is none added front = plain Help refl is added front
+    go Version is none added front = plain Version refl is added front
+    go Bad is none added front = absurd is
+    go Hidden is none added front = absurd is
+    go Only is none added front = absurd is
+    go Text is none added front = absurd is
+    go Json is none added front = absurd is
+    go Color is none added front = absurd is
+    go Bytes is none added front = absurd is
+    go Lines is none added front = absurd is
+    go NoStray is none added front = absurd is
+    go AnySuffix is none added front = absurd is
+    go AllDirectories is none added front = absurd is
+    go Extension is none added front = absurd is
+    go Paths is none added front = absurd is
+
+-- a letter and what it takes
+pub letter_and_text : (A : Type 0) (has_colors : Bool) (word : List ℕ) (old : Wishes) (letters : List ℕ)
+    (now new : Wishes) (then last : Next) (rest after : List ℕ) (c : ℕ) (flag : Flag) (operand : Operand)
+    → rest ≡ encode_utf8 c ++ after → IsLetter flag c → flag ≡ taken_by operand → after ≢ []
+    → AreLeft A has_colors word old letters now then rest → MayStand (taken_by operand) now
+    → IsTaken has_colors operand now after new → last ≡ next.Any → AreLetters has_colors old letters last new
+letter_and_text A hc word old letters now new then last rest after c flag operand split is flag_is some left may taken
+    any =
+    let begun = still_open A hc word old letters now then rest after c split left in
+    let front = letter_front flag c rest after is split in
+    let is_taken : IsLetter (taken_by operand) c = subst (λ (f : Flag). IsLetter f c) flag_is is in
+    subst (λ (n : Next). AreLetters hc old letters n new) (sym any) (begun.goes_on next.Any new
+    (subst (λ (z : List ℕ). AreLetters hc now z next.Any new) (sym front)
+    (LetterAndText operand c is_taken may some taken)))
+
+-- what a letter takes was rejected, or the letter
+pub text_rejected : (A : Type 0) (has_colors : Bool) (word : List ℕ) (old : Wishes) (letters : List ℕ) (now : Wishes)
+    (then : Next) (rest after : List ℕ) (c : ℕ) (flag : Flag) (operand : Operand) (error : WordError A)
+    → rest ≡ encode_utf8 c ++ after → IsLetter flag c → flag ≡ taken_by operand
+    → AreLeft A has_colors word old letters now then rest → IsRejectedJoined operand now after error
+    → AreRejectedLetters has_colors word error old letters
+text_rejected A hc word old letters now then rest after c flag operand error split is flag_is left rejected =
+    let begun = still_open A hc word old letters now then rest after c split left in
+    let front = letter_front flag c rest after is split in
+    let is_taken : IsLetter (taken_by operand) c = subst (λ (f : Flag). IsLetter f c) flag_is is in
+    begun.rejected error (subst (λ (z : List ℕ). AreRejectedLetters hc word error now z) (sym front)
+    (RejectedText operand c is_taken rejected))
+
+pub letter_rejected : (A : Type 0) (has_colors : Bool) (word : List ℕ) (old : Wishes) (letters : List ℕ)
+    (now : Wishes) (then : Next) (rest after : List ℕ) (c : ℕ) (flag : Flag) (error : WordError A)
+    → rest ≡ encode_utf8 c ++ after → IsLetter flag c → AreLeft A has_colors word old letters now then rest
+    → IsRejectedFlag flag now error → AreRejectedLetters has_colors word error old letters
+letter_rejected A hc word old letters now then rest after c flag error split is left rejected =
+    let begun = still_open A hc word old letters now then rest after c split left in
+    let front = letter_front flag c rest after is split in
+    begun.rejected error (subst (λ (z : List ℕ). AreRejectedLetters hc word error now z) (sym front)
+    (RejectedLetter flag c is rejected))
+
+pub letter_unknown : (A : Type 0) (has_colors : Bool) (word : List ℕ) (old : Wishes) (letters : List ℕ)
+    (now : Wishes) (then : Next) (rest after : List ℕ) (c : ℕ) (error : WordError A)
+    → rest ≡ encode_utf8 c ++ after → ((flag : Flag) → IsLetter flag c → ⊥)
+    → AreLeft A has_colors word old letters now then rest → NamesUnknown word error
+    → AreRejectedLetters has_colors word error old letters
+letter_unknown A hc word old letters now then rest after c error split none left names =
+    let begun = still_open A hc word old letters now then rest after c split left in
+    begun.rejected error (UnknownLetter c after split none names)
+
+-- none is left
+pub letters_end : (A : Type 0) (has_colors : Bool) (word : List ℕ) (old : Wishes) (letters : List ℕ) (now : Wishes)
+    (then : Next) (rest : List ℕ) → rest ≡ [] → AreLeft A has_colors word old letters now then rest
+    → AreLetters has_colors old letters then now
+letters_end A hc word old letters now then rest nil (inr (e, are)) = are
+letters_end A hc word old letters now then rest nil (inl begun) =
+    subst (λ (n : Next). AreLetters hc old letters n now) (sym begun.any) (begun.goes_on next.Any now
+    (subst (λ (z : List ℕ). AreLetters hc now z next.Any now) (sym nil) NoLetters))
+
+-- ---- what an option takes
+
+pub taken_flag : (flag : Flag) (operand : Operand) → next_after flag ≡ next.Operand operand → flag ≡ taken_by operand
+taken_flag Bad operand e = absurd (cc)
+taken_flag Hidden operand e = absurd (cc)
+taken_flag Only takes.Kinds e = refl
+taken_flag Only takes.Text e = absurd (cc)
+taken_flag Only takes.Color e = absurd (cc)
+taken_flag Only takes.Extension e = absurd (cc)
+taken_flag Find takes.Kinds e = absurd (cc)
+taken_flag Find takes.Text e = refl
+taken_flag Find takes.Color e = absurd (cc)
+taken_flag Find takes.Extension e = absurd (cc)
+taken_flag IgnoreCase operand e = absurd (cc)
+taken_flag WholeWords operand e = absurd (cc)
+taken_flag Text operand e = absurd (cc)
+taken_flag Json operand e = absurd (cc)
+taken_flag Color takes.Kinds e = absurd (cc)
+taken_flag Color takes.Text e = absurd (cc)
+taken_flag Color takes.Color e = refl
+taken_flag Color takes.Extension e = absurd (cc)
+taken_flag Bytes operand e = absurd (cc)
+taken_flag Lines operand e = absurd (cc)
+taken_flag NoStray operand e = absurd (cc)
+taken_flag AnySuffix operand e = absurd (cc)
+taken_flag AllDirectories operand e = absurd (cc)
+taken_flag Extension takes.Kinds e = absurd (cc)
+taken_flag Extension takes.Text e = absurd (cc)
+taken_flag Extension takes.Color e = absurd (cc)
+taken_flag Extension takes.Extension e = refl
+taken_flag Count operand e = absurd (cc)
+taken_flag Files operand e = absurd (cc)
+taken_flag Quiet operand e = absurd (cc)
+taken_flag Help operand e = absurd (cc)
+taken_flag Version operand e = absurd (cc)
+taken_flag Paths operand e = absurd (cc)
+
+pub takes_nothing : (flag : Flag) → ((operand : Operand) → next_after flag ≢ next.Operand operand)
+    → (next_after flag ≡ next.Any) ⊎ (next_after flag ≡ next.Path)
+takes_nothing Bad none = inl refl
+takes_nothing Hidden none = inl refl
+takes_nothing Only none = absurd (none takes.Kinds refl)
+takes_nothing Find none = absurd (none takes.Text refl)
+takes_nothing IgnoreCase none = inl refl
+takes_nothing WholeWords none = inl refl
+takes_nothing Text none = inl refl
+takes_nothing Json none = inl refl
+takes_nothing Color none = absurd (none takes.Color refl)
+takes_nothing Bytes none = inl refl
+takes_nothing Lines none = inl refl
+takes_nothing NoStray none = inl refl
+takes_nothing AnySuffix none = inl refl
+takes_nothing AllDirectories none = inl refl
+takes_nothing Extension none = absurd (none takes.Extension refl)
+takes_nothing Count none = inl refl
+takes_nothing Files none = inl refl
+takes_nothing Quiet none = inl refl
+takes_nothing Help none = inl refl
+takes_nothing Version none = inl refl
+takes_nothing Paths none = inr refl
+
+-- ---- results of calls
+
+pub all_ok : {T E P Q R S : Type 0} (r : Result T E) → (P → Q → R → S) → OnOk r P → OnOk r Q → OnOk r R → OnOk r S
+all_ok (Ok x) f p q s = f p q s
+all_ok (Err e) f p q s = tt
+
+pub other_err : {T E : Type 0} {P Q : E → Type 0} (r : Result T E) → ((e : E) → P e → Q e) → IfErr r P → IfErr r Q
+other_err (Ok x) f p = tt
+other_err (Err e) f p = f e p

@@ -1,0 +1,41 @@
+-- Which option a word was likely meant to be. Words are lists of bytes.
+use Rattle.std.specs.Prelude.{◌≡◌, ℕ, ◌==◌, Bool, true, false, cond, ◌||◌, List, [], ◌∷◌, ◌++◌, drop, codes, Option, Some, None}
+use denote.Ref.{Bor}
+use Rattle.std.specs.List.{All, starts_with}
+use Rattle.std.specs.Str.{bytes_eq}
+use Rattle.rl_sources.specs.Options.{words_of}
+
+-- the options; commas separate them
+abbrev pub option_list : List ℕ
+option_list =
+    codes "--bad,--hidden,--only,--find,--ignore-case,--word,--no-stray,--any-suffix,--all,--extension,--bytes,--lines,--text,--json,--color,--count,--files-with-matches,--quiet,--help,--version"
+
+-- the first two changed places
+abbrev pub swapped : List ℕ → List ℕ
+swapped [] = []
+swapped (a ∷ []) = a ∷ []
+swapped (a ∷ b ∷ rest) = b ∷ a ∷ rest
+
+-- one slip makes one of the other, at their front: a letter too many, one too few, another letter, or two that
+-- changed places
+abbrev pub slips_here : List ℕ → List ℕ → Bool
+slips_here said meant =
+    bytes_eq (drop 1 said) meant || bytes_eq said (drop 1 meant) || bytes_eq (drop 1 said) (drop 1 meant)
+    || bytes_eq (swapped said) meant
+
+-- one slip makes one of the other, after what both begin with
+abbrev pub is_slip : List ℕ → List ℕ → Bool
+is_slip [] meant = slips_here [] meant
+is_slip (a ∷ said) [] = slips_here (a ∷ said) []
+is_slip (a ∷ said) (b ∷ meant) = cond (a == b) (is_slip said meant) (slips_here (a ∷ said) (b ∷ meant))
+
+-- the word may stand for the option: one slip makes it of that, or that begins with it
+abbrev pub is_near : List ℕ → List ℕ → Bool
+is_near word option = is_slip word option || starts_with ◌==◌ option word
+
+-- the first option that the word may stand for, or there is none
+abbrev pub IsMeant : List ℕ → Option (Bor (List ℕ)) → Type 0
+IsMeant word None = All (λ option. is_near word option ≡ false) (words_of option_list)
+IsMeant word (Some meant) =
+    (before after : List (List ℕ)) × (words_of option_list ≡ before ++ meant.now ∷ after)
+    × All (λ option. is_near word option ≡ false) before × (is_near word meant.now ≡ true)

@@ -1,0 +1,16 @@
+use Rattle.rl_text.proofs.Common.{chars, length, string_bytes, ◌≡◌}
+use Rattle.rl_lexer.specs.Cursors.{IsCursorState}
+use Rattle.rl_lexer.specs.Sources.{without_mark}
+use Rattle.rl_sources.proofs.HiddenLemmas.{PassesHidden}
+use Rattle.rl_sources.proofs.hidden.hidden_lines.Given as goal
+
+abbrev pub invariant-loop-c : goal.invariant-loop-c
+invariant-loop-c g l = record {
+  same : l.places ≡ l.text;
+  cursor : IsCursorState l.text l.rest;
+  passes : PassesHidden l.options (chars l.text) (without_mark (chars l.text)) (chars l.rest)
+      (chars (string_bytes l.lines));
+}
+
+abbrev pub decreases-loop-c : goal.decreases-loop-c
+decreases-loop-c g l = length l.rest

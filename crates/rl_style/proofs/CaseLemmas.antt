@@ -1,0 +1,155 @@
+-- Letters in another case.
+use Rattle.rl_text.proofs.Common.{◌≡◌, ℕ, ◌+◌, ◌-◌, ◌<◌, ◌≤◌, ◌&&◌, ◌||◌, Bool, true, false, not, ◌==◌, cond, nat_le, nat_lt, List, [], ◌∷◌, ◌++◌, Some, None, length, map, refl, sym, ap, ◌∙◌, inl, inr, arith, eqb-true, cases_lt, agree_below_at, digit_value, list_all, list_any, and_from, and_parts, scalar, encode_utf8, encode_utf8_all, encodes-append, append-nil, append_assoc, map-append}
+use Rattle.std.specs.Prelude.{Option}
+use Rattle.std.proofs.Math.Utf8.{scalars}
+use Rattle.std.proofs.lemmas.Bool.{lt-leb}
+use Rattle.rl_text.specs.Texts.{is_row_part}
+use Rattle.rl_forms.specs.Spelling.{place_value, without_underscores}
+use Rattle.rl_style.specs.declared.style.Case.{Case}
+use Rattle.rl_style.specs.declared.style.Case.TheVariants.{Lower, Upper}
+use Rattle.rl_style.specs.Cases.{cased, lower_case, upper_case}
+
+-- ---- past ASCII nothing changes
+
+none_right : (b : Bool) → (b && false) ≡ false
+none_right true = refl
+none_right false = refl
+
+outside : (lo hi c : ℕ) → hi < c → (nat_le lo c && nat_le c hi) ≡ false
+outside lo hi c h = ap (λ b. nat_le lo c && b) (lt-leb c hi h) ∙ none_right (nat_le lo c)
+
+pub cased_past : (case : Option Case) (c : ℕ) → 128 ≤ c → cased case c ≡ c
+cased_past None c h = refl
+cased_past (Some Upper) c h = ap (λ b. cond b (c - 32) c) (outside 97 102 c (omega arith))
+cased_past (Some Lower) c h = ap (λ b. cond b (c + 32) c) (outside 65 70 c (omega arith))
+
+-- ---- what a letter stands for stays
+
+pub cased_value : (case : Option Case) (c : ℕ) → digit_value (cased case c) ≡ digit_value c
+cased_value case c =
+    elim (cases_lt c 128) [
+      | inl a ↦ eqb-true _ _ (low case c a)
+      | inr a ↦ ap digit_value (cased_past case c a)
+    ]
+  where
+    low : (case : Option Case) (c : ℕ) → c < 128 → (digit_value (cased case c) == digit_value c) ≡ true
+    low None c a = agree_below_at (λ c. digit_value c == digit_value c) (λ c. true) 128 c refl a
+    low (Some Upper) c a = agree_below_at (λ c. digit_value (upper_case c) == digit_value c) (λ c. true) 128 c refl a
+    low (Some Lower) c a = agree_below_at (λ c. digit_value (lower_case c) == digit_value c) (λ c. true) 128 c refl a
+
+-- and underscores are what they were
+pub cased_underscore : (case : Option Case) (c : ℕ) → (cased case c == 95) ≡ (c == 95)
+cased_underscore case c =
+    elim (cases_lt c 128) [
+      | inl a ↦ low case c a
+      | inr a ↦ ap (λ z. z == 95) (cased_past case c a)
+    ]
+  where
+    low : (case : Option Case) (c : ℕ) → c < 128 → (cased case c == 95) ≡ (c == 95)
+    low None c a = refl
+    low (Some Upper) c a = agree_below_at (λ c. upper_case c == 95) (λ c. c == 95) 128 c refl a
+    low (Some Lower) c a = agree_below_at (λ c. lower_case c == 95) (λ c. c == 95) 128 c refl a
+
+-- ---- rows
+
+part_same : (case : Option Case) (base c : ℕ) → is_row_part (λ c. nat_lt (digit_value c) base) (cased case c)
+    ≡ is_row_part (λ c. nat_lt (digit_value c) base) c
+part_same case base c =
+    ap (λ v. nat_lt v base || (cased case c == 95)) (cased_value case c)
+    ∙ ap (λ b. nat_lt (digit_value c) base || b) (cased_underscore case c)
+
+pub row_cased : (case : Option Case) (base : ℕ) (row : List ℕ)
+    → list_all (is_row_part (λ c. nat_lt (digit_value c) base)) (map (cased case) row)
+    ≡ list_all (is_row_part (λ c. nat_lt (digit_value c) base)) row
+row_cased case base [] = refl
+row_cased case base (c ∷ cs) =
+    ap (λ b. b && list_all (is_row_part (λ c. nat_lt (digit_value c) base)) (map (cased case) cs)) (part_same case base c)
+    ∙ ap (λ b. is_row_part (λ c. nat_lt (digit_value c) base) c && b) (row_cased case base cs)
+
+pub some_cased : (case : Option Case) (base : ℕ) (row : List ℕ) → list_any (λ c. nat_lt (digit_value c) base)
+    (map (cased case) row) ≡ list_any (λ c. nat_lt (digit_value c) base) row
+some_cased case base [] = refl
+some_cased case base (c ∷ cs) =
+    ap (λ v. nat_lt v base || list_any (λ c. nat_lt (digit_value c) base) (map (cased case) cs)) (cased_value case c)
+    ∙ ap (λ b. nat_lt (digit_value c) base || b) (some_cased case base cs)
+
+-- ---- numbers
+
+bare_cased : (case : Option Case) (cs : List ℕ) → without_underscores (map (cased case) cs)
+    ≡ map (cased case) (without_underscores cs)
+bare_cased case [] = refl
+bare_cased case (c ∷ cs) =
+    ap (λ b. cond (not b) (cased case c ∷ without_underscores (map (cased case) cs))
+    (without_underscores (map (cased case) cs))) (cased_underscore case c) ∙ go (c == 95) (bare_cased case cs)
+  where
+    go : (b : Bool) → without_underscores (map (cased case) cs) ≡ map (cased case) (without_underscores cs)
+        → cond (not b) (cased case c ∷ without_underscores (map (cased case) cs))
+        (without_underscores (map (cased case) cs))
+        ≡ map (cased case) (cond (not b) (c ∷ without_underscores cs) (without_underscores cs))
+    go true ih = ih
+    go false ih = ap (λ z. cased case c ∷ z) ih
+
+length_cased : (case : Option Case) (cs : List ℕ) → length (map (cased case) cs) ≡ length cs
+length_cased case [] = refl
+length_cased case (c ∷ cs) = let ih = length_cased case cs in omega (arith, ih)
+
+pub spelled_cased : (case : Option Case) (base : ℕ) (ds : List ℕ) → place_value base (map (cased case) ds)
+    ≡ place_value base ds
+spelled_cased case base [] = refl
+spelled_cased case base (d ∷ ds) = rw (cased_value case d, length_cased case ds, spelled_cased case base ds) refl
+
+pub number_cased : (case : Option Case) (base : ℕ) (row : List ℕ) → place_value base
+    (without_underscores (map (cased case) row)) ≡ place_value base (without_underscores row)
+number_cased case base row = ap (place_value base) (bare_cased case row)
+    ∙ spelled_cased case base (without_underscores row)
+
+-- ---- once is enough
+
+pub twice_cased : (case : Option Case) (c : ℕ) → cased case (cased case c) ≡ cased case c
+twice_cased case c =
+    elim (cases_lt c 128) [
+      | inl a ↦ eqb-true _ _ (low case c a)
+      | inr a ↦ ap (cased case) (cased_past case c a)
+    ]
+  where
+    low : (case : Option Case) (c : ℕ) → c < 128 → (cased case (cased case c) == cased case c) ≡ true
+    low None c a = agree_below_at (λ c. c == c) (λ c. true) 128 c refl a
+    low (Some Upper) c a = agree_below_at (λ c. upper_case (upper_case c) == upper_case c) (λ c. true) 128 c refl a
+    low (Some Lower) c a = agree_below_at (λ c. lower_case (lower_case c) == lower_case c) (λ c. true) 128 c refl a
+
+pub twice_row : (case : Option Case) (cs : List ℕ) → map (cased case) (map (cased case) cs) ≡ map (cased case) cs
+twice_row case [] = refl
+twice_row case (c ∷ cs) = ap (λ z. z ∷ map (cased case) (map (cased case) cs)) (twice_cased case c)
+    ∙ ap (λ z. cased case c ∷ z) (twice_row case cs)
+
+-- ---- what was written
+
+pub cased_scalar : (case : Option Case) (c : ℕ) → scalar c ≡ true → scalar (cased case c) ≡ true
+cased_scalar case c h =
+    elim (cases_lt c 128) [
+      | inl a ↦ low case c a
+      | inr a ↦ ap scalar (cased_past case c a) ∙ h
+    ]
+  where
+    low : (case : Option Case) (c : ℕ) → c < 128 → scalar (cased case c) ≡ true
+    low None c a = agree_below_at (λ c. scalar c) (λ c. true) 128 c refl a
+    low (Some Upper) c a = agree_below_at (λ c. scalar (upper_case c)) (λ c. true) 128 c refl a
+    low (Some Lower) c a = agree_below_at (λ c. scalar (lower_case c)) (λ c. true) 128 c refl a
+
+pub scalars_cased : (case : Option Case) (cs : List ℕ) → scalars cs ≡ true → scalars (map (cased case) cs) ≡ true
+scalars_cased case [] h = refl
+scalars_cased case (c ∷ cs) h =
+    let p = and_parts (scalar c) (scalars cs) h in
+    and_from (scalar (cased case c)) (scalars (map (cased case) cs)) (cased_scalar case c p.0)
+    (scalars_cased case cs p.1)
+
+-- one character more
+pub cased_more : (case : Option Case) (p a b xs : List ℕ) (c : ℕ) → a ≡ p ++ encode_utf8_all (map (cased case) xs) → b
+    ≡ a ++ encode_utf8 (cased case c) → b ≡ p ++ encode_utf8_all (map (cased case) (xs ++ (c ∷ [])))
+cased_more case p a b xs c e h =
+    let all : List ℕ = encode_utf8_all (map (cased case) xs) in
+    let one : List ℕ = encode_utf8 (cased case c) in
+    h ∙ ap (λ z. z ++ one) e ∙ append_assoc p all one
+    ∙ ap (λ z. p ++ z) (ap (λ z. all ++ z) (sym (append-nil one))
+    ∙ sym (encodes-append (map (cased case) xs) (cased case c ∷ []))
+    ∙ ap encode_utf8_all (sym (map-append (cased case) xs (c ∷ []))))

@@ -1,0 +1,158 @@
+-- Digits without the zeros in front spell the same number.
+use Rattle.rl_text.proofs.Common.{◌≡◌, ℕ, ◌<◌, ◌≤◌, ◌+◌, ◌*◌, ◌^◌, ◌⊎◌, ◌||◌, ◌&&◌, Bool, true, false, not, ◌==◌, cond, nat_lt, List, [], ◌∷◌, ◌++◌, length, refl, sym, ap, subst, ◌∙◌, inl, inr, arith, and_from, and_parts, both_ways, cases_Bool, eqb-true, or_cases, or_from, or_left, or_parts, digit_value, is_ascii_digit, list_all, list_any, flat_map}
+use Rattle.std.specs.Str.{chars}
+use Rattle.rl_writing.proofs.AsciiLemmas.{low_chars}
+use Rattle.rl_text.specs.Classes.{after_run}
+use Rattle.rl_text.specs.Texts.{first_passes, is_row_part}
+use Rattle.rl_forms.specs.Spelling.{place_value, without_underscores}
+use Rattle.rl_forms.specs.Strict.{IsDigits}
+use Rattle.rl_style.specs.Cases.{is_padding, or_zero, significant}
+use Rattle.rl_style.proofs.NumberCharacters.{RowStays, Stays}
+
+-- what is left begins with no padding
+pub record Left (row : List ℕ) : Type 0 where
+  pub first : ℕ
+  pub rest : List ℕ
+  pub is : after_run is_padding row ≡ first ∷ rest
+  pub other : is_padding first ≡ false
+
+left : (row : List ℕ) → (after_run is_padding row ≡ []) ⊎ Left row
+left [] = inl refl
+left (c ∷ cs) =
+    elim (cases_Bool (is_padding c)) [
+      | inl a ↦
+          let same : after_run is_padding (c ∷ cs) ≡ after_run is_padding cs = ap (λ b. cond b (after_run is_padding cs) (c ∷ cs)) a in
+          elim (left cs) [
+            | inl e ↦ inl (same ∙ e)
+            | inr l ↦ inr (record { first = l.first; rest = l.rest; is = same ∙ l.is; other = l.other })
+          ]
+      | inr a ↦ inr (record { first = c; rest = cs; is = ap (λ b. cond b (after_run is_padding cs) (c ∷ cs)) a; other = a })
+    ]
+
+-- what a test says of all, it says of what is left
+after_all : (test : ℕ → Bool) (row : List ℕ) → list_all test row ≡ true → list_all test (after_run is_padding row) ≡ true
+after_all test [] h = refl
+after_all test (c ∷ cs) h =
+    let p = and_parts (test c) (list_all test cs) h in
+    go (is_padding c) (after_all test cs p.1)
+  where
+    go : (b : Bool) → list_all test (after_run is_padding cs) ≡ true
+        → list_all test (cond b (after_run is_padding cs) (c ∷ cs)) ≡ true
+    go true k = k
+    go false k = h
+
+significant_none : (row : List ℕ) → after_run is_padding row ≡ [] → significant row ≡ 48 ∷ []
+significant_none row e = ap or_zero e
+
+significant_left : (row : List ℕ) (l : Left row) → significant row ≡ l.first ∷ l.rest
+significant_left row l = ap or_zero l.is
+
+pub significant_all : (test : ℕ → Bool) (row : List ℕ) → test 48 ≡ true → list_all test row ≡ true
+    → list_all test (significant row) ≡ true
+significant_all test row z h =
+    elim (left row) [
+      | inl e ↦ ap (list_all test) (significant_none row e) ∙ and_from (test 48) true z refl
+      | inr l ↦ ap (list_all test) (significant_left row l ∙ sym l.is) ∙ after_all test row h
+    ]
+
+-- it begins with a digit
+first_digit : (test : ℕ → Bool) (c : ℕ) → is_row_part test c ≡ true → is_padding c ≡ false → test c ≡ true
+first_digit test c h n =
+    elim (or_cases (test c) (c == 95) h) [
+      | inl a ↦ a
+      | inr a ↦ absurd (both_ways (c == 95) (or_parts (c == 48) (c == 95) n).1 a)
+    ]
+
+pub significant_first : (test : ℕ → Bool) (row : List ℕ) → test 48 ≡ true → list_all (is_row_part test) row ≡ true
+    → first_passes test (significant row) ≡ true
+significant_first test row z h =
+    elim (left row) [
+      | inl e ↦ ap (first_passes test) (significant_none row e) ∙ z
+      | inr l ↦
+          let all : list_all (is_row_part test) (l.first ∷ l.rest) ≡ true = ap (list_all (is_row_part test)) (sym l.is)
+          ∙ after_all (is_row_part test) row h in
+          let p = and_parts (is_row_part test l.first) (list_all (is_row_part test) l.rest) all in
+          ap (first_passes test) (significant_left row l) ∙ first_digit test l.first p.0 l.other
+    ]
+
+some_first : (test : ℕ → Bool) (row : List ℕ) → first_passes test row ≡ true → list_any test row ≡ true
+some_first test [] h = absurd (cc)
+some_first test (c ∷ cs) h = or_left (test c) (list_any test cs) h
+
+pub significant_some : (test : ℕ → Bool) (row : List ℕ) → test 48 ≡ true → list_all (is_row_part test) row ≡ true
+    → list_any test (significant row) ≡ true
+significant_some test row z h = some_first test (significant row) (significant_first test row z h)
+
+pub significant_digits : (row : List ℕ) → IsDigits row → IsDigits (significant row)
+significant_digits row h = (
+  significant_first is_ascii_digit row refl h.1,
+  significant_all (is_row_part is_ascii_digit) row refl h.1,
+)
+
+zero_first : (n v : ℕ) → v ≡ 0 * n + v
+zero_first n v = omega arith
+
+pub significant_number : (row : List ℕ) → place_value 10 (without_underscores (significant row))
+    ≡ place_value 10 (without_underscores row)
+significant_number [] = refl
+significant_number (c ∷ cs) =
+    elim (cases_Bool (is_padding c)) [
+      | inl a ↦
+          ap (λ b. place_value 10 (without_underscores (or_zero (cond b (after_run is_padding cs) (c ∷ cs))))) a
+          ∙ significant_number cs ∙ padded (or_cases (c == 48) (c == 95) a)
+      | inr a ↦ ap (λ b. place_value 10 (without_underscores (or_zero (cond b (after_run is_padding cs) (c ∷ cs))))) a
+    ]
+  where
+    padded : ((c == 48) ≡ true) ⊎ ((c == 95) ≡ true) → place_value 10 (without_underscores cs)
+        ≡ place_value 10 (without_underscores (c ∷ cs))
+    padded (inl z) = zero_first (10 ^ length (without_underscores cs)) (place_value 10 (without_underscores cs))
+        ∙ ap (λ d. place_value 10 (without_underscores (d ∷ cs))) (sym (eqb-true c 48 z))
+    padded (inr u) = ap (λ d. place_value 10 (without_underscores (d ∷ cs))) (sym (eqb-true c 95 u))
+
+-- written anew, they stay so
+pub significant_again : (f : ℕ → List ℕ) (row : List ℕ) → f 48 ≡ 48 ∷ [] → RowStays f row
+    → significant (flat_map f (significant row)) ≡ flat_map f (significant row)
+significant_again f row z k =
+    elim (left row) [
+      | inl e ↦
+          let is : flat_map f (significant row) ≡ 48 ∷ [] = ap (flat_map f) (significant_none row e) ∙ ap (λ y. y ++ []) z in
+          ap significant is ∙ sym is
+      | inr l ↦
+          let is : flat_map f (significant row) ≡ l.first ∷ flat_map f l.rest = ap (flat_map f) (significant_left row l)
+          ∙ ap (λ y. y ++ flat_map f l.rest) (itself l) in
+          ap significant is
+          ∙ ap (λ b. or_zero (cond b (after_run is_padding (flat_map f l.rest)) (l.first ∷ flat_map f l.rest))) l.other ∙ sym is
+    ]
+  where
+    in_row : (rows : List ℕ) (c : ℕ) (rest : List ℕ) → RowStays f rows → after_run is_padding rows ≡ c ∷ rest
+        → is_padding c ≡ false → Stays f c
+    in_row [] c rest s e n = absurd (cc)
+    in_row (d ∷ ds) c rest s e n =
+        elim (cases_Bool (is_padding d)) [
+          | inl a ↦ in_row ds c rest s.1 (sym (ap (λ b. cond b (after_run is_padding ds) (d ∷ ds)) a) ∙ e) n
+          | inr a ↦
+              let both : d ∷ ds ≡ c ∷ rest = sym (ap (λ b. cond b (after_run is_padding ds) (d ∷ ds)) a) ∙ e in
+              let same : d ≡ c = cc in
+              subst (Stays f) same s.0
+        ]
+
+    itself : (l : Left row) → f l.first ≡ l.first ∷ []
+    itself l =
+        elim (in_row row l.first l.rest k l.is l.other) [
+          | inl a ↦ absurd (both_ways (l.first == 95) (or_parts (l.first == 48) (l.first == 95) l.other).1 a.1)
+          | inr a ↦ a
+        ]
+
+-- ---- the code
+
+pub none_left : (digits rest : List ℕ) → chars rest ≡ after_run is_padding (chars digits) → chars rest ≡ []
+    → chars (48 ∷ []) ≡ significant (chars digits)
+none_left digits rest e h = low_chars (48 ∷ []) refl ∙ sym (significant_none (chars digits) (sym e ∙ h))
+
+pub some_left : (digits rest x : List ℕ) (c : ℕ) → chars rest ≡ after_run is_padding (chars digits) → chars rest ≡ c ∷ x
+    → chars rest ≡ significant (chars digits)
+some_left digits rest x c e h = h ∙ sym (ap or_zero (sym e ∙ h))
+
+pub not_empty : (t : List ℕ) → first_passes is_ascii_digit (chars t) ≡ true → 1 ≤ length t
+not_empty [] h = absurd (let e : false ≡ true = sym (ap (first_passes is_ascii_digit) (low_chars [] refl)) ∙ h in cc)
+not_empty (c ∷ cs) h = omega arith

@@ -1,0 +1,281 @@
+-- A literal is one text in a style, and the same text in a style without rules.
+use Rattle.rl_text.proofs.Common.{◌≡◌, ◌≢◌, ℕ, zero, suc, ◌<◌, ◌≤◌, ◌⊎◌, ◌&&◌, Bool, true, false, not, ◌==◌, cond, List, [], ◌∷◌, ◌++◌, length, map, replicate, Some, None, refl, sym, ap, subst, ◌∙◌, inl, inr, arith, append_assoc, append_cancel_right, both_ways, cases_lt, eqb-true, list_all, flat_map}
+use Rattle.std.specs.Prelude.{Option}
+use Rattle.rl_text.specs.Texts.{first_passes}
+use Rattle.rl_text.proofs.Basics.{hashes_all}
+use Rattle.rl_reading.proofs.Names.{Kind, Str, ByteStr, CStr, Byte, Char, Int, Float, BoolKind, Contents, StrictUnit, Itself, QuoteEscape, PlainEscape, AsciiEscape, ByteEscape, UnicodeEscape, LineBreak, is_single, is_string, strict_text}
+use Rattle.rl_forms.specs.Written.{closer}
+use Rattle.rl_forms.specs.Strict.{Strict, StrictBool, StrictCooked, StrictFloat, StrictInt, StrictRaw, strict_closer, strict_opener, strict_raw_opener, HasUnits}
+use Rattle.rl_forms.proofs.OneQuoted.{same_tail}
+use Rattle.rl_forms.proofs.OneReading.{one_strict}
+use Rattle.rl_forms.proofs.StrictNumbers.{same_run}
+use Rattle.rl_forms.proofs.StrictQuoted.{between}
+use Rattle.rl_writing.specs.RawStrings.{HasFewestHashes, raw_contents, raw_text}
+use Rattle.rl_style.specs.declared.style.Case.{Case}
+use Rattle.rl_style.specs.declared.style.Style.{Style}
+use Rattle.rl_style.specs.Cases.{drops_underscores, kept_digits, number_character}
+use Rattle.rl_style.specs.Mirrors.{AreUnits}
+use Rattle.rl_style.specs.Rewriting.{HasHashes, KeepsTruth, Rewrites, RewritesCooked, RewritesFloat, RewritesInt, RewritesRaw, restyled}
+use Rattle.rl_style.proofs.SameRaw.{raw_followed, raw_joined, raw_strict, raw_string}
+use Rattle.rl_style.proofs.SameUnits.{cooked_strict}
+use Rattle.rl_style.proofs.UnitTexts.{texts_once}
+use Rattle.rl_style.proofs.WrittenNumbers.{base_found}
+
+-- ---- numbers
+
+-- a base's prefix
+abbrev prefix_of : ℕ → List ℕ
+prefix_of base = cond (base == 2) (48 ∷ 98 ∷ []) (cond (base == 8) (48 ∷ 111 ∷ []) (cond (base == 16) (48 ∷ 120 ∷ []) []))
+
+prefix_is : (t : List ℕ) (v : Contents) (x : List ℕ) → (i : StrictInt t v x) → i.prefix ≡ prefix_of i.base
+prefix_is t v x i =
+    elim i.is_front [
+      | inl f ↦ f.0 ∙ ap prefix_of (sym f.1)
+      | inr f ↦ elim f [
+        | inl g ↦ g.0 ∙ ap prefix_of (sym g.1)
+        | inr g ↦ elim g [
+          | inl b ↦ b.0 ∙ ap prefix_of (sym b.1)
+          | inr b ↦ b.0 ∙ ap prefix_of (sym b.1)
+        ]
+      ]
+    ]
+
+abbrev integer_of : Style → ℕ → List ℕ → List ℕ → List ℕ → List ℕ
+integer_of style base prefix row x =
+    flat_map (number_character style (drops_underscores style x) (base == 16)) (prefix ++ kept_digits style base x row) ++ x
+
+integer_once : (style : Style) (t u w : List ℕ) → RewritesInt style t u → RewritesInt style t w → u ≡ w
+integer_once style t u w a b =
+    let suffix : a.suffix ≡ b.suffix = (one_strict t Int Int a.contents b.contents a.suffix b.suffix a.int b.int).2 in
+    let base : a.int.base ≡ b.int.base = sym (base_found t a.contents a.suffix a.int)
+    ∙ base_found t b.contents b.suffix b.int in
+    let prefix : a.int.prefix ≡ b.int.prefix = prefix_is t a.contents a.suffix a.int ∙ ap prefix_of base
+    ∙ sym (prefix_is t b.contents b.suffix b.int) in
+    let front : a.int.prefix ++ a.int.row ≡ b.int.prefix ++ b.int.row =
+    append_cancel_right (a.int.prefix ++ a.int.row) (b.int.prefix ++ b.int.row) b.suffix
+    (ap (λ z. (a.int.prefix ++ a.int.row) ++ z) (sym suffix) ∙ sym a.int.text ∙ b.int.text) in
+    let row : a.int.row ≡ b.int.row = same_tail a.int.prefix a.int.row b.int.row (front
+    ∙ ap (λ z. z ++ b.int.row) (sym prefix)) in
+    a.new_is ∙ ap (λ z. integer_of style z a.int.prefix a.int.row a.suffix) base
+    ∙ ap (λ z. integer_of style b.int.base z a.int.row a.suffix) prefix
+    ∙ ap (λ z. integer_of style b.int.base b.int.prefix z a.suffix) row
+    ∙ ap (integer_of style b.int.base b.int.prefix b.int.row) suffix ∙ sym b.new_is
+
+float_once : (style : Style) (t u w : List ℕ) → RewritesFloat style t u → RewritesFloat style t w → u ≡ w
+float_once style t u w a b =
+    let suffix : a.suffix ≡ b.suffix = (one_strict t Float Float a.contents b.contents a.suffix b.suffix a.float b.float).2 in
+    let numeral : a.float.numeral ≡ b.float.numeral =
+    append_cancel_right a.float.numeral b.float.numeral b.suffix
+    (ap (λ z. a.float.numeral ++ z) (sym suffix) ∙ sym a.float.text ∙ b.float.text) in
+    a.new_is
+    ∙ ap (λ z. flat_map (number_character style (drops_underscores style a.suffix) false) z ++ a.suffix) numeral
+    ∙ ap (λ z. flat_map (number_character style (drops_underscores style z) false) b.float.numeral ++ z) suffix
+    ∙ sym b.new_is
+
+-- ---- raw literals
+
+length_hashes : (n : ℕ) → length {A = ℕ} (replicate n 35) ≡ n
+length_hashes zero = refl
+length_hashes (suc n) = ap suc (length_hashes n)
+
+fewest_once : (k : Kind) (inside : List ℕ) (n m : ℕ) → HasFewestHashes k inside n → HasFewestHashes k inside m → n ≡ m
+fewest_once k inside n m a b =
+    elim (cases_lt n m) [
+      | inl less ↦ absurd (b.fewest n less (raw_contents k inside) [] a.strict)
+      | inr more ↦ elim (cases_lt m n) [
+        | inl less ↦ absurd (a.fewest m less (raw_contents k inside) [] b.strict)
+        | inr fewer ↦ omega (arith, more, fewer)
+      ]
+    ]
+
+hashes_once : (rule : Bool) (k : Kind) (inside : List ℕ) (old n m : ℕ) → HasHashes rule k inside old n
+    → HasHashes rule k inside old m → n ≡ m
+hashes_once true k inside old n m a b = fewest_once k inside n m a b
+hashes_once false k inside old n m a b = a ∙ sym b
+
+-- the parts of one raw text
+raw_parts_once : (t : List ℕ) (k : Kind) (v w : Contents) (x : List ℕ) → (a : StrictRaw t k v x) → (b : StrictRaw t k w x)
+    → (a.hashes ≡ b.hashes) × (a.inside ≡ b.inside)
+raw_parts_once t k v w x a b =
+    let h : List ℕ = replicate a.hashes 35 in
+    let g : List ℕ = replicate b.hashes 35 in
+    let rest : h ++ (34 ∷ (a.inside ++ (34 ∷ (h ++ x)))) ≡ g ++ (34 ∷ (b.inside ++ (34 ∷ (g ++ x)))) =
+    same_tail (strict_raw_opener k) _ _ (sym (a.text ∙ raw_joined (strict_raw_opener k) h a.inside x) ∙ b.text
+    ∙ raw_joined (strict_raw_opener k) g b.inside x) in
+    let run = same_run (λ c. c == 35) h g _ _ (hashes_all a.hashes) (hashes_all b.hashes) refl refl rest in
+    let count : a.hashes ≡ b.hashes = sym (length_hashes a.hashes) ∙ ap length run.0 ∙ length_hashes b.hashes in
+    let quoted : 34 ∷ (a.inside ++ (34 ∷ (h ++ x))) ≡ 34 ∷ (b.inside ++ (34 ∷ (g ++ x))) = run.1 in
+    let tail : a.inside ++ (34 ∷ (h ++ x)) ≡ b.inside ++ (34 ∷ (g ++ x)) = cc in (
+      count,
+      append_cancel_right a.inside b.inside (34 ∷ (h ++ x)) (tail
+          ∙ ap (λ z. b.inside ++ (34 ∷ (replicate z 35 ++ x))) (sym count)),
+    )
+
+-- the other answer, as one of the same kind and with the same suffix
+abbrev RawAs : Style → List ℕ → List ℕ → Contents → ℕ → Kind → List ℕ → Type 0
+RawAs style t w v n k x =
+    (s : StrictRaw t k v x) × HasHashes style.raw_hashes k s.inside s.hashes n × (w ≡ raw_text k n s.inside ++ x)
+
+raw_once : (style : Style) (t u w : List ℕ) → RewritesRaw style t u → RewritesRaw style t w → u ≡ w
+raw_once style t u w a b =
+    let one = one_strict t a.kind b.kind a.contents b.contents a.suffix b.suffix
+    (raw_strict t a.kind a.contents a.suffix a.raw) (raw_strict t b.kind b.contents b.suffix b.raw) in
+    let As : Kind → List ℕ → Type 0 = RawAs style t w b.contents b.hashes in
+    let own : As b.kind b.suffix = (b.raw, b.hashes_are, b.new_is) in
+    let other : As a.kind a.suffix = subst (λ k. As k a.suffix) (sym one.0) (subst (As b.kind) (sym one.2) own) in
+    let r = a.raw in
+    let s = other.0 in
+    let parts = raw_parts_once t a.kind a.contents b.contents a.suffix r s in
+    let Has : List ℕ → ℕ → Type 0 = λ i n. HasHashes style.raw_hashes a.kind i n b.hashes in
+    let same : Has r.inside r.hashes = subst (λ i. Has i r.hashes) (sym parts.1) (subst (Has s.inside) (sym parts.0) other.1) in
+    let count = hashes_once style.raw_hashes a.kind r.inside r.hashes a.hashes b.hashes a.hashes_are same in
+    a.new_is ∙ ap (λ n. raw_text a.kind n r.inside ++ a.suffix) count
+    ∙ ap (λ i. raw_text a.kind b.hashes i ++ a.suffix) parts.1 ∙ sym other.2
+
+-- ---- literals with escapes
+
+abbrev CookedAs : Style → List ℕ → List ℕ → Contents → Kind → List ℕ → Type 0
+CookedAs style t w v k x =
+    (s : StrictCooked t k v x)
+    × (w ≡ strict_opener k ++ (flat_map strict_text (map (restyled style k) s.units) ++ (strict_closer k ++ x)))
+
+cooked_once : (style : Style) (t u w : List ℕ) → RewritesCooked style t u → RewritesCooked style t w → u ≡ w
+cooked_once style t u w a b =
+    let one = one_strict t a.kind b.kind a.contents b.contents a.suffix b.suffix
+    (cooked_strict t a.kind a.contents a.suffix a.cooked) (cooked_strict t b.kind b.contents b.suffix b.cooked) in
+    let As : Kind → List ℕ → Type 0 = CookedAs style t w b.contents in
+    let own : As b.kind b.suffix = (b.cooked, b.new_is) in
+    let other : As a.kind a.suffix = subst (λ k. As k a.suffix) (sym one.0) (subst (As b.kind) (sym one.2) own) in
+    let k : Kind = a.kind in
+    let r = a.cooked in
+    let s = other.0 in
+    let end : List ℕ = strict_closer k ++ a.suffix in
+    let inside : flat_map strict_text r.units ≡ flat_map strict_text s.units =
+    append_cancel_right (flat_map strict_text r.units) (flat_map strict_text s.units) end
+    (same_tail (strict_opener k) _ _ (sym (r.text ∙ between (strict_opener k) (flat_map strict_text r.units)
+    (strict_closer k) a.suffix) ∙ s.text ∙ between (strict_opener k) (flat_map strict_text s.units) (strict_closer k)
+    a.suffix)) in
+    let same = texts_once style k r.units s.units (flat_map strict_text s.units)
+    (record { each = r.each; blanks_end = r.blanks_end; inside_is = sym inside })
+    (record { each = s.each; blanks_end = s.blanks_end; inside_is = refl }) in
+    a.new_is ∙ ap (λ z. strict_opener k ++ (z ++ end)) same ∙ sym other.1
+
+-- ---- no literal is of two kinds
+
+int_float : Int ≡ Float → ⊥
+int_float e = absurd (cc)
+
+int_truth : Int ≡ BoolKind → ⊥
+int_truth e = absurd (cc)
+
+float_truth : Float ≡ BoolKind → ⊥
+float_truth e = absurd (cc)
+
+cooked_quoted : (k : Kind) (us : List StrictUnit) → HasUnits k us → (k ≡ Int → ⊥) × (k ≡ Float → ⊥) × (k ≡ BoolKind → ⊥)
+cooked_quoted Str us h = (λ e. absurd (cc), λ e. absurd (cc), λ e. absurd (cc))
+cooked_quoted ByteStr us h = (λ e. absurd (cc), λ e. absurd (cc), λ e. absurd (cc))
+cooked_quoted CStr us h = (λ e. absurd (cc), λ e. absurd (cc), λ e. absurd (cc))
+cooked_quoted Byte us h = (λ e. absurd (cc), λ e. absurd (cc), λ e. absurd (cc))
+cooked_quoted Char us h = (λ e. absurd (cc), λ e. absurd (cc), λ e. absurd (cc))
+cooked_quoted kind us h = absurd h
+
+raw_quoted : (k : Kind) → is_string k ≡ true → (k ≡ Int → ⊥) × (k ≡ Float → ⊥) × (k ≡ BoolKind → ⊥)
+raw_quoted Str h = (λ e. absurd (cc), λ e. absurd (cc), λ e. absurd (cc))
+raw_quoted ByteStr h = (λ e. absurd (cc), λ e. absurd (cc), λ e. absurd (cc))
+raw_quoted CStr h = (λ e. absurd (cc), λ e. absurd (cc), λ e. absurd (cc))
+raw_quoted kind h = absurd (cc)
+
+-- ---- nor both raw and with escapes
+
+abbrev begins_quote : List ℕ → Bool
+begins_quote t = first_passes (λ c. c == 34) t
+
+abbrev then_quote : List ℕ → Bool
+then_quote [] = false
+then_quote (c ∷ t) = begins_quote t
+
+raw_not_cooked : (k : Kind) (y z : List ℕ) → is_string k ≡ true → strict_raw_opener k ++ y ≡ strict_opener k ++ z → ⊥
+raw_not_cooked Str y z s e = both_ways false refl (ap begins_quote e)
+raw_not_cooked ByteStr y z s e = both_ways false refl (ap then_quote e)
+raw_not_cooked CStr y z s e = both_ways false refl (ap then_quote e)
+raw_not_cooked kind y z s e = absurd (cc)
+
+raw_apart : (style : Style) (t u w : List ℕ) → RewritesRaw style t u → RewritesCooked style t w → ⊥
+raw_apart style t u w a b =
+    let one = one_strict t a.kind b.kind a.contents b.contents a.suffix b.suffix
+    (raw_strict t a.kind a.contents a.suffix a.raw) (cooked_strict t b.kind b.contents b.suffix b.cooked) in
+    let h : List ℕ = replicate a.raw.hashes 35 in
+    let raw : t ≡ strict_raw_opener a.kind ++ (h ++ (34 ∷ (a.raw.inside ++ (34 ∷ (h ++ a.suffix))))) =
+    a.raw.text ∙ raw_joined (strict_raw_opener a.kind) h a.raw.inside a.suffix in
+    let cooked : t ≡ strict_opener b.kind ++ (flat_map strict_text b.cooked.units ++ (strict_closer b.kind ++ b.suffix)) =
+    b.cooked.text ∙ between (strict_opener b.kind) (flat_map strict_text b.cooked.units) (strict_closer b.kind) b.suffix in
+    raw_not_cooked a.kind _ _ (raw_string t a.kind a.contents a.suffix a.raw) (sym raw ∙ cooked
+    ∙ ap (λ k. strict_opener k ++ (flat_map strict_text b.cooked.units ++ (strict_closer b.kind ++ b.suffix))) (sym one.0))
+
+-- ---- so one answer
+
+clash : (t : List ℕ) (k l : Kind) (v w : Contents) (x y : List ℕ) → Strict t k v x → Strict t l w y → (k ≡ l → ⊥) → ⊥
+clash t k l v w x y a b n = n (one_strict t k l v w x y a b).0
+
+int_raw : (style : Style) (t u w : List ℕ) → RewritesInt style t u → RewritesRaw style t w → ⊥
+int_raw style t u w a b = clash t b.kind Int b.contents a.contents b.suffix a.suffix
+    (raw_strict t b.kind b.contents b.suffix b.raw) a.int
+    (raw_quoted b.kind (raw_string t b.kind b.contents b.suffix b.raw)).0
+
+int_cooked : (style : Style) (t u w : List ℕ) → RewritesInt style t u → RewritesCooked style t w → ⊥
+int_cooked style t u w a b = clash t b.kind Int b.contents a.contents b.suffix a.suffix
+    (cooked_strict t b.kind b.contents b.suffix b.cooked) a.int (cooked_quoted b.kind b.cooked.units b.cooked.count).0
+
+float_raw : (style : Style) (t u w : List ℕ) → RewritesFloat style t u → RewritesRaw style t w → ⊥
+float_raw style t u w a b = clash t b.kind Float b.contents a.contents b.suffix a.suffix
+    (raw_strict t b.kind b.contents b.suffix b.raw) a.float
+    (raw_quoted b.kind (raw_string t b.kind b.contents b.suffix b.raw)).1
+
+float_cooked : (style : Style) (t u w : List ℕ) → RewritesFloat style t u → RewritesCooked style t w → ⊥
+float_cooked style t u w a b = clash t b.kind Float b.contents a.contents b.suffix a.suffix
+    (cooked_strict t b.kind b.contents b.suffix b.cooked) a.float (cooked_quoted b.kind b.cooked.units b.cooked.count).1
+
+truth_raw : (style : Style) (t u w : List ℕ) → KeepsTruth t u → RewritesRaw style t w → ⊥
+truth_raw style t u w a b = clash t b.kind BoolKind b.contents a.contents b.suffix a.suffix
+    (raw_strict t b.kind b.contents b.suffix b.raw) a.truth
+    (raw_quoted b.kind (raw_string t b.kind b.contents b.suffix b.raw)).2
+
+truth_cooked : (style : Style) (t u w : List ℕ) → KeepsTruth t u → RewritesCooked style t w → ⊥
+truth_cooked style t u w a b = clash t b.kind BoolKind b.contents a.contents b.suffix a.suffix
+    (cooked_strict t b.kind b.contents b.suffix b.cooked) a.truth (cooked_quoted b.kind b.cooked.units b.cooked.count).2
+
+numbers_apart : (style : Style) (t u w : List ℕ) → RewritesInt style t u → RewritesFloat style t w → ⊥
+numbers_apart style t u w a b = clash t Int Float a.contents b.contents a.suffix b.suffix a.int b.float int_float
+
+int_word : (style : Style) (t u w : List ℕ) → RewritesInt style t u → KeepsTruth t w → ⊥
+int_word style t u w a b = clash t Int BoolKind a.contents b.contents a.suffix b.suffix a.int b.truth int_truth
+
+float_word : (style : Style) (t u w : List ℕ) → RewritesFloat style t u → KeepsTruth t w → ⊥
+float_word style t u w a b = clash t Float BoolKind a.contents b.contents a.suffix b.suffix a.float b.truth float_truth
+
+pub one_answer : (style : Style) (t u w : List ℕ) → Rewrites style t u → Rewrites style t w → u ≡ w
+one_answer s t u w (inl a) (inl b) = integer_once s t u w a b
+one_answer s t u w (inl a) (inr (inl b)) = absurd (numbers_apart s t u w a b)
+one_answer s t u w (inl a) (inr (inr (inl b))) = absurd (int_raw s t u w a b)
+one_answer s t u w (inl a) (inr (inr (inr (inl b)))) = absurd (int_cooked s t u w a b)
+one_answer s t u w (inl a) (inr (inr (inr (inr b)))) = absurd (int_word s t u w a b)
+one_answer s t u w (inr (inl a)) (inl b) = absurd (numbers_apart s t w u b a)
+one_answer s t u w (inr (inl a)) (inr (inl b)) = float_once s t u w a b
+one_answer s t u w (inr (inl a)) (inr (inr (inl b))) = absurd (float_raw s t u w a b)
+one_answer s t u w (inr (inl a)) (inr (inr (inr (inl b)))) = absurd (float_cooked s t u w a b)
+one_answer s t u w (inr (inl a)) (inr (inr (inr (inr b)))) = absurd (float_word s t u w a b)
+one_answer s t u w (inr (inr (inl a))) (inl b) = absurd (int_raw s t w u b a)
+one_answer s t u w (inr (inr (inl a))) (inr (inl b)) = absurd (float_raw s t w u b a)
+one_answer s t u w (inr (inr (inl a))) (inr (inr (inl b))) = raw_once s t u w a b
+one_answer s t u w (inr (inr (inl a))) (inr (inr (inr (inl b)))) = absurd (raw_apart s t u w a b)
+one_answer s t u w (inr (inr (inl a))) (inr (inr (inr (inr b)))) = absurd (truth_raw s t w u b a)
+one_answer s t u w (inr (inr (inr (inl a)))) (inl b) = absurd (int_cooked s t w u b a)
+one_answer s t u w (inr (inr (inr (inl a)))) (inr (inl b)) = absurd (float_cooked s t w u b a)
+one_answer s t u w (inr (inr (inr (inl a)))) (inr (inr (inl b))) = absurd (raw_apart s t w u b a)
+one_answer s t u w (inr (inr (inr (inl a)))) (inr (inr (inr (inl b)))) = cooked_once s t u w a b
+one_answer s t u w (inr (inr (inr (inl a)))) (inr (inr (inr (inr b)))) = absurd (truth_cooked s t w u b a)
+one_answer s t u w (inr (inr (inr (inr a)))) (inl b) = absurd (int_word s t w u b a)
+one_answer s t u w (inr (inr (inr (inr a)))) (inr (inl b)) = absurd (float_word s t w u b a)
+one_answer s t u w (inr (inr (inr (inr a)))) (inr (inr (inl b))) = absurd (truth_raw s t u w a b)
+one_answer s t u w (inr (inr (inr (inr a)))) (inr (inr (inr (inl b)))) = absurd (truth_cooked s t u w a b)
+one_answer s t u w (inr (inr (inr (inr a)))) (inr (inr (inr (inr b)))) = a.new_is ∙ sym b.new_is

@@ -1,0 +1,31 @@
+-- A literal written anew is the same literal, whatever its kind.
+use Rattle.rl_text.proofs.Common.{ℕ, List, inl, inr, refl, subst, sym}
+use Rattle.rl_forms.specs.declared.kind.Kind.TheVariants.{Bool as BoolKind}
+use Rattle.rl_forms.specs.Strict.{StrictBool}
+use Rattle.rl_style.specs.declared.style.Style.{Style}
+use Rattle.rl_style.specs.Rewriting.{KeepsTruth, Rewrites, SameLiteral}
+use Rattle.rl_style.proofs.SameFloats.{float_same, float_stays}
+use Rattle.rl_style.proofs.SameIntegers.{integer_same, integer_stays}
+use Rattle.rl_style.proofs.SameRaw.{raw_same, raw_stays}
+use Rattle.rl_style.proofs.SameUnits.{cooked_same, cooked_stays}
+
+abbrev truth : (t u : List ℕ) → (c : KeepsTruth t u) → StrictBool u c.contents c.suffix
+truth t u c = subst (λ z. StrictBool z c.contents c.suffix) (sym c.new_is) c.truth
+
+truth_same : (t u : List ℕ) → KeepsTruth t u → SameLiteral t u
+truth_same t u c = record { kind = BoolKind; contents = c.contents; suffix = c.suffix; was = c.truth; is = truth t u c }
+
+pub same : (style : Style) (t u : List ℕ) → Rewrites style t u → SameLiteral t u
+same style t u (inl a) = integer_same style t u a
+same style t u (inr (inl a)) = float_same style t u a
+same style t u (inr (inr (inl a))) = raw_same style t u a
+same style t u (inr (inr (inr (inl a)))) = cooked_same style t u a
+same style t u (inr (inr (inr (inr a)))) = truth_same t u a
+
+pub stays : (style : Style) (t u : List ℕ) → Rewrites style t u → Rewrites style u u
+stays style t u (inl a) = inl (integer_stays style t u a)
+stays style t u (inr (inl a)) = inr (inl (float_stays style t u a))
+stays style t u (inr (inr (inl a))) = inr (inr (inl (raw_stays style t u a)))
+stays style t u (inr (inr (inr (inl a)))) = inr (inr (inr (inl (cooked_stays style t u a))))
+stays style t u (inr (inr (inr (inr a)))) = inr (inr (inr (inr (record
+    { contents = a.contents; suffix = a.suffix; truth = truth t u a; new_is = refl }))))

@@ -1,0 +1,337 @@
+-- A literal whose units are written anew is the same literal.
+use Rattle.rl_text.proofs.Common.{◌≡◌, ℕ, ◌<◌, ◌||◌, ◌&&◌, Bool, true, false, not, ◌==◌, cond, nat_le, nat_lt, List, [], ◌∷◌, ◌++◌, length, map, refl, sym, ap, subst, ◌∙◌, inl, inr, arith, ◌⊎◌, append-nil, and_from, and_parts, cases_Bool, cases_lt, or_from, eqb-true, not-true, agree_below_at, is_ascii_hexdigit, all_scalars, list_all, flat_map, length-map, encode_utf8_all, encode_ascii, Some, None}
+use Rattle.std.specs.Prelude.{Option}
+use Rattle.rl_text.proofs.Basics.{apart}
+use Rattle.rl_reading.proofs.Names.{Kind, Str, ByteStr, CStr, Byte, Char, Int, Float, BoolKind, first_passes, Contents, StrictUnit, Itself, QuoteEscape, PlainEscape, AsciiEscape, ByteEscape, UnicodeEscape, LineBreak, strict_text, strict_contents, strict_content_of, is_dropped_blank, is_strict_unit, place_value, quoted_contents}
+use Rattle.rl_forms.specs.Written.{closer}
+use Rattle.rl_forms.specs.Strict.{Strict, StrictCooked, HasUnits, BlanksEnd, is_octal, is_unicode_escape, spaced_value, strict_opener, strict_closer}
+use Rattle.rl_forms.proofs.StrictQuoted.{between}
+use Rattle.rl_style.specs.declared.style.Case.{Case}
+use Rattle.rl_style.specs.declared.style.Case.TheVariants.{Lower, Upper}
+use Rattle.rl_style.specs.declared.style.Style.{Style}
+use Rattle.rl_style.specs.Cases.{cased, lower_case, upper_case}
+use Rattle.rl_style.specs.Rewriting.{SameLiteral, RewritesCooked, cased_digit, restyled}
+use Rattle.rl_style.proofs.CaseLemmas.{cased_past, cased_value, spelled_cased, twice_cased}
+
+-- ---- digits
+
+pub hex_cased : (case : Option Case) (c : ℕ) → is_ascii_hexdigit (cased case c) ≡ is_ascii_hexdigit c
+hex_cased case c =
+    elim (cases_lt c 128) [
+      | inl a ↦ low case c a
+      | inr a ↦ ap is_ascii_hexdigit (cased_past case c a)
+    ]
+  where
+    low : (case : Option Case) (c : ℕ) → c < 128 → is_ascii_hexdigit (cased case c) ≡ is_ascii_hexdigit c
+    low None c a = refl
+    low (Some Upper) c a = agree_below_at (λ c. is_ascii_hexdigit (upper_case c)) is_ascii_hexdigit 128 c refl a
+    low (Some Lower) c a = agree_below_at (λ c. is_ascii_hexdigit (lower_case c)) is_ascii_hexdigit 128 c refl a
+
+octal_cased : (case : Option Case) (c : ℕ) → is_octal (cased case c) ≡ is_octal c
+octal_cased case c = ap (λ v. nat_lt v 8) (cased_value case c)
+
+two_cased : (case : Option Case) (high low : ℕ) → place_value 16 (cased case high ∷ cased case low ∷ [])
+    ≡ place_value 16 (high ∷ low ∷ [])
+two_cased case high low = spelled_cased case 16 (high ∷ low ∷ [])
+
+-- ---- the digits of a Unicode escape
+
+firsts : (case : Option Case) (ds : List (ℕ × ℕ)) → map (λ d. d.0) (map (cased_digit case) ds)
+    ≡ map (cased case) (map (λ d. d.0) ds)
+firsts case [] = refl
+firsts case (d ∷ ds) = ap (λ z. cased case d.0 ∷ z) (firsts case ds)
+
+pub code_cased : (case : Option Case) (ds : List (ℕ × ℕ)) → spaced_value (map (cased_digit case) ds) ≡ spaced_value ds
+code_cased case ds = ap (place_value 16) (firsts case ds) ∙ spelled_cased case 16 (map (λ d. d.0) ds)
+
+all_hex : (case : Option Case) (ds : List (ℕ × ℕ)) → list_all (λ d. is_ascii_hexdigit d.0) (map (cased_digit case) ds)
+    ≡ list_all (λ d. is_ascii_hexdigit d.0) ds
+all_hex case [] = refl
+all_hex case (d ∷ ds) =
+    ap (λ b. b && list_all (λ d. is_ascii_hexdigit d.0) (map (cased_digit case) ds)) (hex_cased case d.0)
+    ∙ ap (λ b. is_ascii_hexdigit d.0 && b) (all_hex case ds)
+
+unicode_cased : (case : Option Case) (ds : List (ℕ × ℕ)) → is_unicode_escape (map (cased_digit case) ds)
+    ≡ is_unicode_escape ds
+unicode_cased case ds =
+    let new : List (ℕ × ℕ) = map (cased_digit case) ds in
+    ap (λ n. (nat_le 1 n && nat_le n 6) && list_all (λ d. is_ascii_hexdigit d.0) new && all_scalars (spaced_value new ∷ []))
+    (length-map ds (cased_digit case))
+    ∙ ap (λ b. (nat_le 1 (length ds) && nat_le (length ds) 6) && b && all_scalars (spaced_value new ∷ [])) (all_hex case ds)
+    ∙ ap (λ n. (nat_le 1 (length ds) && nat_le (length ds) 6) && list_all (λ d. is_ascii_hexdigit d.0) ds
+    && all_scalars (n ∷ [])) (code_cased case ds)
+
+-- ---- one unit
+
+first_of : (a b : Bool) → (a || b) ≡ true → b ≡ false → a ≡ true
+first_of true b h n = refl
+first_of false b h n = absurd (let e : false ≡ true = sym n ∙ h in cc)
+
+second_of : (a b : Bool) → (a || b) ≡ true → a ≡ false → b ≡ true
+second_of true b h n = absurd (cc)
+second_of false b h n = h
+
+-- an escaped quote is one of the two
+pub quote_of : (k : Kind) (c : ℕ) → is_strict_unit k (QuoteEscape c) ≡ true → (c == 39 || c == 34) ≡ true
+quote_of Str c h = h
+quote_of ByteStr c h = h
+quote_of CStr c h = h
+quote_of Byte c h = h
+quote_of Char c h = h
+quote_of Int c h = h
+quote_of Float c h = h
+quote_of BoolKind c h = h
+
+itself_at : (k : Kind) (c d : ℕ) → (c == d) ≡ true → is_strict_unit k (Itself d) ≡ true → is_strict_unit k (Itself c)
+    ≡ true
+itself_at k c d e h = ap (λ z. is_strict_unit k (Itself z)) (eqb-true c d e) ∙ h
+
+-- a quote that doesn't close the literal may stand in it
+quote_allowed : (k : Kind) (us : List StrictUnit) (c : ℕ) → HasUnits k us → (c == 39 || c == 34) ≡ true
+    → (c == closer k) ≡ false → is_strict_unit k (Itself c) ≡ true
+quote_allowed Str us c q h n = itself_at Str c 39 (first_of (c == 39) (c == 34) h n) refl
+quote_allowed ByteStr us c q h n = itself_at ByteStr c 39 (first_of (c == 39) (c == 34) h n) refl
+quote_allowed CStr us c q h n = itself_at CStr c 39 (first_of (c == 39) (c == 34) h n) refl
+quote_allowed Byte us c q h n = itself_at Byte c 34 (second_of (c == 39) (c == 34) h n) refl
+quote_allowed Char us c q h n = itself_at Char c 34 (second_of (c == 39) (c == 34) h n) refl
+quote_allowed kind us c q h n = absurd q
+
+-- what an escaped quote becomes: itself, where the rule says so and it doesn't close the literal
+abbrev quote_unit : Bool → ℕ → StrictUnit
+quote_unit b c = cond b (Itself c) (QuoteEscape c)
+
+quote_kept : (b : Bool) (k : Kind) (us : List StrictUnit) (c : ℕ) → HasUnits k us → is_strict_unit k (QuoteEscape c) ≡ true
+    → (b ≡ true → (c == closer k) ≡ false) → is_strict_unit k (quote_unit b c) ≡ true
+quote_kept true k us c q h other = quote_allowed k us c q (quote_of k c h) (other refl)
+quote_kept false k us c q h other = h
+
+pub not_closer : (rule : Bool) (k : Kind) (c : ℕ) → (rule && not (c == closer k)) ≡ true → (c == closer k) ≡ false
+not_closer rule k c h = not-true (c == closer k) (and_parts rule (not (c == closer k)) h).1
+
+ascii_allowed : (case : Option Case) (k : Kind) (high low : ℕ) → is_strict_unit k (AsciiEscape high low) ≡ true
+    → is_strict_unit k (AsciiEscape (cased case high) (cased case low)) ≡ true
+ascii_allowed case Str high low h = rw (octal_cased case high, hex_cased case low) h
+ascii_allowed case Char high low h = rw (octal_cased case high, hex_cased case low) h
+ascii_allowed case kind high low h = absurd (cc)
+
+byte_allowed : (case : Option Case) (k : Kind) (high low : ℕ) → is_strict_unit k (ByteEscape high low) ≡ true
+    → is_strict_unit k (ByteEscape (cased case high) (cased case low)) ≡ true
+byte_allowed case ByteStr high low h = rw (hex_cased case high, hex_cased case low) h
+byte_allowed case Byte high low h = rw (hex_cased case high, hex_cased case low) h
+byte_allowed case CStr high low h =
+    ap (λ b. (b && is_ascii_hexdigit (cased case low)) && not (place_value 16 (cased case high ∷ cased case low ∷ []) == 0))
+    (hex_cased case high)
+    ∙ ap (λ b. (is_ascii_hexdigit high && b) && not (place_value 16 (cased case high ∷ cased case low ∷ []) == 0))
+    (hex_cased case low)
+    ∙ ap (λ n. (is_ascii_hexdigit high && is_ascii_hexdigit low) && not (n == 0)) (two_cased case high low) ∙ h
+byte_allowed case kind high low h = absurd (cc)
+
+code_allowed : (case : Option Case) (k : Kind) (ds : List (ℕ × ℕ)) → is_strict_unit k (UnicodeEscape ds) ≡ true
+    → is_strict_unit k (UnicodeEscape (map (cased_digit case) ds)) ≡ true
+code_allowed case Str ds h = unicode_cased case ds ∙ h
+code_allowed case Char ds h = unicode_cased case ds ∙ h
+code_allowed case CStr ds h =
+    ap (λ b. b && not (spaced_value (map (cased_digit case) ds) == 0)) (unicode_cased case ds)
+    ∙ ap (λ n. is_unicode_escape ds && not (n == 0)) (code_cased case ds) ∙ h
+code_allowed case kind ds h = absurd (cc)
+
+unit_allowed : (style : Style) (k : Kind) (us : List StrictUnit) (u : StrictUnit) → HasUnits k us
+    → is_strict_unit k u ≡ true → is_strict_unit k (restyled style k u) ≡ true
+unit_allowed style k us (QuoteEscape c) q h = quote_kept (style.quote_escapes && not (c == closer k)) k us c q h
+    (not_closer style.quote_escapes k c)
+unit_allowed style k us (Itself c) q h = h
+unit_allowed style k us (PlainEscape c) q h = h
+unit_allowed style k us (AsciiEscape high low) q h = ascii_allowed style.escape_digits k high low h
+unit_allowed style k us (ByteEscape high low) q h = byte_allowed style.escape_digits k high low h
+unit_allowed style k us (UnicodeEscape digits) q h = code_allowed style.escape_digits k digits h
+unit_allowed style k us (LineBreak blanks) q h = h
+
+all_allowed : (style : Style) (k : Kind) (vs us : List StrictUnit) → HasUnits k vs
+    → list_all (is_strict_unit k) us ≡ true → list_all (is_strict_unit k) (map (restyled style k) us) ≡ true
+all_allowed style k vs [] q h = refl
+all_allowed style k vs (u ∷ us) q h =
+    let p = and_parts (is_strict_unit k u) (list_all (is_strict_unit k) us) h in
+    and_from (is_strict_unit k (restyled style k u)) (list_all (is_strict_unit k) (map (restyled style k) us))
+    (unit_allowed style k vs u q p.0) (all_allowed style k vs us q p.1)
+
+-- ---- how many
+
+same_count : (style : Style) (k : Kind) (us : List StrictUnit) → HasUnits k us → HasUnits k (map (restyled style k) us)
+same_count style Str us h = tt
+same_count style ByteStr us h = tt
+same_count style CStr us h = tt
+same_count style Byte us h = length-map us (restyled style Byte) ∙ h
+same_count style Char us h = length-map us (restyled style Char) ∙ h
+same_count style kind us h = absurd h
+
+-- ---- line breaks
+
+no_blank : (c : ℕ) → (c == 39 || c == 34) ≡ true → is_dropped_blank c ≡ false
+no_blank c h =
+    let test : ℕ → Bool = λ z. z == 39 || z == 34 in
+    or_from (c == 32 || c == 9) (c == 10) (or_from (c == 32) (c == 9) (apart test c 32 h refl) (apart test c 9 h refl))
+    (apart test c 10 h refl)
+
+quote_front : (b : Bool) (k : Kind) (c : ℕ) (rest : List ℕ) → is_strict_unit k (QuoteEscape c) ≡ true
+    → first_passes is_dropped_blank (strict_text (quote_unit b c) ++ rest) ≡ false
+quote_front true k c rest h = no_blank c (quote_of k c h)
+quote_front false k c rest h = refl
+
+front_stays : (style : Style) (k : Kind) (us : List StrictUnit) → list_all (is_strict_unit k) us ≡ true
+    → first_passes is_dropped_blank (flat_map strict_text us) ≡ false
+    → first_passes is_dropped_blank (flat_map strict_text (map (restyled style k) us)) ≡ false
+front_stays style k [] h n = refl
+front_stays style k (QuoteEscape c ∷ us) h n =
+    let p = and_parts (is_strict_unit k (QuoteEscape c)) (list_all (is_strict_unit k) us) h in
+    quote_front (style.quote_escapes && not (c == closer k)) k c (flat_map strict_text (map (restyled style k) us)) p.0
+front_stays style k (Itself c ∷ us) h n = n
+front_stays style k (PlainEscape c ∷ us) h n = refl
+front_stays style k (AsciiEscape high low ∷ us) h n = refl
+front_stays style k (ByteEscape high low ∷ us) h n = refl
+front_stays style k (UnicodeEscape digits ∷ us) h n = refl
+front_stays style k (LineBreak blanks ∷ us) h n = refl
+
+quote_ends : (b : Bool) (c : ℕ) (us : List StrictUnit) → BlanksEnd us → BlanksEnd (quote_unit b c ∷ us)
+quote_ends true c us e = e
+quote_ends false c us e = e
+
+blanks_stay : (style : Style) (k : Kind) (us : List StrictUnit) → list_all (is_strict_unit k) us ≡ true → BlanksEnd us
+    → BlanksEnd (map (restyled style k) us)
+blanks_stay style k [] h b = tt
+blanks_stay style k (u ∷ us) h b = go u (and_parts (is_strict_unit k u) (list_all (is_strict_unit k) us) h).1 b
+    (λ p b. blanks_stay style k us p b)
+  where
+    go : (u : StrictUnit) → list_all (is_strict_unit k) us ≡ true → BlanksEnd (u ∷ us)
+        → (list_all (is_strict_unit k) us ≡ true → BlanksEnd us → BlanksEnd (map (restyled style k) us))
+        → BlanksEnd (restyled style k u ∷ map (restyled style k) us)
+    go (QuoteEscape c) p b ih = quote_ends (style.quote_escapes && not (c == closer k)) c (map (restyled style k) us) (ih p b)
+    go (Itself c) p b ih = ih p b
+    go (PlainEscape c) p b ih = ih p b
+    go (AsciiEscape high low) p b ih = ih p b
+    go (ByteEscape high low) p b ih = ih p b
+    go (UnicodeEscape digits) p b ih = ih p b
+    go (LineBreak blanks) p b ih = (front_stays style k us p b.0, ih p b.1)
+
+-- ---- contents
+
+one_byte : (c : ℕ) → (c == 39 || c == 34) ≡ true → encode_utf8_all (c ∷ []) ≡ c ∷ []
+one_byte c h = append-nil _ ∙ encode_ascii c (below (cases_Bool (c == 39)))
+  where
+    below : ((c == 39) ≡ true) ⊎ ((c == 39) ≡ false) → c < 128
+    below (inl a) = let e = eqb-true c 39 a in omega (arith, e)
+    below (inr a) = let e = eqb-true c 34 (second_of (c == 39) (c == 34) h a) in omega (arith, e)
+
+quote_held : (k : Kind) (c : ℕ) → (c == 39 || c == 34) ≡ true → strict_content_of k (c ∷ []) ≡ c ∷ []
+quote_held CStr c h = one_byte c h
+quote_held Str c h = refl
+quote_held ByteStr c h = refl
+quote_held Byte c h = refl
+quote_held Char c h = refl
+quote_held Int c h = refl
+quote_held Float c h = refl
+quote_held BoolKind c h = refl
+
+quote_contents : (b : Bool) (k : Kind) (c : ℕ) → is_strict_unit k (QuoteEscape c) ≡ true
+    → strict_contents (strict_content_of k) (quote_unit b c) ≡ c ∷ []
+quote_contents true k c h = quote_held k c (quote_of k c h)
+quote_contents false k c h = refl
+
+unit_contents : (style : Style) (k : Kind) (u : StrictUnit) → is_strict_unit k u ≡ true
+    → strict_contents (strict_content_of k) (restyled style k u) ≡ strict_contents (strict_content_of k) u
+unit_contents style k (QuoteEscape c) h = quote_contents (style.quote_escapes && not (c == closer k)) k c h
+unit_contents style k (Itself c) h = refl
+unit_contents style k (PlainEscape c) h = refl
+unit_contents style k (AsciiEscape high low) h = ap (λ n. n ∷ []) (two_cased style.escape_digits high low)
+unit_contents style k (ByteEscape high low) h = ap (λ n. n ∷ []) (two_cased style.escape_digits high low)
+unit_contents style k (UnicodeEscape digits) h = ap (λ n. strict_content_of k (n ∷ [])) (code_cased style.escape_digits digits)
+unit_contents style k (LineBreak blanks) h = refl
+
+all_contents : (style : Style) (k : Kind) (us : List StrictUnit) → list_all (is_strict_unit k) us ≡ true
+    → flat_map (strict_contents (strict_content_of k)) (map (restyled style k) us)
+    ≡ flat_map (strict_contents (strict_content_of k)) us
+all_contents style k [] h = refl
+all_contents style k (u ∷ us) h =
+    let p = and_parts (is_strict_unit k u) (list_all (is_strict_unit k) us) h in
+    ap (λ z. z ++ flat_map (strict_contents (strict_content_of k)) (map (restyled style k) us)) (unit_contents style k u p.0)
+    ∙ ap (λ z. strict_contents (strict_content_of k) u ++ z) (all_contents style k us p.1)
+
+-- ---- the literal
+
+-- a form with escapes is strict in its kind
+pub cooked_strict : (t : List ℕ) (k : Kind) (v : Contents) (x : List ℕ) → StrictCooked t k v x → Strict t k v x
+cooked_strict t Str v x s = inl s
+cooked_strict t ByteStr v x s = inl s
+cooked_strict t CStr v x s = inl s
+cooked_strict t Byte v x s = inl s
+cooked_strict t Char v x s = inl s
+cooked_strict t Int v x s = absurd s.count
+cooked_strict t Float v x s = absurd s.count
+cooked_strict t BoolKind v x s = absurd s.count
+
+abbrev written : (style : Style) (t u : List ℕ) (k : Kind) (v : Contents) (x : List ℕ) (s : StrictCooked t k v x)
+    → u ≡ strict_opener k ++ (flat_map strict_text (map (restyled style k) s.units) ++ (strict_closer k ++ x))
+    → StrictCooked u k v x
+written style t u k v x s e = record {
+  units = map (restyled style k) s.units;
+  count = same_count style k s.units s.count;
+  each = all_allowed style k s.units s.units s.count s.each;
+  blanks_end = blanks_stay style k s.units s.each s.blanks_end;
+  suffix = s.suffix;
+  text = e ∙ sym (between (strict_opener k) (flat_map strict_text (map (restyled style k) s.units)) (strict_closer k) x);
+  contents = s.contents ∙ ap (quoted_contents k) (sym (all_contents style k s.units s.each));
+}
+
+pub cooked_same : (style : Style) (t u : List ℕ) → RewritesCooked style t u → SameLiteral t u
+cooked_same style t u c = record {
+  kind = c.kind;
+  contents = c.contents;
+  suffix = c.suffix;
+  was = cooked_strict t c.kind c.contents c.suffix c.cooked;
+  is = cooked_strict u c.kind c.contents c.suffix (written style t u c.kind c.contents c.suffix c.cooked c.new_is);
+}
+
+-- ---- once is enough
+
+twice_quote : (b : Bool) (style : Style) (k : Kind) (c : ℕ) → b ≡ (style.quote_escapes && not (c == closer k))
+    → restyled style k (quote_unit b c) ≡ quote_unit b c
+twice_quote true style k c e = refl
+twice_quote false style k c e = ap (λ z. quote_unit z c) (sym e)
+
+twice_digits : (case : Option Case) (ds : List (ℕ × ℕ)) → map (cased_digit case) (map (cased_digit case) ds)
+    ≡ map (cased_digit case) ds
+twice_digits case [] = refl
+twice_digits case (d ∷ ds) =
+    let one : (ℕ × ℕ) = (cased case d.0, d.1) in
+    ap (λ n. (n, d.1) ∷ map (cased_digit case) (map (cased_digit case) ds)) (twice_cased case d.0)
+    ∙ ap (λ z. one ∷ z) (twice_digits case ds)
+
+twice_unit : (style : Style) (k : Kind) (u : StrictUnit) → restyled style k (restyled style k u) ≡ restyled style k u
+twice_unit style k (QuoteEscape c) = twice_quote (style.quote_escapes && not (c == closer k)) style k c refl
+twice_unit style k (Itself c) = refl
+twice_unit style k (PlainEscape c) = refl
+twice_unit style k (AsciiEscape high low) =
+    let case : Option Case = style.escape_digits in
+    ap (λ z. AsciiEscape z (cased case (cased case low))) (twice_cased case high)
+    ∙ ap (λ z. AsciiEscape (cased case high) z) (twice_cased case low)
+twice_unit style k (ByteEscape high low) =
+    let case : Option Case = style.escape_digits in
+    ap (λ z. ByteEscape z (cased case (cased case low))) (twice_cased case high)
+    ∙ ap (λ z. ByteEscape (cased case high) z) (twice_cased case low)
+twice_unit style k (UnicodeEscape digits) = ap UnicodeEscape (twice_digits style.escape_digits digits)
+twice_unit style k (LineBreak blanks) = refl
+
+twice_units : (style : Style) (k : Kind) (us : List StrictUnit) → map (restyled style k) (map (restyled style k) us)
+    ≡ map (restyled style k) us
+twice_units style k [] = refl
+twice_units style k (u ∷ us) = ap (λ z. z ∷ map (restyled style k) (map (restyled style k) us)) (twice_unit style k u)
+    ∙ ap (λ z. restyled style k u ∷ z) (twice_units style k us)
+
+pub cooked_stays : (style : Style) (t u : List ℕ) → RewritesCooked style t u → RewritesCooked style u u
+cooked_stays style t u c = record {
+  kind = c.kind;
+  contents = c.contents;
+  suffix = c.suffix;
+  cooked = written style t u c.kind c.contents c.suffix c.cooked c.new_is;
+  new_is = c.new_is ∙ ap (λ z. strict_opener c.kind ++ (flat_map strict_text z ++ (strict_closer c.kind ++ c.suffix)))
+      (sym (twice_units style c.kind c.cooked.units));
+}

@@ -1,0 +1,353 @@
+-- Units are taken from a text one at a time, and each is written anew by its text.
+use Rattle.rl_text.proofs.Common.{◌≡◌, ℕ, ◌||◌, ◌&&◌, Bool, true, false, not, ◌==◌, cond, List, [], ◌∷◌, ◌++◌, map, Some, None, refl, sym, ap, subst, ◌∙◌, inl, inr, ◌⊎◌, append_assoc, append-nil, append_cancel_right, and_from, and_parts, cases_Bool, both_ways, or_from, eqb-true, list_all, flat_map, map-append, replicate, zero, suc, scalar, encode_utf8_all, encodes-append, encodes-chars, IsUtf8}
+use Rattle.std.specs.Prelude.{Option}
+use Rattle.std.specs.Str.{chars}
+use Rattle.rl_text.proofs.Basics.{apart}
+use Rattle.rl_reading.proofs.Names.{flat_map-append, Kind, Str, ByteStr, CStr, Byte, Char, Int, Float, BoolKind, first_passes, IsTail, StrictUnit, Itself, QuoteEscape, PlainEscape, AsciiEscape, ByteEscape, UnicodeEscape, LineBreak, strict_text, is_dropped_blank, is_strict_unit, unit_text, unit_value}
+use Rattle.rl_forms.specs.Written.{closer}
+use Rattle.rl_forms.specs.Strict.{BlanksEnd, is_bare_character, is_bare_in_string, is_plain_letter, spaced_digit}
+use Rattle.rl_forms.proofs.StrictQuoted.{MayFollow, no_blank, no_return, stands}
+use Rattle.rl_reading.specs.Mirrors.UnitAt.{unit_at}
+use Rattle.rl_reading.proofs.UnitLemmas.{some_pair, unit_complete, unit_nil, unit_sound}
+use Rattle.rl_style.specs.declared.style.Case.{Case}
+use Rattle.rl_style.specs.declared.style.Case.TheVariants.{Lower, Upper}
+use Rattle.rl_style.specs.declared.style.Style.{Style}
+use Rattle.rl_style.specs.Cases.{cased}
+use Rattle.rl_style.specs.Rewriting.{cased_digit, restyled}
+use Rattle.rl_style.specs.Mirrors.{AreUnits, restyled_escape, restyled_text}
+use Rattle.std.proofs.Math.Utf8.{scalars}
+use Rattle.rl_style.proofs.CaseLemmas.{scalars_cased}
+use Rattle.rl_style.proofs.SameUnits.{quote_of}
+use Rattle.rl_style.proofs.WrittenTexts.{scalars_join}
+
+-- ---- rests
+
+-- a text whose characters end with those of another ends with it
+pub tail_of : (t r front : List ℕ) → IsUtf8 t → IsUtf8 r → chars t ≡ front ++ chars r → IsTail t r
+tail_of t r front u v e = record {
+  front = encode_utf8_all front;
+  text_is = sym (encodes-chars t u) ∙ ap encode_utf8_all e ∙ encodes-append front (chars r)
+      ∙ ap (λ z. encode_utf8_all front ++ z) (encodes-chars r v);
+  is_text = v;
+}
+
+pub unit_tail : (k : Kind) (t r v : List ℕ) → IsUtf8 t → IsUtf8 r → Some (v, chars r) ≡ unit_at k (chars t) → IsTail t r
+unit_tail k t r v u w e =
+    let b = unit_sound k (chars t) (v, chars r) (sym e) in
+    tail_of t r (unit_text b.unit) u w b.text_is
+
+-- ---- what a unit is written anew as, by its text
+
+bare_front : (k : Kind) (c : ℕ) → is_strict_unit k (Itself c) ≡ true → (c == 92) ≡ false
+bare_front Str c h = apart is_bare_in_string c 92 h refl
+bare_front ByteStr c h = apart (λ c. is_strict_unit ByteStr (Itself c)) c 92 h refl
+bare_front CStr c h = apart (λ c. is_strict_unit CStr (Itself c)) c 92 h refl
+bare_front Byte c h = apart (λ c. is_strict_unit Byte (Itself c)) c 92 h refl
+bare_front Char c h = apart is_bare_character c 92 h refl
+bare_front kind c h = absurd (cc)
+
+letter_of : (k : Kind) (c : ℕ) → is_strict_unit k (PlainEscape c) ≡ true → is_plain_letter c ≡ true
+letter_of CStr c h = (and_parts (is_plain_letter c) (not (c == 48)) h).0
+letter_of _ c h = h
+
+abbrev otherwise : Style → Kind → ℕ → List ℕ → List ℕ
+otherwise style k c cs = cond (c == 120 || c == 117) (map (cased style.escape_digits) (92 ∷ c ∷ cs)) (92 ∷ c ∷ cs)
+
+-- a plain escape, which begins neither as a quote nor as a number
+plain_text : (style : Style) (k : Kind) (c : ℕ) → is_plain_letter c ≡ true → restyled_escape style k (c ∷ []) ≡ 92 ∷ c ∷ []
+plain_text style k c h =
+    let a = apart is_plain_letter c 39 h refl in
+    let b = apart is_plain_letter c 34 h refl in
+    let x = apart is_plain_letter c 120 h refl in
+    let u = apart is_plain_letter c 117 h refl in
+    ap (λ z. cond z (cond (style.quote_escapes && not (c == closer k)) (c ∷ []) (92 ∷ c ∷ [])) (otherwise style k c []))
+    (or_from (c == 39) (c == 34) a b)
+    ∙ ap (λ z. cond z (map (cased style.escape_digits) (92 ∷ c ∷ [])) (92 ∷ c ∷ [])) (or_from (c == 120) (c == 117) x u)
+
+quote_text : (b : Bool) (c : ℕ) → cond b (c ∷ []) (92 ∷ c ∷ []) ≡ strict_text (cond b (Itself c) (QuoteEscape c))
+quote_text true c = refl
+quote_text false c = refl
+
+hex_front : (case : Option Case) (cs : List ℕ) → map (cased case) (92 ∷ 120 ∷ cs) ≡ 92 ∷ 120 ∷ map (cased case) cs
+hex_front None cs = refl
+hex_front (Some Lower) cs = refl
+hex_front (Some Upper) cs = refl
+
+code_front : (case : Option Case) (cs : List ℕ) → map (cased case) (92 ∷ 117 ∷ 123 ∷ cs)
+    ≡ 92 ∷ 117 ∷ 123 ∷ map (cased case) cs
+code_front None cs = refl
+code_front (Some Lower) cs = refl
+code_front (Some Upper) cs = refl
+
+brace : (case : Option Case) → map (cased case) (125 ∷ []) ≡ 125 ∷ []
+brace None = refl
+brace (Some Lower) = refl
+brace (Some Upper) = refl
+
+underscore : (case : Option Case) → cased case 95 ≡ 95
+underscore None = refl
+underscore (Some Lower) = refl
+underscore (Some Upper) = refl
+
+underscores : (case : Option Case) (n : ℕ) → map (cased case) (replicate n 95) ≡ replicate n 95
+underscores case zero = refl
+underscores case (suc n) = ap (λ z. z ∷ map (cased case) (replicate n 95)) (underscore case)
+    ∙ ap (λ z. 95 ∷ z) (underscores case n)
+
+digits_text : (case : Option Case) (ds : List (ℕ × ℕ)) → map (cased case) (flat_map spaced_digit ds)
+    ≡ flat_map spaced_digit (map (cased_digit case) ds)
+digits_text case [] = refl
+digits_text case (d ∷ ds) =
+    map-append (cased case) (spaced_digit d) (flat_map spaced_digit ds)
+    ∙ ap (λ z. (cased case d.0 ∷ z) ++ map (cased case) (flat_map spaced_digit ds)) (underscores case d.1)
+    ∙ ap (λ z. (cased case d.0 ∷ replicate d.1 95) ++ z) (digits_text case ds)
+
+code_text : (case : Option Case) (ds : List (ℕ × ℕ)) → map (cased case) (strict_text (UnicodeEscape ds))
+    ≡ strict_text (UnicodeEscape (map (cased_digit case) ds))
+code_text case ds =
+    code_front case (flat_map spaced_digit ds ++ (125 ∷ []))
+    ∙ ap (λ z. 92 ∷ 117 ∷ 123 ∷ z) (map-append (cased case) (flat_map spaced_digit ds) (125 ∷ [])
+    ∙ ap (λ z. z ++ map (cased case) (125 ∷ [])) (digits_text case ds)
+    ∙ ap (λ z. flat_map spaced_digit (map (cased_digit case) ds) ++ z) (brace case))
+
+pub unit_restyled : (style : Style) (k : Kind) (u : StrictUnit) → is_strict_unit k u ≡ true
+    → restyled_text style k (strict_text u) ≡ strict_text (restyled style k u)
+unfolding restyled_text
+unit_restyled style k (Itself c) h = ap (λ b. cond b (restyled_escape style k []) (c ∷ [])) (bare_front k c h)
+unit_restyled style k (QuoteEscape c) h =
+    ap (λ b. cond b (cond (style.quote_escapes && not (c == closer k)) (c ∷ []) (92 ∷ c ∷ [])) (otherwise style k c []))
+    (quote_of k c h) ∙ quote_text (style.quote_escapes && not (c == closer k)) c
+unit_restyled style k (PlainEscape c) h = plain_text style k c (letter_of k c h)
+unit_restyled style k (AsciiEscape high low) h = hex_front style.escape_digits (high ∷ low ∷ [])
+unit_restyled style k (ByteEscape high low) h = hex_front style.escape_digits (high ∷ low ∷ [])
+unit_restyled style k (UnicodeEscape digits) h = code_text style.escape_digits digits
+unit_restyled style k (LineBreak blanks) h = refl
+
+-- ---- the bytes that are put
+
+at_escape : (style : Style) (k : Kind) (t cs : List ℕ) → t ≡ 92 ∷ cs → restyled_text style k t ≡ restyled_escape style k cs
+unfolding restyled_text
+at_escape style k t cs e = ap (restyled_text style k) e
+
+-- a character after the backslash, by which it is
+quoted_escape : (style : Style) (k : Kind) (c : ℕ) (cs : List ℕ) → (c == 39 || c == 34) ≡ true
+    → restyled_escape style k (c ∷ cs) ≡ cond (style.quote_escapes && not (c == closer k)) (c ∷ cs) (92 ∷ c ∷ cs)
+quoted_escape style k c cs q =
+    ap (λ b. cond b (cond (style.quote_escapes && not (c == closer k)) (c ∷ cs) (92 ∷ c ∷ cs)) (otherwise style k c cs)) q
+
+other_escape : (style : Style) (k : Kind) (c : ℕ) (cs : List ℕ) → (c == 39 || c == 34) ≡ false
+    → restyled_escape style k (c ∷ cs) ≡ otherwise style k c cs
+other_escape style k c cs q =
+    ap (λ b. cond b (cond (style.quote_escapes && not (c == closer k)) (c ∷ cs) (92 ∷ c ∷ cs)) (otherwise style k c cs)) q
+
+pub bared_bytes : (style : Style) (k : Kind) (unit escape w : List ℕ) (c : ℕ) → IsUtf8 escape
+    → chars unit ≡ 92 ∷ chars escape → chars escape ≡ c ∷ w → (c == 39 || c == 34) ≡ true
+    → (style.quote_escapes && not (c == closer k)) ≡ true
+    → encode_utf8_all (restyled_text style k (chars unit)) ≡ escape
+bared_bytes style k unit escape w c u e f q h =
+    ap encode_utf8_all (at_escape style k (chars unit) (c ∷ w) (e ∙ ap (λ z. 92 ∷ z) f) ∙ quoted_escape style k c w q
+    ∙ ap (λ b. cond b (c ∷ w) (92 ∷ c ∷ w)) h ∙ sym f) ∙ encodes-chars escape u
+
+pub kept_bytes : (style : Style) (k : Kind) (unit escape w : List ℕ) (c : ℕ) → IsUtf8 unit
+    → chars unit ≡ 92 ∷ chars escape → chars escape ≡ c ∷ w → (c == 39 || c == 34) ≡ true
+    → (style.quote_escapes && not (c == closer k)) ≡ false
+    → encode_utf8_all (restyled_text style k (chars unit)) ≡ unit
+kept_bytes style k unit escape w c u e f q h =
+    let text : chars unit ≡ 92 ∷ c ∷ w = e ∙ ap (λ z. 92 ∷ z) f in
+    ap encode_utf8_all (at_escape style k (chars unit) (c ∷ w) text ∙ quoted_escape style k c w q
+    ∙ ap (λ b. cond b (c ∷ w) (92 ∷ c ∷ w)) h ∙ sym text) ∙ encodes-chars unit u
+
+pub cased_bytes : (style : Style) (k : Kind) (unit escape w : List ℕ) (c : ℕ) → chars unit ≡ 92 ∷ chars escape
+    → chars escape ≡ c ∷ w → (c == 39 || c == 34) ≡ false → (c == 120 || c == 117) ≡ true
+    → encode_utf8_all (restyled_text style k (chars unit)) ≡ encode_utf8_all (map (cased style.escape_digits) (chars unit))
+cased_bytes style k unit escape w c e f q h =
+    let text : chars unit ≡ 92 ∷ c ∷ w = e ∙ ap (λ z. 92 ∷ z) f in
+    ap encode_utf8_all (at_escape style k (chars unit) (c ∷ w) text ∙ other_escape style k c w q
+    ∙ ap (λ b. cond b (map (cased style.escape_digits) (92 ∷ c ∷ w)) (92 ∷ c ∷ w)) h
+    ∙ ap (map (cased style.escape_digits)) (sym text))
+
+pub other_bytes : (style : Style) (k : Kind) (unit escape w : List ℕ) (c : ℕ) → IsUtf8 unit
+    → chars unit ≡ 92 ∷ chars escape → chars escape ≡ c ∷ w → (c == 39 || c == 34) ≡ false
+    → (c == 120 || c == 117) ≡ false → encode_utf8_all (restyled_text style k (chars unit)) ≡ unit
+other_bytes style k unit escape w c u e f q h =
+    let text : chars unit ≡ 92 ∷ c ∷ w = e ∙ ap (λ z. 92 ∷ z) f in
+    ap encode_utf8_all (at_escape style k (chars unit) (c ∷ w) text ∙ other_escape style k c w q
+    ∙ ap (λ b. cond b (map (cased style.escape_digits) (92 ∷ c ∷ w)) (92 ∷ c ∷ w)) h ∙ sym text) ∙ encodes-chars unit u
+
+pub alone_bytes : (style : Style) (k : Kind) (unit escape : List ℕ) → IsUtf8 unit → chars unit ≡ 92 ∷ chars escape
+    → chars escape ≡ [] → encode_utf8_all (restyled_text style k (chars unit)) ≡ unit
+alone_bytes style k unit escape u e f =
+    let text : chars unit ≡ 92 ∷ [] = e ∙ ap (λ z. 92 ∷ z) f in
+    ap encode_utf8_all (at_escape style k (chars unit) [] text ∙ sym text) ∙ encodes-chars unit u
+
+no_escape : (style : Style) (k : Kind) (t : List ℕ) → first_passes (λ c. c == 92) t ≡ false → restyled_text style k t ≡ t
+unfolding restyled_text
+no_escape style k [] h = refl
+no_escape style k (c ∷ cs) h = ap (λ b. cond b (restyled_escape style k cs) (c ∷ cs)) h
+
+pub plain_bytes : (style : Style) (k : Kind) (unit : List ℕ) → IsUtf8 unit → first_passes (λ c. c == 92) (chars unit) ≡ false
+    → encode_utf8_all (restyled_text style k (chars unit)) ≡ unit
+plain_bytes style k unit u h = ap encode_utf8_all (no_escape style k (chars unit) h) ∙ encodes-chars unit u
+
+-- ---- the units that were passed
+
+may_follow : (k : Kind) (s : StrictUnit) (us : List StrictUnit) → list_all (is_strict_unit k) us ≡ true
+    → BlanksEnd (s ∷ us) → MayFollow s (flat_map strict_text us)
+may_follow k (LineBreak blanks) us h b = no_blank (flat_map strict_text us) b.0 (no_return k us h)
+may_follow k (Itself c) us h b = tt
+may_follow k (QuoteEscape c) us h b = tt
+may_follow k (PlainEscape c) us h b = tt
+may_follow k (AsciiEscape high low) us h b = tt
+may_follow k (ByteEscape high low) us h b = tt
+may_follow k (UnicodeEscape digits) us h b = tt
+
+blanks_after : (s : StrictUnit) (us : List StrictUnit) → BlanksEnd (s ∷ us) → BlanksEnd us
+blanks_after (LineBreak blanks) us b = b.1
+blanks_after (Itself c) us b = b
+blanks_after (QuoteEscape c) us b = b
+blanks_after (PlainEscape c) us b = b
+blanks_after (AsciiEscape high low) us b = b
+blanks_after (ByteEscape high low) us b = b
+blanks_after (UnicodeEscape digits) us b = b
+
+-- the first of a row of units is the one that is read
+record FirstIs (k : Kind) (u : StrictUnit) (us : List StrictUnit) (t : List ℕ) : Type 0 where
+  value : List ℕ
+  read : unit_at k t ≡ Some (value, flat_map strict_text us)
+  is_unit : is_strict_unit k u ≡ true
+  left : AreUnits k us (flat_map strict_text us)
+  text_is : t ≡ strict_text u ++ flat_map strict_text us
+
+first_is : (k : Kind) (u : StrictUnit) (us : List StrictUnit) (t : List ℕ) → AreUnits k (u ∷ us) t → FirstIs k u us t
+first_is k u us t a =
+    let p = and_parts (is_strict_unit k u) (list_all (is_strict_unit k) us) a.each in
+    let s = stands k u p.0 in
+    let rest : List ℕ = flat_map strict_text us in
+    record {
+      value = unit_value k s.unit;
+      read = ap (unit_at k) (a.inside_is ∙ ap (λ z. z ++ rest) (sym s.text_is))
+          ∙ unit_complete k s.unit rest s.is_unit (s.ends_before rest (may_follow k u us p.1 a.blanks_end));
+      is_unit = p.0;
+      left = record { each = p.1; blanks_end = blanks_after u us a.blanks_end; inside_is = refl };
+      text_is = a.inside_is;
+    }
+
+-- one text is one row of units, as far as their texts go
+pub texts_once : (style : Style) (k : Kind) (us vs : List StrictUnit) (t : List ℕ) → AreUnits k us t → AreUnits k vs t
+    → flat_map strict_text (map (restyled style k) us) ≡ flat_map strict_text (map (restyled style k) vs)
+texts_once style k [] [] t a b = refl
+texts_once style k [] (v ∷ vs) t a b =
+    let g = first_is k v vs t b in
+    absurd (let none : None ≡ Some (g.value, flat_map strict_text vs) = sym (ap (unit_at k) a.inside_is ∙ unit_nil k)
+    ∙ g.read in cc)
+texts_once style k (u ∷ us) [] t a b =
+    let f = first_is k u us t a in
+    absurd (let none : None ≡ Some (f.value, flat_map strict_text us) = sym (ap (unit_at k) b.inside_is ∙ unit_nil k)
+    ∙ f.read in cc)
+texts_once style k (u ∷ us) (v ∷ vs) t a b =
+    let f = first_is k u us t a in
+    let g = first_is k v vs t b in
+    let rest : flat_map strict_text us ≡ flat_map strict_text vs =
+    (some_pair (f.value, flat_map strict_text us) (g.value, flat_map strict_text vs) (sym f.read ∙ g.read)).1 in
+    let text : strict_text u ≡ strict_text v = append_cancel_right (strict_text u) (strict_text v) (flat_map strict_text us)
+    (sym f.text_is ∙ g.text_is ∙ ap (λ z. strict_text v ++ z) (sym rest)) in
+    let one : strict_text (restyled style k u) ≡ strict_text (restyled style k v) =
+    sym (unit_restyled style k u f.is_unit) ∙ ap (restyled_text style k) text ∙ unit_restyled style k v g.is_unit in
+    ap (λ z. z ++ flat_map strict_text (map (restyled style k) us)) one
+    ∙ ap (λ z. strict_text (restyled style k v) ++ z) (texts_once style k us vs (flat_map strict_text us) f.left
+    (subst (AreUnits k vs) (sym rest) g.left))
+
+pub record UnitsPassed (style : Style) (k : Kind) (us : List StrictUnit) (rest out front : List ℕ) : Type 0 where
+  pub done : List StrictUnit
+  pub left : List StrictUnit
+  pub units_are : us ≡ done ++ left
+  pub left_are : AreUnits k left rest
+  pub out_is : out ≡ front ++ encode_utf8_all (flat_map strict_text (map (restyled style k) done))
+
+pub passed_start : (style : Style) (k : Kind) (us : List StrictUnit) (inside out : List ℕ) → AreUnits k us inside
+    → UnitsPassed style k us inside out out
+passed_start style k us inside out a = record { done = []; left = us; units_are = refl; left_are = a; out_is = sym (append-nil out) }
+
+texts_more : (style : Style) (k : Kind) (us : List StrictUnit) (u : StrictUnit)
+    → flat_map strict_text (map (restyled style k) (us ++ (u ∷ [])))
+    ≡ flat_map strict_text (map (restyled style k) us) ++ strict_text (restyled style k u)
+texts_more style k us u =
+    ap (flat_map strict_text) (map-append (restyled style k) us (u ∷ []))
+    ∙ flat_map-append strict_text (map (restyled style k) us) (restyled style k u ∷ [])
+    ∙ ap (λ z. flat_map strict_text (map (restyled style k) us) ++ z) (append-nil (strict_text (restyled style k u)))
+
+pub passed_step : (style : Style) (k : Kind) (us : List StrictUnit) (rest v piece after out new front : List ℕ)
+    → UnitsPassed style k us rest out front → Some (v, after) ≡ unit_at k rest → rest ≡ piece ++ after
+    → new ≡ out ++ encode_utf8_all (restyled_text style k piece) → UnitsPassed style k us after new front
+passed_step style k us rest v piece after out new front p e cut w = go p.left p.units_are p.left_are
+  where
+    go : (left : List StrictUnit) → us ≡ p.done ++ left → AreUnits k left rest → UnitsPassed style k us after new front
+    go [] are a = absurd (let none : Some (v, after) ≡ None = e ∙ ap (unit_at k) a.inside_is ∙ unit_nil k in cc)
+    go (u ∷ left) are a =
+        let f = first_is k u left rest a in
+        let same = some_pair (v, after) (f.value, flat_map strict_text left) (e ∙ f.read) in
+        let rest_is : after ≡ flat_map strict_text left = same.1 in
+        let is : piece ≡ strict_text u = append_cancel_right piece (strict_text u) after (sym cut ∙ f.text_is
+        ∙ ap (λ z. strict_text u ++ z) (sym rest_is)) in
+        let old : List ℕ = flat_map strict_text (map (restyled style k) p.done) in
+        let one : List ℕ = strict_text (restyled style k u) in
+        record {
+          done = p.done ++ (u ∷ []);
+          left = left;
+          units_are = are ∙ sym (append_assoc p.done (u ∷ []) left);
+          left_are = subst (λ z. AreUnits k left z) (sym rest_is) f.left;
+          out_is = w ∙ ap (λ z. out ++ encode_utf8_all z) (ap (restyled_text style k) is ∙ unit_restyled style k u f.is_unit)
+              ∙ ap (λ z. z ++ encode_utf8_all one) p.out_is ∙ append_assoc front (encode_utf8_all old) (encode_utf8_all one)
+              ∙ ap (λ z. front ++ z) (sym (encodes-append old one) ∙ ap encode_utf8_all (sym (texts_more style k p.done u)));
+        }
+
+pub passed_end : (style : Style) (k : Kind) (us : List StrictUnit) (rest out front : List ℕ)
+    → UnitsPassed style k us rest out front → unit_at k rest ≡ None
+    → out ≡ front ++ encode_utf8_all (flat_map strict_text (map (restyled style k) us))
+passed_end style k us rest out front p e = go p.left p.units_are p.left_are
+  where
+    go : (left : List StrictUnit) → us ≡ p.done ++ left → AreUnits k left rest
+        → out ≡ front ++ encode_utf8_all (flat_map strict_text (map (restyled style k) us))
+    go [] are a = p.out_is ∙ ap (λ z. front ++ encode_utf8_all (flat_map strict_text (map (restyled style k) z)))
+        (sym (are ∙ append-nil p.done))
+    go (u ∷ left) are a =
+        let f = first_is k u left rest a in
+        absurd (let none : None ≡ Some (f.value, flat_map strict_text left) = sym e ∙ f.read in cc)
+
+-- ---- characters stay characters
+
+scalars_split : (a b : List ℕ) → scalars (a ++ b) ≡ true → (scalars a ≡ true) × (scalars b ≡ true)
+scalars_split [] b h = (refl, h)
+scalars_split (c ∷ cs) b h =
+    let p = and_parts (scalar c) (scalars (cs ++ b)) h in
+    let q = scalars_split cs b p.1 in
+    (and_from (scalar c) (scalars cs) p.0 q.0, q.1)
+
+chosen_scalars : (b : Bool) (x y : List ℕ) → scalars x ≡ true → scalars y ≡ true → scalars (cond b x y) ≡ true
+chosen_scalars true x y h k = h
+chosen_scalars false x y h k = k
+
+escape_scalars : (style : Style) (k : Kind) (cs : List ℕ) → scalars cs ≡ true → scalars (restyled_escape style k cs) ≡ true
+escape_scalars style k [] h = refl
+escape_scalars style k (c ∷ cs) h =
+    chosen_scalars (c == 39 || c == 34) _ _
+    (chosen_scalars (style.quote_escapes && not (c == closer k)) (c ∷ cs) (92 ∷ c ∷ cs) h h)
+    (chosen_scalars (c == 120 || c == 117) (map (cased style.escape_digits) (92 ∷ c ∷ cs)) (92 ∷ c ∷ cs)
+    (scalars_cased style.escape_digits (92 ∷ c ∷ cs) h) h)
+
+text_scalars : (style : Style) (k : Kind) (t : List ℕ) → scalars t ≡ true → scalars (restyled_text style k t) ≡ true
+unfolding restyled_text
+text_scalars style k [] h = refl
+text_scalars style k (c ∷ cs) h =
+    let p = and_parts (scalar c) (scalars cs) h in
+    chosen_scalars (c == 92) (restyled_escape style k cs) (c ∷ cs) (escape_scalars style k cs p.1) h
+
+pub units_scalars : (style : Style) (k : Kind) (us : List StrictUnit) → list_all (is_strict_unit k) us ≡ true
+    → scalars (flat_map strict_text us) ≡ true → scalars (flat_map strict_text (map (restyled style k) us)) ≡ true
+units_scalars style k [] each h = refl
+units_scalars style k (u ∷ us) each h =
+    let p = and_parts (is_strict_unit k u) (list_all (is_strict_unit k) us) each in
+    let q = scalars_split (strict_text u) (flat_map strict_text us) h in
+    scalars_join (strict_text (restyled style k u)) (flat_map strict_text (map (restyled style k) us))
+    (ap scalars (sym (unit_restyled style k u p.0)) ∙ text_scalars style k (strict_text u) q.0)
+    (units_scalars style k us p.1 q.1)

@@ -1,0 +1,85 @@
+-- A source without `#!` in front, in which one literal is written anew, is cut as before everywhere else.
+use Rattle.rl_text.proofs.Common.{◌≡◌, ℕ, ◌+◌, inl, inr, Bool, true, false, ◌==◌, cond, List, [], ◌∷◌, ◌++◌, refl, sym, ◌∙◌, ap, arith, codes, append_assoc}
+use Rattle.rl_text.specs.Texts.{first_passes, begins, byte_len}
+use Rattle.rl_lexer.specs.Lexemes.{lexeme_text}
+use Rattle.rl_lexer.specs.Sources.{without_mark, IsScriptLine, IsWithoutLine}
+use Rattle.rl_lexer.proofs.CutLemmas.{byte_len-append}
+use Rattle.rl_style.specs.Around.{SameFront}
+use Rattle.rl_style.specs.Recut.{KeepsTheSource}
+use Rattle.rl_style.proofs.FrontTests.{front_more, same_first, same_script}
+use Rattle.rl_style.proofs.Recut.{Recut, recut}
+
+abbrev is_mark : ℕ → Bool
+is_mark c = c == 65279
+
+-- the mark, or nothing, in front of the body; the same before whatever begins alike
+record Marked (t : List ℕ) : Type 0 where
+  pub mark : List ℕ
+  pub text_is : t ≡ mark ++ without_mark t
+  pub goes : (u : List ℕ) → first_passes is_mark (without_mark t) ≡ first_passes is_mark u → without_mark (mark ++ u) ≡ u
+
+unmarked : (u : List ℕ) → first_passes is_mark u ≡ false → without_mark u ≡ u
+unmarked [] h = refl
+unmarked (c ∷ u) h = ap (λ b. cond b u (c ∷ u)) h
+
+marked : (t : List ℕ) → Marked t
+marked [] = record { mark = []; text_is = refl; goes = λ u e. unmarked u (sym e) }
+marked (c ∷ t) = go (c == 65279) refl
+  where
+    go : (b : Bool) → (c == 65279) ≡ b → Marked (c ∷ t)
+    go true h = record {
+      mark = c ∷ [];
+      text_is = ap (λ z. c ∷ z) (sym (ap (λ b. cond b t (c ∷ t)) h));
+      goes = λ u e. ap (λ b. cond b u (c ∷ u)) h;
+    }
+    go false h =
+        let same : without_mark (c ∷ t) ≡ c ∷ t = ap (λ b. cond b t (c ∷ t)) h in
+        record {
+          mark = [];
+          text_is = sym same;
+          goes = λ u e. unmarked u (sym e ∙ ap (first_passes is_mark) same ∙ h);
+        }
+
+no_script : (t r : List ℕ) → begins (codes "#!") t ≡ false → IsScriptLine t r → ⊥
+no_script t r h is =
+    let q : true ≡ false = sym (ap (begins (codes "#!")) is.text_is) ∙ h in
+    absurd (cc)
+
+-- the body is what follows the mark
+body_is : (t body : List ℕ) → begins (codes "#!") t ≡ false → IsWithoutLine t body → body ≡ t
+body_is t body h (inl is) = absurd (no_script t body h is)
+body_is t body h (inr is) = is.0
+
+pub keeps_the_source : KeepsTheSource
+keeps_the_source t before after old new place r no_line cut sound ends =
+    let m : Recut cut.at cut.body before after old new place r = recut cut.at cut.body before after old new place r
+    cut.are_cuts sound ends in
+    let whole : cut.body ≡ without_mark t = body_is (without_mark t) cut.body no_line cut.front in
+    let was : List ℕ = m.front ++ (lexeme_text old ++ m.rest) in
+    let body : List ℕ = m.front ++ (lexeme_text new ++ m.rest) in
+    let same : SameFront was body = front_more m.front (lexeme_text old ++ m.rest) (lexeme_text new ++ m.rest)
+    m.same_front in
+    let was_is : without_mark t ≡ was = sym whole ∙ m.text_is in
+    let k : Marked t = marked t in
+    let mark_len : byte_len t ≡ byte_len k.mark + byte_len (without_mark t) = ap byte_len k.text_is
+    ∙ byte_len-append k.mark (without_mark t) in
+    let at_is : cut.at ≡ byte_len k.mark = omega (arith, cut.place, mark_len, ap byte_len whole) in
+    let text : List ℕ = (k.mark ++ m.front) ++ (lexeme_text new ++ m.rest) in
+    let text_is : text ≡ k.mark ++ body = append_assoc k.mark m.front (lexeme_text new ++ m.rest) in
+    let bare : without_mark text ≡ body = ap without_mark text_is ∙ k.goes body (ap (first_passes is_mark) was_is
+    ∙ same_first is_mark was body same) in
+    let free : begins (codes "#!") (without_mark text) ≡ false = ap (begins (codes "#!")) bare ∙ sym (same_script was body
+    same) ∙ sym (ap (begins (codes "#!")) was_is) ∙ no_line in
+    record {
+      front = k.mark ++ m.front;
+      rest = m.rest;
+      text_is = k.text_is ∙ ap (λ z. k.mark ++ z) was_is ∙ sym (append_assoc k.mark m.front (lexeme_text old ++ m.rest));
+      place_is = omega (arith, at_is, m.place_is, byte_len-append k.mark m.front);
+      cuts = record {
+        at = cut.at;
+        body = body;
+        front = inr (sym bare, λ s is. no_script (without_mark text) s free is);
+        place = omega (arith, at_is, ap byte_len text_is, byte_len-append k.mark body);
+        are_cuts = m.cuts;
+      };
+    }

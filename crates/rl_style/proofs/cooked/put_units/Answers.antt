@@ -1,0 +1,28 @@
+use Rattle.rl_text.proofs.Common.{◌≡◌, ◌+◌, ◌∙◌, length, ap, sym, arith, rules}
+use Rattle.std.proofs.Common.{length-append}
+use Rattle.std.specs.Str.{chars}
+use Rattle.rl_style.proofs.UnitTexts.{passed_end, passed_step, unit_tail}
+use Rattle.rl_style.proofs.cooked.put_units.Goals as goal
+
+pub before-requires : goal.before-requires
+before-requires c = unit_tail c.args.kind c.loop-after.rest.now c.in-Some.after.now _ (search rules) (search rules)
+    c.in-Some.ensures.value
+
+pub loop-after-preserved : goal.loop-after-preserved
+loop-after-preserved c =
+    let l = c.loop-after in
+    let b = c.before-in-Some in
+    let p = c.put_unit-end.ensures in
+    let long : length l.rest.now ≡ length b.result.now + length c.in-Some.after.now = ap length b.ensures.cut
+    ∙ length-append b.result.now c.in-Some.after.now in
+    record {
+      utf8 = search rules;
+      passed = λ us a. passed_step c.args.style c.args.kind us (chars l.rest.now) _ (chars b.result.now)
+          (chars c.in-Some.after.now) _ _ _ (l.invariant.passed us a) c.in-Some.ensures.value b.ensures.chars p.bytes;
+      room = omega (arith, l.invariant.room, long, p.end);
+      len = p.len ∙ l.invariant.len;
+    }
+
+pub returns-clause-bytes : goal.returns-clause-bytes
+returns-clause-bytes c = λ us a. passed_end c.args.style c.args.kind us (chars c.loop-after.rest.now) _ _
+    (c.loop-after.invariant.passed us a) (sym c.in_default.ensures.value)

@@ -1,0 +1,21 @@
+-- The units that were passed stand in the slice, written anew, and the rest has room after them.
+use Rattle.rl_text.proofs.Common.{◌≡◌, ◌≤◌, ◌+◌, List, take, length}
+use denote.Text.{Utf8}
+use denote.Shadow.{shadow}
+use Rattle.std.specs.Str.{chars}
+use Rattle.rl_forms.specs.Strict.{StrictUnit}
+use Rattle.rl_style.specs.Mirrors.{AreUnits}
+use Rattle.rl_style.proofs.UnitTexts.{UnitsPassed}
+use Rattle.rl_style.proofs.cooked.put_units.Given as goal
+
+abbrev pub invariant-loop-after : goal.invariant-loop-after
+invariant-loop-after l = record {
+  utf8 : shadow (Utf8 l.rest);
+  passed : (us : List StrictUnit) → AreUnits l.kind us (chars l.inside)
+      → UnitsPassed l.style l.kind us (chars l.rest) (take l.end l.out) (take l.fn.at l.initial.out);
+  room : l.end + length l.rest ≤ l.fn.at + length l.inside;
+  len : length l.out ≡ length l.initial.out;
+}
+
+abbrev pub decreases-loop-after : goal.decreases-loop-after
+decreases-loop-after l = length l.rest

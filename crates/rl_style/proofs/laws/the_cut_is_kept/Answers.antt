@@ -1,0 +1,5 @@
+use Rattle.rl_style.proofs.Recut.{keeps_the_cut}
+use Rattle.rl_style.proofs.laws.the_cut_is_kept.Goals as goal
+
+pub returns : goal.returns
+returns c = keeps_the_cut

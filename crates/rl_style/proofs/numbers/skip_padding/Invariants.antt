@@ -1,0 +1,18 @@
+-- What is left has the same end.
+use Rattle.rl_text.proofs.Common.{◌≡◌, ◌≤◌, length}
+use denote.Text.{Utf8}
+use denote.Shadow.{shadow}
+use Rattle.std.specs.Str.{chars}
+use Rattle.rl_text.specs.Classes.{after_run}
+use Rattle.rl_style.specs.Cases.{is_padding}
+use Rattle.rl_style.proofs.numbers.skip_padding.Given as goal
+
+abbrev pub invariant-loop-after : goal.invariant-loop-after
+invariant-loop-after l = record {
+  utf8 : shadow (Utf8 l.rest);
+  same : after_run is_padding (chars l.rest) ≡ after_run is_padding (chars l.text);
+  shorter : length l.rest ≤ length l.text;
+}
+
+abbrev pub decreases-loop-after : goal.decreases-loop-after
+decreases-loop-after l = length l.rest

@@ -1,0 +1,141 @@
+-- What of two texts a token in front of them can tell apart: nothing, where both begin alike up to a literal's first
+-- character. A character is its code.
+use Rattle.std.specs.Prelude.{◌≡◌, ◌≢◌, ℕ, ◌⊎◌, Bool, true, false, not, ◌&&◌, ◌||◌, ◌==◌, List, [], ◌∷◌, ◌++◌, codes, IsTrue, ⊤}
+use Rattle.std.specs.Char.{is_ascii_digit}
+use Rattle.std.specs.List.{list_all}
+use Prim.Native.Char.{code}
+use Rattle.rl_text.specs.Texts.{is_among, first_passes, is_row_part, is_continue}
+use Rattle.rl_forms.specs.Numbers.{is_exponent_letter}
+use Rattle.rl_lexer.specs.Lexemes.{LiteralPrefix, NoPrefix, BeginsHashedQuote, BodyPart, IsBody, CharacterBody, IsCharacterBody, IsRawBody, Lexeme, QuotedLexeme, RawLexeme, CharacterLexeme, BasedLexeme, DecimalLexeme, LexedFraction, NoLexedFraction, LexedDot, lexed_fraction_text, LexedExponent, NoLexedExponent, LexedPower, lexed_exponent_text, is_base_letter, lexeme_text, IsLexeme}
+use Rattle.rl_lexer.specs.Sources.{SourceLexeme, IsProper}
+
+-- what a literal begins with
+abbrev pub is_head : ℕ → Bool
+is_head c = is_among (codes "\"'rbc") c || is_ascii_digit c
+
+-- Both texts begin alike, up to a quote, a digit, or the `r` of a raw literal.
+pub record SameFront (old new : List ℕ) : Type 0 where
+  pub front : List ℕ
+  pub head : ℕ
+  pub old_rest : List ℕ
+  pub new_rest : List ℕ
+  pub is_head : IsTrue (is_head head)
+  pub raw : head ≡ code "r" → BeginsHashedQuote old_rest × BeginsHashedQuote new_rest
+  pub old_is : old ≡ front ++ (head ∷ old_rest)
+  pub new_is : new ≡ front ++ (head ∷ new_rest)
+
+-- A token, bad quotes and strays aside, stays one before the other text.
+abbrev pub StaysAround : Type 0
+StaysAround = (w : SourceLexeme) (old new : List ℕ) → SameFront old new → IsProper w old → IsProper w new
+
+-- Both are strings with escapes, of one prefix and with one suffix; the new one is well made.
+pub record SameQuoted (old new : Lexeme) : Type 0 where
+  pub prefix : LiteralPrefix
+  pub parts : List BodyPart
+  pub new_parts : List BodyPart
+  pub suffix : List ℕ
+  pub is_body : IsBody new_parts
+  pub old_is : old ≡ QuotedLexeme prefix parts suffix
+  pub new_is : new ≡ QuotedLexeme prefix new_parts suffix
+
+-- the same of raw strings, whatever their hashes
+pub record SameRawString (old new : Lexeme) : Type 0 where
+  pub prefix : LiteralPrefix
+  pub hashes : ℕ
+  pub new_hashes : ℕ
+  pub body : List ℕ
+  pub new_body : List ℕ
+  pub suffix : List ℕ
+  pub is_body : IsRawBody new_hashes new_body
+  pub old_is : old ≡ RawLexeme prefix hashes body suffix
+  pub new_is : new ≡ RawLexeme prefix new_hashes new_body suffix
+
+-- The old one is a raw string after `b` or `c`, the new one has escapes in its place.
+pub record SameUnraw (old new : Lexeme) : Type 0 where
+  pub prefix : LiteralPrefix
+  pub has_prefix : prefix ≢ NoPrefix
+  pub hashes : ℕ
+  pub body : List ℕ
+  pub new_parts : List BodyPart
+  pub suffix : List ℕ
+  pub is_body : IsBody new_parts
+  pub old_is : old ≡ RawLexeme prefix hashes body suffix
+  pub new_is : new ≡ QuotedLexeme prefix new_parts suffix
+
+-- the same of characters and bytes
+pub record SameCharacter (old new : Lexeme) : Type 0 where
+  pub is_byte : Bool
+  pub inside : CharacterBody
+  pub new_inside : CharacterBody
+  pub suffix : List ℕ
+  pub is_body : IsCharacterBody new_inside
+  pub old_is : old ≡ CharacterLexeme is_byte inside suffix
+  pub new_is : new ≡ CharacterLexeme is_byte new_inside suffix
+
+-- Both are integers with a base's prefix, of one base; the suffix stands in their rows.
+pub record SameBased (old new : Lexeme) : Type 0 where
+  pub letter : ℕ
+  pub digits : List ℕ
+  pub new_digits : List ℕ
+  pub is_row : IsTrue (list_all is_continue new_digits)
+  pub old_is : old ≡ BasedLexeme letter digits
+  pub new_is : new ≡ BasedLexeme letter new_digits
+
+-- the same dot part but for its digits; a dot alone stays one or gets a digit
+abbrev pub SameFraction : LexedFraction → LexedFraction → LexedExponent → Type 0
+SameFraction NoLexedFraction NoLexedFraction power = ⊤
+SameFraction (LexedDot digits) (LexedDot new) power =
+    IsTrue (list_all (is_row_part is_ascii_digit) new)
+    × (IsTrue (first_passes is_ascii_digit new) ⊎ ((digits ≡ []) × (new ≡ []) × (power ≡ NoLexedExponent)))
+SameFraction _ _ power = ⊥
+
+-- an exponent where there was one
+abbrev pub SamePower : LexedExponent → LexedExponent → Type 0
+SamePower NoLexedExponent NoLexedExponent = ⊤
+SamePower (LexedPower _ _ _ _ _) (LexedPower letter sign n d more) =
+    IsTrue (is_exponent_letter letter) × IsTrue (is_ascii_digit d)
+    × IsTrue (list_all (is_row_part is_ascii_digit) more)
+SamePower _ _ = ⊥
+
+-- Both are decimals with the same first digit and suffix; the new one has a dot part and an exponent where the old one
+-- had them, and doesn't begin as another base does.
+pub record SameDecimal (old new : Lexeme) : Type 0 where
+  pub digit : ℕ
+  pub more : List ℕ
+  pub new_more : List ℕ
+  pub fraction : LexedFraction
+  pub new_fraction : LexedFraction
+  pub exponent : LexedExponent
+  pub new_exponent : LexedExponent
+  pub suffix : List ℕ
+  pub each : IsTrue (list_all (is_row_part is_ascii_digit) new_more)
+  pub same_fraction : SameFraction fraction new_fraction exponent
+  pub same_power : SamePower exponent new_exponent
+  pub no_base : (digit == code "0" && first_passes is_base_letter (new_more ++ (lexed_fraction_text new_fraction
+      ++ (lexed_exponent_text new_exponent ++ suffix)))) ≡ false
+  pub old_is : old ≡ DecimalLexeme digit more fraction exponent suffix
+  pub new_is : new ≡ DecimalLexeme digit new_more new_fraction new_exponent suffix
+
+-- The new literal has the form of the old one, its prefix and its suffix, and is well made.
+abbrev pub SameEnds : Lexeme → Lexeme → Type 0
+SameEnds old new =
+    SameQuoted old new ⊎ (SameRawString old new ⊎ (SameCharacter old new ⊎ (SameBased old new
+    ⊎ (SameDecimal old new ⊎ SameUnraw old new))))
+
+-- What ends as the old literal did is a literal before whatever followed the old one, and begins as it did.
+abbrev pub KeepsItsEnds : Type 0
+KeepsItsEnds =
+    (l m : Lexeme) (after : List ℕ) → SameEnds l m → IsLexeme l after
+    → IsLexeme m after × SameFront (lexeme_text l ++ after) (lexeme_text m ++ after)
+
+-- the text is empty, or ends with neither a hash nor a dot
+abbrev pub may_precede_quote : List ℕ → Bool
+may_precede_quote [] = true
+may_precede_quote (c ∷ []) = not (c == code "#" || c == code ".")
+may_precede_quote (c ∷ d ∷ t) = may_precede_quote (d ∷ t)
+
+-- A token in front of a raw string stays one before a string, where the text between ends with neither a hash nor a dot.
+abbrev pub StaysBeforeQuote : Type 0
+StaysBeforeQuote =
+    (w : SourceLexeme) (front raw quoted : List ℕ) → IsTrue (may_precede_quote front)
+    → IsProper w (front ++ (code "r" ∷ raw)) → IsProper w (front ++ (code "\"" ∷ quoted))

@@ -1,0 +1,57 @@
+-- Letters in one case, and what characters of numbers become. A character is its code.
+use Rattle.std.specs.Prelude.{ℕ, ◌+◌, ◌-◌, Bool, true, false, not, ◌&&◌, ◌||◌, ◌==◌, nat_le, List, [], ◌∷◌, Option, Some, None, codes, if◌then◌else◌}
+use Prim.Native.Char.{code}
+use Rattle.rl_text.specs.Classes.{after_run}
+use Rattle.rl_text.specs.Texts.{first_passes}
+use Rattle.rl_lexer.specs.Lexemes.{is_base_letter}
+use Rattle.rl_style.specs.declared.style.Case.{Case}
+use Rattle.rl_style.specs.declared.style.Case.TheVariants.{Lower, Upper}
+use Rattle.rl_style.specs.declared.style.Style.{Style}
+
+-- a hexadecimal digit in upper or in lower case; whatever else as it is
+abbrev pub upper_case : ℕ → ℕ
+upper_case c = if nat_le (code "a") c && nat_le c (code "f") then c - 32 else c
+
+abbrev pub lower_case : ℕ → ℕ
+lower_case c = if nat_le (code "A") c && nat_le c (code "F") then c + 32 else c
+
+abbrev pub cased : Option Case → ℕ → ℕ
+cased None c = c
+cased (Some Lower) c = lower_case c
+cased (Some Upper) c = upper_case c
+
+-- the letter before an exponent in upper or in lower case; whatever else as it is
+abbrev pub exponent_letter : Option Case → ℕ → ℕ
+exponent_letter None c = c
+exponent_letter (Some Lower) c = if c == code "E" then code "e" else c
+exponent_letter (Some Upper) c = if c == code "e" then code "E" else c
+
+-- The number loses its underscores: the rule says so, and its suffix doesn't begin as a base does, so no other number comes
+-- of `0_b1`.
+abbrev pub drops_underscores : Style → List ℕ → Bool
+drops_underscores style suffix = style.underscores && not (first_passes is_base_letter suffix)
+
+-- what a character of a number becomes, by whether its underscores are dropped and its base is 16
+abbrev pub number_character : Style → Bool → Bool → ℕ → List ℕ
+number_character style drops hex c =
+    if (drops && c == code "_") || ((not hex && style.exponent_plus) && c == code "+") then []
+    else (if hex then cased style.hex_digits c else exponent_letter style.exponent_letter c) ∷ []
+
+-- zeros in front of digits, and underscores between them
+abbrev pub is_padding : ℕ → Bool
+is_padding c = c == code "0" || c == code "_"
+
+abbrev pub or_zero : List ℕ → List ℕ
+or_zero [] = codes "0"
+or_zero (c ∷ cs) = c ∷ cs
+
+-- digits without the zeros in front; of zeros alone one
+abbrev pub significant : List ℕ → List ℕ
+significant row = or_zero (after_run is_padding row)
+
+-- An integer of base ten loses those zeros: the rule says so, and its suffix doesn't begin as a base does.
+abbrev pub drops_zeros : Style → ℕ → List ℕ → Bool
+drops_zeros style base suffix = (style.leading_zeros && base == 10) && not (first_passes is_base_letter suffix)
+
+abbrev pub kept_digits : Style → ℕ → List ℕ → List ℕ → List ℕ
+kept_digits style base suffix row = if drops_zeros style base suffix then significant row else row

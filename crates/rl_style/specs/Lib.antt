@@ -1,0 +1,5 @@
+pub mod Cases
+pub mod Rewriting
+pub mod Around
+pub mod Recut
+pub mod Mirrors

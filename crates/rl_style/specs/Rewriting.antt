@@ -1,0 +1,109 @@
+-- Literals written anew: what a style makes of a strict text, and what every style keeps. A character is its code.
+use Rattle.std.specs.Prelude.{◌≡◌, ◌⊎◌, ℕ, Bool, true, false, not, ◌&&◌, ◌==◌, List, ◌∷◌, ◌++◌, Option, None, map, if◌then◌else◌}
+use Rattle.std.specs.List.{flat_map}
+use Rattle.rl_forms.specs.declared.kind.Kind.{Kind}
+use Rattle.rl_forms.specs.Reading.{Contents}
+use Rattle.rl_forms.specs.Written.{closer}
+use Rattle.rl_forms.specs.Strict.{StrictUnit, Itself, QuoteEscape, AsciiEscape, ByteEscape, UnicodeEscape, strict_text, strict_opener, strict_closer, StrictBool, StrictCooked, StrictFloat, StrictInt, StrictRaw, Strict}
+use Rattle.rl_writing.specs.RawStrings.{raw_text, HasFewestHashes}
+use Rattle.rl_style.specs.declared.style.Case.{Case}
+use Rattle.rl_style.specs.declared.style.Style.{Style}
+use Rattle.rl_style.specs.Cases.{cased, drops_underscores, kept_digits, number_character}
+
+-- Both texts are strict literals of one kind, with the same contents and the same suffix. By the laws of both grammars
+-- they then read alike.
+pub record SameLiteral (old new : List ℕ) : Type 0 where
+  pub kind : Kind
+  pub contents : Contents
+  pub suffix : List ℕ
+  pub was : Strict old kind contents suffix
+  pub is : Strict new kind contents suffix
+
+-- ---- numbers
+
+-- The old text is an integer; the new one has its prefix, its digits, perhaps without the zeros in front, and its suffix, and
+-- each character before the suffix is what the style makes of it.
+pub record RewritesInt (style : Style) (old new : List ℕ) : Type 0 where
+  pub contents : Contents
+  pub suffix : List ℕ
+  pub int : StrictInt old contents suffix
+  pub new_is : new ≡ flat_map (number_character style (drops_underscores style suffix) (int.base == 16))
+      (int.prefix ++ kept_digits style int.base suffix int.row) ++ suffix
+
+-- The same of a float, but for the zeros.
+pub record RewritesFloat (style : Style) (old new : List ℕ) : Type 0 where
+  pub contents : Contents
+  pub suffix : List ℕ
+  pub float : StrictFloat old contents suffix
+  pub new_is : new ≡ flat_map (number_character style (drops_underscores style suffix) false) float.numeral ++ suffix
+
+-- ---- raw literals
+
+-- so many hashes: the fewest that the text inside needs, or as many as there were
+abbrev pub HasHashes : Bool → Kind → List ℕ → ℕ → ℕ → Type 0
+HasHashes true kind inside old new = HasFewestHashes kind inside new
+HasHashes false kind inside old new = new ≡ old
+
+-- The old text is a raw literal; the new one has the same text inside, the style's hashes, and the suffix.
+pub record RewritesRaw (style : Style) (old new : List ℕ) : Type 0 where
+  pub kind : Kind
+  pub contents : Contents
+  pub suffix : List ℕ
+  pub raw : StrictRaw old kind contents suffix
+  pub hashes : ℕ
+  pub hashes_are : HasHashes style.raw_hashes kind raw.inside raw.hashes hashes
+  pub new_is : new ≡ raw_text kind hashes raw.inside ++ suffix
+
+-- ---- literals with escapes
+
+-- a digit of `\u{..}`, and how many underscores follow it
+abbrev pub cased_digit : Option Case → ℕ × ℕ → ℕ × ℕ
+cased_digit case digit = (cased case digit.0, digit.1)
+
+-- what a unit becomes: a quote that doesn't close the literal stands for itself, and escapes by number have their digits
+-- in one case
+abbrev pub restyled : Style → Kind → StrictUnit → StrictUnit
+restyled style kind (QuoteEscape c) =
+    if style.quote_escapes && not (c == closer kind) then Itself c else QuoteEscape c
+restyled style kind (AsciiEscape high low) =
+    AsciiEscape (cased style.escape_digits high) (cased style.escape_digits low)
+restyled style kind (ByteEscape high low) =
+    ByteEscape (cased style.escape_digits high) (cased style.escape_digits low)
+restyled style kind (UnicodeEscape digits) = UnicodeEscape (map (cased_digit style.escape_digits) digits)
+restyled style kind unit = unit
+
+-- The old text is a literal with escapes; in the new one each unit is what the style makes of it.
+pub record RewritesCooked (style : Style) (old new : List ℕ) : Type 0 where
+  pub kind : Kind
+  pub contents : Contents
+  pub suffix : List ℕ
+  pub cooked : StrictCooked old kind contents suffix
+  pub new_is : new ≡ strict_opener kind
+      ++ (flat_map strict_text (map (restyled style kind) cooked.units) ++ (strict_closer kind ++ suffix))
+
+-- ---- any literal
+
+-- The old text is a truth value, and the new one is the same.
+pub record KeepsTruth (old new : List ℕ) : Type 0 where
+  pub contents : Contents
+  pub suffix : List ℕ
+  pub truth : StrictBool old contents suffix
+  pub new_is : new ≡ old
+
+-- The new text is the old one, which is a literal, in this style.
+abbrev pub Rewrites : Style → List ℕ → List ℕ → Type 0
+Rewrites style old new =
+    RewritesInt style old new
+    ⊎ (RewritesFloat style old new
+    ⊎ (RewritesRaw style old new ⊎ (RewritesCooked style old new ⊎ KeepsTruth old new)))
+
+-- The style has no rule.
+pub record HasNoRule (style : Style) : Type 0 where
+  pub hex_digits : style.hex_digits ≡ None
+  pub underscores : style.underscores ≡ false
+  pub leading_zeros : style.leading_zeros ≡ false
+  pub exponent_letter : style.exponent_letter ≡ None
+  pub exponent_plus : style.exponent_plus ≡ false
+  pub escape_digits : style.escape_digits ≡ None
+  pub quote_escapes : style.quote_escapes ≡ false
+  pub raw_hashes : style.raw_hashes ≡ false

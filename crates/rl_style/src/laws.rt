@@ -1,0 +1,61 @@
+//! Laws of the definitions: each function does nothing, and its contract is the law.
+
+ghost use Rattle.std.specs.Prelude.{List, ℕ, ◌≡◌};
+ghost use Rattle.rl_style.specs.declared.style.Style.{Style};
+ghost use Rattle.rl_style.specs.Around.{StaysAround, StaysBeforeQuote, KeepsItsEnds};
+ghost use Rattle.rl_style.specs.Recut.{KeepsTheCut, KeepsTheCutUnraw, KeepsTheSource};
+ghost use Rattle.rl_style.specs.Rewriting.{HasNoRule, SameLiteral, Rewrites};
+
+/// A literal that is written anew is the same literal: its kind, its contents and its suffix are what they were.
+pub fn a_rewritten_literal_is_the_same()
+    ensures { (style : Style) (t u : List ℕ) → Rewrites style t u → SameLiteral t u }
+{}
+
+/// What was written in a style, that style leaves as it is.
+pub fn what_was_written_stays()
+    ensures { (style : Style) (t u : List ℕ) → Rewrites style t u → Rewrites style u u }
+{}
+
+/// A literal is one text in a style: whatever is the literal in the style is what [`rewrite_into`](crate::rewrite_into) writes.
+pub fn a_literal_has_one_text_in_a_style()
+    ensures { (style : Style) (t u w : List ℕ) → Rewrites style t u → Rewrites style t w → u ≡ w }
+{}
+
+/// A style without rules changes nothing.
+pub fn no_rule_changes_nothing()
+    ensures { (style : Style) (t u : List ℕ) → HasNoRule style → Rewrites style t u → u ≡ t }
+{}
+
+/// A token of a source stays one before a literal that begins as the old one did. Bad quotes and stray characters aside: no source
+/// that rustc takes holds one.
+pub fn tokens_in_front_stay()
+    ensures { StaysAround }
+{}
+
+/// A literal that ends as the old one did is a token where the old one was, and begins as it did.
+pub fn new_literals_are_tokens()
+    ensures { KeepsItsEnds }
+{}
+
+/// A text in which one literal is written anew is cut as before everywhere else.
+pub fn the_cut_is_kept()
+    ensures { KeepsTheCut }
+{}
+
+/// A source that doesn't begin with `#!`, and in which one literal is written anew, is cut as before everywhere else. After `#!` the
+/// literal may hide or show the end of a comment, by which a first line is an interpreter's line or none.
+pub fn the_source_is_kept()
+    ensures { KeepsTheSource }
+{}
+
+/// A token in front of a raw string stays one before a string with escapes, where the text between them ends with neither a hash nor
+/// a dot.
+pub fn tokens_before_quotes_stay()
+    ensures { StaysBeforeQuote }
+{}
+
+/// A text in which a raw string becomes one with escapes is cut as before everywhere else, where neither a hash nor a dot stands
+/// before it.
+pub fn the_cut_is_kept_unraw()
+    ensures { KeepsTheCutUnraw }
+{}

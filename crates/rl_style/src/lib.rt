@@ -1,0 +1,14 @@
+//! Literals written anew in another style: each has the same kind, the same contents and the same suffix as before. No memory is
+//! taken.
+#![tactic(auto)]
+
+mod case;
+mod cooked;
+pub mod laws;
+mod numbers;
+mod raw;
+mod rewrite;
+mod style;
+
+pub use crate::rewrite::rewrite_into;
+pub use crate::style::{Case, Style};

@@ -1,0 +1,2 @@
+pub mod TypeLemmas
+pub mod Exclusions

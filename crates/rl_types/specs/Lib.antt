@@ -1,0 +1,3 @@
+pub mod NumberTypes
+pub mod TypeFaults
+pub mod FaultWords

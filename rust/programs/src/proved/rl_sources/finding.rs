@@ -1,0 +1,54 @@
+// Rendered from crates/rl_sources/src/finding.rt by tools/render, which erases contracts: change that file, and render anew.
+//! What is wrong with a literal, and where.
+
+use crate::rl_reasons::{Flaw, FlawKind};
+use crate::rl_types::TypeFault;
+
+/// What is wrong with a literal.
+#[derive(Clone, Copy)]
+pub(crate) enum Reason {
+    /// It is no literal token, or an integer past 128 bits.
+    Flaw(FlawKind),
+    /// Rust has no type for it.
+    Type(TypeFault),
+}
+
+/// Something wrong with a literal, by places in its text, in bytes.
+#[derive(Clone, Copy)]
+pub(crate) struct Finding {
+    /// What is wrong.
+    pub(crate) reason: Reason,
+    /// Where it is wrong.
+    pub(crate) lo: usize,
+    /// The place after it.
+    pub(crate) hi: usize,
+    /// Where the piece begins that is shown: the escape or the character, or the whole literal.
+    pub(crate) from: usize,
+    /// The place after the piece.
+    pub(crate) to: usize,
+}
+
+/// What is wrong with a literal, as it was judged: its first flaw, or that Rust has no type for it.
+#[derive(Clone, Copy)]
+pub(crate) enum Wrong {
+    Flaw(Flaw),
+    Type(TypeFault),
+}
+
+impl Reason {
+    /// What is wrong, in words.
+    pub(crate) fn words(self) -> &'static str {
+        match self {
+            Reason::Flaw(kind) => kind.words(),
+            Reason::Type(fault) => fault.words(),
+        }
+    }
+
+    /// What is wrong, by a name that stays.
+    pub(crate) fn id(self) -> &'static str {
+        match self {
+            Reason::Flaw(kind) => kind.id(),
+            Reason::Type(fault) => fault.id(),
+        }
+    }
+}

@@ -1,0 +1,13 @@
+// Rendered from crates/rl_style/src/lib.rt by tools/render, which erases contracts: change that file, and render anew.
+//! Literals written anew in another style: each has the same kind, the same contents and the same suffix as before. No memory is
+//! taken.
+
+mod case;
+mod cooked;
+mod numbers;
+mod raw;
+mod rewrite;
+mod style;
+
+pub use crate::rl_style::rewrite::rewrite_into;
+pub use crate::rl_style::style::{Case, Style};

@@ -1,0 +1,32 @@
+// Rendered from crates/rl_style/src/style.rt by tools/render, which erases contracts: change that file, and render anew.
+//! Styles of literals.
+
+/// Letters in lower or in upper case.
+#[derive(Clone, Copy)]
+pub enum Case {
+    Lower,
+    Upper,
+}
+
+/// How literals are written anew: each field is a rule by itself. With `None` and `false` it changes nothing.
+#[derive(Clone, Copy)]
+pub struct Style {
+    /// The case of an integer's digits after `0x`.
+    pub hex_digits: Option<Case>,
+    /// Whether a number loses its underscores: `1000u8` for `1_000_u8`. One whose suffix begins with `b`, `o` or `x` keeps them:
+    /// `0_b1` without them would be of another base.
+    pub underscores: bool,
+    /// Whether an integer of base ten loses the zeros in front of its digits: `7` for `007`. One whose suffix begins with `b`, `o` or
+    /// `x` keeps them.
+    pub leading_zeros: bool,
+    /// The case of the letter before a float's exponent: `1e5` or `1E5`.
+    pub exponent_letter: Option<Case>,
+    /// Whether a float's exponent loses its `+`: `1e5` for `1e+5`.
+    pub exponent_plus: bool,
+    /// The case of the digits of `\x` and `\u{..}`.
+    pub escape_digits: Option<Case>,
+    /// Whether a quote that doesn't close the literal loses its backslash: `"'"` for `"\'"`.
+    pub quote_escapes: bool,
+    /// Whether a raw string has the fewest hashes that its text needs.
+    pub raw_hashes: bool,
+}

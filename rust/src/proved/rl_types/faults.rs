@@ -1,0 +1,104 @@
+// Rendered from crates/rl_types/src/faults.rt by tools/render, which erases contracts: change that file, and render anew.
+//! What Rust's types don't allow of a literal.
+
+use crate::rl_types::number_types::{NumberType, greatest, type_named};
+use crate::rl_forms::Kind;
+use crate::rl_reading::Found;
+use crate::rl_text::text::begins;
+
+/// Why no type of Rust has a literal.
+#[derive(Clone, Copy, PartialEq, Eq, Debug)]
+pub enum TypeFault {
+    /// A string, a character or a byte has a suffix.
+    QuotedSuffix,
+    /// The suffix of a number names no type of numbers.
+    UnknownSuffix,
+    /// The suffix of a float names a type of integers.
+    FloatSuffix,
+    /// The suffix of a binary, octal or hexadecimal integer is that of a float.
+    BasedFloat,
+    /// The integer is out of its type's range.
+    OutOfRange,
+}
+
+impl TypeFault {
+    /// What is wrong, in words.
+    pub fn words(self) -> &'static str {
+        match self {
+            TypeFault::QuotedSuffix => "only numbers have suffixes",
+            TypeFault::UnknownSuffix => "no type of numbers has this name",
+            TypeFault::FloatSuffix => "a float's suffix is f32 or f64",
+            TypeFault::BasedFloat => "floats have base ten alone",
+            TypeFault::OutOfRange => "out of its type's range",
+        }
+    }
+
+    /// What is wrong, by a name that stays, for programs.
+    pub fn id(self) -> &'static str {
+        match self {
+            TypeFault::QuotedSuffix => "quoted-suffix",
+            TypeFault::UnknownSuffix => "unknown-suffix",
+            TypeFault::FloatSuffix => "float-suffix",
+            TypeFault::BasedFloat => "based-float",
+            TypeFault::OutOfRange => "out-of-range",
+        }
+    }
+}
+
+/// Whether the text begins with the prefix of a base.
+fn is_of_base(text: &str) -> bool {
+    begins(text, "0b") || begins(text, "0o") || begins(text, "0x")
+}
+
+/// Whether the suffix begins as that of a float.
+fn begins_float(suffix: &str) -> bool {
+    matches!(suffix.as_bytes(), [b'f', ..])
+}
+
+/// Why an integer has not this type.
+fn range_fault(ty: NumberType, magnitude: u128, negated: bool) -> Option<TypeFault> {
+    match greatest(ty, negated) {
+        Some(most) if magnitude > most => Some(TypeFault::OutOfRange),
+        _ => None,
+    }
+}
+
+/// Why no type has an integer with this suffix.
+fn integer_fault(text: &str, suffix: &str, magnitude: u128, negated: bool) -> Option<TypeFault> {
+    if is_of_base(text) && begins_float(suffix) {
+        return Some(TypeFault::BasedFloat);
+    }
+    match type_named(suffix) {
+        Some(ty) => range_fault(ty, magnitude, negated),
+        None => Some(TypeFault::UnknownSuffix),
+    }
+}
+
+/// Why no type has a float with this suffix.
+fn float_fault(text: &str, suffix: &str, negated: bool) -> Option<TypeFault> {
+    match type_named(suffix) {
+        Some(ty) => match greatest(ty, negated) {
+            Some(_) => Some(TypeFault::FloatSuffix),
+            None => None,
+        },
+        None => Some(TypeFault::UnknownSuffix),
+    }
+}
+
+/// Why Rust has no type for a literal that reads: its suffix names none, or it is out of that type's range. `None` where there is
+/// one, as where it has no suffix: then Rust infers it.
+///
+/// `found` is the literal's reading; `negated` says whether a minus may stand before it, which makes `128i8` a value of its type.
+/// No memory is taken.
+pub fn type_fault(text: &str, found: &Found, negated: bool) -> Option<TypeFault> {
+    let suffix = found.suffix_in(text);
+    if suffix.is_empty() {
+        return None;
+    }
+    match found.kind {
+        Kind::Int => integer_fault(text, suffix, found.magnitude, negated),
+        Kind::Float => float_fault(text, suffix, negated),
+        Kind::Bool => None,
+        _ => Some(TypeFault::QuotedSuffix),
+    }
+}

@@ -1,0 +1,265 @@
+//! Literals written anew in another style. Each is a token of the Rust Reference again, of the same kind, with the same contents and
+//! the same suffix.
+
+use crate::parse_error::ParseError;
+use crate::rl_style::{self, rewrite_into};
+use alloc::borrow::Cow;
+use alloc::string::String;
+use alloc::vec;
+
+/// Letters in lower or in upper case.
+#[derive(Clone, Copy, Debug, PartialEq, Eq, Hash)]
+pub enum Case {
+    /// As `a`.
+    Lower,
+    /// As `A`.
+    Upper,
+}
+
+impl Case {
+    /// The proved case.
+    fn proved(self) -> rl_style::Case {
+        match self {
+            Case::Lower => rl_style::Case::Lower,
+            Case::Upper => rl_style::Case::Upper,
+        }
+    }
+}
+
+/// How [`rewrite`] writes literals anew: each rule by itself, and none at first.
+///
+/// ```
+/// use navyspindle::{rewrite, Case, Style};
+///
+/// const STYLE: Style = Style::new().hex_digits(Case::Lower).raw_hashes(true);
+/// assert_eq!(rewrite("0xFFu8", STYLE)?, "0xffu8");
+/// assert_eq!(rewrite(r###"r##"a"b"##"###, STYLE)?, r##"r#"a"b"#"##);
+/// # Ok::<(), navyspindle::ParseError>(())
+/// ```
+#[derive(Clone, Copy, Debug, PartialEq, Eq, Hash)]
+pub struct Style {
+    hex_digits: Option<Case>,
+    underscores: bool,
+    leading_zeros: bool,
+    exponent_letter: Option<Case>,
+    exponent_plus: bool,
+    escape_digits: Option<Case>,
+    quote_escapes: bool,
+    raw_hashes: bool,
+}
+
+impl Style {
+    /// Changes nothing.
+    ///
+    /// ```
+    /// use navyspindle::{rewrite, Style};
+    ///
+    /// assert_eq!(rewrite(r"'\x4a'", Style::new())?, r"'\x4a'");
+    /// # Ok::<(), navyspindle::ParseError>(())
+    /// ```
+    #[must_use]
+    pub const fn new() -> Self {
+        Style {
+            hex_digits: None,
+            underscores: false,
+            leading_zeros: false,
+            exponent_letter: None,
+            exponent_plus: false,
+            escape_digits: None,
+            quote_escapes: false,
+            raw_hashes: false,
+        }
+    }
+
+    /// The same with the digits of integers after `0x` in this case.
+    ///
+    /// ```
+    /// use navyspindle::{rewrite, Case, Style};
+    ///
+    /// let style = Style::new().hex_digits(Case::Upper);
+    /// assert_eq!(rewrite("0xdead_beefu32", style)?, "0xDEAD_BEEFu32");
+    /// # Ok::<(), navyspindle::ParseError>(())
+    /// ```
+    #[must_use]
+    pub const fn hex_digits(self, case: Case) -> Self {
+        Style {
+            hex_digits: Some(case),
+            ..self
+        }
+    }
+
+    /// The same without the underscores of numbers, or with those that stand there. A number whose suffix begins with `b`, `o` or
+    /// `x` keeps them: `0_b1` without them would be of another base.
+    ///
+    /// ```
+    /// use navyspindle::{rewrite, Style};
+    ///
+    /// let style = Style::new().underscores(true);
+    /// assert_eq!(rewrite("1_000_u32", style)?, "1000u32");
+    /// assert_eq!(rewrite("1_0.5_0e1_0", style)?, "10.50e10");
+    /// assert_eq!(rewrite("0_b1", style)?, "0_b1");
+    /// # Ok::<(), navyspindle::ParseError>(())
+    /// ```
+    #[must_use]
+    pub const fn underscores(self, dropped: bool) -> Self {
+        Style {
+            underscores: dropped,
+            ..self
+        }
+    }
+
+    /// The same without the zeros in front of integers of base ten, or with those that stand there. An integer whose suffix begins
+    /// with `b`, `o` or `x` keeps them.
+    ///
+    /// ```
+    /// use navyspindle::{rewrite, Style};
+    ///
+    /// let style = Style::new().leading_zeros(true);
+    /// assert_eq!(rewrite("007_i32", style)?, "7_i32");
+    /// assert_eq!(rewrite("0_00", style)?, "0");
+    /// assert_eq!(rewrite("0x07", style)?, "0x07");
+    /// # Ok::<(), navyspindle::ParseError>(())
+    /// ```
+    #[must_use]
+    pub const fn leading_zeros(self, dropped: bool) -> Self {
+        Style {
+            leading_zeros: dropped,
+            ..self
+        }
+    }
+
+    /// The same with the letter before a float's exponent in this case.
+    ///
+    /// ```
+    /// use navyspindle::{rewrite, Case, Style};
+    ///
+    /// assert_eq!(rewrite("1E5", Style::new().exponent_letter(Case::Lower))?, "1e5");
+    /// # Ok::<(), navyspindle::ParseError>(())
+    /// ```
+    #[must_use]
+    pub const fn exponent_letter(self, case: Case) -> Self {
+        Style {
+            exponent_letter: Some(case),
+            ..self
+        }
+    }
+
+    /// The same without the `+` of a float's exponent, or with what stands there.
+    ///
+    /// ```
+    /// use navyspindle::{rewrite, Style};
+    ///
+    /// assert_eq!(rewrite("1e+5", Style::new().exponent_plus(true))?, "1e5");
+    /// # Ok::<(), navyspindle::ParseError>(())
+    /// ```
+    #[must_use]
+    pub const fn exponent_plus(self, dropped: bool) -> Self {
+        Style {
+            exponent_plus: dropped,
+            ..self
+        }
+    }
+
+    /// The same with the digits of `\x` and `\u{..}` in this case.
+    ///
+    /// ```
+    /// use navyspindle::{rewrite, Case, Style};
+    ///
+    /// let style = Style::new().escape_digits(Case::Lower);
+    /// assert_eq!(rewrite(r#""\x1B\u{1F600}""#, style)?, r#""\x1b\u{1f600}""#);
+    /// # Ok::<(), navyspindle::ParseError>(())
+    /// ```
+    #[must_use]
+    pub const fn escape_digits(self, case: Case) -> Self {
+        Style {
+            escape_digits: Some(case),
+            ..self
+        }
+    }
+
+    /// The same without the backslash of a quote that doesn't close its literal, or with what stands there.
+    ///
+    /// ```
+    /// use navyspindle::{rewrite, Style};
+    ///
+    /// let style = Style::new().quote_escapes(true);
+    /// assert_eq!(rewrite(r#""a\'b\"c""#, style)?, r#""a'b\"c""#);
+    /// assert_eq!(rewrite(r#"'\"'"#, style)?, r#"'"'"#);
+    /// # Ok::<(), navyspindle::ParseError>(())
+    /// ```
+    #[must_use]
+    pub const fn quote_escapes(self, dropped: bool) -> Self {
+        Style {
+            quote_escapes: dropped,
+            ..self
+        }
+    }
+
+    /// The same with the fewest `#` that hold a raw string's text, or with those that stand there.
+    ///
+    /// ```
+    /// use navyspindle::{rewrite, Style};
+    ///
+    /// let style = Style::new().raw_hashes(true);
+    /// assert_eq!(rewrite(r###"r##"a"##"###, style)?, r#"r"a""#);
+    /// # Ok::<(), navyspindle::ParseError>(())
+    /// ```
+    #[must_use]
+    pub const fn raw_hashes(self, fewest: bool) -> Self {
+        Style {
+            raw_hashes: fewest,
+            ..self
+        }
+    }
+
+    /// The proved style.
+    fn proved(self) -> rl_style::Style {
+        rl_style::Style {
+            hex_digits: self.hex_digits.map(Case::proved),
+            underscores: self.underscores,
+            leading_zeros: self.leading_zeros,
+            exponent_letter: self.exponent_letter.map(Case::proved),
+            exponent_plus: self.exponent_plus,
+            escape_digits: self.escape_digits.map(Case::proved),
+            quote_escapes: self.quote_escapes,
+            raw_hashes: self.raw_hashes,
+        }
+    }
+}
+
+/// As [`Style::new`].
+impl Default for Style {
+    fn default() -> Self {
+        Style::new()
+    }
+}
+
+/// The literal in the style: of the same kind, with the same contents and the same suffix. Borrowed where nothing changes.
+///
+/// A text that was written so, the same style leaves as it is. What looks at a token's text and not at its value sees the change:
+/// `stringify!`, an arm of `macro_rules!` that names a literal, `concat!` of floats.
+///
+/// # Errors
+///
+/// The text is no literal token of the Rust Reference; a minus is a token of its own.
+///
+/// ```
+/// use navyspindle::{rewrite, Case, FlawKind, Style};
+/// use std::borrow::Cow;
+///
+/// let style = Style::new().hex_digits(Case::Lower).quote_escapes(true);
+/// assert_eq!(rewrite("0xFFu8", style)?, "0xffu8");
+/// assert!(matches!(rewrite("0xffu8", style)?, Cow::Borrowed("0xffu8")));
+/// assert_eq!(rewrite("0b102", style).unwrap_err().kind(), FlawKind::DigitOfBase);
+/// # Ok::<(), navyspindle::ParseError>(())
+/// ```
+pub fn rewrite(text: &str, style: Style) -> Result<Cow<'_, str>, ParseError> {
+    let mut room = vec![0; text.len() + 1];
+    let len = rewrite_into(text, style.proved(), &mut room).map_err(ParseError::of_flaw)?;
+    room.truncate(len);
+    if room == text.as_bytes() {
+        return Ok(Cow::Borrowed(text));
+    }
+    let written = String::from_utf8(room);
+    Ok(Cow::Owned(written.expect("literals are UTF-8")))
+}

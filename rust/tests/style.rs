@@ -1,0 +1,112 @@
+//! Literals written anew, held against the rows of `style.txt`, which `tools/style_model.py` writes of a model's answers.
+
+use navyspindle::{is_token, rewrite, Case, FlawKind, Lit, Style};
+use std::borrow::Cow;
+
+const ROWS: &str = include_str!("style.txt");
+
+/// The style that the letters name.
+fn style_of(letters: &str) -> Style {
+    letters.chars().fold(Style::new(), |style, c| match c {
+        'x' => style.hex_digits(Case::Lower),
+        'X' => style.hex_digits(Case::Upper),
+        'e' => style.exponent_letter(Case::Lower),
+        'E' => style.exponent_letter(Case::Upper),
+        'd' => style.escape_digits(Case::Lower),
+        'D' => style.escape_digits(Case::Upper),
+        'u' => style.underscores(true),
+        'z' => style.leading_zeros(true),
+        'p' => style.exponent_plus(true),
+        'q' => style.quote_escapes(true),
+        'h' => style.raw_hashes(true),
+        _ => style,
+    })
+}
+
+fn decoded(digits: &str) -> String {
+    let byte = |at| u8::from_str_radix(&digits[at..at + 2], 16).unwrap();
+    String::from_utf8((0..digits.len()).step_by(2).map(byte).collect()).unwrap()
+}
+
+#[test]
+fn the_model_writes_the_same() {
+    let mut changed = 0;
+    for row in ROWS.lines() {
+        let [letters, text, written] = row.split(' ').collect::<Vec<_>>()[..] else {
+            panic!("{row}")
+        };
+        let (style, text) = (style_of(letters), decoded(text));
+        let answer = rewrite(&text, style);
+        if written == "!" {
+            assert!(answer.is_err() && !is_token(&text), "{letters} {text}");
+            continue;
+        }
+        let answer = answer.unwrap();
+        if written == "=" {
+            assert!(
+                matches!(answer, Cow::Borrowed(same) if same == text),
+                "{letters} {text}"
+            );
+            continue;
+        }
+        assert_eq!(answer, decoded(written), "{letters} {text}");
+        assert_eq!(rewrite(&answer, style).unwrap(), answer, "{letters} {text}");
+        changed += 1;
+    }
+    assert!(changed > 500, "{changed}");
+}
+
+/// Whether both texts read as one literal: by the package's own reader their kinds, contents and suffixes are the same.
+fn read_alike(old: &str, new: &str) -> bool {
+    let (old, new) = (Lit::new(old.to_owned()), Lit::new(new.to_owned()));
+    let value = |literal: &Lit<'_>| match literal {
+        Lit::Str(it) => it.value().as_bytes().to_vec(),
+        Lit::ByteStr(it) => it.value().to_vec(),
+        Lit::CStr(it) => it.value().to_vec(),
+        Lit::Byte(it) => vec![it.value()],
+        Lit::Char(it) => it.value().to_string().into_bytes(),
+        Lit::Int(it) => it.base10_digits().as_bytes().to_vec(),
+        Lit::Float(it) => it.base10_digits().replace('E', "e").into_bytes(),
+        _ => literal.text().as_bytes().to_vec(),
+    };
+    old.kind() == new.kind() && old.suffix() == new.suffix() && value(&old) == value(&new)
+}
+
+#[test]
+fn what_is_written_reads_alike() {
+    let all = style_of("xuzepdqh");
+    for row in ROWS.lines() {
+        let text = decoded(row.split(' ').nth(1).unwrap());
+        if let Ok(written) = rewrite(&text, all) {
+            assert!(read_alike(&text, &written), "{text} {written}");
+            assert!(written.len() <= text.len(), "{text} {written}");
+        }
+    }
+}
+
+#[test]
+fn errors_are_those_of_the_reader() {
+    for text in ["", "0b102", "\"a\\q\"", "r\"a\"b\"", "'ab'", "1e", "x"] {
+        let error = rewrite(text, style_of("xuzepdqh")).unwrap_err();
+        assert_eq!(error, Lit::parse(text).unwrap_err(), "{text}");
+    }
+    // A minus is a token of its own.
+    let error = rewrite("-1", Style::new()).unwrap_err();
+    assert_eq!(error.kind(), FlawKind::Minus);
+    assert_eq!(error.at(), 0);
+}
+
+#[test]
+fn long_texts_are_written_whole() {
+    let inside = "\\'\u{20ac}\\x4A".repeat(20_000);
+    let written = rewrite(&format!("\"{inside}\""), style_of("qd"))
+        .unwrap()
+        .into_owned();
+    assert_eq!(written, format!("\"{}\"", "'\u{20ac}\\x4a".repeat(20_000)));
+    let hashes = "#".repeat(255);
+    let raw = format!("br{hashes}\"a\"{hashes}u8");
+    assert_eq!(rewrite(&raw, style_of("h")).unwrap(), "br\"a\"u8");
+    // The fewest that a raw string needs are all that it may have.
+    let full = format!("r{hashes}\"\"{}\"{hashes}", "#".repeat(254));
+    assert_eq!(rewrite(&full, style_of("h")).unwrap(), full);
+}

@@ -1,0 +1,357 @@
+#!/usr/bin/env python3
+"""Literals written anew, by a model: writes the rows that rust/tests/style.rs holds the package against, and checks the model.
+
+    tools/style_model.py rows [--count N] [--seed S]    writes rust/tests/style.txt
+    tools/style_model.py laws                           checks the model's laws on every short text, and on longer ones at random
+    tools/style_model.py rewrite STYLE TEXT..           prints what each text is in the style
+
+A literal is taken apart by the token grammar of the Rust Reference, each part is mapped by itself, and the parts are put together
+again. Nothing of the repository is asked. A style is a word of letters: `x` and `X` hexadecimal digits in lower and in upper case,
+`u` no underscores in numbers, `z` no zeros in front of integers of base ten, `e` and `E` the exponent's letter, `d` and `D` the digits
+of escapes, `p` no plus, `q` no needless backslash before a quote, `h` the fewest hashes. A row is a style, a text and what it becomes,
+both in hexadecimal: `=` stands for the text itself, and `!` for what is no literal.
+
+The laws: what is written is a literal of the same kind, with the same contents and the same suffix, and the style leaves it as it
+is."""
+import argparse
+import itertools
+import random
+import re
+import sys
+from pathlib import Path
+from typing import NamedTuple
+
+ROWS = Path(__file__).resolve().parent.parent / 'rust/tests/style.txt'
+HEX = '0123456789abcdefABCDEF'
+# By the kind: what opens a literal with escapes, and a raw one.
+OPENERS = {'Str': '"', 'ByteStr': 'b"', 'CStr': 'c"', 'Byte': "b'", 'Char': "'"}
+RAW_OPENERS = {'Str': 'r', 'ByteStr': 'br', 'CStr': 'cr'}
+LETTERS = {'n': 10, 'r': 13, 't': 9, '\\': 92, '0': 0}
+RULES = ['x', 'X', 'u', 'z', 'e', 'E', 'd', 'D', 'p', 'q', 'h']
+
+
+class Unit(NamedTuple):
+    """What stands between quotes: what it is, its text, and the number that it stands for, if any."""
+    what: str
+    text: str
+    code: 'int | None'
+
+
+class Literal(NamedTuple):
+    """Kind and form, the parts by name, and the suffix."""
+    kind: str
+    form: str
+    parts: dict
+    suffix: str
+
+
+def is_word(text):
+    return text not in ('', '_') and text.isidentifier()
+
+
+def closer(kind):
+    return OPENERS[kind][-1]
+
+
+def holds(kind, code):
+    return not (kind == 'CStr' and code == 0)
+
+
+def bare_at(kind, text, at):
+    """A character that stands for itself, and the place after it."""
+    c = text[at]
+    if kind in ('Byte', 'Char'):
+        allowed = c not in "'\\\n\r\t"
+    else:
+        allowed = c not in '"\\\r'
+    allowed = allowed and (c.isascii() or kind not in ('Byte', 'ByteStr')) and holds(kind, ord(c))
+    return (Unit('itself', c, ord(c)), at + 1) if allowed else None
+
+
+def escape_at(kind, text, at):
+    """An escape, and the place after it."""
+    letter = text[at + 1:at + 2]
+    if letter and letter in '\'"':
+        return Unit('quote', text[at:at + 2], ord(letter)), at + 2
+    if letter in LETTERS and holds(kind, LETTERS[letter]):
+        return Unit('letter', text[at:at + 2], LETTERS[letter]), at + 2
+    if letter == 'x':
+        digits = text[at + 2:at + 4]
+        if len(digits) == 2 and all(d in HEX for d in digits):
+            code = int(digits, 16)
+            if (code < 128 or kind not in ('Str', 'Char')) and holds(kind, code):
+                return Unit('hex', text[at:at + 4], code), at + 4
+    if letter == 'u' and kind in ('Str', 'Char', 'CStr'):
+        match = re.compile(r'\\u\{((?:[0-9a-fA-F]_*){1,6})\}').match(text, at)
+        if match:
+            code = int(match[1].replace('_', ''), 16)
+            if code < 0x110000 and not 0xd800 <= code < 0xe000 and holds(kind, code):
+                return Unit('unicode', match[0], code), match.end()
+    if letter == '\n' and kind in ('Str', 'ByteStr', 'CStr'):
+        end = at + 2
+        while text[end:end + 1] and text[end] in ' \t\n':
+            end += 1
+        return Unit('break', text[at:end], None), end
+    return None
+
+
+def unit_at(kind, text, at):
+    if at >= len(text):
+        return None
+    return escape_at(kind, text, at) if text[at] == '\\' else bare_at(kind, text, at)
+
+
+def with_escapes(text, kind):
+    if not text.startswith(OPENERS[kind]):
+        return None
+    at, units = len(OPENERS[kind]), []
+    single = kind in ('Byte', 'Char')
+    while text[at:at + 1] != closer(kind) and not (single and units):
+        found = unit_at(kind, text, at)
+        if found is None:
+            return None
+        units.append(found[0])
+        at = found[1]
+    suffix = text[at + 1:]
+    if text[at:at + 1] != closer(kind) or single and len(units) != 1 or not (suffix == '' or is_word(suffix)):
+        return None
+    return Literal(kind, 'escapes', {'units': units}, suffix)
+
+
+def raw(text, kind):
+    match = re.match(RAW_OPENERS[kind] + r'(#*)"', text)
+    if not match or len(match[1]) > 255:
+        return None
+    end = text.find('"' + match[1], match.end())
+    if end < 0:
+        return None
+    inside, suffix = text[match.end():end], text[end + 1 + len(match[1]):]
+    if '\r' in inside or kind == 'ByteStr' and not inside.isascii() or kind == 'CStr' and '\0' in inside:
+        return None
+    if not (suffix == '' or is_word(suffix)):
+        return None
+    return Literal(kind, 'raw', {'hashes': len(match[1]), 'inside': inside}, suffix)
+
+
+def number(text):
+    base = {'0b': (2, '01'), '0o': (8, '01234567'), '0x': (16, HEX)}.get(text[:2])
+    ends = lambda suffix, no_e: suffix == '' or is_word(suffix) and suffix[0] != '_' and not (no_e and suffix[0] in 'eE')
+    if base:
+        match = re.match('[%s_]*' % base[1], text[2:])
+        row, suffix = match[0], text[2 + match.end():]
+        if row.strip('_') == '' or not ends(suffix, True) or suffix[:1].isdigit():
+            return None
+        return Literal('Int', 'int', {'prefix': text[:2], 'base': base[0], 'row': row}, suffix)
+    whole = '[0-9][0-9_]*'
+    if re.fullmatch(whole + r'\.', text):
+        return Literal('Float', 'float', {'numeral': text}, '')
+    match = re.match(r'%s(?:\.%s)?[eE][+-]?[0-9_]*[0-9][0-9_]*' % (whole, whole), text)
+    if match:
+        return Literal('Float', 'float', {'numeral': match[0]}, text[match.end():]) if ends(text[match.end():], False) else None
+    match = re.match(r'%s\.%s' % (whole, whole), text)
+    if match:
+        return Literal('Float', 'float', {'numeral': match[0]}, text[match.end():]) if ends(text[match.end():], True) else None
+    match = re.match(whole, text)
+    if match and ends(text[match.end():], True):
+        return Literal('Int', 'int', {'prefix': '', 'base': 10, 'row': match[0]}, text[match.end():])
+    return None
+
+
+def literal(text):
+    """The literal that the text is, taken apart; None where it is none."""
+    if text in ('true', 'false'):
+        return Literal('Bool', 'word', {'word': text}, '')
+    if text[:1].isascii() and text[:1].isdigit():
+        return number(text)
+    readers = [(raw, kind) for kind in RAW_OPENERS] + [(with_escapes, kind) for kind in OPENERS]
+    return next((found for reader, kind in readers if (found := reader(text, kind))), None)
+
+
+def text_of(it):
+    parts = it.parts
+    if it.form == 'word':
+        return parts['word']
+    if it.form == 'escapes':
+        return OPENERS[it.kind] + ''.join(unit.text for unit in parts['units']) + closer(it.kind) + it.suffix
+    if it.form == 'raw':
+        hashes = '#' * parts['hashes']
+        return f'{RAW_OPENERS[it.kind]}{hashes}"{parts["inside"]}"{hashes}{it.suffix}'
+    return (parts['prefix'] + parts['row'] if it.form == 'int' else parts['numeral']) + it.suffix
+
+
+def contents(it):
+    """What the literal stands for: characters, bytes, digits in base ten, a float's digits, a truth value."""
+    parts = it.parts
+    if it.form == 'word':
+        return parts['word']
+    if it.form == 'raw':
+        return parts['inside'] if it.kind == 'Str' else parts['inside'].encode()
+    if it.form == 'int':
+        return str(int(parts['row'].replace('_', ''), parts['base']))
+    if it.form == 'float':
+        return parts['numeral'].replace('_', '').replace('+', '').replace('E', 'e')
+    codes = [unit for unit in parts['units'] if unit.code is not None]
+    if it.kind in ('Str', 'Char'):
+        return ''.join(chr(unit.code) for unit in codes)
+    as_bytes = lambda unit: chr(unit.code).encode() if unit.what in ('itself', 'unicode') else bytes([unit.code])
+    return b''.join(map(as_bytes, codes))
+
+
+def cased(style, low, high, text):
+    return text.lower() if low in style else text.upper() if high in style else text
+
+
+def unit(style, kind, it):
+    if it.what == 'quote' and 'q' in style and chr(it.code) != closer(kind):
+        return Unit('itself', chr(it.code), it.code)
+    if it.what in ('hex', 'unicode'):
+        return it._replace(text=it.text[:2] + cased(style, 'd', 'D', it.text[2:]))
+    return it
+
+
+def fewest_hashes(inside):
+    """The fewest hashes with which no quote closes before the end."""
+    return max([0] + [len(match[1]) + 1 for match in re.finditer('"(#*)', inside)])
+
+
+def rewrite(style, text):
+    """What the literal is in the style; None where the text is none."""
+    it = literal(text)
+    if it is None:
+        return None
+    parts = dict(it.parts)
+    # Without its underscores `0_b1` would begin as another base does.
+    if 'u' in style and it.suffix[:1] not in ('b', 'o', 'x'):
+        parts.update((part, parts[part].replace('_', '')) for part in ('row', 'numeral') if part in parts)
+    if 'z' in style and it.form == 'int' and parts['base'] == 10 and it.suffix[:1] not in ('b', 'o', 'x'):
+        parts['row'] = parts['row'].lstrip('0_') or '0'
+    if it.form == 'int' and parts['base'] == 16:
+        parts['row'] = cased(style, 'x', 'X', parts['row'])
+    if it.form == 'float':
+        numeral = parts['numeral'].replace('+', '') if 'p' in style else parts['numeral']
+        parts['numeral'] = cased(style, 'e', 'E', numeral)
+    if it.form == 'escapes':
+        parts['units'] = [unit(style, it.kind, each) for each in parts['units']]
+    if it.form == 'raw' and 'h' in style:
+        parts['hashes'] = fewest_hashes(parts['inside'])
+    return text_of(it._replace(parts=parts))
+
+
+SUFFIXES = ['', 'x', 'u8', '_x', 'e1', 'b1', 'r', 'é', 'f32', 'o7', 'E', 'aB', 'F']
+PIECES = ['a', ' ', '\n', "'", '"', "\\'", '\\"', '\\\\', '\\n', '\\0', '\\x41', '\\x2a', '\\x2A', '\\x27', '\\x0A', '\\x00', '\\x7F', '\\xfF',
+          '\\u{41}', '\\u{0000e9}', '\\u{E_9_}', '\\u{202E}', '\\u{D}', '\\u{aBcD}', '\\\n', '\\\n \t', 'é', '\u202e', '1', 'x', '{', '\t']
+RAW_PIECES = ['"', '"#', '#', 'a', '\\', '\n', '"##', ' ', 'é', '"#"']
+NUMBERS = ['019_.eE+-xaF', '01_.eE+-']
+
+
+def words(letters, lengths):
+    for length in lengths:
+        yield from map(''.join, itertools.product(letters, repeat=length))
+
+
+def short_texts():
+    yield from words(NUMBERS[0], range(1, 5))
+    yield from words(NUMBERS[1], [5])
+    for prefix in ('0x', '0b', '0o', '0'):
+        yield from (prefix + word for word in words('01aAF_eg', range(4)))
+    for opener in OPENERS.values():
+        for piece in PIECES:
+            yield from (opener + piece + opener[-1] + suffix for suffix in SUFFIXES)
+        yield from (opener + ''.join(pair) + opener[-1] for pair in itertools.product(PIECES, repeat=2))
+    for opener in RAW_OPENERS.values():
+        for hashes in ('', '#', '##', '###'):
+            for inside in words(['"', '#', 'a', '\\'], range(4)):
+                yield opener + hashes + '"' + inside + '"' + hashes
+
+
+def long_texts(dice, count):
+    some = lambda letters, length: ''.join(dice.choice(letters) for _ in range(dice.randrange(1, length)))
+    for _ in range(count):
+        suffix = dice.choice(SUFFIXES + [''] * 8)
+        way = dice.randrange(4)
+        if way == 0:
+            yield '0x' + some(HEX + '_', 20) + suffix
+        elif way == 1:
+            fraction = dice.choice(['', '.', '.' + some('0123456789_', 9)])
+            power = dice.choice(['', dice.choice('eE') + dice.choice(['', '+', '-']) + some('0123456789_', 6)])
+            yield some('0123456789', 9) + fraction + power + suffix
+        elif way == 2:
+            opener = dice.choice(list(OPENERS.values()))
+            units = 1 if opener[-1] == "'" else dice.randrange(9)
+            yield opener + ''.join(dice.choice(PIECES) for _ in range(units)) + opener[-1] + suffix
+        else:
+            hashes = '#' * dice.randrange(6)
+            inside = ''.join(dice.choice(RAW_PIECES) for _ in range(dice.randrange(9)))
+            yield dice.choice(list(RAW_OPENERS.values())) + hashes + '"' + inside + '"' + hashes + suffix
+
+
+def styles():
+    for x, e, d in itertools.product(['', 'x', 'X'], ['', 'e', 'E'], ['', 'd', 'D']):
+        for u, z, p, q, h in itertools.product(['', 'u'], ['', 'z'], ['', 'p'], ['', 'q'], ['', 'h']):
+            yield x + u + z + e + d + p + q + h
+
+
+def broken(style, text):
+    """Which law the text breaks in the style; None if none."""
+    old, written = literal(text), rewrite(style, text)
+    new = literal(written)
+    if new is None:
+        return 'no literal'
+    for name, part in (('kind', lambda it: it.kind), ('contents', contents), ('suffix', lambda it: it.suffix)):
+        if part(old) != part(new):
+            return name
+    if rewrite(style, written) != written:
+        return 'it changes again'
+    return 'longer' if len(written) > len(text) else None
+
+
+def check_laws(dice):
+    texts = {text for text in itertools.chain(short_texts(), long_texts(dice, 40000)) if literal(text)}
+    every, changed = sorted(texts), 0
+    for style in styles():
+        for text in every if len(style) > 7 or style in RULES else dice.sample(every, 1000):
+            changed += rewrite(style, text) != text
+            law = broken(style, text)
+            if law:
+                print(f'{style!r} {text!r} {rewrite(style, text)!r}: {law}')
+                return 1
+    print(f'{len(texts)} literals, {changed} changed, in {len(list(styles()))} styles: each law holds')
+    return 0
+
+
+def write_rows(dice, count):
+    every = list(styles())
+    texts = dice.sample(sorted(set(short_texts())), count) + list(long_texts(dice, count))
+    # Of words over the letters of numbers few are literals.
+    kept = [text for text in dict.fromkeys(texts) if literal(text) or dice.random() < .2]
+    lines = []
+    for text in kept:
+        style = dice.choice(every)
+        written = rewrite(style, text)
+        shown = '!' if written is None else '=' if written == text else written.encode().hex()
+        lines.append(f'{style or "-"} {text.encode().hex()} {shown}\n')
+    ROWS.write_text(''.join(lines), encoding='utf-8')
+    ends = [line.split()[2] for line in lines]
+    print(f'{len(lines)} rows: {ends.count("!")} are no literal, {ends.count("=")} stay')
+
+
+def main():
+    parser = argparse.ArgumentParser(description=__doc__, formatter_class=argparse.RawDescriptionHelpFormatter)
+    parser.add_argument('command', choices=['rows', 'laws', 'rewrite'])
+    parser.add_argument('words', nargs='*')
+    parser.add_argument('--count', type=int, default=3000)
+    parser.add_argument('--seed', type=int, default=1)
+    options = parser.parse_args()
+    dice = random.Random(options.seed)
+    if options.command == 'laws':
+        return check_laws(dice)
+    if options.command == 'rows':
+        write_rows(dice, options.count)
+        return 0
+    for text in options.words[1:]:
+        print(text, rewrite(options.words[0], text))
+    return 0
+
+
+if __name__ == '__main__':
+    sys.exit(main())
