@@ -3,7 +3,7 @@ use Rattle.std.proofs.Common.{Bool, Bor, List, Option, Some, None, ℕ, false, r
 use Rattle.std.specs.Prelude.{MatchOption}
 use Rattle.std.specs.List.{All}
 use Rattle.rl_sources.specs.Options.{words_of}
-use Rattle.rl_reports.specs.Meant.{IsMeant, is_near, option_list}
+use Rattle.rl_reports.specs.Meant.{IsNearest, is_near, option_list}
 
 is_true : (b : Bool) → (b ≡ false → ⊥) → b ≡ true
 is_true true h = refl
@@ -13,7 +13,7 @@ is_true false h = absurd (h refl)
 pub first_near : (word : List ℕ) (r : Option (Bor (List ℕ)))
     → MatchOption r (All (λ option. is_near word option ≡ false) (words_of option_list))
     (λ x. (before after : List (List ℕ)) × (words_of option_list ≡ before ++ x.now ∷ after)
-    × All (λ option. is_near word option ≡ false) before × (is_near word x.now ≡ false → ⊥)) → IsMeant word r
+    × All (λ option. is_near word option ≡ false) before × (is_near word x.now ≡ false → ⊥)) → IsNearest word r
 first_near word None all = all
 first_near word (Some x) (before, after, cut, far, near) =
     (before, after, cut, far, is_true (is_near word x.now) near)

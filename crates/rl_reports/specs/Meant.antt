@@ -1,7 +1,8 @@
 -- Which option a word was likely meant to be. Words are lists of bytes.
 use Rattle.std.specs.Prelude.{◌≡◌, ℕ, ◌==◌, Bool, true, false, cond, ◌||◌, List, [], ◌∷◌, ◌++◌, drop, codes, Option, Some, None}
 use denote.Ref.{Bor}
-use Rattle.std.specs.List.{All, starts_with}
+use Prim.Native.Char.{code}
+use Rattle.std.specs.List.{All, before_first, starts_with}
 use Rattle.std.specs.Str.{bytes_eq}
 use Rattle.rl_sources.specs.Options.{words_of}
 
@@ -34,8 +35,16 @@ abbrev pub is_near : List ℕ → List ℕ → Bool
 is_near word option = is_slip word option || starts_with ◌==◌ option word
 
 -- the first option that the word may stand for, or there is none
-abbrev pub IsMeant : List ℕ → Option (Bor (List ℕ)) → Type 0
-IsMeant word None = All (λ option. is_near word option ≡ false) (words_of option_list)
-IsMeant word (Some meant) =
+abbrev pub IsNearest : List ℕ → Option (Bor (List ℕ)) → Type 0
+IsNearest word None = All (λ option. is_near word option ≡ false) (words_of option_list)
+IsNearest word (Some meant) =
     (before after : List (List ℕ)) × (words_of option_list ≡ before ++ meant.now ∷ after)
     × All (λ option. is_near word option ≡ false) before × (is_near word meant.now ≡ true)
+
+-- what stands before the first `=`
+abbrev pub option_part : List ℕ → List ℕ
+option_part word = before_first (λ b. b == code "=") word
+
+-- the option that was likely meant by that
+abbrev pub IsMeant : List ℕ → Option (Bor (List ℕ)) → Type 0
+IsMeant word meant = IsNearest (option_part word) meant

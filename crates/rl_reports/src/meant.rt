@@ -2,7 +2,7 @@
 
 ghost use Rattle.std.specs.Prelude.{◌≡◌, drop};
 ghost use Rattle.std.specs.Str.{bytes_eq};
-ghost use Rattle.rl_reports.specs.Meant.{IsMeant, is_near as near, is_slip as slip, slips_here as here, swapped};
+ghost use Rattle.rl_reports.specs.Meant.{IsMeant, IsNearest, is_near as near, is_slip as slip, option_part as part, slips_here as here, swapped};
 
 /// The options; commas separate them.
 const OPTIONS: &str =
@@ -60,9 +60,26 @@ fn is_near(word: &str, option: &str) -> bool
     is_slip(word.as_bytes(), option.as_bytes()) || option.as_bytes().starts_with(word.as_bytes())
 }
 
+/// What stands in a word before the first `=`.
+fn option_part(word: &str) -> &str
+    ensures { result.now ≡ part word.now }
+{
+    match word.split_once('=') {
+        Some((option, _)) => option,
+        None => word,
+    }
+}
+
 /// The first option that a word may stand for.
+fn near_option(word: &str) -> Option<&'static str>
+    ensures { IsNearest word.now result }
+{
+    OPTIONS.split(',').find(|option| is_near(word, option))
+}
+
+/// The first option that a word may stand for, or what stands in it before the first `=`.
 pub(crate) fn meant_by(word: &str) -> Option<&'static str>
     ensures { IsMeant word.now result }
 {
-    OPTIONS.split(',').find(|option| is_near(word, option))
+    near_option(option_part(word))
 }

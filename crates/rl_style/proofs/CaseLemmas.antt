@@ -11,7 +11,7 @@ use Rattle.rl_style.specs.Cases.{cased, lower_case, upper_case}
 
 -- ---- past ASCII nothing changes
 
-none_right : (b : Bool) → (b && false) ≡ false
+pub none_right : (b : Bool) → (b && false) ≡ false
 none_right true = refl
 none_right false = refl
 
@@ -63,7 +63,8 @@ pub row_cased : (case : Option Case) (base : ℕ) (row : List ℕ)
     ≡ list_all (is_row_part (λ c. nat_lt (digit_value c) base)) row
 row_cased case base [] = refl
 row_cased case base (c ∷ cs) =
-    ap (λ b. b && list_all (is_row_part (λ c. nat_lt (digit_value c) base)) (map (cased case) cs)) (part_same case base c)
+    ap (λ b. b && list_all (is_row_part (λ c. nat_lt (digit_value c) base)) (map (cased case) cs))
+    (part_same case base c)
     ∙ ap (λ b. is_row_part (λ c. nat_lt (digit_value c) base) c && b) (row_cased case base cs)
 
 pub some_cased : (case : Option Case) (base : ℕ) (row : List ℕ) → list_any (λ c. nat_lt (digit_value c) base)

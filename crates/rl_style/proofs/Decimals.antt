@@ -11,7 +11,8 @@ use Rattle.rl_style.specs.Around.{SameFraction, SamePower}
 abbrev is_part : ℕ → Bool
 is_part c = is_row_part is_ascii_digit c
 
-letter_out : (test : ℕ → Bool) (c : ℕ) → (c == 101 || c == 69) ≡ true → test 101 ≡ false → test 69 ≡ false → test c ≡ false
+letter_out : (test : ℕ → Bool) (c : ℕ) → (c == 101 || c == 69) ≡ true → test 101 ≡ false → test 69 ≡ false → test c
+    ≡ false
 letter_out test c is p q = go (c == 101) refl is
   where
     go : (b : Bool) → (c == 101) ≡ b → (b || c == 69) ≡ true → test c ≡ false
@@ -43,7 +44,8 @@ tail_ends f (LexedPower letter s n d ds) more u row fraction (il, id, digits) = 
 power_first : (test : ℕ → Bool) (e p : LexedExponent) (u : List ℕ) → SamePower e p → test 101 ≡ false → test 69 ≡ false
     → first_passes test u ≡ false → first_passes test (lexed_exponent_text p ++ u) ≡ false
 power_first test NoLexedExponent NoLexedExponent u same a b h = h
-power_first test (LexedPower _ _ _ _ _) (LexedPower letter s n d ds) u (il, id, row) a b h = letter_out test letter il a b
+power_first test (LexedPower _ _ _ _ _) (LexedPower letter s n d ds) u (il, id, row) a b h = letter_out test letter il a
+    b
 power_first test NoLexedExponent (LexedPower letter s n d ds) u same a b h = absurd same
 power_first test (LexedPower _ _ _ _ _) NoLexedExponent u same a b h = absurd same
 
@@ -60,7 +62,8 @@ no_digit_start : (c : ℕ) → is_ascii_digit c ≡ true → is_start c ≡ true
 no_digit_start c d s =
     let low : c < 128 = grind (arith, nat_tests) in
     let q : ((c == 95 || is_ascii_alphabetic c) && not (is_white c)) ≡ true = sym (start_ascii c low) ∙ s in
-    let k : (c == 95 || is_ascii_alphabetic c) ≡ true = (and_parts (c == 95 || is_ascii_alphabetic c) (not (is_white c)) q).0 in
+    let k : (c == 95 || is_ascii_alphabetic c) ≡ true = (and_parts (c == 95 || is_ascii_alphabetic c) (not (is_white c))
+    q).0 in
     grind (arith, nat_tests)
 
 no_power : (a : ℕ) (b : LexedSign) (c d : ℕ) (k : List ℕ) → LexedPower a b c d k ≡ NoLexedExponent → ⊥
@@ -86,7 +89,8 @@ fraction_is (LexedDot ds) (LexedDot es) NoLexedExponent NoLexedExponent u (each,
     (ap (λ z. begins_dot (46 ∷ z ++ u)) (no_es ∙ sym no_ds) ∙ begins, record { each = each; ends = ends })
 fraction_is (LexedDot ds) (LexedDot es) (LexedPower a b c d k) p u (each, inr (no_ds, no_es, none)) power ends is =
     absurd (no_power a b c d k none)
-fraction_is (LexedDot ds) (LexedDot es) NoLexedExponent (LexedPower a b c d k) u (each, inr s) power ends is = absurd power
+fraction_is (LexedDot ds) (LexedDot es) NoLexedExponent (LexedPower a b c d k) u (each, inr s) power ends is = absurd
+    power
 fraction_is NoLexedFraction (LexedDot es) e p u same power ends is = absurd same
 fraction_is (LexedDot ds) NoLexedFraction e p u same power ends is = absurd same
 
@@ -99,7 +103,8 @@ power_is NoLexedExponent (LexedPower letter s n d ds) u same ends is = absurd sa
 power_is (LexedPower _ _ _ _ _) NoLexedExponent u same ends is = absurd same
 
 row_ends : (f g : LexedFraction) (e p : LexedExponent) (u : List ℕ) → SameFraction f g e → SamePower e p
-    → first_passes is_part u ≡ false → first_passes is_part (lexed_fraction_text g ++ (lexed_exponent_text p ++ u)) ≡ false
+    → first_passes is_part u ≡ false → first_passes is_part (lexed_fraction_text g ++ (lexed_exponent_text p ++ u))
+    ≡ false
 row_ends NoLexedFraction NoLexedFraction e p u same power ends = power_first is_part e p u power refl refl ends
 row_ends (LexedDot ds) (LexedDot es) e p u same power ends = refl
 row_ends NoLexedFraction (LexedDot es) e p u same power ends = absurd same
@@ -126,10 +131,12 @@ decimal_is d more new f g e p x after each same power no_base (id, not_based, ro
     let ends : first_passes is_part (x ++ after) ≡ false = tail_ends f e more (x ++ after) row fraction exponent in
     let s : List ℕ = new ++ (lexed_fraction_text g ++ lexed_exponent_text p) in
     let base : (d == 48 && first_passes is_base_letter ((s ++ x) ++ after)) ≡ false = base_new (d == 48) s x after
-    (ap (λ z. d == 48 && first_passes is_base_letter z) (joined_short new (lexed_fraction_text g) (lexed_exponent_text p) x)
+    (ap (λ z. d == 48 && first_passes is_base_letter z) (joined_short new (lexed_fraction_text g)
+    (lexed_exponent_text p) x)
     ∙ no_base) suffix in (
       id,
-      sym (ap (λ z. d == 48 && first_passes is_base_letter z) (joined new (lexed_fraction_text g) (lexed_exponent_text p) x
+      sym (ap (λ z. d == 48 && first_passes is_base_letter z) (joined new (lexed_fraction_text g)
+          (lexed_exponent_text p) x
           after)) ∙ base,
       record { each = each; ends = row_ends f g e p (x ++ after) same power ends },
       fraction_is f g e p (x ++ after) same power ends fraction,

@@ -8,25 +8,33 @@ use Rattle.rl_style.proofs.Decimals.{decimal_is}
 use Rattle.rl_style.specs.Around.{is_head, SameFront, KeepsItsEnds}
 
 -- both begin with this, and then go on
-alike : (front : List ℕ) (h : ℕ) (x y : List ℕ) → is_head h ≡ true → (h ≡ 114 → ⊥) → SameFront (front ++ (h ∷ x)) (front ++ (h ∷ y))
+alike : (front : List ℕ) (h : ℕ) (x y : List ℕ) → is_head h ≡ true → (h ≡ 114 → ⊥)
+    → SameFront (front ++ (h ∷ x)) (front ++ (h ∷ y))
 alike front h x y is other = record { front = front; head = h; old_rest = x; new_rest = y; is_head = is; raw = λ e. absurd (other e); old_is = refl; new_is = refl }
 
-raw_alike : (front x y : List ℕ) → BeginsHashedQuote x → BeginsHashedQuote y → SameFront (front ++ (114 ∷ x)) (front ++ (114 ∷ y))
+raw_alike : (front x y : List ℕ) → BeginsHashedQuote x → BeginsHashedQuote y
+    → SameFront (front ++ (114 ∷ x)) (front ++ (114 ∷ y))
 raw_alike front x y a b = record { front = front; head = 114; old_rest = x; new_rest = y; is_head = refl; raw = λ e. (a, b); old_is = refl; new_is = refl }
 
 not_r : (h : ℕ) → (h == 114) ≡ false → h ≡ 114 → ⊥
-not_r h other e = let q : (h == 114) ≡ true = ap (λ z. z == 114) e in let k : true ≡ false = sym q ∙ other in absurd (cc)
+not_r h other e = let q : (h == 114) ≡ true = ap (λ z. z == 114) e in let k : true ≡ false = sym q
+    ∙ other in absurd (cc)
 
 quoted_front : (p : LiteralPrefix) (a b : List BodyPart) (x after : List ℕ)
     → SameFront (lexeme_text (QuotedLexeme p a x) ++ after) (lexeme_text (QuotedLexeme p b x) ++ after)
-quoted_front NoPrefix a b x after = alike [] 34 (body_text a ++ 34 ∷ x ++ after) (body_text b ++ 34 ∷ x ++ after) refl (not_r 34 refl)
-quoted_front BytePrefix a b x after = alike (98 ∷ []) 34 (body_text a ++ 34 ∷ x ++ after) (body_text b ++ 34 ∷ x ++ after) refl (not_r 34 refl)
-quoted_front CPrefix a b x after = alike (99 ∷ []) 34 (body_text a ++ 34 ∷ x ++ after) (body_text b ++ 34 ∷ x ++ after) refl (not_r 34 refl)
+quoted_front NoPrefix a b x after = alike [] 34 (body_text a ++ 34 ∷ x ++ after) (body_text b ++ 34 ∷ x ++ after) refl
+    (not_r 34 refl)
+quoted_front BytePrefix a b x after = alike (98 ∷ []) 34 (body_text a ++ 34 ∷ x ++ after)
+    (body_text b ++ 34 ∷ x ++ after) refl (not_r 34 refl)
+quoted_front CPrefix a b x after = alike (99 ∷ []) 34 (body_text a ++ 34 ∷ x ++ after) (body_text b ++ 34 ∷ x ++ after)
+    refl (not_r 34 refl)
 
 character_front : (k : Bool) (a b : CharacterBody) (x after : List ℕ)
     → SameFront (lexeme_text (CharacterLexeme k a x) ++ after) (lexeme_text (CharacterLexeme k b x) ++ after)
-character_front false a b x after = alike [] 39 (character_body_text a ++ 39 ∷ x ++ after) (character_body_text b ++ 39 ∷ x ++ after) refl (not_r 39 refl)
-character_front true a b x after = alike (98 ∷ []) 39 (character_body_text a ++ 39 ∷ x ++ after) (character_body_text b ++ 39 ∷ x ++ after) refl (not_r 39 refl)
+character_front false a b x after = alike [] 39 (character_body_text a ++ 39 ∷ x ++ after)
+    (character_body_text b ++ 39 ∷ x ++ after) refl (not_r 39 refl)
+character_front true a b x after = alike (98 ∷ []) 39 (character_body_text a ++ 39 ∷ x ++ after)
+    (character_body_text b ++ 39 ∷ x ++ after) refl (not_r 39 refl)
 
 -- what stands after the first quote of a string
 abbrev pub quoted_rest : List BodyPart → List ℕ → List ℕ → List ℕ
@@ -40,9 +48,12 @@ raw_opens n body x after = record { hashes = n; rest = body ++ (34 ∷ (replicat
 
 raw_front : (p : LiteralPrefix) (n m : ℕ) (a b x after : List ℕ)
     → SameFront (lexeme_text (RawLexeme p n a x) ++ after) (lexeme_text (RawLexeme p m b x) ++ after)
-raw_front NoPrefix n m a b x after = raw_alike [] (raw_rest n a x after) (raw_rest m b x after) (raw_opens n a x after) (raw_opens m b x after)
-raw_front BytePrefix n m a b x after = raw_alike (98 ∷ []) (raw_rest n a x after) (raw_rest m b x after) (raw_opens n a x after) (raw_opens m b x after)
-raw_front CPrefix n m a b x after = raw_alike (99 ∷ []) (raw_rest n a x after) (raw_rest m b x after) (raw_opens n a x after) (raw_opens m b x after)
+raw_front NoPrefix n m a b x after = raw_alike [] (raw_rest n a x after) (raw_rest m b x after) (raw_opens n a x after)
+    (raw_opens m b x after)
+raw_front BytePrefix n m a b x after = raw_alike (98 ∷ []) (raw_rest n a x after) (raw_rest m b x after)
+    (raw_opens n a x after) (raw_opens m b x after)
+raw_front CPrefix n m a b x after = raw_alike (99 ∷ []) (raw_rest n a x after) (raw_rest m b x after)
+    (raw_opens n a x after) (raw_opens m b x after)
 
 based_front : (letter : ℕ) (a b after : List ℕ)
     → SameFront (lexeme_text (BasedLexeme letter a) ++ after) (lexeme_text (BasedLexeme letter b) ++ after)
@@ -79,14 +90,16 @@ based_row letter digits new after is (l, row) = (l, record { each = is; ends = r
 
 -- the two literals by what they are
 named : (l m a b : Lexeme) (after : List ℕ) → l ≡ a → m ≡ b → Keeps a after b → Keeps l after m
-named l m a b after e f is = subst (λ (z : Lexeme). Keeps z after m) (sym e) (subst (λ (z : Lexeme). Keeps a after z) (sym f) is)
+named l m a b after e f is = subst (λ (z : Lexeme). Keeps z after m) (sym e)
+    (subst (λ (z : Lexeme). Keeps a after z) (sym f) is)
 
 as_named : (l a : Lexeme) (after : List ℕ) → l ≡ a → IsLexeme l after → IsLexeme a after
 as_named l a after e is = subst (λ (z : Lexeme). IsLexeme z after) e is
 
 pub keeps_its_ends : KeepsItsEnds
 keeps_its_ends l m after (inl s) is =
-    named l m (QuotedLexeme s.prefix s.parts s.suffix) (QuotedLexeme s.prefix s.new_parts s.suffix) after s.old_is s.new_is (
+    named l m (QuotedLexeme s.prefix s.parts s.suffix) (QuotedLexeme s.prefix s.new_parts s.suffix) after s.old_is
+    s.new_is (
       (s.is_body, (as_named l (QuotedLexeme s.prefix s.parts s.suffix) after s.old_is is).1),
       quoted_front s.prefix s.parts
           s.new_parts s.suffix after,
@@ -98,7 +111,8 @@ keeps_its_ends l m after (inr (inl s)) is =
       raw_front s.prefix s.hashes s.new_hashes s.body s.new_body s.suffix after,
     )
 keeps_its_ends l m after (inr (inr (inl s))) is =
-    named l m (CharacterLexeme s.is_byte s.inside s.suffix) (CharacterLexeme s.is_byte s.new_inside s.suffix) after s.old_is
+    named l m (CharacterLexeme s.is_byte s.inside s.suffix) (CharacterLexeme s.is_byte s.new_inside s.suffix) after
+    s.old_is
     s.new_is (
       (s.is_body, (as_named l (CharacterLexeme s.is_byte s.inside s.suffix) after s.old_is is).1),
       character_front
@@ -106,7 +120,8 @@ keeps_its_ends l m after (inr (inr (inl s))) is =
     )
 keeps_its_ends l m after (inr (inr (inr (inl s)))) is =
     named l m (BasedLexeme s.letter s.digits) (BasedLexeme s.letter s.new_digits) after s.old_is s.new_is (
-      based_row s.letter s.digits s.new_digits after s.is_row (as_named l (BasedLexeme s.letter s.digits) after s.old_is is),
+      based_row s.letter s.digits s.new_digits after s.is_row (as_named l (BasedLexeme s.letter s.digits) after s.old_is
+          is),
       based_front s.letter s.digits s.new_digits after,
     )
 keeps_its_ends l m after (inr (inr (inr (inr (inl s))))) is =

@@ -1,5 +1,5 @@
 -- Digits without the zeros in front spell the same number.
-use Rattle.rl_text.proofs.Common.{◌≡◌, ℕ, ◌<◌, ◌≤◌, ◌+◌, ◌*◌, ◌^◌, ◌⊎◌, ◌||◌, ◌&&◌, Bool, true, false, not, ◌==◌, cond, nat_lt, List, [], ◌∷◌, ◌++◌, length, refl, sym, ap, subst, ◌∙◌, inl, inr, arith, and_from, and_parts, both_ways, cases_Bool, eqb-true, or_cases, or_from, or_left, or_parts, digit_value, is_ascii_digit, list_all, list_any, flat_map}
+use Rattle.rl_text.proofs.Common.{◌≡◌, ℕ, ◌≤◌, ◌+◌, ◌*◌, ◌^◌, ◌⊎◌, Bool, true, false, ◌==◌, cond, List, [], ◌∷◌, ◌++◌, length, refl, sym, ap, subst, ◌∙◌, inl, inr, arith, and_from, and_parts, both_ways, cases_Bool, eqb-true, or_cases, or_left, or_parts, is_ascii_digit, list_all, list_any, flat_map}
 use Rattle.std.specs.Str.{chars}
 use Rattle.rl_writing.proofs.AsciiLemmas.{low_chars}
 use Rattle.rl_text.specs.Classes.{after_run}
@@ -21,7 +21,8 @@ left [] = inl refl
 left (c ∷ cs) =
     elim (cases_Bool (is_padding c)) [
       | inl a ↦
-          let same : after_run is_padding (c ∷ cs) ≡ after_run is_padding cs = ap (λ b. cond b (after_run is_padding cs) (c ∷ cs)) a in
+          let same : after_run is_padding (c ∷ cs) ≡ after_run is_padding cs = ap
+          (λ b. cond b (after_run is_padding cs) (c ∷ cs)) a in
           elim (left cs) [
             | inl e ↦ inl (same ∙ e)
             | inr l ↦ inr (record { first = l.first; rest = l.rest; is = same ∙ l.is; other = l.other })
@@ -30,7 +31,8 @@ left (c ∷ cs) =
     ]
 
 -- what a test says of all, it says of what is left
-after_all : (test : ℕ → Bool) (row : List ℕ) → list_all test row ≡ true → list_all test (after_run is_padding row) ≡ true
+after_all : (test : ℕ → Bool) (row : List ℕ) → list_all test row ≡ true → list_all test (after_run is_padding row)
+    ≡ true
 after_all test [] h = refl
 after_all test (c ∷ cs) h =
     let p = and_parts (test c) (list_all test cs) h in
@@ -115,13 +117,15 @@ pub significant_again : (f : ℕ → List ℕ) (row : List ℕ) → f 48 ≡ 48 
 significant_again f row z k =
     elim (left row) [
       | inl e ↦
-          let is : flat_map f (significant row) ≡ 48 ∷ [] = ap (flat_map f) (significant_none row e) ∙ ap (λ y. y ++ []) z in
+          let is : flat_map f (significant row) ≡ 48 ∷ [] = ap (flat_map f) (significant_none row e)
+          ∙ ap (λ y. y ++ []) z in
           ap significant is ∙ sym is
       | inr l ↦
           let is : flat_map f (significant row) ≡ l.first ∷ flat_map f l.rest = ap (flat_map f) (significant_left row l)
           ∙ ap (λ y. y ++ flat_map f l.rest) (itself l) in
           ap significant is
-          ∙ ap (λ b. or_zero (cond b (after_run is_padding (flat_map f l.rest)) (l.first ∷ flat_map f l.rest))) l.other ∙ sym is
+          ∙ ap (λ b. or_zero (cond b (after_run is_padding (flat_map f l.rest)) (l.first ∷ flat_map f l.rest))) l.other
+          ∙ sym is
     ]
   where
     in_row : (rows : List ℕ) (c : ℕ) (rest : List ℕ) → RowStays f rows → after_run is_padding rows ≡ c ∷ rest

@@ -1,18 +1,16 @@
 -- A style without rules changes nothing.
-use Rattle.rl_text.proofs.Common.{◌≡◌, ℕ, ◌&&◌, ◌||◌, Bool, true, false, not, ◌==◌, cond, List, [], ◌∷◌, ◌++◌, map, Some, None, refl, sym, ap, subst, ◌∙◌, inl, inr, append_assoc, flat_map}
-use Rattle.std.specs.Prelude.{Option}
+use Rattle.rl_text.proofs.Common.{◌≡◌, ℕ, ◌&&◌, ◌||◌, Bool, true, false, not, ◌==◌, cond, List, [], ◌∷◌, ◌++◌, map, None, refl, sym, ap, subst, ◌∙◌, inl, inr, flat_map}
 use Rattle.rl_reading.proofs.Names.{Kind, StrictUnit, Itself, QuoteEscape, PlainEscape, AsciiEscape, ByteEscape, UnicodeEscape, LineBreak, strict_text}
 use Rattle.rl_forms.specs.Written.{closer}
 use Rattle.rl_forms.specs.Strict.{strict_closer, strict_opener}
 use Rattle.rl_forms.proofs.StrictQuoted.{between}
 use Rattle.rl_writing.specs.RawStrings.{raw_text}
-use Rattle.rl_style.specs.declared.style.Case.{Case}
 use Rattle.rl_style.specs.declared.style.Style.{Style}
 use Rattle.rl_style.specs.Cases.{cased, drops_underscores, exponent_letter, kept_digits, number_character, significant}
 use Rattle.rl_style.specs.Rewriting.{HasHashes, HasNoRule, Rewrites, RewritesCooked, RewritesFloat, RewritesInt, RewritesRaw, cased_digit, restyled}
 use Rattle.rl_text.specs.Texts.{first_passes}
 use Rattle.rl_lexer.specs.Lexemes.{is_base_letter}
-use Rattle.rl_style.proofs.NumberCharacters.{none_right}
+use Rattle.rl_style.proofs.CaseLemmas.{none_right}
 use Rattle.rl_style.proofs.SameRaw.{raw_followed, raw_string}
 
 -- ---- numbers
@@ -24,7 +22,8 @@ character_kept style drops hex c n d =
     (cond hex (cased style.hex_digits c) (exponent_letter style.exponent_letter c) ∷ [])) d
     ∙ ap (λ b. cond ((not hex && b) && c == 43) []
     (cond hex (cased style.hex_digits c) (exponent_letter style.exponent_letter c) ∷ [])) n.exponent_plus
-    ∙ ap (λ b. cond (b && c == 43) [] (cond hex (cased style.hex_digits c) (exponent_letter style.exponent_letter c) ∷ []))
+    ∙ ap (λ b. cond (b && c == 43) [] (cond hex (cased style.hex_digits c) (exponent_letter style.exponent_letter c) ∷
+    []))
     (none_right (not hex))
     ∙ ap (λ z. cond hex (cased z c) (exponent_letter style.exponent_letter c) ∷ []) n.hex_digits
     ∙ ap (λ z. cond hex c (exponent_letter z c) ∷ []) n.exponent_letter ∙ ap (λ z. z ∷ []) (either hex)
@@ -44,7 +43,8 @@ none_dropped : (style : Style) (x : List ℕ) → HasNoRule style → drops_unde
 none_dropped style x n = ap (λ b. b && not (first_passes is_base_letter x)) n.underscores
 
 zeros_kept : (style : Style) (base : ℕ) (x row : List ℕ) → HasNoRule style → kept_digits style base x row ≡ row
-zeros_kept style base x row n = ap (λ b. cond ((b && base == 10) && not (first_passes is_base_letter x)) (significant row) row)
+zeros_kept style base x row n = ap (λ b. cond ((b && base == 10) && not (first_passes is_base_letter x))
+    (significant row) row)
     n.leading_zeros
 
 integer_kept : (style : Style) (t u : List ℕ) → HasNoRule style → RewritesInt style t u → u ≡ t
@@ -65,14 +65,16 @@ raw_kept style t u n c =
     let Has : Bool → Type 0 = λ b. HasHashes b c.kind c.raw.inside c.raw.hashes c.hashes in
     let same : c.hashes ≡ c.raw.hashes = subst Has n.raw_hashes c.hashes_are in
     c.new_is ∙ ap (λ z. raw_text c.kind z c.raw.inside ++ c.suffix) same
-    ∙ raw_followed c.kind c.raw.hashes c.raw.inside c.suffix (raw_string t c.kind c.contents c.suffix c.raw) ∙ sym c.raw.text
+    ∙ raw_followed c.kind c.raw.hashes c.raw.inside c.suffix (raw_string t c.kind c.contents c.suffix c.raw)
+    ∙ sym c.raw.text
 
 codes_kept : (ds : List (ℕ × ℕ)) → map (cased_digit None) ds ≡ ds
 codes_kept [] = refl
 codes_kept ((a, b) ∷ ds) = ap (λ z. (a, b) ∷ z) (codes_kept ds)
 
 unit_kept : (style : Style) (k : Kind) (u : StrictUnit) → HasNoRule style → restyled style k u ≡ u
-unit_kept style k (QuoteEscape c) n = ap (λ b. cond (b && not (c == closer k)) (Itself c) (QuoteEscape c)) n.quote_escapes
+unit_kept style k (QuoteEscape c) n = ap (λ b. cond (b && not (c == closer k)) (Itself c) (QuoteEscape c))
+    n.quote_escapes
 unit_kept style k (AsciiEscape high low) n = ap (λ z. AsciiEscape (cased z high) (cased z low)) n.escape_digits
 unit_kept style k (ByteEscape high low) n = ap (λ z. ByteEscape (cased z high) (cased z low)) n.escape_digits
 unit_kept style k (UnicodeEscape digits) n =

@@ -1,5 +1,5 @@
 -- What characters of numbers become, by the rules.
-use Rattle.rl_text.proofs.Common.{◌≡◌, ℕ, ◌<◌, ◌⊎◌, ◌||◌, ◌&&◌, Bool, true, false, not, ◌==◌, cond, nat_lt, List, [], ◌∷◌, ◌++◌, length, Some, None, refl, sym, ap, ap₂, subst, ◌∙◌, inl, inr, arith, append-nil, and_from, and_parts, cases_Bool, eqb-true, or_parts, digit_value, is_ascii_digit, list_all, list_any, flat_map, ⊤}
+use Rattle.rl_text.proofs.Common.{◌≡◌, ℕ, ◌⊎◌, ◌||◌, ◌&&◌, Bool, true, false, not, ◌==◌, cond, nat_lt, List, [], ◌∷◌, ◌++◌, length, Some, None, refl, sym, ap, ap₂, subst, ◌∙◌, inl, inr, arith, and_from, and_parts, cases_Bool, eqb-true, or_parts, digit_value, is_ascii_digit, list_all, list_any, flat_map, ⊤}
 use Rattle.std.specs.Prelude.{Option}
 use Rattle.rl_text.specs.Texts.{first_passes, is_row_part}
 use Rattle.rl_text.proofs.Basics.{apart}
@@ -10,17 +10,13 @@ use Rattle.rl_lexer.specs.Lexemes.{is_base_letter}
 use Rattle.rl_style.specs.declared.style.Case.{Case}
 use Rattle.rl_style.specs.declared.style.Case.TheVariants.{Lower, Upper}
 use Rattle.rl_style.specs.Cases.{cased, exponent_letter}
-use Rattle.rl_style.proofs.CaseLemmas.{cased_underscore, cased_value, twice_cased}
+use Rattle.rl_style.proofs.CaseLemmas.{cased_underscore, cased_value, none_right, twice_cased}
 
 -- what a character becomes: whether underscores and a plus are dropped, whether the base is 16, and the two cases
 abbrev pub becomes : Bool → Bool → Bool → Option Case → Option Case → ℕ → List ℕ
 becomes drops hex plus digits letter c =
     cond ((drops && c == 95) || ((not hex && plus) && c == 43)) []
     (cond hex (cased digits c) (exponent_letter letter c) ∷ [])
-
-pub none_right : (b : Bool) → (b && false) ≡ false
-none_right true = refl
-none_right false = refl
 
 -- ---- of base 16
 
@@ -44,11 +40,13 @@ letter_stays (Some Upper) c a b = ap (λ z. cond z 69 c) b
 
 other_kept : (b plus : Bool) (digits letter : Option Case) (c : ℕ) → b ≡ false → (c == 43) ≡ false → (c == 69) ≡ false
     → (c == 101) ≡ false
-    → cond (b || ((not false && plus) && c == 43)) [] (cond false (cased digits c) (exponent_letter letter c) ∷ []) ≡ c ∷ []
+    → cond (b || ((not false && plus) && c == 43)) [] (cond false (cased digits c) (exponent_letter letter c) ∷ [])
+    ≡ c ∷ []
 other_kept true plus digits letter c h p l u = absurd (cc)
 other_kept false plus digits letter c h p l u =
     ap (λ z. cond (plus && z) [] (exponent_letter letter c ∷ [])) p
-    ∙ ap (λ z. cond z [] (exponent_letter letter c ∷ [])) (none_right plus) ∙ ap (λ z. z ∷ []) (letter_stays letter c l u)
+    ∙ ap (λ z. cond z [] (exponent_letter letter c ∷ [])) (none_right plus)
+    ∙ ap (λ z. z ∷ []) (letter_stays letter c l u)
 
 other_dropped : (b plus : Bool) (digits letter : Option Case) (c : ℕ) → b ≡ true
     → cond (b || ((not false && plus) && c == 43)) [] (cond false (cased digits c) (exponent_letter letter c) ∷ []) ≡ []
@@ -76,7 +74,11 @@ RowKeeps f (c ∷ cs) = Keeps f c × RowKeeps f cs
 pub hex_keeps : (drops plus : Bool) (digits letter : Option Case) (row : List ℕ)
     → RowKeeps (becomes drops true plus digits letter) row
 hex_keeps drops plus digits letter [] = tt
-hex_keeps drops plus digits letter (c ∷ cs) = (one (cases_Bool (drops && c == 95)), hex_keeps drops plus digits letter cs)
+hex_keeps drops plus digits letter (c ∷ cs) = (
+  one (cases_Bool (drops && c == 95)),
+  hex_keeps drops plus digits letter
+      cs,
+)
   where
     one : ((drops && c == 95) ≡ true) ⊎ ((drops && c == 95) ≡ false) → Keeps (becomes drops true plus digits letter) c
     one (inl h) = inl (hex_dropped (drops && c == 95) plus digits letter c h, (and_parts drops (c == 95) h).1)
@@ -96,7 +98,8 @@ RowStays f [] = ⊤
 RowStays f (c ∷ cs) = Stays f c × RowStays f cs
 
 pub row_stays : (test : ℕ → Bool) (drops plus : Bool) (digits letter : Option Case) (row : List ℕ) → test 43 ≡ false
-    → test 69 ≡ false → test 101 ≡ false → list_all test row ≡ true → RowStays (becomes drops false plus digits letter) row
+    → test 69 ≡ false → test 101 ≡ false → list_all test row ≡ true
+    → RowStays (becomes drops false plus digits letter) row
 row_stays test drops plus digits letter [] p l u h = tt
 row_stays test drops plus digits letter (c ∷ cs) p l u h =
     let q = and_parts (test c) (list_all test cs) h in
@@ -105,7 +108,8 @@ row_stays test drops plus digits letter (c ∷ cs) p l u h =
     one : test c ≡ true → ((drops && c == 95) ≡ true) ⊎ ((drops && c == 95) ≡ false)
         → Stays (becomes drops false plus digits letter) c
     one t (inl h) = inl (other_dropped (drops && c == 95) plus digits letter c h, (and_parts drops (c == 95) h).1)
-    one t (inr h) = inr (other_kept (drops && c == 95) plus digits letter c h (apart test c 43 t p) (apart test c 69 t l)
+    one t (inr h) = inr (other_kept (drops && c == 95) plus digits letter c h (apart test c 43 t p)
+        (apart test c 69 t l)
         (apart test c 101 t u))
 
 pub keeps_of : (f : ℕ → List ℕ) (row : List ℕ) → RowStays f row → RowKeeps f row
@@ -118,7 +122,7 @@ keeps_of f (c ∷ cs) h = (one h.0, keeps_of f cs h.1)
 
 -- ---- what a row keeps
 
-abbrev of_base : ℕ → ℕ → Bool
+abbrev pub of_base : ℕ → ℕ → Bool
 of_base base c = nat_lt (digit_value c) base
 
 pub each_kept : (f : ℕ → List ℕ) (base : ℕ) (row : List ℕ) → RowKeeps f row
@@ -173,7 +177,8 @@ bare_alike f (c ∷ cs) k =
           (subst (λ b. Alike (without_underscores (flat_map f cs)) (cond (not b) (c ∷ without_underscores cs)
           (without_underscores cs))) (sym a.1) more)
       | inr a ↦ subst (λ z. Alike (without_underscores (z ++ flat_map f cs)) (without_underscores (c ∷ cs))) (sym a.1)
-          (subst (λ b. Alike (cond (not b) (a.0 ∷ without_underscores (flat_map f cs)) (without_underscores (flat_map f cs)))
+          (subst (λ b. Alike (cond (not b) (a.0 ∷ without_underscores (flat_map f cs))
+          (without_underscores (flat_map f cs)))
           (cond (not (c == 95)) (c ∷ without_underscores cs) (without_underscores cs))) (sym a.3)
           (go (c == 95) a.0 a.2 more))
     ]
@@ -285,7 +290,8 @@ again_hex drops plus digits letter c = go (cases_Bool (drops && c == 95))
         let d : ℕ = cased digits c in
         let same : (drops && d == 95) ≡ false = ap (λ z. drops && z) (cased_underscore digits c) ∙ h in
         ap (flat_map (becomes drops true plus digits letter)) e
-        ∙ ap (λ z. z ++ []) (hex_kept (drops && d == 95) plus digits letter d same ∙ ap (λ z. z ∷ []) (twice_cased digits c))
+        ∙ ap (λ z. z ++ []) (hex_kept (drops && d == 95) plus digits letter d same
+        ∙ ap (λ z. z ∷ []) (twice_cased digits c))
         ∙ sym e
 
 -- a character by which of the four it is, if any

@@ -1,22 +1,17 @@
 -- A literal is one text in a style, and the same text in a style without rules.
-use Rattle.rl_text.proofs.Common.{◌≡◌, ◌≢◌, ℕ, zero, suc, ◌<◌, ◌≤◌, ◌⊎◌, ◌&&◌, Bool, true, false, not, ◌==◌, cond, List, [], ◌∷◌, ◌++◌, length, map, replicate, Some, None, refl, sym, ap, subst, ◌∙◌, inl, inr, arith, append_assoc, append_cancel_right, both_ways, cases_lt, eqb-true, list_all, flat_map}
-use Rattle.std.specs.Prelude.{Option}
-use Rattle.rl_text.specs.Texts.{first_passes}
+use Rattle.rl_text.proofs.Common.{◌≡◌, ℕ, Bool, true, false, ◌==◌, cond, List, [], ◌∷◌, ◌++◌, length, map, replicate, refl, sym, ap, subst, ◌∙◌, inl, inr, arith, append_cancel_right, both_ways, cases_lt, flat_map}
 use Rattle.rl_text.proofs.Basics.{hashes_all}
-use Rattle.rl_reading.proofs.Names.{Kind, Str, ByteStr, CStr, Byte, Char, Int, Float, BoolKind, Contents, StrictUnit, Itself, QuoteEscape, PlainEscape, AsciiEscape, ByteEscape, UnicodeEscape, LineBreak, is_single, is_string, strict_text}
-use Rattle.rl_forms.specs.Written.{closer}
-use Rattle.rl_forms.specs.Strict.{Strict, StrictBool, StrictCooked, StrictFloat, StrictInt, StrictRaw, strict_closer, strict_opener, strict_raw_opener, HasUnits}
+use Rattle.rl_reading.proofs.Names.{Kind, Str, ByteStr, CStr, Byte, Char, Int, Float, BoolKind, Contents, StrictUnit, is_string, strict_text}
+use Rattle.rl_forms.specs.Strict.{Strict, StrictCooked, StrictInt, StrictRaw, strict_closer, strict_opener, strict_raw_opener, HasUnits}
 use Rattle.rl_forms.proofs.OneQuoted.{same_tail}
 use Rattle.rl_forms.proofs.OneReading.{one_strict}
 use Rattle.rl_forms.proofs.StrictNumbers.{same_run}
 use Rattle.rl_forms.proofs.StrictQuoted.{between}
 use Rattle.rl_writing.specs.RawStrings.{HasFewestHashes, raw_contents, raw_text}
-use Rattle.rl_style.specs.declared.style.Case.{Case}
 use Rattle.rl_style.specs.declared.style.Style.{Style}
 use Rattle.rl_style.specs.Cases.{drops_underscores, kept_digits, number_character}
-use Rattle.rl_style.specs.Mirrors.{AreUnits}
 use Rattle.rl_style.specs.Rewriting.{HasHashes, KeepsTruth, Rewrites, RewritesCooked, RewritesFloat, RewritesInt, RewritesRaw, restyled}
-use Rattle.rl_style.proofs.SameRaw.{raw_followed, raw_joined, raw_strict, raw_string}
+use Rattle.rl_style.proofs.SameRaw.{first_quote, length_hashes, raw_joined, raw_strict, raw_string, second_quote}
 use Rattle.rl_style.proofs.SameUnits.{cooked_strict}
 use Rattle.rl_style.proofs.UnitTexts.{texts_once}
 use Rattle.rl_style.proofs.WrittenNumbers.{base_found}
@@ -25,7 +20,8 @@ use Rattle.rl_style.proofs.WrittenNumbers.{base_found}
 
 -- a base's prefix
 abbrev prefix_of : ℕ → List ℕ
-prefix_of base = cond (base == 2) (48 ∷ 98 ∷ []) (cond (base == 8) (48 ∷ 111 ∷ []) (cond (base == 16) (48 ∷ 120 ∷ []) []))
+prefix_of base = cond (base == 2) (48 ∷ 98 ∷ []) (cond (base == 8) (48 ∷ 111 ∷ [])
+    (cond (base == 16) (48 ∷ 120 ∷ []) []))
 
 prefix_is : (t : List ℕ) (v : Contents) (x : List ℕ) → (i : StrictInt t v x) → i.prefix ≡ prefix_of i.base
 prefix_is t v x i =
@@ -42,7 +38,8 @@ prefix_is t v x i =
 
 abbrev integer_of : Style → ℕ → List ℕ → List ℕ → List ℕ → List ℕ
 integer_of style base prefix row x =
-    flat_map (number_character style (drops_underscores style x) (base == 16)) (prefix ++ kept_digits style base x row) ++ x
+    flat_map (number_character style (drops_underscores style x) (base == 16)) (prefix ++ kept_digits style base x row)
+    ++ x
 
 integer_once : (style : Style) (t u w : List ℕ) → RewritesInt style t u → RewritesInt style t w → u ≡ w
 integer_once style t u w a b =
@@ -63,7 +60,8 @@ integer_once style t u w a b =
 
 float_once : (style : Style) (t u w : List ℕ) → RewritesFloat style t u → RewritesFloat style t w → u ≡ w
 float_once style t u w a b =
-    let suffix : a.suffix ≡ b.suffix = (one_strict t Float Float a.contents b.contents a.suffix b.suffix a.float b.float).2 in
+    let suffix : a.suffix ≡ b.suffix = (one_strict t Float Float a.contents b.contents a.suffix b.suffix a.float
+    b.float).2 in
     let numeral : a.float.numeral ≡ b.float.numeral =
     append_cancel_right a.float.numeral b.float.numeral b.suffix
     (ap (λ z. a.float.numeral ++ z) (sym suffix) ∙ sym a.float.text ∙ b.float.text) in
@@ -73,10 +71,6 @@ float_once style t u w a b =
     ∙ sym b.new_is
 
 -- ---- raw literals
-
-length_hashes : (n : ℕ) → length {A = ℕ} (replicate n 35) ≡ n
-length_hashes zero = refl
-length_hashes (suc n) = ap suc (length_hashes n)
 
 fewest_once : (k : Kind) (inside : List ℕ) (n m : ℕ) → HasFewestHashes k inside n → HasFewestHashes k inside m → n ≡ m
 fewest_once k inside n m a b =
@@ -94,7 +88,8 @@ hashes_once true k inside old n m a b = fewest_once k inside n m a b
 hashes_once false k inside old n m a b = a ∙ sym b
 
 -- the parts of one raw text
-raw_parts_once : (t : List ℕ) (k : Kind) (v w : Contents) (x : List ℕ) → (a : StrictRaw t k v x) → (b : StrictRaw t k w x)
+raw_parts_once : (t : List ℕ) (k : Kind) (v w : Contents) (x : List ℕ) → (a : StrictRaw t k v x)
+    → (b : StrictRaw t k w x)
     → (a.hashes ≡ b.hashes) × (a.inside ≡ b.inside)
 raw_parts_once t k v w x a b =
     let h : List ℕ = replicate a.hashes 35 in
@@ -127,7 +122,8 @@ raw_once style t u w a b =
     let s = other.0 in
     let parts = raw_parts_once t a.kind a.contents b.contents a.suffix r s in
     let Has : List ℕ → ℕ → Type 0 = λ i n. HasHashes style.raw_hashes a.kind i n b.hashes in
-    let same : Has r.inside r.hashes = subst (λ i. Has i r.hashes) (sym parts.1) (subst (Has s.inside) (sym parts.0) other.1) in
+    let same : Has r.inside r.hashes = subst (λ i. Has i r.hashes) (sym parts.1)
+    (subst (Has s.inside) (sym parts.0) other.1) in
     let count = hashes_once style.raw_hashes a.kind r.inside r.hashes a.hashes b.hashes a.hashes_are same in
     a.new_is ∙ ap (λ n. raw_text a.kind n r.inside ++ a.suffix) count
     ∙ ap (λ i. raw_text a.kind b.hashes i ++ a.suffix) parts.1 ∙ sym other.2
@@ -187,17 +183,10 @@ raw_quoted kind h = absurd (cc)
 
 -- ---- nor both raw and with escapes
 
-abbrev begins_quote : List ℕ → Bool
-begins_quote t = first_passes (λ c. c == 34) t
-
-abbrev then_quote : List ℕ → Bool
-then_quote [] = false
-then_quote (c ∷ t) = begins_quote t
-
 raw_not_cooked : (k : Kind) (y z : List ℕ) → is_string k ≡ true → strict_raw_opener k ++ y ≡ strict_opener k ++ z → ⊥
-raw_not_cooked Str y z s e = both_ways false refl (ap begins_quote e)
-raw_not_cooked ByteStr y z s e = both_ways false refl (ap then_quote e)
-raw_not_cooked CStr y z s e = both_ways false refl (ap then_quote e)
+raw_not_cooked Str y z s e = both_ways false refl (ap first_quote e)
+raw_not_cooked ByteStr y z s e = both_ways false refl (ap second_quote e)
+raw_not_cooked CStr y z s e = both_ways false refl (ap second_quote e)
 raw_not_cooked kind y z s e = absurd (cc)
 
 raw_apart : (style : Style) (t u w : List ℕ) → RewritesRaw style t u → RewritesCooked style t w → ⊥
@@ -207,10 +196,13 @@ raw_apart style t u w a b =
     let h : List ℕ = replicate a.raw.hashes 35 in
     let raw : t ≡ strict_raw_opener a.kind ++ (h ++ (34 ∷ (a.raw.inside ++ (34 ∷ (h ++ a.suffix))))) =
     a.raw.text ∙ raw_joined (strict_raw_opener a.kind) h a.raw.inside a.suffix in
-    let cooked : t ≡ strict_opener b.kind ++ (flat_map strict_text b.cooked.units ++ (strict_closer b.kind ++ b.suffix)) =
-    b.cooked.text ∙ between (strict_opener b.kind) (flat_map strict_text b.cooked.units) (strict_closer b.kind) b.suffix in
+    let cooked : t ≡ strict_opener b.kind ++ (flat_map strict_text b.cooked.units ++ (strict_closer b.kind ++ b.suffix))
+    =
+    b.cooked.text ∙ between (strict_opener b.kind) (flat_map strict_text b.cooked.units) (strict_closer b.kind) b.suffix
+    in
     raw_not_cooked a.kind _ _ (raw_string t a.kind a.contents a.suffix a.raw) (sym raw ∙ cooked
-    ∙ ap (λ k. strict_opener k ++ (flat_map strict_text b.cooked.units ++ (strict_closer b.kind ++ b.suffix))) (sym one.0))
+    ∙ ap (λ k. strict_opener k ++ (flat_map strict_text b.cooked.units ++ (strict_closer b.kind ++ b.suffix)))
+    (sym one.0))
 
 -- ---- so one answer
 

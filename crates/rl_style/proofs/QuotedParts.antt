@@ -1,11 +1,10 @@
 -- The parts of a quoted token are those of its one tree.
-use Rattle.rl_text.proofs.Common.{◌≡◌, ◌≢◌, ℕ, zero, suc, ◌<◌, ◌⊎◌, ◌||◌, Bool, true, false, not, ◌==◌, List, [], ◌∷◌, ◌++◌, length, replicate, Some, None, refl, sym, ap, subst, ◌∙◌, inl, inr, append_assoc, append_cancel_right, both_ways, or_left, or_right, is_ascii_digit, flat_map, list_all}
+use Rattle.rl_text.proofs.Common.{◌≡◌, ◌≢◌, ℕ, ◌<◌, ◌||◌, Bool, true, false, not, ◌==◌, List, [], ◌∷◌, ◌++◌, length, replicate, Some, None, refl, sym, ap, subst, ◌∙◌, inl, inr, append_assoc, append_cancel_right, both_ways, or_left, or_right, is_ascii_digit, flat_map, list_all}
 use Rattle.std.specs.Str.{chars}
 use Rattle.rl_text.proofs.Basics.{apart, hashes_all}
-use Rattle.rl_reading.proofs.Names.{Kind, Str, ByteStr, CStr, Byte, Char, Int, Float, BoolKind, NoSign, Contents, Reads, ReadsQuoted, Truth, first_passes, is_single, is_string, opener, quoted_contents, raw_opener, strict_content_of, strict_contents, strict_text, texts, truth_text, unit_text}
+use Rattle.rl_reading.proofs.Names.{Kind, Str, ByteStr, CStr, Byte, Char, Int, Float, BoolKind, NoSign, Contents, Reads, ReadsQuoted, Truth, first_passes, is_single, is_string, opener, quoted_contents, raw_opener, strict_content_of, strict_contents, strict_text, truth_text}
 use Rattle.rl_forms.specs.Strict.{IsRawInside, IsStrictSuffix, StrictCooked, StrictRaw, strict_closer, strict_opener, strict_raw_opener}
 use Rattle.rl_forms.proofs.OneNumber.{begins_number, float_front, int_front}
-use Rattle.rl_forms.proofs.OneQuoted.{same_tail}
 use Rattle.rl_forms.proofs.OneReading.{one_reading}
 use Rattle.rl_forms.proofs.StrictNumbers.{digit_front, float_strict_reads, same_run, strict_float, strict_int}
 use Rattle.rl_forms.specs.Numbers.{exponent_text, fraction_text}
@@ -26,9 +25,9 @@ use Rattle.rl_reasons.specs.declared.strict_reading.Reading.{Reading}
 use Rattle.rl_reasons.specs.declared.strict_reading.Reading.TheVariants.{Text, Unit, Integer, Float as FloatRead, Truth as TruthRead}
 use Rattle.rl_reasons.specs.StrictRead.{IsStrictReading}
 use Rattle.rl_strict.proofs.StrictLemmas.{IsStrictNumber, Opened, seen}
-use Rattle.rl_style.specs.Mirrors.{AreUnits, OpensAs, CookedParts, RawParts}
+use Rattle.rl_style.specs.Mirrors.{OpensAs, CookedParts, RawParts}
 use Rattle.rl_style.specs.Rewriting.{KeepsTruth}
-use Rattle.rl_style.proofs.SameRaw.{raw_joined}
+use Rattle.rl_style.proofs.SameRaw.{length_hashes, raw_joined}
 
 -- ---- a token closes the form that its front tells
 
@@ -48,7 +47,8 @@ number_none : (t : List ℕ) → IsStrictNumber t → opener_at t ≡ None
 number_none t (v, x, inl s) = let i = strict_int t x v s in number_front t (int_front t x NoSign i.magnitude i.reads)
 number_none t (v, x, inr s) = let f = float_strict_reads t x v s in number_front t (float_front t f.numeral x f.reads)
 
-opened_told : (t : List ℕ) (form : QuotedForm) (k : Kind) (r : List ℕ) (o : Opened t) → opener_at t ≡ found_opener form k r
+opened_told : (t : List ℕ) (form : QuotedForm) (k : Kind) (r : List ℕ) (o : Opened t) → opener_at t
+    ≡ found_opener form k r
     → ClosesForm form k r
 opened_told t form k r o h =
     let front : Some (form, k, r) ≡ Some (o.form, o.kind, o.inside) = sym h ∙ ap opener_at o.text_is
@@ -106,7 +106,8 @@ single_closer Byte h = refl
 single_closer Char h = refl
 single_closer kind h = absurd (cc)
 
-as_reads : (t : List ℕ) (k : Kind) (v : Contents) (x : List ℕ) → is_quoted k ≡ true → ReadsQuoted t k v x → Reads t k v x
+as_reads : (t : List ℕ) (k : Kind) (v : Contents) (x : List ℕ) → is_quoted k ≡ true → ReadsQuoted t k v x
+    → Reads t k v x
 as_reads t Str v x h r = r
 as_reads t ByteStr v x h r = r
 as_reads t CStr v x h r = r
@@ -116,22 +117,25 @@ as_reads t kind v x h r = absurd (cc)
 
 -- ---- with escapes
 
+units_tree : (k : Kind) (t r : List ℕ) → t ≡ strict_opener k ++ r → (c : ClosesUnits k r)
+    → StrictCooked t k (quoted_contents k (flat_map (strict_contents (strict_content_of k)) c.units)) c.suffix
+units_tree k t r e c = record {
+  units = c.units;
+  count = c.count;
+  each = c.each;
+  blanks_end = c.blanks_end;
+  suffix = c.is_suffix;
+  text = e ∙ ap (λ z. strict_opener k ++ z) c.text_is
+      ∙ sym (between (strict_opener k) (flat_map strict_text c.units) (strict_closer k) c.suffix);
+  contents = refl;
+}
+
 cooked_from : (k : Kind) (t b x : List ℕ) (v : Contents) → t ≡ strict_opener k ++ (b ++ (strict_closer k ++ x))
     → ClosesUnits k (b ++ (strict_closer k ++ x)) → Reads t k v x → CookedParts k t b x
 cooked_from k t b x v e c reads =
-    let w : Contents = quoted_contents k (flat_map (strict_contents (strict_content_of k)) c.units) in
-    let tree : StrictCooked t k w c.suffix = record {
-      units = c.units;
-      count = c.count;
-      each = c.each;
-      blanks_end = c.blanks_end;
-      suffix = c.is_suffix;
-      text = e ∙ ap (λ z. strict_opener k ++ z) c.text_is
-          ∙ sym (between (strict_opener k) (flat_map strict_text c.units) (strict_closer k) c.suffix);
-      contents = refl;
-    } in
-    let once = one_reading t k k w v c.suffix x (quoted_strict_reads k t c.suffix w (inl tree)) reads in
-    let suffix : c.suffix ≡ x = once.2 in
+    let tree = units_tree k t (b ++ (strict_closer k ++ x)) e c in
+    let suffix : c.suffix ≡ x = (one_reading t k k _ v c.suffix x (quoted_strict_reads k t c.suffix _ (inl tree))
+    reads).2 in
     let inside : b ≡ flat_map strict_text c.units = append_cancel_right b (flat_map strict_text c.units)
     (strict_closer k ++ x) (c.text_is ∙ ap (λ z. flat_map strict_text c.units ++ (strict_closer k ++ z)) suffix) in
     record {
@@ -144,18 +148,12 @@ cooked_from k t b x v e c reads =
 
 -- ---- raw
 
-length_hashes : (n : ℕ) → length {A = ℕ} (replicate n 35) ≡ n
-length_hashes zero = refl
-length_hashes (suc n) = ap suc (length_hashes n)
-
-raw_from : (k : Kind) (t b x : List ℕ) (h : ℕ) (v : Contents) → t ≡ strict_raw_opener k
-    ++ (replicate h 35 ++ (34 ∷ (b ++ (34 ∷ (replicate h 35 ++ x)))))
-    → ClosesRaw k (replicate h 35 ++ (34 ∷ (b ++ (34 ∷ (replicate h 35 ++ x))))) → Reads t k v x → RawParts k t b x
-raw_from k t b x h v e c reads =
+inside_tree : (k : Kind) (t r : List ℕ) → t ≡ strict_raw_opener k ++ r → (c : ClosesRaw k r)
+    → StrictRaw t k (quoted_contents k (strict_content_of k c.closes.inside)) c.closes.suffix
+inside_tree k t r e c =
     let i = c.closes in
     let n : List ℕ = replicate c.hashes 35 in
-    let w : Contents = quoted_contents k (strict_content_of k i.inside) in
-    let tree : StrictRaw t k w i.suffix = record {
+    record {
       hashes = c.hashes;
       inside = i.inside;
       few = c.few;
@@ -166,9 +164,17 @@ raw_from k t b x h v e c reads =
       text = e ∙ ap (λ z. strict_raw_opener k ++ z) (c.text_is ∙ ap (λ z. n ++ (34 ∷ z)) i.text_is)
           ∙ sym (raw_joined (strict_raw_opener k) n i.inside i.suffix);
       contents = refl;
-    } in
-    let once = one_reading t k k w v i.suffix x (quoted_strict_reads k t i.suffix w (inr tree)) reads in
-    let suffix : i.suffix ≡ x = once.2 in
+    }
+
+raw_from : (k : Kind) (t b x : List ℕ) (h : ℕ) (v : Contents) → t ≡ strict_raw_opener k
+    ++ (replicate h 35 ++ (34 ∷ (b ++ (34 ∷ (replicate h 35 ++ x)))))
+    → ClosesRaw k (replicate h 35 ++ (34 ∷ (b ++ (34 ∷ (replicate h 35 ++ x))))) → Reads t k v x → RawParts k t b x
+raw_from k t b x h v e c reads =
+    let i = c.closes in
+    let n : List ℕ = replicate c.hashes 35 in
+    let tree = inside_tree k t (replicate h 35 ++ (34 ∷ (b ++ (34 ∷ (replicate h 35 ++ x))))) e c in
+    let suffix : i.suffix ≡ x = (one_reading t k k _ v i.suffix x (quoted_strict_reads k t i.suffix _ (inr tree))
+    reads).2 in
     let run = same_run (λ c. c == 35) (replicate h 35) n _ _ (hashes_all h) (hashes_all c.hashes) refl refl
     (c.text_is ∙ ap (λ z. n ++ (34 ∷ z)) i.text_is) in
     let count : c.hashes ≡ h = sym (length_hashes c.hashes) ∙ ap length (sym run.0) ∙ length_hashes h in
@@ -197,40 +203,18 @@ form_quoted CookedForm k h = or_left (is_string k) (is_single k) h
 form_quoted RawForm k h = or_left (is_string k) (is_single k) h
 form_quoted SingleForm k h = or_right (is_string k) (is_single k) h
 
-units : (k : Kind) (t r : List ℕ) → t ≡ strict_opener k ++ r → ClosesUnits k r → (v : Contents) × (x : List ℕ) × Reads t k v x
-units k t r e c =
-    let w : Contents = quoted_contents k (flat_map (strict_contents (strict_content_of k)) c.units) in
-    let tree : StrictCooked t k w c.suffix = record {
-      units = c.units;
-      count = c.count;
-      each = c.each;
-      blanks_end = c.blanks_end;
-      suffix = c.is_suffix;
-      text = e ∙ ap (λ z. strict_opener k ++ z) c.text_is
-          ∙ sym (between (strict_opener k) (flat_map strict_text c.units) (strict_closer k) c.suffix);
-      contents = refl;
-    } in
-    (w, c.suffix, quoted_strict_reads k t c.suffix w (inl tree))
+units : (k : Kind) (t r : List ℕ) → t ≡ strict_opener k ++ r → ClosesUnits k r → (v : Contents) × (x : List ℕ)
+    × Reads t k v x
+units k t r e c = let tree = units_tree k t r e c in (_, c.suffix, quoted_strict_reads k t c.suffix _ (inl tree))
 
 inside : (k : Kind) (t r : List ℕ) → t ≡ strict_raw_opener k ++ r → ClosesRaw k r → (v : Contents) × (x : List ℕ)
     × Reads t k v x
-inside k t r e c =
-    let i = c.closes in
-    let n : List ℕ = replicate c.hashes 35 in
-    let w : Contents = quoted_contents k (strict_content_of k i.inside) in
-    let tree : StrictRaw t k w i.suffix = record {
-      hashes = c.hashes;
-      inside = i.inside;
-      few = c.few;
-      allowed = i.allowed;
-      no_carriage_return = i.no_carriage_return;
-      first_close = λ front rest q. i.first_close front rest (q ∙ append_assoc front (34 ∷ n) rest);
-      suffix = i.is_suffix;
-      text = e ∙ ap (λ z. strict_raw_opener k ++ z) (c.text_is ∙ ap (λ z. n ++ (34 ∷ z)) i.text_is)
-          ∙ sym (raw_joined (strict_raw_opener k) n i.inside i.suffix);
-      contents = refl;
-    } in
-    (w, i.suffix, quoted_strict_reads k t i.suffix w (inr tree))
+inside k t r e c = let tree = inside_tree k t r e c in (
+  _,
+  c.closes.suffix,
+  quoted_strict_reads k t c.closes.suffix _
+      (inr tree),
+)
 
 -- ---- by the form
 
@@ -238,7 +222,8 @@ record Told (form : QuotedForm) (kind : Kind) (t r : List ℕ) : Type 0 where
   has : has_form form kind ≡ true
   text_is : t ≡ form_opener form kind ++ r
 
-told_front : (form : QuotedForm) (kind : Kind) (t r : List ℕ) → Told form kind t r → opener_at t ≡ found_opener form kind r
+told_front : (form : QuotedForm) (kind : Kind) (t r : List ℕ) → Told form kind t r → opener_at t
+    ≡ found_opener form kind r
 told_front form kind t r o = ap opener_at o.text_is ∙ front_complete form kind r o.has
 
 cooked_told : (kind : Kind) (t v b x : List ℕ) → PartsAre CookedForm kind t v b x
@@ -261,11 +246,13 @@ raw_told : (kind : Kind) (t v b x : List ℕ) → (p : PartsAre RawForm kind t v
     → Told RawForm kind t (replicate p.0.hashes 35 ++ (34 ∷ (b ++ (34 ∷ (replicate p.0.hashes 35 ++ x)))))
 raw_told kind t v b x (r, e) = record {
   has = r.string;
-  text_is = r.text_is ∙ ap (λ z. raw_opener kind ++ (replicate r.hashes 35 ++ (34 ∷ (z ++ (34 ∷ (replicate r.hashes 35 ++ x))))))
+  text_is = r.text_is ∙ ap (λ z. raw_opener kind ++ (replicate r.hashes 35
+      ++ (34 ∷ (z ++ (34 ∷ (replicate r.hashes 35 ++ x))))))
       (sym e);
 }
 
-cooked_by : (form : QuotedForm) (kind : Kind) (t v b x : List ℕ) → IsToken t → PartsAre form kind t v b x → form ≢ RawForm
+cooked_by : (form : QuotedForm) (kind : Kind) (t v b x : List ℕ) → IsToken t → PartsAre form kind t v b x
+    → form ≢ RawForm
     → CookedParts kind t b x
 cooked_by CookedForm kind t v b x token p none =
     let o = cooked_told kind t v b x p in
@@ -356,20 +343,23 @@ quoted_found form kind t found token begins f =
     let same : kind ≡ found.kind = (one_reading (chars t) kind found.kind own.0 f.reads.0 own.1
     (chars (suffix_in t found.body)) own.2 f.reads.1).0 in
     let told = front_sound (chars t) (form, kind, begins.0) begins.1 in
-    subst (λ k. IsQuotedAt k t found.body) (sym same) (f.quoted (ap is_quoted (sym same) ∙ form_quoted form kind told.has))
+    subst (λ k. IsQuotedAt k t found.body) (sym same) (f.quoted
+    (ap is_quoted (sym same) ∙ form_quoted form kind told.has))
 
 pub text_found : (form : QuotedForm) (kind k : Kind) (t : List ℕ) (body : Body) (r : Reading) → IsToken (chars t)
     → OpensAs form kind (chars t) → IsStrictReading t r → r ≡ Text k body → IsQuotedAt kind t body
 text_found form kind k t body r token begins reads e = quoted_found form kind t _ token begins
     (subst (IsStrictReading t) e reads)
 
-pub unit_found : (form : QuotedForm) (kind k : Kind) (t : List ℕ) (body : Body) (n : ℕ) (r : Reading) → IsToken (chars t)
+pub unit_found : (form : QuotedForm) (kind k : Kind) (t : List ℕ) (body : Body) (n : ℕ) (r : Reading)
+    → IsToken (chars t)
     → OpensAs form kind (chars t) → IsStrictReading t r → r ≡ Unit k body n → IsQuotedAt kind t body
 unit_found form kind k t body n r token begins reads e = quoted_found form kind t _ token begins
     (subst (IsStrictReading t) e reads)
 
 no_number : (form : QuotedForm) (kind : Kind) (t : List ℕ) → OpensAs form kind t → IsStrictNumber t → ⊥
-no_number form kind t begins n = let e : None ≡ found_opener form kind begins.0 = sym (number_none t n) ∙ begins.1 in absurd (cc)
+no_number form kind t begins n = let e : None ≡ found_opener form kind begins.0 = sym (number_none t n)
+    ∙ begins.1 in absurd (cc)
 
 no_word : (form : QuotedForm) (kind : Kind) (t : List ℕ) (b : Bool) → OpensAs form kind t → t ≡ truth_text b → ⊥
 no_word form kind t b begins e =
@@ -381,8 +371,10 @@ pub no_other : (form : QuotedForm) (kind : Kind) (t : List ℕ) (r : Reading) �
     → ((k : Kind) (body : Body) (n : ℕ) → r ≡ Unit k body n → ⊥) → ⊥
 no_other form kind t (Text k body) begins reads a b = a k body refl
 no_other form kind t (Unit k body n) begins reads a b = b k body n refl
-no_other form kind t (Integer m at) (rest, h) (place, (n, s, is)) a b = no_number form kind (chars t) (rest, h) (_, _, inl s)
-no_other form kind t (FloatRead at) (rest, h) (place, (v, s)) a b = no_number form kind (chars t) (rest, h) (_, _, inr s)
+no_other form kind t (Integer m at) (rest, h) (place, (n, s, is)) a b = no_number form kind (chars t) (rest, h)
+    (_, _, inl s)
+no_other form kind t (FloatRead at) (rest, h) (place, (v, s)) a b = no_number form kind (chars t) (rest, h)
+    (_, _, inr s)
 no_other form kind t (TruthRead truth) begins reads a b = no_word form kind (chars t) truth begins reads
 
 -- ---- words

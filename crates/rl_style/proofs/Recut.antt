@@ -57,7 +57,8 @@ slash_piece (c ∷ t) h = go (c == 47) (c == 42) refl refl h
     block : Option (List ℕ)
     block = cond (is_comment_block t) (after_block 0 t) None
 
-    go : (a b : Bool) → (c == 47) ≡ a → (c == 42) ≡ b → (a || b) ≡ false → cond (c == 47) line (cond (c == 42) block None) ≡ None
+    go : (a b : Bool) → (c == 47) ≡ a → (c == 42) ≡ b → (a || b) ≡ false
+        → cond (c == 47) line (cond (c == 42) block None) ≡ None
     go true b p q h = absurd (cc)
     go false true p q h = absurd (cc)
     go false false p q h = ap (λ z. cond z line (cond (c == 42) block None)) p ∙ ap (λ z. cond z block None) q
@@ -77,11 +78,13 @@ lexeme_piece (RawLexeme CPrefix n body x) t is = refl
 lexeme_piece (CharacterLexeme false inside x) t is = refl
 lexeme_piece (CharacterLexeme true inside x) t is = refl
 lexeme_piece (BasedLexeme letter digits) t is = refl
-lexeme_piece (DecimalLexeme d more f e x) t is = digit_piece d ((more ++ (lexed_fraction_text f ++ (lexed_exponent_text e ++ x))) ++ t) is.0
+lexeme_piece (DecimalLexeme d more f e x) t is = digit_piece d
+    ((more ++ (lexed_fraction_text f ++ (lexed_exponent_text e ++ x))) ++ t) is.0
 lexeme_piece (IdentifierLexeme c more) t is = start_piece c (more ++ t) is.0
 lexeme_piece (DelimiterLexeme c) t is = among_piece delimiters c t refl is
 lexeme_piece (MarkLexeme c) t (inl is) = among_piece marks c t refl is
-lexeme_piece (MarkLexeme c) t (inr (e, free)) = subst (λ (z : ℕ). after_piece (z ∷ t) ≡ None) (sym e) (slash_piece t free)
+lexeme_piece (MarkLexeme c) t (inr (e, free)) = subst (λ (z : ℕ). after_piece (z ∷ t) ≡ None) (sym e)
+    (slash_piece t free)
 
 pub token_piece : (w : SourceLexeme) (t : List ℕ) → IsProper w t → after_piece (source_text w ++ t) ≡ None
 token_piece (PlainToken l) t is = lexeme_piece l t is
@@ -169,7 +172,8 @@ shifted at from to t (w ∷ ws) r low (after, skipped, is, place, more) =
 -- ---- the whole cut
 
 -- the same, and what the tokens in front need to know of it
-pub record Recut (at : ℕ) (t : List ℕ) (before after : List CutSource) (old new : Lexeme) (place : ℕ) (r : List ℕ) : Type 0 where
+pub record Recut (at : ℕ) (t : List ℕ) (before after : List CutSource) (old new : Lexeme) (place : ℕ) (r : List ℕ) :
+    Type 0 where
   pub front : List ℕ
   pub rest : List ℕ
   pub text_is : t ≡ front ++ (lexeme_text old ++ rest)
@@ -248,13 +252,21 @@ one_more at t d before after old new place r u sound skipped is place_is more =
       rest = more.rest;
       text_is = text_is ∙ ap (λ z. front ++ (s ++ z)) more.text_is ∙ sym (joined front s more.front (lexeme_text old
           ++ more.rest));
-      place_is = omega (arith, here, more.place_is, byte_len-append front (s ++ more.front), byte_len-append s more.front);
+      place_is = omega (
+        arith,
+        here,
+        more.place_is,
+        byte_len-append front (s ++ more.front),
+        byte_len-append s
+            more.front,
+      );
       same_front = more.same_front;
       cuts = subst (λ (z : List ℕ). SourcesUpTo at z (d ∷ cuts) r) (sym whole) all;
     }
 
 pub recut : (at : ℕ) (t : List ℕ) (before after : List CutSource) (old new : Lexeme) (place : ℕ) (r : List ℕ)
-    → SourcesUpTo at t (before ++ (placed_literal old place ∷ after)) r → AllByRecursion IsSound before → SameEnds old new
+    → SourcesUpTo at t (before ++ (placed_literal old place ∷ after)) r → AllByRecursion IsSound before
+    → SameEnds old new
     → Recut at t before after old new place r
 recut at t [] after old new place r cut sound ends = at_literal at t after old new place r cut ends
 recut at t (d ∷ before) after old new place r (u, skipped, is, place_is, more) (first, sound) ends =

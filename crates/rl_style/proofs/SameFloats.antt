@@ -1,5 +1,5 @@
 -- A float written anew is the same literal.
-use Rattle.rl_text.proofs.Common.{◌≡◌, ℕ, ◌⊎◌, ◌||◌, ◌&&◌, Bool, true, false, not, ◌==◌, cond, List, [], ◌∷◌, ◌++◌, map, refl, sym, ap, subst, ◌∙◌, inl, inr, append_assoc, append-nil, or_from, or_cases, eqb-true, is_ascii_digit, list_all, list_any, flat_map, Some, None}
+use Rattle.rl_text.proofs.Common.{◌≡◌, ℕ, ◌⊎◌, ◌||◌, Bool, true, false, not, ◌==◌, cond, List, [], ◌∷◌, ◌++◌, map, refl, sym, ap, subst, ◌∙◌, inl, inr, append_assoc, or_from, or_cases, eqb-true, is_ascii_digit, flat_map, Some, None}
 use Rattle.std.specs.Prelude.{Option, filter}
 use Rattle.rl_text.specs.Texts.{first_passes, is_row_part}
 use Rattle.rl_text.proofs.Basics.{apart}
@@ -85,7 +85,8 @@ plus_sign false false digits (Some Upper) = inr (inl refl)
 
 minus_sign : (drops plus : Bool) (digits letter : Option Case)
     → IsSign (flat_map (becomes drops false plus digits letter) (45 ∷ []))
-minus_sign drops plus digits letter = inr (inr (ap (λ z. z ++ []) (stays drops plus digits letter 45 refl refl refl refl)))
+minus_sign drops plus digits letter = inr (inr (ap (λ z. z ++ [])
+    (stays drops plus digits letter 45 refl refl refl refl)))
 
 sign_is : (drops plus : Bool) (digits letter : Option Case) (sign : List ℕ) → IsSign sign
     → IsSign (flat_map (becomes drops false plus digits letter) sign)
@@ -274,7 +275,8 @@ more_plus false false digits (Some Lower) a b s = s
 more_plus false false digits (Some Upper) a b s = s
 
 -- a letter, whichever it becomes
-more_letter : (drops plus : Bool) (digits letter : Option Case) (c : ℕ) (a b : List ℕ) → spelled (c ∷ b) ≡ 101 ∷ spelled b
+more_letter : (drops plus : Bool) (digits letter : Option Case) (c : ℕ) (a b : List ℕ) → spelled (c ∷ b)
+    ≡ 101 ∷ spelled b
     → (l : Letter drops plus digits letter c) → spelled a ≡ spelled b → More drops plus digits letter a b c
 more_letter drops plus digits letter c a b e l s =
     ap (λ z. spelled (z ++ a)) l.is ∙ both l.new l.is_letter ∙ ap (λ z. 101 ∷ z) s ∙ sym e

@@ -1,5 +1,5 @@
 -- An integer written anew is the same literal.
-use Rattle.rl_text.proofs.Common.{◌≡◌, ℕ, ◌<◌, ◌⊎◌, Bool, true, false, not, ◌==◌, ◌&&◌, ◌||◌, cond, nat_lt, List, [], ◌∷◌, ◌++◌, refl, sym, ap, subst, ◌∙◌, inl, inr, append_assoc, and_parts, cases_Bool, digit_value, eqb-true, is_ascii_digit, list_all, list_any, flat_map, Some, None}
+use Rattle.rl_text.proofs.Common.{◌≡◌, ℕ, ◌⊎◌, Bool, true, false, not, ◌==◌, ◌&&◌, cond, nat_lt, List, [], ◌∷◌, ◌++◌, refl, sym, ap, subst, ◌∙◌, inl, inr, and_parts, cases_Bool, digit_value, eqb-true, is_ascii_digit, list_all, list_any, flat_map, Some, None}
 use Rattle.std.specs.Prelude.{Option}
 use Rattle.rl_text.specs.Texts.{first_passes, is_row_part}
 use Rattle.rl_reading.proofs.Names.{flat_map-append}
@@ -10,11 +10,12 @@ use Rattle.rl_lexer.specs.Lexemes.{is_base_letter}
 use Rattle.rl_style.specs.declared.style.Case.{Case}
 use Rattle.rl_style.specs.declared.style.Case.TheVariants.{Lower, Upper}
 use Rattle.rl_style.specs.declared.style.Style.{Style}
-use Rattle.rl_style.specs.Cases.{cased, drops_underscores, drops_zeros, exponent_letter, kept_digits, number_character, significant}
+use Rattle.rl_style.specs.Cases.{drops_underscores, drops_zeros, kept_digits, number_character, significant}
 use Rattle.rl_style.specs.Rewriting.{SameLiteral, RewritesInt}
 use Rattle.rl_forms.specs.Spelling.{place_value, without_underscores}
 use Rattle.rl_style.proofs.LeadingZeros.{significant_again, significant_all, significant_digits, significant_number, significant_some}
-use Rattle.rl_style.proofs.NumberCharacters.{RowKeeps, RowStays, becomes, decimal_by, digits_stay, each_kept, hex_keeps, keeps_of, none_right, number_kept, row_kept, row_stays, some_kept, stays, twice}
+use Rattle.rl_style.proofs.CaseLemmas.{none_right}
+use Rattle.rl_style.proofs.NumberCharacters.{RowKeeps, RowStays, becomes, decimal_by, digits_stay, each_kept, hex_keeps, keeps_of, number_kept, of_base, row_kept, row_stays, some_kept, stays, twice}
 
 -- ---- the prefix
 
@@ -31,13 +32,11 @@ other_prefix : (drops plus : Bool) (digits letter : Option Case) (c : ℕ) → (
     → (c == 69) ≡ false → (c == 101) ≡ false
     → flat_map (becomes drops false plus digits letter) (48 ∷ c ∷ []) ≡ 48 ∷ c ∷ []
 other_prefix drops plus digits letter c n p u l =
-    ap (λ z. z ++ flat_map (becomes drops false plus digits letter) (c ∷ [])) (stays drops plus digits letter 48 refl refl refl refl)
+    ap (λ z. z ++ flat_map (becomes drops false plus digits letter) (c ∷ []))
+    (stays drops plus digits letter 48 refl refl refl refl)
     ∙ ap (λ z. 48 ∷ (z ++ [])) (stays drops plus digits letter c n p u l)
 
 -- ---- digits without the zeros in front
-
-abbrev of_base : ℕ → ℕ → Bool
-of_base base c = nat_lt (digit_value c) base
 
 abbrev row_of : ℕ → List ℕ → Type 0
 row_of base row = list_all (is_row_part (of_base base)) row ≡ true
@@ -49,7 +48,7 @@ pub record RowFacts (base : ℕ) (row kept : List ℕ) : Type 0 where
   pub number : place_value base (without_underscores kept) ≡ place_value base (without_underscores row)
   pub digits : IsDigits row → IsDigits kept
 
-zeros_ten : (style : Style) (base : ℕ) (x : List ℕ) → drops_zeros style base x ≡ true → base ≡ 10
+pub zeros_ten : (style : Style) (base : ℕ) (x : List ℕ) → drops_zeros style base x ≡ true → base ≡ 10
 zeros_ten style base x h = eqb-true base 10 (and_parts style.leading_zeros (base == 10) (and_parts
     (style.leading_zeros && base == 10) (not (first_passes is_base_letter x)) h).0).1
 
@@ -81,7 +80,8 @@ pub record IntegerFacts (style : Style) (drops : Bool) (base : ℕ) (prefix row 
 small_row : (style : Style) (drops : Bool) (base : ℕ) (row : List ℕ) → is_row_part (of_base base) 43 ≡ false
     → is_row_part (of_base base) 69 ≡ false → is_row_part (of_base base) 101 ≡ false → row_of base row
     → RowStays (number_character style drops false) row
-small_row style drops base row p u l h = row_stays (is_row_part (of_base base)) drops style.exponent_plus style.hex_digits
+small_row style drops base row p u l h = row_stays (is_row_part (of_base base)) drops style.exponent_plus
+    style.hex_digits
     style.exponent_letter row p u l h
 
 pub integer_facts : (style : Style) (drops : Bool) (t : List ℕ) (v : Contents) (x row : List ℕ) → (i : StrictInt t v x)
@@ -101,13 +101,15 @@ integer_facts style drops t v x row i each = go i.is_front
     })
     go (inr (inl b)) = of 2 b.1 (λ h. record {
       prefix_is = ap (flat_map (number_character style drops false)) b.0
-          ∙ other_prefix drops style.exponent_plus style.hex_digits style.exponent_letter 98 refl refl refl refl ∙ sym b.0;
+          ∙ other_prefix drops style.exponent_plus style.hex_digits style.exponent_letter 98 refl refl refl refl
+          ∙ sym b.0;
       keeps = keeps_of (number_character style drops false) row (small_row style drops 2 row refl refl refl h);
       underscore = refl;
     })
     go (inr (inr (inl b))) = of 8 b.1 (λ h. record {
       prefix_is = ap (flat_map (number_character style drops false)) b.0
-          ∙ other_prefix drops style.exponent_plus style.hex_digits style.exponent_letter 111 refl refl refl refl ∙ sym b.0;
+          ∙ other_prefix drops style.exponent_plus style.hex_digits style.exponent_letter 111 refl refl refl refl
+          ∙ sym b.0;
       keeps = keeps_of (number_character style drops false) row (small_row style drops 8 row refl refl refl h);
       underscore = refl;
     })
@@ -119,7 +121,8 @@ integer_facts style drops t v x row i each = go i.is_front
     })
 
 -- prefix and digits, apart
-pub parts_apart : (style : Style) (t : List ℕ) (v : Contents) (x row : List ℕ) → (i : StrictInt t v x) → row_of i.base row
+pub parts_apart : (style : Style) (t : List ℕ) (v : Contents) (x row : List ℕ) → (i : StrictInt t v x)
+    → row_of i.base row
     → flat_map (number_character style (drops_underscores style x) (i.base == 16)) (i.prefix ++ row)
     ≡ i.prefix ++ flat_map (number_character style (drops_underscores style x) (i.base == 16)) row
 parts_apart style t v x row i each =
@@ -141,12 +144,14 @@ kept_zeros style base x h = ap (λ b. (style.leading_zeros && base == 10) && not
 decimal_front : (style : Style) (t : List ℕ) (v : Contents) (x : List ℕ) → (i : StrictInt t v x) → i.prefix ≡ []
     → IsDigits i.row → IsDecimalText t
     → IsDigits (flat_map (number_character style (drops_underscores style x) false) (kept_digits style i.base x i.row))
-    × IsDecimalText (flat_map (number_character style (drops_underscores style x) false) (kept_digits style i.base x i.row) ++ x)
+    × IsDecimalText (flat_map (number_character style (drops_underscores style x) false)
+    (kept_digits style i.base x i.row) ++ x)
 decimal_front style t v x i e d h =
     let drops : Bool = drops_underscores style x in
     let row : List ℕ = kept_digits style i.base x i.row in
     let kept : IsDigits row = (row_facts style t v x i).digits d in
-    let stay = row_stays (is_row_part is_ascii_digit) drops style.exponent_plus style.hex_digits style.exponent_letter row
+    let stay = row_stays (is_row_part is_ascii_digit) drops style.exponent_plus style.hex_digits style.exponent_letter
+    row
     refl refl refl kept.1 in
     let digits = digits_stay (number_character style drops false) row stay kept in (
       digits,
@@ -156,7 +161,8 @@ decimal_front style t v x i e d h =
             let whole : row ≡ i.row = ap (λ b. cond b (significant i.row) i.row) (kept_zeros style i.base x a) in
             let same : flat_map (number_character style drops false) row ≡ i.row =
             ap (λ b. flat_map (number_character style b false) row) none
-            ∙ row_kept (is_row_part is_ascii_digit) style.exponent_plus style.hex_digits style.exponent_letter row refl refl
+            ∙ row_kept (is_row_part is_ascii_digit) style.exponent_plus style.hex_digits style.exponent_letter row refl
+            refl
             refl kept.1 ∙ whole in
             let text : t ≡ flat_map (number_character style drops false) row ++ x =
             i.text ∙ ap (λ z. (z ++ i.row) ++ x) e ∙ ap (λ z. z ++ x) (sym same) in
@@ -186,7 +192,8 @@ written style t u v x i e =
             let front = decimal_front style t v x i g.0 g.2 g.3 in
             let hex : (i.base == 16) ≡ false = ap (λ z. z == 16) g.1 in
             let Row : Bool → List ℕ = λ b. flat_map (number_character style drops b) row in
-            let is : u ≡ Row false ++ x = text ∙ ap (λ z. (z ++ Row (i.base == 16)) ++ x) g.0 ∙ ap (λ b. Row b ++ x) hex in
+            let is : u ≡ Row false ++ x = text ∙ ap (λ z. (z ++ Row (i.base == 16)) ++ x) g.0
+            ∙ ap (λ b. Row b ++ x) hex in
             inl (g.0, g.1, subst (λ b. IsDigits (Row b)) (sym hex) front.0, subst IsDecimalText (sym is) front.1)
         | inr g ↦ inr g
       ];
@@ -250,5 +257,6 @@ integer_stays style t u c =
       suffix = x;
       int = written style t u c.contents x i c.new_is;
       new_is = c.new_is ∙ ap (λ z. z ++ x) (sym again)
-          ∙ ap (λ z. flat_map f (i.prefix ++ z) ++ x) (sym (zeros_again style (drops_underscores style x) i.base x i.row i.each));
+          ∙ ap (λ z. flat_map f (i.prefix ++ z) ++ x) (sym (zeros_again style (drops_underscores style x) i.base x i.row
+          i.each));
     }

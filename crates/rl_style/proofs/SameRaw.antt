@@ -37,7 +37,8 @@ same_opener CStr s = refl
 same_opener kind s = absurd (cc)
 
 -- the parts of a raw form, joined from the right
-pub raw_joined : (o h i x : List ℕ) → ((((o ++ h) ++ (34 ∷ i)) ++ (34 ∷ h)) ++ x) ≡ o ++ (h ++ (34 ∷ (i ++ (34 ∷ (h ++ x)))))
+pub raw_joined : (o h i x : List ℕ) → ((((o ++ h) ++ (34 ∷ i)) ++ (34 ∷ h)) ++ x) ≡ o
+    ++ (h ++ (34 ∷ (i ++ (34 ∷ (h ++ x)))))
 raw_joined o h i x = simp append_assoc
 
 -- and as they are written
@@ -58,10 +59,10 @@ pub record Suits (inside : List ℕ) (n : ℕ) : Type 0 where
   pub first_close : (front rest : List ℕ) → inside ≢ (front ++ (34 ∷ replicate n 35)) ++ rest
 
 -- a raw literal is none with escapes
-abbrev first_quote : List ℕ → Bool
+abbrev pub first_quote : List ℕ → Bool
 first_quote t = first_passes (λ c. c == 34) t
 
-abbrev second_quote : List ℕ → Bool
+abbrev pub second_quote : List ℕ → Bool
 second_quote [] = false
 second_quote (c ∷ t) = first_quote t
 
@@ -72,7 +73,7 @@ not_cooked ByteStr n inside us x s e = both_ways false refl (ap second_quote e)
 not_cooked CStr n inside us x s e = both_ways false refl (ap second_quote e)
 not_cooked kind n inside us x s e = absurd (cc)
 
-length_hashes : (n : ℕ) → length {A = ℕ} (replicate n 35) ≡ n
+pub length_hashes : (n : ℕ) → length {A = ℕ} (replicate n 35) ≡ n
 length_hashes zero = refl
 length_hashes (suc n) = ap suc (length_hashes n)
 
@@ -83,8 +84,11 @@ one_way n m inside other e =
     let run = same_run (λ c. c == 35) (replicate n 35) (replicate m 35) _ _ (hashes_all n) (hashes_all m) refl refl e in
     let count : n ≡ m = sym (length_hashes n) ∙ ap length run.0 ∙ length_hashes m in
     let rest : 34 ∷ (inside ++ (34 ∷ replicate n 35)) ≡ 34 ∷ (other ++ (34 ∷ replicate m 35)) = run.1 in
-    let tail : inside ++ (34 ∷ replicate n 35) ≡ other ++ (34 ∷ replicate m 35) = cc in
-    (count, append_cancel_right inside other (34 ∷ replicate n 35) (tail ∙ ap (λ z. other ++ (34 ∷ replicate z 35)) (sym count)))
+    let tail : inside ++ (34 ∷ replicate n 35) ≡ other ++ (34 ∷ replicate m 35) = cc in (
+      count,
+      append_cancel_right inside other (34 ∷ replicate n 35)
+          (tail ∙ ap (λ z. other ++ (34 ∷ replicate z 35)) (sym count)),
+    )
 
 raw_suits : (k : Kind) (n : ℕ) (inside : List ℕ) (v : Contents) → is_string k ≡ true
     → StrictRaw (raw_text k n inside) k v [] → Suits inside n
@@ -110,7 +114,8 @@ strict_suits CStr n inside v s (inl c) = absurd (not_cooked CStr n inside _ [] s
 strict_suits CStr n inside v s (inr r) = raw_suits CStr n inside v s r
 strict_suits kind n inside v s r = absurd (cc)
 
-pub fewest_suits : (k : Kind) (n : ℕ) (inside : List ℕ) → is_string k ≡ true → HasFewestHashes k inside n → Suits inside n
+pub fewest_suits : (k : Kind) (n : ℕ) (inside : List ℕ) → is_string k ≡ true → HasFewestHashes k inside n
+    → Suits inside n
 fewest_suits k n inside s f = strict_suits k n inside (raw_contents k inside) s f.strict
 
 hashes_suit : (fewest : Bool) (t : List ℕ) (k : Kind) (v : Contents) (x : List ℕ) (s : StrictRaw t k v x) (n : ℕ)
@@ -142,7 +147,8 @@ raw_same style t u c =
       contents = c.contents;
       suffix = c.suffix;
       was = raw_strict t c.kind c.contents c.suffix c.raw;
-      is = raw_strict u c.kind c.contents c.suffix (written t u c.kind c.contents c.suffix c.raw c.hashes suits c.new_is);
+      is = raw_strict u c.kind c.contents c.suffix (written t u c.kind c.contents c.suffix c.raw c.hashes suits
+          c.new_is);
     }
 
 same_hashes : (fewest : Bool) (k : Kind) (inside : List ℕ) (old new : ℕ) → HasHashes fewest k inside old new

@@ -1,5 +1,5 @@
 -- A literal whose units are written anew is the same literal.
-use Rattle.rl_text.proofs.Common.{◌≡◌, ℕ, ◌<◌, ◌||◌, ◌&&◌, Bool, true, false, not, ◌==◌, cond, nat_le, nat_lt, List, [], ◌∷◌, ◌++◌, length, map, refl, sym, ap, subst, ◌∙◌, inl, inr, arith, ◌⊎◌, append-nil, and_from, and_parts, cases_Bool, cases_lt, or_from, eqb-true, not-true, agree_below_at, is_ascii_hexdigit, all_scalars, list_all, flat_map, length-map, encode_utf8_all, encode_ascii, Some, None}
+use Rattle.rl_text.proofs.Common.{◌≡◌, ℕ, ◌<◌, ◌||◌, ◌&&◌, Bool, true, false, not, ◌==◌, cond, nat_le, nat_lt, List, [], ◌∷◌, ◌++◌, length, map, refl, sym, ap, ◌∙◌, inl, inr, arith, ◌⊎◌, append-nil, and_from, and_parts, cases_Bool, cases_lt, or_from, eqb-true, not-true, agree_below_at, is_ascii_hexdigit, all_scalars, list_all, flat_map, length-map, encode_utf8_all, encode_ascii, Some, None}
 use Rattle.std.specs.Prelude.{Option}
 use Rattle.rl_text.proofs.Basics.{apart}
 use Rattle.rl_reading.proofs.Names.{Kind, Str, ByteStr, CStr, Byte, Char, Int, Float, BoolKind, first_passes, Contents, StrictUnit, Itself, QuoteEscape, PlainEscape, AsciiEscape, ByteEscape, UnicodeEscape, LineBreak, strict_text, strict_contents, strict_content_of, is_dropped_blank, is_strict_unit, place_value, quoted_contents}
@@ -55,9 +55,11 @@ unicode_cased : (case : Option Case) (ds : List (ℕ × ℕ)) → is_unicode_esc
     ≡ is_unicode_escape ds
 unicode_cased case ds =
     let new : List (ℕ × ℕ) = map (cased_digit case) ds in
-    ap (λ n. (nat_le 1 n && nat_le n 6) && list_all (λ d. is_ascii_hexdigit d.0) new && all_scalars (spaced_value new ∷ []))
+    ap (λ n. (nat_le 1 n && nat_le n 6) && list_all (λ d. is_ascii_hexdigit d.0) new
+    && all_scalars (spaced_value new ∷ []))
     (length-map ds (cased_digit case))
-    ∙ ap (λ b. (nat_le 1 (length ds) && nat_le (length ds) 6) && b && all_scalars (spaced_value new ∷ [])) (all_hex case ds)
+    ∙ ap (λ b. (nat_le 1 (length ds) && nat_le (length ds) 6) && b && all_scalars (spaced_value new ∷ []))
+    (all_hex case ds)
     ∙ ap (λ n. (nat_le 1 (length ds) && nat_le (length ds) 6) && list_all (λ d. is_ascii_hexdigit d.0) ds
     && all_scalars (n ∷ [])) (code_cased case ds)
 
@@ -100,7 +102,8 @@ quote_allowed kind us c q h n = absurd q
 abbrev quote_unit : Bool → ℕ → StrictUnit
 quote_unit b c = cond b (Itself c) (QuoteEscape c)
 
-quote_kept : (b : Bool) (k : Kind) (us : List StrictUnit) (c : ℕ) → HasUnits k us → is_strict_unit k (QuoteEscape c) ≡ true
+quote_kept : (b : Bool) (k : Kind) (us : List StrictUnit) (c : ℕ) → HasUnits k us → is_strict_unit k (QuoteEscape c)
+    ≡ true
     → (b ≡ true → (c == closer k) ≡ false) → is_strict_unit k (quote_unit b c) ≡ true
 quote_kept true k us c q h other = quote_allowed k us c q (quote_of k c h) (other refl)
 quote_kept false k us c q h other = h
@@ -119,7 +122,8 @@ byte_allowed : (case : Option Case) (k : Kind) (high low : ℕ) → is_strict_un
 byte_allowed case ByteStr high low h = rw (hex_cased case high, hex_cased case low) h
 byte_allowed case Byte high low h = rw (hex_cased case high, hex_cased case low) h
 byte_allowed case CStr high low h =
-    ap (λ b. (b && is_ascii_hexdigit (cased case low)) && not (place_value 16 (cased case high ∷ cased case low ∷ []) == 0))
+    ap (λ b. (b && is_ascii_hexdigit (cased case low)) && not (place_value 16 (cased case high ∷ cased case low ∷ []) ==
+    0))
     (hex_cased case high)
     ∙ ap (λ b. (is_ascii_hexdigit high && b) && not (place_value 16 (cased case high ∷ cased case low ∷ []) == 0))
     (hex_cased case low)
@@ -204,7 +208,8 @@ blanks_stay style k (u ∷ us) h b = go u (and_parts (is_strict_unit k u) (list_
     go : (u : StrictUnit) → list_all (is_strict_unit k) us ≡ true → BlanksEnd (u ∷ us)
         → (list_all (is_strict_unit k) us ≡ true → BlanksEnd us → BlanksEnd (map (restyled style k) us))
         → BlanksEnd (restyled style k u ∷ map (restyled style k) us)
-    go (QuoteEscape c) p b ih = quote_ends (style.quote_escapes && not (c == closer k)) c (map (restyled style k) us) (ih p b)
+    go (QuoteEscape c) p b ih = quote_ends (style.quote_escapes && not (c == closer k)) c (map (restyled style k) us)
+        (ih p b)
     go (Itself c) p b ih = ih p b
     go (PlainEscape c) p b ih = ih p b
     go (AsciiEscape high low) p b ih = ih p b
@@ -243,7 +248,8 @@ unit_contents style k (Itself c) h = refl
 unit_contents style k (PlainEscape c) h = refl
 unit_contents style k (AsciiEscape high low) h = ap (λ n. n ∷ []) (two_cased style.escape_digits high low)
 unit_contents style k (ByteEscape high low) h = ap (λ n. n ∷ []) (two_cased style.escape_digits high low)
-unit_contents style k (UnicodeEscape digits) h = ap (λ n. strict_content_of k (n ∷ [])) (code_cased style.escape_digits digits)
+unit_contents style k (UnicodeEscape digits) h = ap (λ n. strict_content_of k (n ∷ []))
+    (code_cased style.escape_digits digits)
 unit_contents style k (LineBreak blanks) h = refl
 
 all_contents : (style : Style) (k : Kind) (us : List StrictUnit) → list_all (is_strict_unit k) us ≡ true
@@ -252,7 +258,8 @@ all_contents : (style : Style) (k : Kind) (us : List StrictUnit) → list_all (i
 all_contents style k [] h = refl
 all_contents style k (u ∷ us) h =
     let p = and_parts (is_strict_unit k u) (list_all (is_strict_unit k) us) h in
-    ap (λ z. z ++ flat_map (strict_contents (strict_content_of k)) (map (restyled style k) us)) (unit_contents style k u p.0)
+    ap (λ z. z ++ flat_map (strict_contents (strict_content_of k)) (map (restyled style k) us))
+    (unit_contents style k u p.0)
     ∙ ap (λ z. strict_contents (strict_content_of k) u ++ z) (all_contents style k us p.1)
 
 -- ---- the literal
@@ -277,7 +284,8 @@ written style t u k v x s e = record {
   each = all_allowed style k s.units s.units s.count s.each;
   blanks_end = blanks_stay style k s.units s.each s.blanks_end;
   suffix = s.suffix;
-  text = e ∙ sym (between (strict_opener k) (flat_map strict_text (map (restyled style k) s.units)) (strict_closer k) x);
+  text = e ∙ sym (between (strict_opener k) (flat_map strict_text (map (restyled style k) s.units)) (strict_closer k)
+      x);
   contents = s.contents ∙ ap (quoted_contents k) (sym (all_contents style k s.units s.each));
 }
 

@@ -7,7 +7,8 @@ use Rattle.rl_lexer.proofs.LexemeOpeners.{no_exponent_here, no_exponent_begins, 
 use Rattle.rl_style.specs.Around.{SameFront, StaysAround}
 use Rattle.rl_style.proofs.FrontTests.{front_more, same_first, same_dot, same_exponent, same_otherwise, same_identifier}
 
-first_stays : (test : ℕ → Bool) (a b : List ℕ) → SameFront a b → first_passes test a ≡ false → first_passes test b ≡ false
+first_stays : (test : ℕ → Bool) (a b : List ℕ) → SameFront a b → first_passes test a ≡ false → first_passes test b
+    ≡ false
 first_stays test a b s h = sym (same_first test a b s) ∙ h
 
 row_stays : (test : ℕ → Bool) (row a b : List ℕ) → SameFront a b → IsRow test row a → IsRow test row b

@@ -1,9 +1,9 @@
 -- Units are taken from a text one at a time, and each is written anew by its text.
-use Rattle.rl_text.proofs.Common.{◌≡◌, ℕ, ◌||◌, ◌&&◌, Bool, true, false, not, ◌==◌, cond, List, [], ◌∷◌, ◌++◌, map, Some, None, refl, sym, ap, subst, ◌∙◌, inl, inr, ◌⊎◌, append_assoc, append-nil, append_cancel_right, and_from, and_parts, cases_Bool, both_ways, or_from, eqb-true, list_all, flat_map, map-append, replicate, zero, suc, scalar, encode_utf8_all, encodes-append, encodes-chars, IsUtf8}
+use Rattle.rl_text.proofs.Common.{◌≡◌, ℕ, ◌||◌, ◌&&◌, Bool, true, false, not, ◌==◌, cond, List, [], ◌∷◌, ◌++◌, map, Some, None, refl, sym, ap, subst, ◌∙◌, append_assoc, append-nil, append_cancel_right, and_from, and_parts, or_from, list_all, flat_map, map-append, replicate, zero, suc, scalar, encode_utf8_all, encodes-append, encodes-chars, IsUtf8}
 use Rattle.std.specs.Prelude.{Option}
 use Rattle.std.specs.Str.{chars}
 use Rattle.rl_text.proofs.Basics.{apart}
-use Rattle.rl_reading.proofs.Names.{flat_map-append, Kind, Str, ByteStr, CStr, Byte, Char, Int, Float, BoolKind, first_passes, IsTail, StrictUnit, Itself, QuoteEscape, PlainEscape, AsciiEscape, ByteEscape, UnicodeEscape, LineBreak, strict_text, is_dropped_blank, is_strict_unit, unit_text, unit_value}
+use Rattle.rl_reading.proofs.Names.{flat_map-append, Kind, Str, ByteStr, CStr, Byte, Char, first_passes, IsTail, StrictUnit, Itself, QuoteEscape, PlainEscape, AsciiEscape, ByteEscape, UnicodeEscape, LineBreak, strict_text, is_strict_unit, unit_text, unit_value}
 use Rattle.rl_forms.specs.Written.{closer}
 use Rattle.rl_forms.specs.Strict.{BlanksEnd, is_bare_character, is_bare_in_string, is_plain_letter, spaced_digit}
 use Rattle.rl_forms.proofs.StrictQuoted.{MayFollow, no_blank, no_return, stands}
@@ -54,7 +54,8 @@ abbrev otherwise : Style → Kind → ℕ → List ℕ → List ℕ
 otherwise style k c cs = cond (c == 120 || c == 117) (map (cased style.escape_digits) (92 ∷ c ∷ cs)) (92 ∷ c ∷ cs)
 
 -- a plain escape, which begins neither as a quote nor as a number
-plain_text : (style : Style) (k : Kind) (c : ℕ) → is_plain_letter c ≡ true → restyled_escape style k (c ∷ []) ≡ 92 ∷ c ∷ []
+plain_text : (style : Style) (k : Kind) (c : ℕ) → is_plain_letter c ≡ true → restyled_escape style k (c ∷ [])
+    ≡ 92 ∷ c ∷ []
 plain_text style k c h =
     let a = apart is_plain_letter c 39 h refl in
     let b = apart is_plain_letter c 34 h refl in
@@ -125,7 +126,8 @@ unit_restyled style k (LineBreak blanks) h = refl
 
 -- ---- the bytes that are put
 
-at_escape : (style : Style) (k : Kind) (t cs : List ℕ) → t ≡ 92 ∷ cs → restyled_text style k t ≡ restyled_escape style k cs
+at_escape : (style : Style) (k : Kind) (t cs : List ℕ) → t ≡ 92 ∷ cs → restyled_text style k t
+    ≡ restyled_escape style k cs
 unfolding restyled_text
 at_escape style k t cs e = ap (restyled_text style k) e
 
@@ -133,12 +135,14 @@ at_escape style k t cs e = ap (restyled_text style k) e
 quoted_escape : (style : Style) (k : Kind) (c : ℕ) (cs : List ℕ) → (c == 39 || c == 34) ≡ true
     → restyled_escape style k (c ∷ cs) ≡ cond (style.quote_escapes && not (c == closer k)) (c ∷ cs) (92 ∷ c ∷ cs)
 quoted_escape style k c cs q =
-    ap (λ b. cond b (cond (style.quote_escapes && not (c == closer k)) (c ∷ cs) (92 ∷ c ∷ cs)) (otherwise style k c cs)) q
+    ap (λ b. cond b (cond (style.quote_escapes && not (c == closer k)) (c ∷ cs) (92 ∷ c ∷ cs)) (otherwise style k c cs))
+    q
 
 other_escape : (style : Style) (k : Kind) (c : ℕ) (cs : List ℕ) → (c == 39 || c == 34) ≡ false
     → restyled_escape style k (c ∷ cs) ≡ otherwise style k c cs
 other_escape style k c cs q =
-    ap (λ b. cond b (cond (style.quote_escapes && not (c == closer k)) (c ∷ cs) (92 ∷ c ∷ cs)) (otherwise style k c cs)) q
+    ap (λ b. cond b (cond (style.quote_escapes && not (c == closer k)) (c ∷ cs) (92 ∷ c ∷ cs)) (otherwise style k c cs))
+    q
 
 pub bared_bytes : (style : Style) (k : Kind) (unit escape w : List ℕ) (c : ℕ) → IsUtf8 escape
     → chars unit ≡ 92 ∷ chars escape → chars escape ≡ c ∷ w → (c == 39 || c == 34) ≡ true
@@ -159,7 +163,8 @@ kept_bytes style k unit escape w c u e f q h =
 
 pub cased_bytes : (style : Style) (k : Kind) (unit escape w : List ℕ) (c : ℕ) → chars unit ≡ 92 ∷ chars escape
     → chars escape ≡ c ∷ w → (c == 39 || c == 34) ≡ false → (c == 120 || c == 117) ≡ true
-    → encode_utf8_all (restyled_text style k (chars unit)) ≡ encode_utf8_all (map (cased style.escape_digits) (chars unit))
+    → encode_utf8_all (restyled_text style k (chars unit)) ≡ encode_utf8_all
+    (map (cased style.escape_digits) (chars unit))
 cased_bytes style k unit escape w c e f q h =
     let text : chars unit ≡ 92 ∷ c ∷ w = e ∙ ap (λ z. 92 ∷ z) f in
     ap encode_utf8_all (at_escape style k (chars unit) (c ∷ w) text ∙ other_escape style k c w q
@@ -180,12 +185,14 @@ alone_bytes style k unit escape u e f =
     let text : chars unit ≡ 92 ∷ [] = e ∙ ap (λ z. 92 ∷ z) f in
     ap encode_utf8_all (at_escape style k (chars unit) [] text ∙ sym text) ∙ encodes-chars unit u
 
-no_escape : (style : Style) (k : Kind) (t : List ℕ) → first_passes (λ c. c == 92) t ≡ false → restyled_text style k t ≡ t
+no_escape : (style : Style) (k : Kind) (t : List ℕ) → first_passes (λ c. c == 92) t ≡ false → restyled_text style k t
+    ≡ t
 unfolding restyled_text
 no_escape style k [] h = refl
 no_escape style k (c ∷ cs) h = ap (λ b. cond b (restyled_escape style k cs) (c ∷ cs)) h
 
-pub plain_bytes : (style : Style) (k : Kind) (unit : List ℕ) → IsUtf8 unit → first_passes (λ c. c == 92) (chars unit) ≡ false
+pub plain_bytes : (style : Style) (k : Kind) (unit : List ℕ) → IsUtf8 unit → first_passes (λ c. c == 92) (chars unit)
+    ≡ false
     → encode_utf8_all (restyled_text style k (chars unit)) ≡ unit
 plain_bytes style k unit u h = ap encode_utf8_all (no_escape style k (chars unit) h) ∙ encodes-chars unit u
 
@@ -249,7 +256,8 @@ texts_once style k (u ∷ us) (v ∷ vs) t a b =
     let g = first_is k v vs t b in
     let rest : flat_map strict_text us ≡ flat_map strict_text vs =
     (some_pair (f.value, flat_map strict_text us) (g.value, flat_map strict_text vs) (sym f.read ∙ g.read)).1 in
-    let text : strict_text u ≡ strict_text v = append_cancel_right (strict_text u) (strict_text v) (flat_map strict_text us)
+    let text : strict_text u ≡ strict_text v = append_cancel_right (strict_text u) (strict_text v)
+    (flat_map strict_text us)
     (sym f.text_is ∙ g.text_is ∙ ap (λ z. strict_text v ++ z) (sym rest)) in
     let one : strict_text (restyled style k u) ≡ strict_text (restyled style k v) =
     sym (unit_restyled style k u f.is_unit) ∙ ap (restyled_text style k) text ∙ unit_restyled style k v g.is_unit in
@@ -296,9 +304,12 @@ passed_step style k us rest v piece after out new front p e cut w = go p.left p.
           left = left;
           units_are = are ∙ sym (append_assoc p.done (u ∷ []) left);
           left_are = subst (λ z. AreUnits k left z) (sym rest_is) f.left;
-          out_is = w ∙ ap (λ z. out ++ encode_utf8_all z) (ap (restyled_text style k) is ∙ unit_restyled style k u f.is_unit)
-              ∙ ap (λ z. z ++ encode_utf8_all one) p.out_is ∙ append_assoc front (encode_utf8_all old) (encode_utf8_all one)
-              ∙ ap (λ z. front ++ z) (sym (encodes-append old one) ∙ ap encode_utf8_all (sym (texts_more style k p.done u)));
+          out_is = w ∙ ap (λ z. out ++ encode_utf8_all z) (ap (restyled_text style k) is
+              ∙ unit_restyled style k u f.is_unit)
+              ∙ ap (λ z. z ++ encode_utf8_all one) p.out_is ∙ append_assoc front (encode_utf8_all old)
+              (encode_utf8_all one)
+              ∙ ap (λ z. front ++ z) (sym (encodes-append old one) ∙ ap encode_utf8_all
+              (sym (texts_more style k p.done u)));
         }
 
 pub passed_end : (style : Style) (k : Kind) (us : List StrictUnit) (rest out front : List ℕ)
@@ -327,7 +338,8 @@ chosen_scalars : (b : Bool) (x y : List ℕ) → scalars x ≡ true → scalars 
 chosen_scalars true x y h k = h
 chosen_scalars false x y h k = k
 
-escape_scalars : (style : Style) (k : Kind) (cs : List ℕ) → scalars cs ≡ true → scalars (restyled_escape style k cs) ≡ true
+escape_scalars : (style : Style) (k : Kind) (cs : List ℕ) → scalars cs ≡ true → scalars (restyled_escape style k cs)
+    ≡ true
 escape_scalars style k [] h = refl
 escape_scalars style k (c ∷ cs) h =
     chosen_scalars (c == 39 || c == 34) _ _

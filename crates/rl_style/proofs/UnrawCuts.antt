@@ -1,4 +1,5 @@
--- A text in which a raw string becomes one with escapes is cut as before, where neither a hash nor a dot stands before it.
+-- A text in which a raw string becomes one with escapes is cut as before, where neither a hash nor a dot stands before
+-- it.
 use Rattle.rl_text.proofs.Common.{◌≡◌, ℕ, ◌≤◌, ◌+◌, ◌-◌, true, List, [], ◌∷◌, ◌++◌, refl, sym, ◌∙◌, ap, subst, arith}
 use Rattle.rl_text.specs.Texts.{byte_len}
 use Rattle.rl_lexer.specs.Skipping.{Skipped}
@@ -33,7 +34,8 @@ quoted_one parts x = QuotedLexeme NoPrefix parts x
 abbrev Cut : ℕ → List ℕ → List CutSource → List CutSource → Lexeme → Lexeme → ℕ → List ℕ → Type 0
 Cut at t before after old new place r = IsRecut at t before after old new place r
 
-at_literal : (at : ℕ) (t : List ℕ) (after : List CutSource) (n : ℕ) (body x : List ℕ) (parts : List BodyPart) (place : ℕ)
+at_literal : (at : ℕ) (t : List ℕ) (after : List CutSource) (n : ℕ) (body x : List ℕ) (parts : List BodyPart)
+    (place : ℕ)
     (r : List ℕ) → IsBody parts → SourcesUpTo at t (placed_literal (raw_one n body x) place ∷ after) r
     → Cut at t [] after (raw_one n body x) (quoted_one parts x) place r
 at_literal at t after n body x parts place r is_body (rest, skipped, is, place_is, more) =
@@ -112,14 +114,22 @@ one_more at t d before after n body x parts place r u sound is front text_is her
       rest = more.rest;
       text_is = text_is ∙ ap (λ z. front ++ (s ++ z)) more.text_is ∙ sym (joined front s more.front (lexeme_text old
           ++ more.rest));
-      place_is = omega (arith, here, more.place_is, byte_len-append front (s ++ more.front), byte_len-append s more.front);
+      place_is = omega (
+        arith,
+        here,
+        more.place_is,
+        byte_len-append front (s ++ more.front),
+        byte_len-append s
+            more.front,
+      );
       cuts = subst (λ (z : List ℕ). SourcesUpTo at z (d ∷ cuts) r) (sym whole) all;
     }
 
 pub keeps_the_cut_unraw : KeepsTheCutUnraw
 keeps_the_cut_unraw at t [] after n body x parts place r is_body cut sound may =
     at_literal at t after n body x parts place r is_body cut
-keeps_the_cut_unraw at t (d ∷ before) after n body x parts place r is_body (u, skipped, is, place_is, more) (first, sound) may =
+keeps_the_cut_unraw at t (d ∷ before) after n body x parts place r is_body (u, skipped, is, place_is, more)
+    (first, sound) may =
     let s : List ℕ = source_text d.token in
     let (front, text_is, to) = skips_to t (s ++ u) (token_full d.token u first) skipped in
     let here : d.at ≡ at + byte_len front = place_of at d.at t front (s ++ u) text_is place_is in

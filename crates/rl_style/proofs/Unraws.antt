@@ -37,7 +37,8 @@ continue_34 = ap (λ b. b && not (is_white 34)) (is_xid_continue-ascii 34 (lit< 
 continue_114 : is_continue 114 ≡ true
 continue_114 = ap (λ b. b && not (is_white 114)) (is_xid_continue-ascii 114 (lit< tt))
 
-row_fits : (test : ℕ → Bool) (row f x y : List ℕ) → test 34 ≡ false → IsRow test row (old f x) → IsRow test row (new f y)
+row_fits : (test : ℕ → Bool) (row f x y : List ℕ) → test 34 ≡ false → IsRow test row (old f x)
+    → IsRow test row (new f y)
 row_fits test row f x y out r = record { each = r.each; ends = first_fits test f x y out r.ends }
 
 suffix_fits : (s f x y : List ℕ) → IsLexedSuffix s (old f x) → IsLexedSuffix s (new f y)
@@ -71,7 +72,8 @@ assoc3 : (d e s t : List ℕ) → (d ++ (e ++ s)) ++ t ≡ d ++ (e ++ (s ++ t))
 assoc3 d e s t = simp append_assoc
 
 -- a test of what stands behind more in front
-behind : (test : ℕ → Bool) (d e s f x y : List ℕ) → test 34 ≡ false → first_passes test (d ++ (e ++ (s ++ old f x))) ≡ false
+behind : (test : ℕ → Bool) (d e s f x y : List ℕ) → test 34 ≡ false → first_passes test (d ++ (e ++ (s ++ old f x)))
+    ≡ false
     → first_passes test (d ++ (e ++ (s ++ new f y))) ≡ false
 behind test d e s f x y out h =
     let g : List ℕ = (d ++ (e ++ s)) ++ f in
@@ -79,7 +81,8 @@ behind test d e s f x y out h =
     ∙ assoc3 d e s (f ++ t) in
     ap (first_passes test) (sym (at (34 ∷ y))) ∙ first_fits test g x y out (ap (first_passes test) (at (114 ∷ x)) ∙ h)
 
-fraction_fits : (g : LexedFraction) (e : LexedExponent) (s f x y : List ℕ) → may_precede_quote f ≡ true → IsLexedSuffix s (old f x)
+fraction_fits : (g : LexedFraction) (e : LexedExponent) (s f x y : List ℕ) → may_precede_quote f ≡ true
+    → IsLexedSuffix s (old f x)
     → IsLexedExponent e (s ++ old f x) → IsLexedFraction g (lexed_exponent_text e ++ (s ++ old f x))
     → IsLexedFraction g (lexed_exponent_text e ++ (s ++ new f y))
 fraction_fits NoLexedFraction e s f x y may suffix power h = after_dot e s f x y may suffix power h
@@ -120,7 +123,8 @@ exponent_agrees : (f x y : List ℕ) → begins_exponent (old f x) ≡ begins_ex
 exponent_agrees [] x y = refl
 exponent_agrees (c ∷ f) x y = ap (λ b. (c == 101 || c == 69) && b) (signed_agree f x y)
 
-power_fits : (e : LexedExponent) (s f x y : List ℕ) → IsLexedExponent e (s ++ old f x) → IsLexedExponent e (s ++ new f y)
+power_fits : (e : LexedExponent) (s f x y : List ℕ) → IsLexedExponent e (s ++ old f x)
+    → IsLexedExponent e (s ++ new f y)
 power_fits NoLexedExponent s f x y none =
     no_exponent_begins (s ++ new f y) (ap begins_exponent (sym (append_assoc s f (34 ∷ y)))
     ∙ sym (exponent_agrees (s ++ f) x y) ∙ ap begins_exponent (append_assoc s f (114 ∷ x))
@@ -128,7 +132,8 @@ power_fits NoLexedExponent s f x y none =
 power_fits (LexedPower letter sign n d more) s f x y (il, id, r) =
     (il, id, record { each = r.each; ends = behind (is_row_part is_ascii_digit) [] [] s f x y refl r.ends })
 
-decimal_fits : (d : ℕ) (more : List ℕ) (g : LexedFraction) (e : LexedExponent) (s f x y : List ℕ) → may_precede_quote f ≡ true
+decimal_fits : (d : ℕ) (more : List ℕ) (g : LexedFraction) (e : LexedExponent) (s f x y : List ℕ) → may_precede_quote f
+    ≡ true
     → IsLexeme (DecimalLexeme d more g e s) (old f x) → IsLexeme (DecimalLexeme d more g e s) (new f y)
 decimal_fits d more g e s f x y may (id, not_based, row, fraction, power, suffix) = (
   id,
@@ -157,7 +162,8 @@ decimal_fits d more g e s f x y may (id, not_based, row, fraction, power, suffix
 hashed_agrees : (c : ℕ) (g x y : List ℕ) → may_precede_quote (c ∷ g) ≡ true → begins_hashed_quote (old (c ∷ g) x)
     ≡ begins_hashed_quote (new (c ∷ g) y)
 hashed_agrees c [] x y may =
-    ap (λ b. begins_char 34 (cond b (after_run is_hash (114 ∷ x)) (c ∷ 114 ∷ x))) (neither_true (c == 35) (c == 46) may).0
+    ap (λ b. begins_char 34 (cond b (after_run is_hash (114 ∷ x)) (c ∷ 114 ∷ x)))
+    (neither_true (c == 35) (c == 46) may).0
     ∙ sym (ap (λ b. begins_char 34 (cond b (after_run is_hash (34 ∷ y)) (c ∷ 34 ∷ y))) (neither_true (c == 35) (c == 46)
     may).0)
 hashed_agrees c (d ∷ g) x y may = go (c == 35) (hashed_agrees d g x y may)
@@ -174,7 +180,8 @@ raw_second t = begins_char 114 t && begins_hashed_quote (drop 1 t)
 raw_second_agrees : (c : ℕ) (g x y : List ℕ) → may_precede_quote (c ∷ g) ≡ true → (g ≡ [] → (c == 114) ≡ false)
     → raw_second (old (c ∷ g) x) ≡ raw_second (new (c ∷ g) y)
 raw_second_agrees c [] x y may alone =
-    ap (λ b. b && begins_hashed_quote (114 ∷ x)) (alone refl) ∙ sym (ap (λ b. b && begins_hashed_quote (34 ∷ y)) (alone refl))
+    ap (λ b. b && begins_hashed_quote (114 ∷ x)) (alone refl) ∙ sym
+    (ap (λ b. b && begins_hashed_quote (34 ∷ y)) (alone refl))
 raw_second_agrees c (d ∷ g) x y may alone = ap (λ b. c == 114 && b) (hashed_agrees d g x y may)
 
 abbrev name_second : List ℕ → Bool
@@ -203,7 +210,8 @@ otherwise_agrees k c g x y may alone =
     (begins_hashed_quote (new (c ∷ g) y)) (name_second (new (c ∷ g) y)) (raw_second_agrees c g x y may alone)
     (hashed_agrees c g x y may) (name_second_agrees c g x y may)
 
-may_more : (more : List ℕ) (d : ℕ) (f : List ℕ) → may_precede_quote (d ∷ f) ≡ true → may_precede_quote (more ++ (d ∷ f)) ≡ true
+may_more : (more : List ℕ) (d : ℕ) (f : List ℕ) → may_precede_quote (d ∷ f) ≡ true → may_precede_quote (more ++ (d ∷ f))
+    ≡ true
 may_more [] d f may = may
 may_more (c ∷ []) d f may = may
 may_more (c ∷ e ∷ more) d f may = may_more (e ∷ more) d f may

@@ -16,7 +16,8 @@ is_mark c = c == 65279
 record Marked (t : List ℕ) : Type 0 where
   pub mark : List ℕ
   pub text_is : t ≡ mark ++ without_mark t
-  pub goes : (u : List ℕ) → first_passes is_mark (without_mark t) ≡ first_passes is_mark u → without_mark (mark ++ u) ≡ u
+  pub goes : (u : List ℕ) → first_passes is_mark (without_mark t) ≡ first_passes is_mark u → without_mark (mark ++ u)
+      ≡ u
 
 unmarked : (u : List ℕ) → first_passes is_mark u ≡ false → without_mark u ≡ u
 unmarked [] h = refl
@@ -68,12 +69,14 @@ keeps_the_source t before after old new place r no_line cut sound ends =
     let text_is : text ≡ k.mark ++ body = append_assoc k.mark m.front (lexeme_text new ++ m.rest) in
     let bare : without_mark text ≡ body = ap without_mark text_is ∙ k.goes body (ap (first_passes is_mark) was_is
     ∙ same_first is_mark was body same) in
-    let free : begins (codes "#!") (without_mark text) ≡ false = ap (begins (codes "#!")) bare ∙ sym (same_script was body
+    let free : begins (codes "#!") (without_mark text) ≡ false = ap (begins (codes "#!")) bare
+    ∙ sym (same_script was body
     same) ∙ sym (ap (begins (codes "#!")) was_is) ∙ no_line in
     record {
       front = k.mark ++ m.front;
       rest = m.rest;
-      text_is = k.text_is ∙ ap (λ z. k.mark ++ z) was_is ∙ sym (append_assoc k.mark m.front (lexeme_text old ++ m.rest));
+      text_is = k.text_is ∙ ap (λ z. k.mark ++ z) was_is ∙ sym (append_assoc k.mark m.front
+          (lexeme_text old ++ m.rest));
       place_is = omega (arith, at_is, m.place_is, byte_len-append k.mark m.front);
       cuts = record {
         at = cut.at;

@@ -1,5 +1,5 @@
 -- Numbers as they were written.
-use Rattle.rl_text.proofs.Common.{◌≡◌, ◌≢◌, ℕ, ◌+◌, ◌≤◌, ◌||◌, ◌&&◌, Bool, true, false, not, ◌==◌, cond, List, [], ◌∷◌, ◌++◌, length, map, Some, None, refl, sym, ap, subst, ◌∙◌, inl, inr, arith, append_assoc, append-nil, append_cancel_right, and_from, and_parts, eqb-true, ne_eqb, flat_map, map-append, scalar, encode_utf8, encode_utf8_all, encodes-append, encodes-chars, IsUtf8}
+use Rattle.rl_text.proofs.Common.{◌≡◌, ℕ, ◌||◌, ◌&&◌, Bool, true, false, not, ◌==◌, cond, List, [], ◌∷◌, ◌++◌, Some, None, refl, sym, ap, subst, ◌∙◌, inl, inr, arith, append_assoc, append-nil, append_cancel_right, and_from, and_parts, flat_map, scalar, encode_utf8_all, encodes-append, encodes-chars, IsUtf8}
 use Rattle.std.specs.Prelude.{Option}
 use Rattle.std.specs.Str.{chars}
 use Rattle.std.proofs.Math.Utf8.{scalars}
@@ -14,7 +14,6 @@ use Rattle.rl_style.specs.declared.style.Case.TheVariants.{Lower, Upper}
 use Rattle.rl_style.specs.declared.style.Style.{Style}
 use Rattle.rl_style.specs.Cases.{cased, drops_underscores, drops_zeros, exponent_letter, kept_digits, number_character, significant}
 use Rattle.rl_text.specs.Texts.{first_passes}
-use Rattle.rl_lexer.specs.Lexemes.{is_base_letter}
 use Rattle.rl_text.proofs.Common.{is_ascii_digit}
 use Rattle.rl_style.specs.Rewriting.{RewritesFloat, RewritesInt}
 use denote.Bor.{Bor}
@@ -22,6 +21,7 @@ use Rattle.rl_reasons.specs.declared.read_numbers.Number.{Number}
 use Rattle.rl_reasons.specs.declared.read_numbers.Number.TheVariants.{Integer, Float}
 use Rattle.rl_reasons.specs.StrictNumbersRead.{IsNumberRead}
 use Rattle.rl_style.proofs.CaseLemmas.{cased_scalar}
+use Rattle.rl_style.proofs.SameIntegers.{zeros_ten}
 use Rattle.rl_style.proofs.WrittenTexts.{scalars_join, text_of}
 
 -- ---- the base
@@ -36,10 +36,13 @@ base_found t v x i =
     elim i.is_front [
       | inl f ↦ ap (λ (p : ℕ × List ℕ). p.0) (not_based t f.3) ∙ sym f.1
       | inr f ↦ elim f [
-        | inl g ↦ ap radix_of (text ∙ ap (λ z. z ++ w) g.0) ∙ ap (λ (p : ℕ × List ℕ). p.0) (radix_past Binary w tt).0 ∙ sym g.1
+        | inl g ↦ ap radix_of (text ∙ ap (λ z. z ++ w) g.0) ∙ ap (λ (p : ℕ × List ℕ). p.0) (radix_past Binary w tt).0
+            ∙ sym g.1
         | inr g ↦ elim g [
-          | inl b ↦ ap radix_of (text ∙ ap (λ z. z ++ w) b.0) ∙ ap (λ (p : ℕ × List ℕ). p.0) (radix_past Octal w tt).0 ∙ sym b.1
-          | inr b ↦ ap radix_of (text ∙ ap (λ z. z ++ w) b.0) ∙ ap (λ (p : ℕ × List ℕ). p.0) (radix_past Hexadecimal w tt).0
+          | inl b ↦ ap radix_of (text ∙ ap (λ z. z ++ w) b.0) ∙ ap (λ (p : ℕ × List ℕ). p.0) (radix_past Octal w tt).0
+              ∙ sym b.1
+          | inr b ↦ ap radix_of (text ∙ ap (λ z. z ++ w) b.0) ∙ ap (λ (p : ℕ × List ℕ). p.0)
+              (radix_past Hexadecimal w tt).0
               ∙ sym b.1
         ]
       ]
@@ -48,7 +51,8 @@ base_found t v x i =
 -- ---- what was written
 
 -- a text of characters, and one after it
-followed : (m s b : List ℕ) → IsUtf8 s → scalars m ≡ true → b ≡ encode_utf8_all m ++ s → IsUtf8 b × (chars b ≡ m ++ chars s)
+followed : (m s b : List ℕ) → IsUtf8 s → scalars m ≡ true → b ≡ encode_utf8_all m ++ s → IsUtf8 b
+    × (chars b ≡ m ++ chars s)
 followed m s b v h e = text_of b (m ++ chars s) (scalars_join m (chars s) h (scalars-chars s v))
     (e ∙ ap (λ z. encode_utf8_all m ++ z) (sym (encodes-chars s v)) ∙ sym (encodes-append m (chars s)))
 
@@ -133,7 +137,8 @@ integer_whole style text numeral suffix new base drops v un us b d zeros cut e i
           ∙ ap (λ z. flat_map (number_character style drops (base == 16)) z ++ x) front
           ∙ ap (λ z. flat_map (number_character style drops (z == 16)) (i.prefix ++ i.row) ++ x) base_is
           ∙ ap (λ z. flat_map (number_character style z (i.base == 16)) (i.prefix ++ i.row) ++ x) d
-          ∙ ap (λ z. flat_map (number_character style (drops_underscores style x) (i.base == 16)) (i.prefix ++ z) ++ x) kept;
+          ∙ ap (λ z. flat_map (number_character style (drops_underscores style x) (i.base == 16)) (i.prefix ++ z) ++ x)
+          kept;
     }
 
 pub integer_trimmed : (style : Style) (text numeral digits suffix new : List ℕ) (base : ℕ) (drops : Bool) (v : Contents)
@@ -145,8 +150,7 @@ integer_trimmed style text numeral digits suffix new base drops v ud us b d zero
     let base_is : base ≡ i.base = b ∙ base_found (chars text) v (chars suffix) i in
     let x : List ℕ = chars suffix in
     let all : drops_zeros style i.base x ≡ true = ap (λ z. drops_zeros style z x) (sym base_is) ∙ zeros in
-    let ten : i.base ≡ 10 = eqb-true i.base 10 (and_parts style.leading_zeros (i.base == 10) (and_parts
-    (style.leading_zeros && i.base == 10) (not (first_passes is_base_letter x)) all).0).1 in
+    let ten : i.base ≡ 10 = zeros_ten style i.base x all in
     let none = ten_prefix (chars text) v x i ten in
     let front : chars numeral ≡ i.row = append_cancel_right (chars numeral) i.row x
     (sym cut ∙ i.text ∙ ap (λ z. (z ++ i.row) ++ x) none) in
@@ -170,7 +174,8 @@ pub integer_digit : (t : List ℕ) (numeral x : List ℕ) (v : Contents) → Str
 integer_digit t numeral x v i cut b =
     let ten : i.base ≡ 10 = sym (base_found t v x i) ∙ b in
     let none = ten_prefix t v x i ten in
-    let front : numeral ≡ i.row = append_cancel_right numeral i.row x (sym cut ∙ i.text ∙ ap (λ z. (z ++ i.row) ++ x) none) in
+    let front : numeral ≡ i.row = append_cancel_right numeral i.row x
+    (sym cut ∙ i.text ∙ ap (λ z. (z ++ i.row) ++ x) none) in
     elim i.is_front [
       | inl f ↦ ap (first_passes is_ascii_digit) front ∙ f.2.0
       | inr f ↦ elim f [
@@ -181,10 +186,6 @@ integer_digit t numeral x v i cut b =
         ]
       ]
     ]
-
-pub drops_ten : (style : Style) (base : ℕ) (x : List ℕ) → drops_zeros style base x ≡ true → base ≡ 10
-drops_ten style base x h = eqb-true base 10 (and_parts style.leading_zeros (base == 10) (and_parts
-    (style.leading_zeros && base == 10) (not (first_passes is_base_letter x)) h).0).1
 
 pub float_written : (style : Style) (text numeral suffix new : List ℕ) (drops : Bool) (v : Contents) → IsUtf8 numeral
     → IsUtf8 suffix → drops ≡ drops_underscores style (chars suffix) → chars text ≡ chars numeral ++ chars suffix
@@ -215,7 +216,8 @@ numeral_more style drops hex a b one xs c e h w =
 
 -- ---- what was read
 
-pub integer_of : (t : List ℕ) (n : Number) (m : Option ℕ) (suffix : Bor (List ℕ)) → IsNumberRead t n → n ≡ Integer m suffix
+pub integer_of : (t : List ℕ) (n : Number) (m : Option ℕ) (suffix : Bor (List ℕ)) → IsNumberRead t n → n
+    ≡ Integer m suffix
     → (v : Contents) × StrictInt t v (chars suffix.now)
 integer_of t n m suffix h e = let r : IsNumberRead t (Integer m suffix) = subst (IsNumberRead t) e h in (_, r.1)
 

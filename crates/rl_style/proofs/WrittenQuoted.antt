@@ -1,18 +1,18 @@
 -- Quoted literals as they were written.
-use Rattle.rl_text.proofs.Common.{◌≡◌, ℕ, zero, suc, ◌+◌, ◌*◌, ◌<◌, ◌≤◌, Bool, true, false, List, [], ◌∷◌, ◌++◌, length, map, replicate, refl, sym, ap, subst, ◌∙◌, inl, inr, arith, append_assoc, append-nil, and_from, and_parts, cases_lt, list_all, flat_map, encode_utf8, encode_utf8_all, encode_ascii, encodes-append, encodes-chars, chars-append, length-append, scalar, IsUtf8, nat_lt, ltb-true}
+use Rattle.rl_text.proofs.Common.{◌≡◌, ℕ, zero, suc, ◌+◌, ◌*◌, ◌<◌, ◌≤◌, Bool, true, false, List, [], ◌∷◌, ◌++◌, length, map, replicate, refl, sym, ap, subst, ◌∙◌, inl, inr, arith, append_assoc, append-nil, cases_lt, list_all, flat_map, encode_utf8, encode_utf8_all, encode_ascii, encodes-append, encodes-chars, chars-append, length-append, IsUtf8}
 use Rattle.std.specs.Str.{chars}
 use Rattle.std.proofs.Math.Utf8.{scalars}
-use Rattle.std.proofs.lemmas.Str.{IsUtf8-append, scalars-chars}
-use Rattle.rl_reading.proofs.Names.{Kind, Str, ByteStr, CStr, Byte, Char, Int, Float, BoolKind, Contents, StrictUnit, is_string, opener, raw_opener, quoted_contents, strict_content_of, strict_contents, strict_text}
+use Rattle.std.proofs.lemmas.Str.{scalars-chars}
+use Rattle.rl_reading.proofs.Names.{Kind, Str, ByteStr, CStr, Byte, Char, Int, Float, BoolKind, StrictUnit, is_string, opener, quoted_contents, strict_content_of, strict_contents, strict_text}
 use Rattle.rl_forms.specs.Written.{closer}
-use Rattle.rl_forms.specs.Strict.{IsStrictSuffix, Strict, StrictRaw, strict_closer, strict_opener, strict_raw_opener}
+use Rattle.rl_forms.specs.Strict.{Strict, StrictRaw, strict_closer, strict_opener, strict_raw_opener}
 use Rattle.rl_forms.proofs.StrictQuoted.{between}
 use Rattle.rl_writing.specs.RawStrings.{HasFewestHashes, HasNoRaw, raw_contents, raw_text}
 use Rattle.rl_writing.proofs.AsciiLemmas.{encoded_low, is_low, low_join}
 use Rattle.rl_style.specs.declared.style.Style.{Style}
 use Rattle.rl_style.specs.Mirrors.{AreUnits, CookedParts, RawParts}
 use Rattle.rl_style.specs.Rewriting.{HasHashes, RewritesCooked, RewritesRaw, restyled}
-use Rattle.rl_style.proofs.SameRaw.{raw_followed, raw_joined, raw_strict}
+use Rattle.rl_style.proofs.SameRaw.{length_hashes, raw_followed, raw_joined, raw_strict}
 use Rattle.rl_style.proofs.UnitTexts.{units_scalars}
 use Rattle.rl_style.proofs.WrittenTexts.{scalars_join, text_of}
 
@@ -115,7 +115,8 @@ closer_scalars Float = refl
 closer_scalars BoolKind = refl
 
 -- one text after another
-pub joined : (a b c d o mid x : List ℕ) (q r : ℕ) → d ≡ c ++ x → c ≡ b ++ encode_utf8 q → q ≡ r → b ≡ a ++ mid → a ≡ o → d
+pub joined : (a b c d o mid x : List ℕ) (q r : ℕ) → d ≡ c ++ x → c ≡ b ++ encode_utf8 q → q ≡ r → b ≡ a ++ mid → a ≡ o
+    → d
     ≡ ((o ++ mid) ++ encode_utf8 r) ++ x
 joined a b c d o mid x q r e f s g h =
     e ∙ ap (λ z. z ++ x) (f ∙ ap (λ z. b ++ encode_utf8 z) s ∙ ap (λ z. z ++ encode_utf8 r) (g ∙ ap (λ z. z ++ mid) h))
@@ -123,12 +124,14 @@ joined a b c d o mid x q r e f s g h =
 pub cooked_written : (style : Style) (k : Kind) (text inside suffix new : List ℕ) → IsUtf8 inside → IsUtf8 suffix
     → CookedParts k (chars text) (chars inside) (chars suffix)
     → ((us : List StrictUnit) → AreUnits k us (chars inside) → new
-    ≡ ((opener k ++ encode_utf8_all (flat_map strict_text (map (restyled style k) us))) ++ encode_utf8 (closer k)) ++ suffix)
+    ≡ ((opener k ++ encode_utf8_all (flat_map strict_text (map (restyled style k) us))) ++ encode_utf8 (closer k))
+    ++ suffix)
     → IsUtf8 new × RewritesCooked style (chars text) (chars new)
 cooked_written style k text inside suffix new ui us p w =
     let units : List StrictUnit = p.units in
     let mid : List ℕ = flat_map strict_text (map (restyled style k) units) in
-    let held : scalars (flat_map strict_text units) ≡ true = ap scalars (sym p.are.inside_is) ∙ scalars-chars inside ui in
+    let held : scalars (flat_map strict_text units) ≡ true = ap scalars (sym p.are.inside_is)
+    ∙ scalars-chars inside ui in
     let end : List ℕ = strict_closer k ++ chars suffix in
     let whole : encode_utf8_all (strict_opener k ++ (mid ++ end)) ≡ opener k
     ++ (encode_utf8_all mid ++ (encode_utf8 (closer k) ++ suffix)) =
@@ -136,7 +139,8 @@ cooked_written style k text inside suffix new ui us p w =
     ∙ ap (λ z. z ++ encode_utf8_all (mid ++ end)) (encoded_low (strict_opener k) (opener_low k) ∙ sym (opens_so k))
     ∙ ap (λ z. opener k ++ z) (encodes-append mid end
     ∙ ap (λ z. encode_utf8_all mid ++ z) (encodes-append (strict_closer k) (chars suffix)
-    ∙ ap (λ z. z ++ encode_utf8_all (chars suffix)) (ap encode_utf8_all (one_closer k) ∙ append-nil (encode_utf8 (closer k)))
+    ∙ ap (λ z. z ++ encode_utf8_all (chars suffix)) (ap encode_utf8_all (one_closer k)
+    ∙ append-nil (encode_utf8 (closer k)))
     ∙ ap (λ z. encode_utf8 (closer k) ++ z) (encodes-chars suffix us))) in
     let written = text_of new (strict_opener k ++ (mid ++ end))
     (scalars_join (strict_opener k) (mid ++ end) (opener_scalars k) (scalars_join mid end
@@ -185,7 +189,8 @@ raw_is_string CStr t i x p = refl
 raw_is_string kind t i x p = absurd p.allowed
 
 -- without its suffix it is a literal too
-raw_alone : (k : Kind) (t i x : List ℕ) → (p : RawParts k t i x) → Strict (raw_text k p.hashes i) k (raw_contents k i) []
+raw_alone : (k : Kind) (t i x : List ℕ) → (p : RawParts k t i x)
+    → Strict (raw_text k p.hashes i) k (raw_contents k i) []
 raw_alone k t i x p = raw_strict (raw_text k p.hashes i) k (raw_contents k i) [] (record {
   hashes = p.hashes;
   inside = i;
@@ -222,10 +227,6 @@ hashes_low : (n : ℕ) → list_all is_low (replicate n 35) ≡ true
 hashes_low zero = refl
 hashes_low (suc n) = hashes_low n
 
-hashes_length : (n : ℕ) → length {A = ℕ} (replicate n 35) ≡ n
-hashes_length zero = refl
-hashes_length (suc n) = ap suc (hashes_length n)
-
 opened_length : (k : Kind) → is_string k ≡ true → 1 ≤ length (strict_raw_opener k)
 opened_length Str h = omega arith
 opened_length ByteStr h = omega arith
@@ -242,13 +243,14 @@ raw_room k t i s n ut ui us p f =
     let b : List ℕ = 34 ∷ h in
     let fewer = no_more k (chars t) (chars i) (chars s) n p f in
     let opened = opened_length k (raw_is_string k (chars t) (chars i) (chars s) p) in
-    let la = low_join (strict_raw_opener k) (h ++ (34 ∷ [])) (raw_low k) (low_join h (34 ∷ []) (hashes_low p.hashes) refl) in
+    let la = low_join (strict_raw_opener k) (h ++ (34 ∷ [])) (raw_low k)
+    (low_join h (34 ∷ []) (hashes_low p.hashes) refl) in
     let whole = parts_length t i s a b ut ui us la (hashes_low p.hashes) (p.text_is
     ∙ regrouped (strict_raw_opener k) h (chars i) (chars s)) in
     let one : length (h ++ (34 ∷ [])) ≡ length h + 1 = length-append h (34 ∷ []) in
     let front : length a ≡ length (strict_raw_opener k) + length (h ++ (34 ∷ [])) =
     length-append (strict_raw_opener k) (h ++ (34 ∷ [])) in
-    let count : length h ≡ p.hashes = hashes_length p.hashes in
+    let count : length h ≡ p.hashes = length_hashes p.hashes in
     omega (arith, fewer, opened, whole, one, front, count)
   where
     regrouped : (o h i x : List ℕ) → o ++ (h ++ (34 ∷ (i ++ (34 ∷ (h ++ x)))))

@@ -134,7 +134,8 @@ may_precede_quote [] = true
 may_precede_quote (c ∷ []) = not (c == code "#" || c == code ".")
 may_precede_quote (c ∷ d ∷ t) = may_precede_quote (d ∷ t)
 
--- A token in front of a raw string stays one before a string, where the text between ends with neither a hash nor a dot.
+-- A token in front of a raw string stays one before a string, where the text between ends with neither a hash nor a
+-- dot.
 abbrev pub StaysBeforeQuote : Type 0
 StaysBeforeQuote =
     (w : SourceLexeme) (front raw quoted : List ℕ) → IsTrue (may_precede_quote front)

@@ -1,5 +1,5 @@
 -- Letters in one case, and what characters of numbers become. A character is its code.
-use Rattle.std.specs.Prelude.{ℕ, ◌+◌, ◌-◌, Bool, true, false, not, ◌&&◌, ◌||◌, ◌==◌, nat_le, List, [], ◌∷◌, Option, Some, None, codes, if◌then◌else◌}
+use Rattle.std.specs.Prelude.{ℕ, ◌+◌, ◌-◌, Bool, not, ◌&&◌, ◌||◌, ◌==◌, nat_le, List, [], ◌∷◌, Option, Some, None, codes, if◌then◌else◌}
 use Prim.Native.Char.{code}
 use Rattle.rl_text.specs.Classes.{after_run}
 use Rattle.rl_text.specs.Texts.{first_passes}
@@ -26,8 +26,8 @@ exponent_letter None c = c
 exponent_letter (Some Lower) c = if c == code "E" then code "e" else c
 exponent_letter (Some Upper) c = if c == code "e" then code "E" else c
 
--- The number loses its underscores: the rule says so, and its suffix doesn't begin as a base does, so no other number comes
--- of `0_b1`.
+-- The number loses its underscores: the rule says so, and its suffix doesn't begin as a base does, so no other number
+-- comes of `0_b1`.
 abbrev pub drops_underscores : Style → List ℕ → Bool
 drops_underscores style suffix = style.underscores && not (first_passes is_base_letter suffix)
 

@@ -24,7 +24,8 @@ abbrev pub placed_literal : Lexeme → ℕ → CutSource
 placed_literal l at = record { token = PlainToken l; at = at }
 
 -- The text is cut as the old one was, with this literal in the place of that.
-pub record IsRecut (at : ℕ) (t : List ℕ) (before after : List CutSource) (old new : Lexeme) (place : ℕ) (r : List ℕ) : Type 0 where
+pub record IsRecut (at : ℕ) (t : List ℕ) (before after : List CutSource) (old new : Lexeme) (place : ℕ) (r : List ℕ) :
+    Type 0 where
   pub front : List ℕ
   pub rest : List ℕ
   pub text_is : t ≡ front ++ (lexeme_text old ++ rest)
@@ -36,11 +37,13 @@ pub record IsRecut (at : ℕ) (t : List ℕ) (before after : List CutSource) (ol
 abbrev pub KeepsTheCut : Type 0
 KeepsTheCut =
     (at : ℕ) (t : List ℕ) (before after : List CutSource) (old new : Lexeme) (place : ℕ) (r : List ℕ)
-    → SourcesUpTo at t (before ++ (placed_literal old place ∷ after)) r → AllByRecursion IsSound before → SameEnds old new
+    → SourcesUpTo at t (before ++ (placed_literal old place ∷ after)) r → AllByRecursion IsSound before
+    → SameEnds old new
     → IsRecut at t before after old new place r
 
 -- the same of a whole source
-pub record IsRecutSource (t : List ℕ) (before after : List CutSource) (old new : Lexeme) (place : ℕ) (r : List ℕ) : Type 0 where
+pub record IsRecutSource (t : List ℕ) (before after : List CutSource) (old new : Lexeme) (place : ℕ) (r : List ℕ) : Type
+    0 where
   pub front : List ℕ
   pub rest : List ℕ
   pub text_is : t ≡ front ++ (lexeme_text old ++ rest)

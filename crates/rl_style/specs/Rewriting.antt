@@ -1,5 +1,5 @@
 -- Literals written anew: what a style makes of a strict text, and what every style keeps. A character is its code.
-use Rattle.std.specs.Prelude.{◌≡◌, ◌⊎◌, ℕ, Bool, true, false, not, ◌&&◌, ◌==◌, List, ◌∷◌, ◌++◌, Option, None, map, if◌then◌else◌}
+use Rattle.std.specs.Prelude.{◌≡◌, ◌⊎◌, ℕ, Bool, true, false, not, ◌&&◌, ◌==◌, List, ◌++◌, Option, None, map, if◌then◌else◌}
 use Rattle.std.specs.List.{flat_map}
 use Rattle.rl_forms.specs.declared.kind.Kind.{Kind}
 use Rattle.rl_forms.specs.Reading.{Contents}
@@ -21,8 +21,8 @@ pub record SameLiteral (old new : List ℕ) : Type 0 where
 
 -- ---- numbers
 
--- The old text is an integer; the new one has its prefix, its digits, perhaps without the zeros in front, and its suffix, and
--- each character before the suffix is what the style makes of it.
+-- The old text is an integer; the new one has its prefix, its digits, perhaps without the zeros in front, and its
+-- suffix, and each character before the suffix is what the style makes of it.
 pub record RewritesInt (style : Style) (old new : List ℕ) : Type 0 where
   pub contents : Contents
   pub suffix : List ℕ
@@ -60,8 +60,8 @@ pub record RewritesRaw (style : Style) (old new : List ℕ) : Type 0 where
 abbrev pub cased_digit : Option Case → ℕ × ℕ → ℕ × ℕ
 cased_digit case digit = (cased case digit.0, digit.1)
 
--- what a unit becomes: a quote that doesn't close the literal stands for itself, and escapes by number have their digits
--- in one case
+-- what a unit becomes: a quote that doesn't close the literal stands for itself, and escapes by number have their
+-- digits in one case
 abbrev pub restyled : Style → Kind → StrictUnit → StrictUnit
 restyled style kind (QuoteEscape c) =
     if style.quote_escapes && not (c == closer kind) then Itself c else QuoteEscape c

@@ -1,16 +1,17 @@
-use Rattle.rl_text.proofs.Common.{◌≡◌, ◌∙◌, ◌++◌, ℕ, Bool, true, false, List, take, ap, sym}
-use Rattle.std.specs.Str.{chars}
+use Rattle.rl_text.proofs.Common.{◌∙◌, ◌++◌, take, ap, sym}
 use Rattle.rl_style.proofs.UnitTexts.{alone_bytes, bared_bytes, cased_bytes, kept_bytes, other_bytes}
 use Rattle.rl_style.proofs.cooked.put_escape.Goals as goal
 
 pub returns-then-is_bared-clause-bytes : goal.returns-then-is_bared-clause-bytes
-returns-then-is_bared-clause-bytes c = c.put_text-then-is_bared.ensures.bytes ∙ ap (λ z. take c.args.at c.args.out.now ++ z)
+returns-then-is_bared-clause-bytes c = c.put_text-then-is_bared.ensures.bytes
+    ∙ ap (λ z. take c.args.at c.args.out.now ++ z)
     (sym (bared_bytes c.args.style c.args.kind c.args.unit.now c.args.escape.now _ c.in-Some.first c.utf8.escape
     c.requires.text c.in-Some.ensures.chars (sym c.is_quote.ensures ∙ c.if-is_quote.true)
     (sym c.is_bared.ensures ∙ c.if-is_bared.true)))
 
 pub returns-then-is_quote-clause-bytes : goal.returns-then-is_quote-clause-bytes
-returns-then-is_quote-clause-bytes c = c.put_text-then-is_quote.ensures.bytes ∙ ap (λ z. take c.args.at c.args.out.now ++ z)
+returns-then-is_quote-clause-bytes c = c.put_text-then-is_quote.ensures.bytes
+    ∙ ap (λ z. take c.args.at c.args.out.now ++ z)
     (sym (kept_bytes c.args.style c.args.kind c.args.unit.now c.args.escape.now _ c.in-Some.first c.utf8.unit
     c.requires.text c.in-Some.ensures.chars (sym c.is_quote.ensures ∙ c.if-is_quote.true)
     (sym c.is_bared.ensures ∙ c.if-is_bared.false)))

@@ -1,4 +1,4 @@
-use Rattle.rl_text.proofs.Common.{◌≡◌, ◌∙◌, length, ap, arith, encode_utf8}
+use Rattle.rl_text.proofs.Common.{◌∙◌, length, ap, arith, encode_utf8}
 use Rattle.rl_style.proofs.WrittenQuoted.{closer_length, cooked_length, cooked_written, joined}
 use Rattle.rl_style.proofs.cooked.write_cooked.Goals as goal
 
@@ -51,7 +51,8 @@ put_text-requires c =
     )
 
 pub returns-clause-written : goal.returns-clause-written
-returns-clause-written c = (cooked_written c.args.style c.args.kind c.args.text.now c.args.inside.now c.args.suffix.now _
+returns-clause-written c = (cooked_written c.args.style c.args.kind c.args.text.now c.args.inside.now c.args.suffix.now
+    _
     c.utf8.inside c.utf8.suffix c.requires.parts (λ us a. joined _ _ _ _ _ _ _ _ _ c.put_text.ensures.bytes
     c.put_char-at.ensures.bytes c.closer.ensures.value (c.put_units-at.ensures.bytes us a)
     (c.put_text-at.ensures.bytes ∙ c.opener.ensures))).1

@@ -18,7 +18,8 @@ loop-c-preserved c =
         xs ++ (first ∷ []),
         cut ∙ ap (λ z. xs ++ z) s.chars
             ∙ sym (append_assoc xs (first ∷ []) (chars c.in-Some.after.now)),
-        numeral_more c.args.style c.args.drops c.args.hex _ _ [] xs first bytes (ap encode_utf8_all c.in_default-number_character.ensures.value)
+        numeral_more c.args.style c.args.drops c.args.hex _ _ [] xs first bytes
+            (ap encode_utf8_all c.in_default-number_character.ensures.value)
             (sym (append-nil (take l.end l.out))),
       );
       room = omega (arith, l.invariant.room, long);

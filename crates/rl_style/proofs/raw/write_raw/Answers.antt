@@ -1,15 +1,17 @@
-use Rattle.rl_text.proofs.Common.{◌≡◌, ap, arith, rules, not-true, not, Bool, true, false, refl}
+use Rattle.rl_text.proofs.Common.{◌≡◌, ap, arith, not-true, not, Bool, true, false, refl}
 use Rattle.std.specs.Str.{chars}
 use Rattle.rl_style.proofs.WrittenQuoted.{raw_kept, raw_room, raw_stands, raw_trimmed}
 use Rattle.rl_style.proofs.raw.write_raw.Goals as goal
 
 pub returns-then-not-style-clause-written : goal.returns-then-not-style-clause-written
-returns-then-not-style-clause-written c = raw_kept c.args.style c.args.kind (chars c.args.text.now) (chars c.args.inside.now)
+returns-then-not-style-clause-written c = raw_kept c.args.style c.args.kind (chars c.args.text.now)
+    (chars c.args.inside.now)
     (chars c.args.suffix.now) _ c.requires.parts (not-true c.args.style.raw_hashes c.if-not-style.true)
     (ap chars c.put_text.ensures.bytes)
 
 pub unreachable-requires : goal.unreachable-requires
-unreachable-requires c = raw_stands c.args.kind (chars c.args.text.now) (chars c.args.inside.now) (chars c.args.suffix.now)
+unreachable-requires c = raw_stands c.args.kind (chars c.args.text.now) (chars c.args.inside.now)
+    (chars c.args.suffix.now)
     c.requires.parts c.in_default.ensures.none
 
 pub write_raw_into-at-requires-clause-room : goal.write_raw_into-at-requires-clause-room

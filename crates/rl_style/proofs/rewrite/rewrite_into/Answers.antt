@@ -5,4 +5,5 @@ use Rattle.rl_style.proofs.rewrite.rewrite_into.Goals as goal
 
 pub returns-in-None-clause-written : goal.returns-in-None-clause-written
 returns-in-None-clause-written c = inr (inr (inr (inr (word_kept (chars c.args.text.now) _ c.in_ok-reading.ensures.token
-    (sym c.begins_digit.ensures ∙ c.if-begins_digit.false) (sym c.in-None.ensures) (ap chars c.put_text.ensures.bytes)))))
+    (sym c.begins_digit.ensures ∙ c.if-begins_digit.false) (sym c.in-None.ensures)
+    (ap chars c.put_text.ensures.bytes)))))

@@ -1,4 +1,3 @@
-use Rattle.rl_text.proofs.Common.{arith}
 use Rattle.rl_style.proofs.QuotedParts.{cooked_parts, raw_parts}
 use Rattle.rl_style.proofs.rewrite.write_quoted.Goals as goal
 

@@ -47,7 +47,20 @@ fn is_near(word: &str, option: &str) -> bool {
     is_slip(word.as_bytes(), option.as_bytes()) || option.as_bytes().starts_with(word.as_bytes())
 }
 
+/// What stands in a word before the first `=`.
+fn option_part(word: &str) -> &str {
+    match word.split_once('=') {
+        Some((option, _)) => option,
+        None => word,
+    }
+}
+
 /// The first option that a word may stand for.
-pub(crate) fn meant_by(word: &str) -> Option<&'static str> {
+fn near_option(word: &str) -> Option<&'static str> {
     OPTIONS.split(',').find(|option| is_near(word, option))
+}
+
+/// The first option that a word may stand for, or what stands in it before the first `=`.
+pub(crate) fn meant_by(word: &str) -> Option<&'static str> {
+    near_option(option_part(word))
 }
