@@ -31,7 +31,7 @@ impl Case {
 /// ```
 /// use navyspindle::{rewrite, Case, Style};
 ///
-/// const STYLE: Style = Style::new().hex_digits(Case::Lower).raw_hashes(true);
+/// const STYLE: Style = Style::new().hex_digits(Case::Lower).fewest_hashes(true);
 /// assert_eq!(rewrite("0xFFu8", STYLE)?, "0xffu8");
 /// assert_eq!(rewrite(r###"r##"a"b"##"###, STYLE)?, r##"r#"a"b"#"##);
 /// # Ok::<(), navyspindle::ParseError>(())
@@ -94,14 +94,14 @@ impl Style {
     /// ```
     /// use navyspindle::{rewrite, Style};
     ///
-    /// let style = Style::new().underscores(true);
+    /// let style = Style::new().drop_underscores(true);
     /// assert_eq!(rewrite("1_000_u32", style)?, "1000u32");
     /// assert_eq!(rewrite("1_0.5_0e1_0", style)?, "10.50e10");
     /// assert_eq!(rewrite("0_b1", style)?, "0_b1");
     /// # Ok::<(), navyspindle::ParseError>(())
     /// ```
     #[must_use]
-    pub const fn underscores(self, dropped: bool) -> Self {
+    pub const fn drop_underscores(self, dropped: bool) -> Self {
         Style {
             underscores: dropped,
             ..self
@@ -114,14 +114,14 @@ impl Style {
     /// ```
     /// use navyspindle::{rewrite, Style};
     ///
-    /// let style = Style::new().leading_zeros(true);
+    /// let style = Style::new().drop_leading_zeros(true);
     /// assert_eq!(rewrite("007_i32", style)?, "7_i32");
     /// assert_eq!(rewrite("0_00", style)?, "0");
     /// assert_eq!(rewrite("0x07", style)?, "0x07");
     /// # Ok::<(), navyspindle::ParseError>(())
     /// ```
     #[must_use]
-    pub const fn leading_zeros(self, dropped: bool) -> Self {
+    pub const fn drop_leading_zeros(self, dropped: bool) -> Self {
         Style {
             leading_zeros: dropped,
             ..self
@@ -149,11 +149,11 @@ impl Style {
     /// ```
     /// use navyspindle::{rewrite, Style};
     ///
-    /// assert_eq!(rewrite("1e+5", Style::new().exponent_plus(true))?, "1e5");
+    /// assert_eq!(rewrite("1e+5", Style::new().drop_exponent_plus(true))?, "1e5");
     /// # Ok::<(), navyspindle::ParseError>(())
     /// ```
     #[must_use]
-    pub const fn exponent_plus(self, dropped: bool) -> Self {
+    pub const fn drop_exponent_plus(self, dropped: bool) -> Self {
         Style {
             exponent_plus: dropped,
             ..self
@@ -182,13 +182,13 @@ impl Style {
     /// ```
     /// use navyspindle::{rewrite, Style};
     ///
-    /// let style = Style::new().quote_escapes(true);
+    /// let style = Style::new().drop_quote_escapes(true);
     /// assert_eq!(rewrite(r#""a\'b\"c""#, style)?, r#""a'b\"c""#);
     /// assert_eq!(rewrite(r#"'\"'"#, style)?, r#"'"'"#);
     /// # Ok::<(), navyspindle::ParseError>(())
     /// ```
     #[must_use]
-    pub const fn quote_escapes(self, dropped: bool) -> Self {
+    pub const fn drop_quote_escapes(self, dropped: bool) -> Self {
         Style {
             quote_escapes: dropped,
             ..self
@@ -200,12 +200,12 @@ impl Style {
     /// ```
     /// use navyspindle::{rewrite, Style};
     ///
-    /// let style = Style::new().raw_hashes(true);
+    /// let style = Style::new().fewest_hashes(true);
     /// assert_eq!(rewrite(r###"r##"a"##"###, style)?, r#"r"a""#);
     /// # Ok::<(), navyspindle::ParseError>(())
     /// ```
     #[must_use]
-    pub const fn raw_hashes(self, fewest: bool) -> Self {
+    pub const fn fewest_hashes(self, fewest: bool) -> Self {
         Style {
             raw_hashes: fewest,
             ..self
@@ -247,7 +247,7 @@ impl Default for Style {
 /// use navyspindle::{rewrite, Case, FlawKind, Style};
 /// use std::borrow::Cow;
 ///
-/// let style = Style::new().hex_digits(Case::Lower).quote_escapes(true);
+/// let style = Style::new().hex_digits(Case::Lower).drop_quote_escapes(true);
 /// assert_eq!(rewrite("0xFFu8", style)?, "0xffu8");
 /// assert!(matches!(rewrite("0xffu8", style)?, Cow::Borrowed("0xffu8")));
 /// assert_eq!(rewrite("0b102", style).unwrap_err().kind(), FlawKind::DigitOfBase);

@@ -14,11 +14,11 @@ fn style_of(letters: &str) -> Style {
         'E' => style.exponent_letter(Case::Upper),
         'd' => style.escape_digits(Case::Lower),
         'D' => style.escape_digits(Case::Upper),
-        'u' => style.underscores(true),
-        'z' => style.leading_zeros(true),
-        'p' => style.exponent_plus(true),
-        'q' => style.quote_escapes(true),
-        'h' => style.raw_hashes(true),
+        'u' => style.drop_underscores(true),
+        'z' => style.drop_leading_zeros(true),
+        'p' => style.drop_exponent_plus(true),
+        'q' => style.drop_quote_escapes(true),
+        'h' => style.fewest_hashes(true),
         _ => style,
     })
 }
