@@ -24,7 +24,7 @@
 //!
 //! # Features
 //!
-//! - On by default: `sources` ([`source`], [`literals`], [`Lit::take_front`], [`skip_blanks`], [`LineIndex`]), `settings`
+//! - On by default: `sources` ([`source`], [`literals`], [`Lit::check`], [`Lit::take_front`], [`skip_blanks`], [`LineIndex`]), `settings`
 //!   ([`settings`], [`config`], [`Settings`]), `flaws` ([`flaws`], [`pieces`], [`looks_like`]), `writers` ([`write_str`] and its
 //!   siblings, [`LitStr::new`] and its like), `style` ([`rewrite`], [`Style`]). A macro that only reads single literals builds without them in two thirds of the time.
 //! - `proc-macro`: literals from and to the tokens of rustc's own crate `proc_macro`, which [`Lit`] and the structs are then made
@@ -176,6 +176,7 @@ pub use write::{
 /// assert!(!is_token("-1"));
 /// assert!(!is_token("'ab'"));
 /// ```
+#[inline]
 #[must_use]
 pub fn is_token(text: &str) -> bool {
     rl_reasons::read(text).is_ok()

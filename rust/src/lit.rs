@@ -3,6 +3,7 @@
 use crate::kind::Kind;
 use crate::parse_error::ParseError;
 use crate::places::{Places, Segments};
+#[cfg(feature = "sources")]
 use crate::rl_file_reasons::explain_signed_value_in_file;
 use crate::rl_forms;
 use crate::rl_reading::{self, find, is_plain_integer, Body, Found};
@@ -170,6 +171,7 @@ impl<'t> Lit<'t> {
     /// assert_eq!(Lit::new("0b12").check().unwrap_err().kind(), FlawKind::DigitOfBase);
     /// assert_eq!(Lit::new("\"a\r\n\\q\"").check().unwrap_err().range(), 5..6);
     /// ```
+    #[cfg(feature = "sources")]
     pub fn check(&self) -> Result<(), ParseError> {
         match explain_signed_value_in_file(self.text()) {
             None => Ok(()),
