@@ -148,6 +148,15 @@ pub use parse_error::{FlawKind, ParseError, ParseErrorKind};
 pub use places::{Places, Segment, SegmentValue, Segments};
 #[cfg(feature = "proc-macro")]
 pub use proc_macros::{next_literal, next_of, LitOfKind, MacroError};
+/// [`Lit::type_fault`] returns it.
+///
+/// ```
+/// use navyspindle::{Lit, TypeFault};
+///
+/// let fault = Lit::new("256u8").type_fault(false).unwrap();
+/// assert_eq!(fault, TypeFault::OutOfRange);
+/// assert_eq!((fault.id(), fault.words()), ("out-of-range", "out of its type's range"));
+/// ```
 #[cfg(feature = "flaws")]
 pub use rl_types::TypeFault;
 #[cfg(feature = "settings")]
