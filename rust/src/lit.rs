@@ -157,8 +157,7 @@ impl<'t> Lit<'t> {
     /// return, which are literals as `syn` reads them.
     ///
     /// A token may have any suffix, which macros see: of `1u9`, `0XFF` and `"a"q` it is `Ok`, though rustc rejects them where no
-    /// macro takes them. [`LitInt::value`] and [`LitFloat::value`] judge the suffixes of numbers; of other literals as an expression
-    /// it has to be empty ([`Lit::suffix`]).
+    /// macro takes them; [`Lit::type_fault`] says why.
     ///
     /// # Errors
     ///

@@ -134,7 +134,7 @@ impl SettingError {
     }
 
     /// The bytes that are wrong: of an unknown name the name; of a value that Rust rejects what is wrong with it, else the value or its
-    /// suffix; none, at the text's end, of a setting that is missing.
+    /// suffix; none, at the text's end, of a setting that is missing; of a quote that isn't closed all up to the text's end.
     ///
     /// ```
     /// use navyspindle::{Key, Settings};

@@ -32,7 +32,7 @@ pub struct Source<'t> {
 ///
 /// What stands in comments is no literal, a minus is no part of one, and the words `true` and `false` are literals. A
 /// token that is a literal by its form and has no reading comes as [`Lit::Verbatim`], as `'\q'` does. Literals are read as `syn`
-/// does; [`Lit::check`] says whether Rust takes one too.
+/// does, so `0b102` comes as a float; [`Lit::check`] says whether Rust takes one too.
 ///
 /// A quote that holds no or several characters is a literal of the source all the same, up to where it ends, as to rustc's lexer:
 /// `''`, `'ab'`, `b'hello'`, and `'1a`. It has no reading either. [`Source::recover`] goes on after each error.

@@ -241,7 +241,8 @@ impl Default for Style {
 ///
 /// # Errors
 ///
-/// The text is no literal token of the Rust Reference; a minus is a token of its own.
+/// The text is no literal token of the Rust Reference: a minus is a token of its own, and a string that holds a CR LF isn't one either,
+/// which [`Lit::check`](crate::Lit::check) takes where it stands in a file. `examples/format.rs` writes whole files anew.
 ///
 /// ```
 /// use navyspindle::{rewrite, Case, FlawKind, Style};

@@ -15,12 +15,14 @@ impl fmt::Display for TypeFault {
 impl core::error::Error for TypeFault {}
 
 impl Lit<'_> {
-    /// Why Rust has no type for the literal: its suffix is none of a number's type, or its value is out of that type's range.
+    /// Why Rust has no type for the literal: its suffix is none of a number's type, or it is an integer out of that type's range.
     /// rustc says so of a literal in an expression, and not of one that a macro takes. `None` where there is a type, where the
-    /// literal has no suffix, since Rust infers its type then, and of a `Verbatim`, which [`Lit::check`] judges.
+    /// literal has no suffix, since Rust infers its type then, and of a `Verbatim`, which rustc rejects anyway. Floats that are too
+    /// large are found by [`LitFloat::value`](crate::LitFloat::value).
     ///
     /// `negated` says whether a minus stands before the literal, which makes `128i8` a value of its type; one in its own text
-    /// counts too. `usize` and `isize` have 64 bits.
+    /// counts too. Who knows only a literal of [`source`](fn@crate::source), which has none, passes `true`, and misses `128i8`.
+    /// `usize` and `isize` have 64 bits.
     ///
     /// ```
     /// use navyspindle::{Lit, TypeFault};

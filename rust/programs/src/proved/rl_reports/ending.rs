@@ -29,8 +29,8 @@ What is printed: every literal; or one of --bad, --hidden, --only; or --find
                        wherever they stand
       --only KIND,..   literals of these kinds: Str ByteStr CStr Byte Char Int
                        Float Bool Verbatim, in any case
-  -e, --find TEXT      literals that hold TEXT, however it is written, at its
-                       place; goes with --only
+  -e, --find TEXT      strings, characters and bytes that hold TEXT, however it
+                       is written, at its first place; goes with --only
   -i, --ignore-case    of --find: small and large letters of ASCII are the same
   -w, --word           of --find: TEXT as whole words
       --no-stray       a character that begins no token is an error
@@ -73,7 +73,7 @@ Examples:
 ";
 
 /// Which version it is.
-pub const VERSION: &str = "rl_scan 1.0.0\n";
+pub const VERSION: &str = "rl_scan 0.2.0\n";
 
 /// Why a call fails.
 pub enum CallError<A: Allocator = Global> {
