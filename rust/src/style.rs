@@ -8,6 +8,13 @@ use alloc::string::String;
 use alloc::vec;
 
 /// Letters in lower or in upper case.
+///
+/// ```
+/// use navyspindle::{rewrite, Case, Style};
+///
+/// assert_eq!(rewrite("0xFf", Style::new().hex_digits(Case::Upper))?, "0xFF");
+/// # Ok::<(), navyspindle::ParseError>(())
+/// ```
 #[derive(Clone, Copy, Debug, PartialEq, Eq, Hash)]
 pub enum Case {
     /// As `a`.
