@@ -3,8 +3,8 @@
 mod written;
 
 use navyspindle::{
-    macro_settings, next_literal, next_of, write_str, Lit, LitInt, LitStr, MacroError, MacroText,
-    Key,
+    macro_settings, next_literal, next_of, write_str, Key, Lit, LitInt, LitStr, MacroError,
+    MacroText,
 };
 use proc_macro::{Punct, Spacing, Span, TokenStream, TokenTree};
 use std::iter::Peekable;

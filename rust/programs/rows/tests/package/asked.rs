@@ -3,7 +3,7 @@
 use crate::flaws::proved_flaw_in_file;
 use crate::lists::{range_at, words_of};
 use crate::literals::{check_same, Proved};
-use navyspindle::{settings, Lit, Number, Key, SettingError, Settings};
+use navyspindle::{settings, Key, Lit, Number, SettingError, Settings};
 use navyspindle_programs::rattle_std::alloc::Global;
 use navyspindle_programs::rl_attributes::{self, Attrs};
 use navyspindle_programs::rl_tokens::{parse_all, Error, ErrorKind};
@@ -142,10 +142,7 @@ fn check_name(text: &str, ours: &Settings, proved: &Attrs, name: &'static str) {
 /// That names are known: the first that isn't is an error.
 fn check_known(text: &str, ours: &Settings, proved: &Attrs, known: &[&'static str]) {
     let expected = EXPECTED;
-    let settings: Vec<_> = known
-        .iter()
-        .map(|&name| Key::new(name, expected))
-        .collect();
+    let settings: Vec<_> = known.iter().map(|&name| Key::new(name, expected)).collect();
     let unknown = proved
         .entries()
         .iter()
