@@ -148,17 +148,17 @@ pub use parse_error::{FlawKind, ParseError, ParseErrorKind};
 pub use places::{Places, Segment, SegmentValue, Segments};
 #[cfg(feature = "proc-macro")]
 pub use proc_macros::{next_literal, next_of, LitOfKind, MacroError};
-/// [`Lit::type_fault`] returns it.
+/// [`Lit::type_error`] returns it.
 ///
 /// ```
-/// use navyspindle::{Lit, TypeFault};
+/// use navyspindle::{Lit, TypeError};
 ///
-/// let fault = Lit::new("256u8").type_fault(false).unwrap();
-/// assert_eq!(fault, TypeFault::OutOfRange);
-/// assert_eq!((fault.id(), fault.words()), ("out-of-range", "out of its type's range"));
+/// let error = Lit::new("256u8").type_error(false).unwrap();
+/// assert_eq!(error, TypeError::OutOfRange);
+/// assert_eq!((error.id(), error.words()), ("out-of-range", "out of its type's range"));
 /// ```
 #[cfg(feature = "flaws")]
-pub use rl_types::TypeFault;
+pub use rl_types::TypeFault as TypeError;
 #[cfg(feature = "settings")]
 pub use setting::{Key, SettingError, SettingErrorKind, Settings};
 #[cfg(feature = "settings")]

@@ -157,7 +157,7 @@ impl<'t> Lit<'t> {
     /// return, which are literals as `syn` reads them.
     ///
     /// A token may have any suffix, which macros see: of `1u9`, `0XFF` and `"a"q` it is `Ok`, though rustc rejects them where no
-    /// macro takes them; [`Lit::type_fault`] says why.
+    /// macro takes them; [`Lit::type_error`] says why.
     ///
     /// # Errors
     ///

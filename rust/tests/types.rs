@@ -66,12 +66,12 @@ const REJECTED: &[(&str, &str)] = &[
 
 /// Whether Rust has a type for the literal after the minus, by the literal alone and as one with its minus.
 fn has_type((minus, text): (&str, &str)) -> bool {
-    let fault = Lit::new(text).type_fault(!minus.is_empty());
+    let error = Lit::new(text).type_error(!minus.is_empty());
     let whole = Lit::new(format!("{minus}{text}"));
     if whole.kind() != Kind::Verbatim {
-        assert_eq!(whole.type_fault(false), fault, "{minus}{text}");
+        assert_eq!(whole.type_error(false), error, "{minus}{text}");
     }
-    fault.is_none()
+    error.is_none()
 }
 
 #[test]
@@ -89,8 +89,8 @@ fn what_rustc_rejects_has_none() {
 }
 
 #[test]
-fn a_fault_has_words_and_a_name() {
-    let fault = Lit::new("1u9").type_fault(false).unwrap();
-    assert_eq!(fault.to_string(), fault.words());
-    assert_eq!(fault.id(), "unknown-suffix");
+fn an_error_has_words_and_a_name() {
+    let error = Lit::new("1u9").type_error(false).unwrap();
+    assert_eq!(error.to_string(), error.words());
+    assert_eq!(error.id(), "unknown-suffix");
 }
