@@ -1,3 +1,4 @@
 pub mod NumberTypes
 pub mod TypeFaults
 pub mod FaultWords
+pub mod Before

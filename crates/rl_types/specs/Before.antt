@@ -1,0 +1,89 @@
+-- What stands right before a literal. Texts are lists of bytes, taken backwards from the literal on.
+use Rattle.std.specs.Prelude.{◌==◌, ℕ, nat_le, Bool, true, false, cond, not, ◌||◌, ◌&&◌, List, [], ◌∷◌, length, drop, reverse, Option, Some, None}
+use Rattle.std.specs.Char.{is_ascii_alphanumeric}
+use Rattle.std.specs.Char.{is_ascii_digit}
+use Rattle.rl_types.specs.declared.before.Edition.{Edition}
+use Rattle.rl_types.specs.declared.before.Edition.TheVariants.{E2015, E2018, E2021, E2024}
+use Rattle.rl_types.specs.declared.before.Part.{Part}
+use Rattle.rl_types.specs.declared.before.Part.TheVariants.{Inline, Passed, Hash, Word}
+
+-- the byte is one of the class
+abbrev pub is_inline : ℕ → Bool
+is_inline b = (b == 9) || (b == 11) || (b == 12) || (b == 13) || (b == 32) || (b == 40)
+
+abbrev pub has_part : Part → ℕ → Bool
+has_part Inline b = is_inline b
+has_part Passed b = is_inline b || (b == 10)
+has_part Hash b = b == 35
+has_part Word b = is_ascii_alphanumeric b || (b == 95)
+
+-- what is left behind those of the class
+abbrev pub kept : Part → List ℕ → List ℕ
+kept part [] = []
+kept part (b ∷ back) = cond (has_part part b) (kept part back) (b ∷ back)
+
+-- the bytes without those at their end that are of the class
+abbrev pub without : Part → List ℕ → List ℕ
+without part bytes = reverse (kept part (reverse bytes))
+
+-- this byte comes first
+abbrev pub comes_first : ℕ → List ℕ → Bool
+comes_first wanted [] = false
+comes_first wanted (b ∷ back) = b == wanted
+
+-- two slashes come before the line's front
+abbrev pub holds_comment : List ℕ → Bool
+holds_comment [] = false
+holds_comment (b ∷ back) =
+    not (b == 10) && (((b == 47) && comes_first 47 back) || holds_comment back)
+
+-- a minus comes first, or what may be the end of a comment or white space past ASCII
+abbrev pub can_end_minus : List ℕ → Bool
+can_end_minus [] = false
+can_end_minus (b ∷ back) = (b == 45) || (b == 47) || nat_le 128 b
+
+-- A minus may stand before: but for white space and opening parentheses it comes first, or what may be a comment's end
+-- does. In another line that may be two slashes and what follows them.
+abbrev pub may_negate : List ℕ → Bool
+may_negate before =
+    can_end_minus (reverse (without Passed before))
+    || (comes_first 10 (reverse (without Inline before)) && holds_comment (reverse (without Passed before)))
+
+-- it begins as a name does, and not as a number
+abbrev pub begins_name : List ℕ → Bool
+begins_name [] = false
+begins_name (b ∷ bytes) = not (is_ascii_digit b)
+
+-- a quote, a hash or a character past ASCII comes first
+abbrev pub goes_on : List ℕ → Bool
+goes_on [] = false
+goes_on (b ∷ back) = (b == 34) || (b == 39) || (b == 35) || nat_le 128 b
+
+-- a word ends here that is no number and no part of a literal, a lifetime or a raw identifier
+abbrev pub is_after_word : List ℕ → Bool
+is_after_word bytes =
+    begins_name (drop (length (without Word bytes)) bytes) && not (goes_on (reverse (without Word bytes)))
+
+-- hashes end here, and in front of them no quote, whose raw string they would close
+abbrev pub is_after_hashes : List ℕ → List ℕ → Bool
+is_after_hashes bytes front = comes_first 35 (reverse bytes) && not (comes_first 34 (reverse front))
+
+-- from which edition on a literal and the bytes before it are a reserved form
+abbrev pub reserving : List ℕ → List ℕ → Option Edition
+reserving before literal =
+    cond ((comes_first 34 literal || comes_first 39 literal) && is_after_word (without Hash before)) (Some E2021)
+    (cond (comes_first 34 literal && is_after_hashes before (without Hash before)) (Some E2024) None)
+
+abbrev pub year_of : Edition → ℕ
+year_of E2015 = 2015
+year_of E2018 = 2018
+year_of E2021 = 2021
+year_of E2024 = 2024
+
+-- they are in this edition
+abbrev pub is_in_edition : Edition → Option Edition → Bool
+is_in_edition edition None = false
+is_in_edition edition (Some from) = nat_le (year_of from) (year_of edition)
+
+abbrev pub reserved : Edition → List ℕ → List ℕ → Bool
+reserved edition before literal = is_in_edition edition (reserving before literal)
