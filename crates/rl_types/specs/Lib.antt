@@ -1,3 +1,3 @@
 pub mod NumberTypes
-pub mod TypeFaults
-pub mod FaultWords
+pub mod TypeErrors
+pub mod ErrorWords
