@@ -158,7 +158,7 @@ pub use proc_macros::{next_literal, next_of, LitOfKind, MacroError};
 /// assert_eq!((error.id(), error.words()), ("out-of-range", "out of its type's range"));
 /// ```
 #[cfg(feature = "flaws")]
-pub use rl_types::TypeFault as TypeError;
+pub use rl_types::TypeError;
 #[cfg(feature = "settings")]
 pub use setting::{Key, SettingError, SettingErrorKind, Settings};
 #[cfg(feature = "settings")]

@@ -2,7 +2,7 @@
 
 use crate::lit::Lit;
 use crate::rl_reading::find;
-use crate::rl_types::{self, TypeFault as TypeError};
+use crate::rl_types::{self, TypeError};
 use core::fmt;
 
 /// What is wrong, in words.
@@ -41,6 +41,6 @@ impl Lit<'_> {
             Some(body) => (body, true),
             None => (text, negated),
         };
-        rl_types::type_fault(body, &find(body)?, negated)
+        rl_types::type_error(body, &find(body)?, negated)
     }
 }

@@ -15,7 +15,7 @@ use Rattle.rl_flaws.specs.declared.bad_piece.BadPiece.{BadPiece}
 use Rattle.rl_sources.specs.declared.finding.Finding.{Finding}
 use Rattle.rl_sources.specs.declared.finding.Wrong.TheVariants as wrong
 use Rattle.rl_reading.specs.declared.found.Found.{Found}
-use Rattle.rl_types.specs.declared.faults.TypeFault.{TypeFault}
+use Rattle.rl_types.specs.declared.type_errors.TypeError.{TypeError}
 use Rattle.rl_sources.specs.declared.finding.Reason.TheVariants as reason
 use Rattle.rl_sources.specs.declared.options.Options.{Options}
 use Rattle.rl_sources.specs.declared.place.Place.{Place}
@@ -164,12 +164,12 @@ flaw_lines options whole text read lo flaw start old new (inl e) other u is are 
 
 -- ---- a literal that Rust has no type for
 
-pub fault_line : (options : Options) (whole text : List ℕ) (found : Option Found) (lo : ℕ) (fault : TypeFault)
-    (finding : Finding) (old new : List ℕ) → IsWrong options.any_suffix text found (wrong.Type fault)
-    → IsTypeFinding (chars text) fault finding → Appends (IsFindingLine options whole (chars text) lo finding) old new
+pub type_error_line : (options : Options) (whole text : List ℕ) (found : Option Found) (lo : ℕ) (error : TypeError)
+    (finding : Finding) (old new : List ℕ) → IsWrong options.any_suffix text found (wrong.Type error)
+    → IsTypeFinding (chars text) error finding → Appends (IsFindingLine options whole (chars text) lo finding) old new
     → Appends (IsTypeLine options whole text found lo) old new
-fault_line options whole text found lo fault finding old new bad is (line, shows, f) =
-    (line, (fault, finding, bad, is, shows), f)
+type_error_line options whole text found lo error finding old new bad is (line, shows, f) =
+    (line, (error, finding, bad, is, shows), f)
 
 -- ---- any of these
 

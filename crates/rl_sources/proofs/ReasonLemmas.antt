@@ -24,9 +24,9 @@ use Rattle.rl_lines.proofs.LineLemmas.{pushed}
 use Rattle.rl_file_reasons.specs.FileTexts.{ExplainsInFile}
 use Rattle.rl_sources.specs.Held.{IsCutAt}
 use Rattle.rl_sources.specs.Places.{HoldsPlaces}
-use Rattle.rl_types.specs.FaultWords.{fault_id, fault_message}
-use Rattle.rl_types.specs.declared.faults.TypeFault.{TypeFault}
-use Rattle.rl_types.specs.declared.faults.TypeFault.TheVariants.{QuotedSuffix, UnknownSuffix, FloatSuffix, BasedFloat as BasedFloatSuffix, OutOfRange}
+use Rattle.rl_types.specs.ErrorWords.{type_error_id, type_error_message}
+use Rattle.rl_types.specs.declared.type_errors.TypeError.{TypeError}
+use Rattle.rl_types.specs.declared.type_errors.TypeError.TheVariants.{QuotedSuffix, UnknownSuffix, FloatSuffix, BasedFloat as BasedFloatSuffix, OutOfRange}
 use Rattle.rl_sources.specs.declared.finding.Finding.{Finding}
 use Rattle.rl_sources.specs.declared.finding.Reason.{Reason}
 use Rattle.rl_sources.specs.declared.finding.Reason.TheVariants as reason
@@ -184,16 +184,16 @@ message_low DigitOfBase = refl
 message_low BasedFloat = refl
 message_low NoFractionDigit = refl
 
-fault_low : (fault : TypeFault) → list_all is_ascii (fault_message fault) ≡ true
-fault_low QuotedSuffix = refl
-fault_low UnknownSuffix = refl
-fault_low FloatSuffix = refl
-fault_low BasedFloatSuffix = refl
-fault_low OutOfRange = refl
+type_error_low : (error : TypeError) → list_all is_ascii (type_error_message error) ≡ true
+type_error_low QuotedSuffix = refl
+type_error_low UnknownSuffix = refl
+type_error_low FloatSuffix = refl
+type_error_low BasedFloatSuffix = refl
+type_error_low OutOfRange = refl
 
 pub reason_low : (why : Reason) → list_all is_ascii (reason_message why) ≡ true
 reason_low (reason.Flaw kind) = message_low kind
-reason_low (reason.Type fault) = fault_low fault
+reason_low (reason.Type error) = type_error_low error
 
 flaw_id_low : (kind : FlawKind) → list_all is_ascii (flaw_id kind) ≡ true
 flaw_id_low Empty = refl
@@ -230,16 +230,16 @@ flaw_id_low DigitOfBase = refl
 flaw_id_low BasedFloat = refl
 flaw_id_low NoFractionDigit = refl
 
-fault_id_low : (fault : TypeFault) → list_all is_ascii (fault_id fault) ≡ true
-fault_id_low QuotedSuffix = refl
-fault_id_low UnknownSuffix = refl
-fault_id_low FloatSuffix = refl
-fault_id_low BasedFloatSuffix = refl
-fault_id_low OutOfRange = refl
+type_error_id_low : (error : TypeError) → list_all is_ascii (type_error_id error) ≡ true
+type_error_id_low QuotedSuffix = refl
+type_error_id_low UnknownSuffix = refl
+type_error_id_low FloatSuffix = refl
+type_error_id_low BasedFloatSuffix = refl
+type_error_id_low OutOfRange = refl
 
 pub id_low : (why : Reason) → list_all is_ascii (reason_id why) ≡ true
 id_low (reason.Flaw kind) = flaw_id_low kind
-id_low (reason.Type fault) = fault_id_low fault
+id_low (reason.Type error) = type_error_id_low error
 
 -- the words of an error, as they are written
 message_ascii : (message after : List ℕ) → list_all is_ascii message ≡ true → list_all is_ascii after ≡ true

@@ -32,10 +32,10 @@ use Rattle.rl_sources.specs.Places.{line_front, place_text, IsPlaceIn}
 use Rattle.rl_sources.specs.Held.{Holds, IsHeldAt}
 use Rattle.rl_sources.specs.Scans.{IsPicked, IsPlacedLine, AreReasonLines, IsHeldLine, IsLineAt, IsLineEnd, IsLineIn, IsPickedLine, IsPrintedAs, IsShownLiteral}
 use Rattle.rl_sources.specs.Steps.{LooksForFlaws}
-use Rattle.rl_sources.specs.Findings.{FindsFlaw, FindsNoFlaw, HasFoundFault, HasFoundType, IsBad, IsFoundIn, IsRight, IsWrong}
+use Rattle.rl_sources.specs.Findings.{FindsFlaw, FindsNoFlaw, HasFoundError, HasFoundType, IsBad, IsFoundIn, IsRight, IsWrong}
 use Rattle.rl_sources.specs.declared.finding.Wrong.{Wrong}
 use Rattle.rl_sources.specs.declared.finding.Wrong.TheVariants as wrong
-use Rattle.rl_types.specs.declared.faults.TypeFault.{TypeFault}
+use Rattle.rl_types.specs.declared.type_errors.TypeError.{TypeError}
 use Rattle.rl_types.proofs.Exclusions.{no_both}
 use Rattle.rl_reasons.specs.Limits.{IsFloatBySuffix}
 use Rattle.rl_file_reasons.proofs.FilePlaces.{signed_same}
@@ -225,18 +225,18 @@ no_flaw_found text flaw (token, reads) (inr (_, (signed, e, no_float))) = elim r
   | inr f ↦ no_float (subst IsFloatBySuffix (signed_same text signed) f)
 ]
 
-no_fault_found : (text : List ℕ) (found : Option Found) (fault : TypeFault) → HasFoundType text found
-    → HasFoundFault text found fault → ⊥
-no_fault_found text None fault has is = is
-no_fault_found text (Some f) fault has is =
-    no_both fault f.kind (chars text) f.magnitude true (suffix_in text f.body) is has
+no_error_found : (text : List ℕ) (found : Option Found) (error : TypeError) → HasFoundType text found
+    → HasFoundError text found error → ⊥
+no_error_found text None error has is = is
+no_error_found text (Some f) error has is =
+    no_both error f.kind (chars text) f.magnitude true (suffix_in text f.body) is has
 
 not_bad : (any : Bool) (text : List ℕ) (found : Option Found) (bad : Wrong) → IsRight any text found
     → IsWrong any text found bad → ⊥
 not_bad any text found (wrong.Flaw flaw) right is = no_flaw_found (chars text) flaw right.0 is
-not_bad any text found (wrong.Type fault) right is = elim right.1 [
+not_bad any text found (wrong.Type error) right is = elim right.1 [
   | inl t ↦ false≢true (sym is.0 ∙ t)
-  | inr has ↦ no_fault_found text found fault has is.2
+  | inr has ↦ no_error_found text found error has is.2
 ]
 
 -- what was looked for says whether a literal is picked

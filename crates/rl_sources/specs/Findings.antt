@@ -6,8 +6,8 @@ use Rattle.rl_reading.specs.Founds.{IsFound, suffix_in}
 use Rattle.rl_reading.specs.declared.found.Found.{Found}
 use Rattle.rl_reasons.specs.Limits.{IsFloatBySuffix}
 use Rattle.rl_strict.specs.StrictShapes.{IsToken}
-use Rattle.rl_types.specs.TypeFaults.{HasFault, HasType}
-use Rattle.rl_types.specs.declared.faults.TypeFault.{TypeFault}
+use Rattle.rl_types.specs.TypeErrors.{HasTypeError, HasType}
+use Rattle.rl_types.specs.declared.type_errors.TypeError.{TypeError}
 use Rattle.rl_sources.specs.declared.finding.Wrong.{Wrong}
 use Rattle.rl_sources.specs.declared.finding.Wrong.TheVariants as wrong
 use Rattle.rl_text.specs.Texts.{byte_len}
@@ -17,7 +17,7 @@ use Rattle.rl_file_reasons.specs.FileTexts.{ExplainsValueInFile, IsPlaceInFile, 
 use Rattle.rl_flaws.specs.BadPieces.{is_of_unit}
 use Rattle.rl_flaws.specs.Flawed.{FlawsState, GivesFlaw}
 use Rattle.rl_flaws.specs.declared.bad_piece.BadPiece.{BadPiece}
-use Rattle.rl_types.specs.FaultWords.{fault_id, fault_message}
+use Rattle.rl_types.specs.ErrorWords.{type_error_id, type_error_message}
 use Rattle.rl_sources.specs.declared.finding.Finding.{Finding}
 use Rattle.rl_sources.specs.declared.finding.Reason.{Reason}
 use Rattle.rl_sources.specs.declared.finding.Reason.TheVariants as reason
@@ -25,11 +25,11 @@ use Rattle.rl_sources.specs.declared.finding.Reason.TheVariants as reason
 -- what is wrong, in words, and by a name that stays
 abbrev pub reason_message : Reason → List ℕ
 reason_message (reason.Flaw kind) = flaw_message kind
-reason_message (reason.Type fault) = fault_message fault
+reason_message (reason.Type error) = type_error_message error
 
 abbrev pub reason_id : Reason → List ℕ
 reason_id (reason.Flaw kind) = flaw_id kind
-reason_id (reason.Type fault) = fault_id fault
+reason_id (reason.Type error) = type_error_id error
 
 -- the flaw of the text of a literal: as rustc reads it, it is no token; or it is an integer past 128 bits, and no float
 abbrev pub FindsFlaw : List ℕ → Flaw → Type 0
@@ -45,10 +45,10 @@ pub record IsFoundIn (text : List ℕ) (found : Option Found) : Type 0 where
   pub some : IfSome found (IsFound text)
 
 -- Rust has no type for what was found, or has one; a minus may stand before it. A text without a reading is a float by its suffix.
-abbrev pub HasFoundFault : List ℕ → Option Found → TypeFault → Type 0
-HasFoundFault text None fault = ⊥
-HasFoundFault text (Some found) fault =
-    HasFault fault found.kind (chars text) found.magnitude true (suffix_in text found.body)
+abbrev pub HasFoundError : List ℕ → Option Found → TypeError → Type 0
+HasFoundError text None error = ⊥
+HasFoundError text (Some found) error =
+    HasTypeError error found.kind (chars text) found.magnitude true (suffix_in text found.body)
 
 abbrev pub HasFoundType : List ℕ → Option Found → Type 0
 HasFoundType text None = ⊤
@@ -57,8 +57,8 @@ HasFoundType text (Some found) = HasType found.kind (chars text) found.magnitude
 -- what is wrong with the text of a literal, in bytes, of what was found; any suffix may stand there, or not
 abbrev pub IsWrong : Bool → List ℕ → Option Found → Wrong → Type 0
 IsWrong any_suffix text found (wrong.Flaw flaw) = FindsFlaw (chars text) flaw
-IsWrong any_suffix text found (wrong.Type fault) =
-    IsFalse any_suffix × FindsNoFlaw (chars text) × HasFoundFault text found fault
+IsWrong any_suffix text found (wrong.Type error) =
+    IsFalse any_suffix × FindsNoFlaw (chars text) × HasFoundError text found error
 
 -- nothing is wrong with it
 abbrev pub IsRight : Bool → List ℕ → Option Found → Type 0
@@ -102,8 +102,8 @@ pub record IsLimitFinding (text : List ℕ) (flaw : Flaw) (finding : Finding) : 
   pub to_is : finding.to ≡ byte_len text
 
 -- That Rust has no type for a literal: place and piece are the whole literal.
-pub record IsTypeFinding (text : List ℕ) (fault : TypeFault) (finding : Finding) : Type 0 where
-  pub reason_is : finding.reason ≡ reason.Type fault
+pub record IsTypeFinding (text : List ℕ) (error : TypeError) (finding : Finding) : Type 0 where
+  pub reason_is : finding.reason ≡ reason.Type error
   pub lo_is : finding.lo ≡ 0
   pub hi_is : finding.hi ≡ byte_len text
   pub from_is : finding.from ≡ 0

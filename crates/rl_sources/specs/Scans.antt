@@ -38,7 +38,7 @@ use Rattle.rl_sources.specs.declared.finding.Finding.{Finding}
 use Rattle.rl_sources.specs.declared.finding.Reason.{Reason}
 use Rattle.rl_sources.specs.declared.finding.Wrong.TheVariants as wrong
 use Rattle.rl_reading.specs.declared.found.Found.{Found}
-use Rattle.rl_types.specs.declared.faults.TypeFault.{TypeFault}
+use Rattle.rl_types.specs.declared.type_errors.TypeError.{TypeError}
 use Rattle.std.specs.Str.{chars}
 use Rattle.rl_sources.specs.Held.{Holds, IsHeldAt}
 use Rattle.rl_sources.specs.Hidden.{ShowsHidden}
@@ -118,8 +118,8 @@ IsLimitLine options whole text lo shown =
 -- the line of a literal, its text in bytes, that Rust has no type for
 abbrev pub IsTypeLine : Options → List ℕ → List ℕ → Option Found → ℕ → List ℕ → Type 0
 IsTypeLine options whole text found lo shown =
-    (fault : TypeFault) × (finding : Finding) × IsWrong options.any_suffix text found (wrong.Type fault)
-    × IsTypeFinding (chars text) fault finding × IsFindingLine options whole (chars text) lo finding shown
+    (error : TypeError) × (finding : Finding) × IsWrong options.any_suffix text found (wrong.Type error)
+    × IsTypeFinding (chars text) error finding × IsFindingLine options whole (chars text) lo finding shown
 
 -- the lines that say why a literal, its text in bytes, which begins at this byte of the whole source, is bad: one for each of its
 -- flaws, or the one of an integer past 128 bits, or of what Rust has no type for

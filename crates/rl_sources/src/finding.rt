@@ -4,7 +4,7 @@ ghost use Rattle.std.specs.Prelude.{◌≡◌};
 ghost use Rattle.rl_sources.specs.Findings.{reason_id, reason_message};
 
 use rl_reasons::{Flaw, FlawKind};
-use rl_types::TypeFault;
+use rl_types::TypeError;
 
 /// What is wrong with a literal.
 #[derive(Clone, Copy)]
@@ -12,7 +12,7 @@ pub(crate) enum Reason {
     /// It is no literal token, or an integer past 128 bits.
     Flaw(FlawKind),
     /// Rust has no type for it.
-    Type(TypeFault),
+    Type(TypeError),
 }
 
 /// Something wrong with a literal, by places in its text, in bytes.
@@ -34,7 +34,7 @@ pub(crate) struct Finding {
 #[derive(Clone, Copy)]
 pub(crate) enum Wrong {
     Flaw(Flaw),
-    Type(TypeFault),
+    Type(TypeError),
 }
 
 impl Reason {
@@ -44,7 +44,7 @@ impl Reason {
     {
         match self {
             Reason::Flaw(kind) => kind.words(),
-            Reason::Type(fault) => fault.words(),
+            Reason::Type(error) => error.words(),
         }
     }
 
@@ -54,7 +54,7 @@ impl Reason {
     {
         match self {
             Reason::Flaw(kind) => kind.id(),
-            Reason::Type(fault) => fault.id(),
+            Reason::Type(error) => error.id(),
         }
     }
 }

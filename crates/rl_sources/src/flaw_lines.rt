@@ -22,7 +22,7 @@ use crate::place::Places;
 use crate::reason::push_finding;
 use rl_flaws::{BadPiece, Flaws, is_of_unit};
 use rl_reasons::{Flaw, FlawKind};
-use rl_types::TypeFault;
+use rl_types::TypeError;
 use std::alloc::{AllocError, Allocator};
 
 /// A place in the file, in bytes of the text.
@@ -181,13 +181,13 @@ fn push_flaws<'t, A: Allocator>(
 }
 
 /// The finding of a literal that Rust has no type for.
-fn type_finding(text: &str, fault: TypeFault) -> Finding
-    ensures finding { IsTypeFinding (chars text.now) fault result }
+fn type_finding(text: &str, error: TypeError) -> Finding
+    ensures finding { IsTypeFinding (chars text.now) error result }
     ensures cut { IsCutAt (chars text.now) result.lo }
     ensures within { result.hi ≤ byte_len (chars text.now) }
 {
     Finding {
-        reason: Reason::Type(fault),
+        reason: Reason::Type(error),
         lo: 0,
         hi: text.len(),
         from: 0,
@@ -196,22 +196,22 @@ fn type_finding(text: &str, fault: TypeFault) -> Finding
 }
 
 /// Appends the line of a literal that Rust has no type for.
-fn push_fault<'t, A: Allocator>(
+fn push_type_error<'t, A: Allocator>(
     out: &mut String<A>,
     options: &Options<'_>,
     literal: &Literal<'_, 't>,
     places: &mut Places<'t>,
-    fault: TypeFault,
+    error: TypeError,
 ) -> Result<(), AllocError>
     requires rest { BeginsRest literal.now.token.now places.old literal.now.rest.now }
-    requires wrong { IsWrong options.now.any_suffix literal.now.token.now.text.now literal.now.found.now (wrong.Type fault) }
+    requires wrong { IsWrong options.now.any_suffix literal.now.token.now.text.now literal.now.found.now (wrong.Type error) }
     ensures shown { OnOk result (Appends
         (IsTypeLine options.now (chars places.old) literal.now.token.now.text.now literal.now.found.now
         literal.now.token.now.lo)
         (chars (string_bytes out.old)) (chars (string_bytes out.new))) }
     ensures same { places.new ≡ places.old }
 {
-    let finding = type_finding(literal.token.text, fault);
+    let finding = type_finding(literal.token.text, error);
     push_finding(out, options, literal, places, finding)
 }
 
@@ -236,6 +236,6 @@ pub(crate) fn push_wrong<'t, A: Allocator>(
     match wrong {
         Wrong::Flaw(flaw) if is_limit(flaw) => push_limit(out, options, literal, places, flaw),
         Wrong::Flaw(flaw) => push_flaws(alloc, out, options, literal, places, flaw),
-        Wrong::Type(fault) => push_fault(out, options, literal, places, fault),
+        Wrong::Type(error) => push_type_error(out, options, literal, places, error),
     }
 }

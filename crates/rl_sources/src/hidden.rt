@@ -2,9 +2,7 @@
 
 ghost use Rattle.std.specs.Prelude.{◌≡◌, ◌+◌, ◌++◌, ◌∷◌, IfOk, OnOk, length, string_bytes};
 ghost use Rattle.std.specs.Str.{chars};
-ghost use Rattle.rl_text.specs.Texts.{IsTail};
 ghost use Rattle.rl_lexer.specs.Cursors.{IsCursorState};
-ghost use Rattle.rl_lexer.specs.Sources.{without_mark as unmarked};
 ghost use Rattle.rl_lines.specs.Lines.{Appends};
 ghost use Rattle.rl_sources.specs.Hidden.{IsHiddenLine, IsShownCharacter, ShowsHidden, character_words, direction_name as name_of, hidden_end, hides as is_hider, is_layout as layout};
 
@@ -12,6 +10,7 @@ use crate::json::{is_json, push_ascii, push_member};
 use crate::options::{Form, Options};
 use crate::place::{Places, place_of, push_front};
 use rl_files::needs_escape;
+use rl_lexer::without_mark;
 use rl_tokens::text::{begins_with, split_char};
 use std::alloc::{AllocError, Allocator};
 
@@ -132,17 +131,6 @@ fn push_character<'t, A: Allocator>(
     push_hidden_line(alloc, out, options, places, rest, c, after)
 }
 
-/// The text after a byte order mark at its front.
-fn after_mark(text: &str) -> &str
-    ensures rest { chars result.now ≡ unmarked (chars text.now) }
-    ensures following { IsTail text.now result.now }
-{
-    match split_char(text) {
-        Some(('\u{feff}', after)) => after,
-        _ => text,
-    }
-}
-
 /// The lines of the characters of a source that turn or hide text, in order: the place of each, and after it its number,
 /// with its name where it turns the direction of text.
 ///
@@ -158,7 +146,7 @@ pub(crate) fn hidden_lines<A: Allocator + Copy>(
 {
     let mut lines = String::new(alloc);
     let mut places = Places::new(text);
-    let mut rest = after_mark(text);
+    let mut rest = without_mark(text);
     while let Some((c, after)) = split_char(rest) {
         push_character(alloc, &mut lines, options, &mut places, rest, c, after)?;
         rest = after;

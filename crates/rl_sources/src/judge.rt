@@ -2,14 +2,14 @@
 
 ghost use Rattle.std.specs.Prelude.{◌≡◌, ◌↔◌, None, Some, IsTrue, IfNone, IfSome};
 ghost use Rattle.std.specs.Str.{chars};
-ghost use Rattle.rl_sources.specs.Findings.{HasFoundFault, HasFoundType, IsFoundIn, IsRight, IsWrong};
+ghost use Rattle.rl_sources.specs.Findings.{HasFoundError, HasFoundType, IsFoundIn, IsRight, IsWrong};
 ghost use Rattle.rl_sources.specs.Steps.{LooksForFlaws};
 
 use crate::finding::Wrong;
 use crate::options::{Options, Shown};
 use rl_file_reasons::explain_value_in_file;
 use rl_reading::Found;
-use rl_types::{TypeFault, type_fault};
+use rl_types::{TypeError, type_error};
 
 /// Whether flaws are looked for.
 fn looks_for_flaws(options: &Options<'_>) -> bool
@@ -19,13 +19,13 @@ fn looks_for_flaws(options: &Options<'_>) -> bool
 }
 
 /// Why Rust has no type for a literal, of what reading it found; a minus may stand before it.
-fn fault_of(text: &str, found: &Option<Found>) -> Option<TypeFault>
+fn type_error_of(text: &str, found: &Option<Found>) -> Option<TypeError>
     requires { IsFoundIn text.now found.now }
-    ensures some { IfSome result (HasFoundFault text.now found.now) }
+    ensures some { IfSome result (HasFoundError text.now found.now) }
     ensures none { IfNone result (HasFoundType text.now found.now) }
 {
     match found {
-        Some(found) => type_fault(text, found, true),
+        Some(found) => type_error(text, found, true),
         None => None,
     }
 }
@@ -45,8 +45,8 @@ pub(crate) fn wrong_in(options: &Options<'_>, text: &str, found: &Option<Found>)
     if options.any_suffix {
         return None;
     }
-    match fault_of(text, found) {
-        Some(fault) => Some(Wrong::Type(fault)),
+    match type_error_of(text, found) {
+        Some(error) => Some(Wrong::Type(error)),
         None => None,
     }
 }

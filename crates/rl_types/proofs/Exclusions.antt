@@ -6,9 +6,9 @@ use Rattle.rl_forms.specs.declared.kind.Kind.TheVariants.{Bool as BoolKind}
 use Rattle.rl_forms.specs.Numbers.{begins_base}
 use Rattle.rl_reading.specs.Founds.{is_quoted}
 use Rattle.rl_types.specs.NumberTypes.{greatest_of, number_name}
-use Rattle.rl_types.specs.TypeFaults.{HasFault, HasType, IsOfType, NamesType}
-use Rattle.rl_types.specs.declared.faults.TypeFault.{TypeFault}
-use Rattle.rl_types.specs.declared.faults.TypeFault.TheVariants.{QuotedSuffix, UnknownSuffix, FloatSuffix, BasedFloat, OutOfRange}
+use Rattle.rl_types.specs.TypeErrors.{HasTypeError, HasType, IsOfType, NamesType}
+use Rattle.rl_types.specs.declared.type_errors.TypeError.{TypeError}
+use Rattle.rl_types.specs.declared.type_errors.TypeError.TheVariants.{QuotedSuffix, UnknownSuffix, FloatSuffix, BasedFloat, OutOfRange}
 use Rattle.rl_types.specs.declared.number_types.NumberType.{NumberType}
 use Rattle.rl_types.specs.declared.number_types.NumberType.TheVariants.{U8, U16, U32, U64, U128, Usize, I8, I16, I32, I64, I128, Isize, F32, F64}
 
@@ -124,7 +124,7 @@ range_is_out t u k text m g n same i is out (inr (inl o)) =
     none_some (greatest_of u n) g o.1 (sym (ap (λ z. greatest_of z n) same) ∙ is)
 range_is_out t u k text m g n same i is out (inr (inr o)) = int_not_float k i o.0
 
-pub no_both : (fault : TypeFault) (k : Kind) (text : List ℕ) (m : ℕ) (n : Bool) (s : List ℕ) → HasFault fault k text m n s
+pub no_both : (error : TypeError) (k : Kind) (text : List ℕ) (m : ℕ) (n : Bool) (s : List ℕ) → HasTypeError error k text m n s
     → HasType k text m n s → ⊥
 no_both QuotedSuffix k text m n s (q, some) (inl none) = some none
 no_both QuotedSuffix k text m n s (q, some) (inr (inl b)) = no_quoted k q (inl b)

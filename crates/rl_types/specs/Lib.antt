@@ -1,4 +1,4 @@
 pub mod NumberTypes
-pub mod TypeFaults
-pub mod FaultWords
+pub mod TypeErrors
+pub mod ErrorWords
 pub mod Before

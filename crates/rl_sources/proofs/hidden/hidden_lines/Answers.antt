@@ -8,9 +8,9 @@ use Rattle.rl_sources.proofs.hidden.hidden_lines.Goals as goal
 pub loop-c-init : goal.loop-c-init
 loop-c-init g c = record {
   same = c.new-places.ensures;
-  cursor = record { is_text = c.utf8.text; following = c.after_mark-rest.ensures.following };
+  cursor = record { is_text = c.utf8.text; following = c.without_mark-rest.ensures.following };
   passes = passes_none c.args.options.now (chars c.args.text.now) (without_mark (chars c.args.text.now))
-      (chars c.after_mark-rest.result.now) (string_bytes c.new-lines.result) c.after_mark-rest.ensures.rest
+      (chars c.without_mark-rest.result.now) (string_bytes c.new-lines.result) c.without_mark-rest.ensures.rest
       c.new-lines.ensures.bytes;
 }
 

@@ -2,7 +2,7 @@
 //! What is wrong with a literal, and where.
 
 use crate::rl_reasons::{Flaw, FlawKind};
-use crate::rl_types::TypeFault;
+use crate::rl_types::TypeError;
 
 /// What is wrong with a literal.
 #[derive(Clone, Copy)]
@@ -10,7 +10,7 @@ pub(crate) enum Reason {
     /// It is no literal token, or an integer past 128 bits.
     Flaw(FlawKind),
     /// Rust has no type for it.
-    Type(TypeFault),
+    Type(TypeError),
 }
 
 /// Something wrong with a literal, by places in its text, in bytes.
@@ -32,7 +32,7 @@ pub(crate) struct Finding {
 #[derive(Clone, Copy)]
 pub(crate) enum Wrong {
     Flaw(Flaw),
-    Type(TypeFault),
+    Type(TypeError),
 }
 
 impl Reason {
@@ -40,7 +40,7 @@ impl Reason {
     pub(crate) fn words(self) -> &'static str {
         match self {
             Reason::Flaw(kind) => kind.words(),
-            Reason::Type(fault) => fault.words(),
+            Reason::Type(error) => error.words(),
         }
     }
 
@@ -48,7 +48,7 @@ impl Reason {
     pub(crate) fn id(self) -> &'static str {
         match self {
             Reason::Flaw(kind) => kind.id(),
-            Reason::Type(fault) => fault.id(),
+            Reason::Type(error) => error.id(),
         }
     }
 }

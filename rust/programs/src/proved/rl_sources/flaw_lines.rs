@@ -10,7 +10,7 @@ use crate::rl_sources::place::Places;
 use crate::rl_sources::reason::push_finding;
 use crate::rl_flaws::{BadPiece, Flaws, is_of_unit};
 use crate::rl_reasons::{Flaw, FlawKind};
-use crate::rl_types::TypeFault;
+use crate::rl_types::TypeError;
 use crate::rattle_std::alloc::{AllocError, Allocator};
 
 /// A place in the file, in bytes of the text.
@@ -119,9 +119,9 @@ fn push_flaws<'t, A: Allocator>(
 }
 
 /// The finding of a literal that Rust has no type for.
-fn type_finding(text: &str, fault: TypeFault) -> Finding {
+fn type_finding(text: &str, error: TypeError) -> Finding {
     Finding {
-        reason: Reason::Type(fault),
+        reason: Reason::Type(error),
         lo: 0,
         hi: text.len(),
         from: 0,
@@ -130,14 +130,14 @@ fn type_finding(text: &str, fault: TypeFault) -> Finding {
 }
 
 /// Appends the line of a literal that Rust has no type for.
-fn push_fault<'t, A: Allocator>(
+fn push_type_error<'t, A: Allocator>(
     out: &mut String<A>,
     options: &Options<'_>,
     literal: &Literal<'_, 't>,
     places: &mut Places<'t>,
-    fault: TypeFault,
+    error: TypeError,
 ) -> Result<(), AllocError> {
-    let finding = type_finding(literal.token.text, fault);
+    let finding = type_finding(literal.token.text, error);
     push_finding(out, options, literal, places, finding)
 }
 
@@ -154,6 +154,6 @@ pub(crate) fn push_wrong<'t, A: Allocator>(
     match wrong {
         Wrong::Flaw(flaw) if is_limit(flaw) => push_limit(out, options, literal, places, flaw),
         Wrong::Flaw(flaw) => push_flaws(alloc, out, options, literal, places, flaw),
-        Wrong::Type(fault) => push_fault(out, options, literal, places, fault),
+        Wrong::Type(error) => push_type_error(out, options, literal, places, error),
     }
 }

@@ -6,6 +6,7 @@ use crate::rl_sources::json::{is_json, push_ascii, push_member};
 use crate::rl_sources::options::{Form, Options};
 use crate::rl_sources::place::{Places, place_of, push_front};
 use crate::rl_files::needs_escape;
+use crate::rl_lexer::without_mark;
 use crate::rl_tokens::text::{begins_with, split_char};
 use crate::rattle_std::alloc::{AllocError, Allocator};
 
@@ -100,14 +101,6 @@ fn push_character<'t, A: Allocator>(
     push_hidden_line(alloc, out, options, places, rest, c, after)
 }
 
-/// The text after a byte order mark at its front.
-fn after_mark(text: &str) -> &str {
-    match split_char(text) {
-        Some(('\u{feff}', after)) => after,
-        _ => text,
-    }
-}
-
 /// The lines of the characters of a source that turn or hide text, in order: the place of each, and after it its number,
 /// with its name where it turns the direction of text.
 ///
@@ -121,7 +114,7 @@ pub(crate) fn hidden_lines<A: Allocator + Copy>(
 ) -> Result<String<A>, AllocError> {
     let mut lines = String::new(alloc);
     let mut places = Places::new(text);
-    let mut rest = after_mark(text);
+    let mut rest = without_mark(text);
     while let Some((c, after)) = split_char(rest) {
         push_character(alloc, &mut lines, options, &mut places, rest, c, after)?;
         rest = after;

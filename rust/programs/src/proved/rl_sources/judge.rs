@@ -5,7 +5,7 @@ use crate::rl_sources::finding::Wrong;
 use crate::rl_sources::options::{Options, Shown};
 use crate::rl_file_reasons::explain_value_in_file;
 use crate::rl_reading::Found;
-use crate::rl_types::{TypeFault, type_fault};
+use crate::rl_types::{TypeError, type_error};
 
 /// Whether flaws are looked for.
 fn looks_for_flaws(options: &Options<'_>) -> bool {
@@ -13,9 +13,9 @@ fn looks_for_flaws(options: &Options<'_>) -> bool {
 }
 
 /// Why Rust has no type for a literal, of what reading it found; a minus may stand before it.
-fn fault_of(text: &str, found: &Option<Found>) -> Option<TypeFault> {
+fn type_error_of(text: &str, found: &Option<Found>) -> Option<TypeError> {
     match found {
-        Some(found) => type_fault(text, found, true),
+        Some(found) => type_error(text, found, true),
         None => None,
     }
 }
@@ -31,8 +31,8 @@ pub(crate) fn wrong_in(options: &Options<'_>, text: &str, found: &Option<Found>)
     if options.any_suffix {
         return None;
     }
-    match fault_of(text, found) {
-        Some(fault) => Some(Wrong::Type(fault)),
+    match type_error_of(text, found) {
+        Some(error) => Some(Wrong::Type(error)),
         None => None,
     }
 }

@@ -1,5 +1,5 @@
 use Rattle.rl_types.proofs.Exclusions.{no_both}
-use Rattle.rl_types.proofs.laws.a_fault_excludes_a_type.Goals as goal
+use Rattle.rl_types.proofs.laws.an_error_excludes_a_type.Goals as goal
 
 pub returns : goal.returns
 returns c = no_both

@@ -7,8 +7,8 @@ ghost use Rattle.rl_forms.specs.Numbers.{begins_base as is_of_base};
 ghost use Rattle.rl_forms.specs.declared.kind.Kind.TheVariants.{Int, Float};
 ghost use Rattle.rl_reading.specs.Founds.{IsFound, suffix_in};
 ghost use Rattle.rl_types.specs.NumberTypes.{greatest_of};
-ghost use Rattle.rl_types.specs.declared.faults.TypeFault.TheVariants.{OutOfRange};
-ghost use Rattle.rl_types.specs.TypeFaults.{HasFault, HasType};
+ghost use Rattle.rl_types.specs.declared.type_errors.TypeError.TheVariants.{OutOfRange};
+ghost use Rattle.rl_types.specs.TypeErrors.{HasTypeError, HasType};
 
 use crate::number_types::{NumberType, greatest, type_named};
 use rl_forms::Kind;
@@ -17,7 +17,7 @@ use rl_text::text::begins;
 
 /// Why no type of Rust has a literal.
 #[derive(Clone, Copy, PartialEq, Eq, Debug)]
-pub enum TypeFault {
+pub enum TypeError {
     /// A string, a character or a byte has a suffix.
     QuotedSuffix,
     /// The suffix of a number names no type of numbers.
@@ -30,32 +30,32 @@ pub enum TypeFault {
     OutOfRange,
 }
 
-impl TypeFault {
-    ghost use Rattle.rl_types.specs.FaultWords.{fault_id, fault_message};
+impl TypeError {
+    ghost use Rattle.rl_types.specs.ErrorWords.{type_error_id, type_error_message};
 
     /// What is wrong, in words.
     pub fn words(self) -> &'static str
-        ensures { result.now ≡ fault_message self }
+        ensures { result.now ≡ type_error_message self }
     {
         match self {
-            TypeFault::QuotedSuffix => "only numbers have suffixes",
-            TypeFault::UnknownSuffix => "no type of numbers has this name",
-            TypeFault::FloatSuffix => "a float's suffix is f32 or f64",
-            TypeFault::BasedFloat => "floats have base ten alone",
-            TypeFault::OutOfRange => "out of its type's range",
+            TypeError::QuotedSuffix => "only numbers have suffixes",
+            TypeError::UnknownSuffix => "unknown suffix",
+            TypeError::FloatSuffix => "a float's suffix is f32 or f64",
+            TypeError::BasedFloat => "floats have base ten alone",
+            TypeError::OutOfRange => "out of its type's range",
         }
     }
 
     /// What is wrong, by a name that stays, for programs.
     pub fn id(self) -> &'static str
-        ensures { result.now ≡ fault_id self }
+        ensures { result.now ≡ type_error_id self }
     {
         match self {
-            TypeFault::QuotedSuffix => "quoted-suffix",
-            TypeFault::UnknownSuffix => "unknown-suffix",
-            TypeFault::FloatSuffix => "float-suffix",
-            TypeFault::BasedFloat => "based-float",
-            TypeFault::OutOfRange => "out-of-range",
+            TypeError::QuotedSuffix => "quoted-suffix",
+            TypeError::UnknownSuffix => "unknown-suffix",
+            TypeError::FloatSuffix => "float-suffix",
+            TypeError::BasedFloat => "based-float",
+            TypeError::OutOfRange => "out-of-range",
         }
     }
 }
@@ -75,44 +75,44 @@ fn begins_float(suffix: &str) -> bool
 }
 
 /// Why an integer has not this type.
-fn range_fault(ty: NumberType, magnitude: u128, negated: bool) -> Option<TypeFault>
-    ensures some { IfSome result (λ fault. (fault ≡ OutOfRange)
+fn range_error(ty: NumberType, magnitude: u128, negated: bool) -> Option<TypeError>
+    ensures some { IfSome result (λ error. (error ≡ OutOfRange)
         × ((most : ℕ) × (greatest_of ty negated ≡ Some most) × (most < magnitude))) }
     ensures none { IfNone result ((most : ℕ) → greatest_of ty negated ≡ Some most → magnitude ≤ most) }
 {
     match greatest(ty, negated) {
-        Some(most) if magnitude > most => Some(TypeFault::OutOfRange),
+        Some(most) if magnitude > most => Some(TypeError::OutOfRange),
         _ => None,
     }
 }
 
 /// Why no type has an integer with this suffix.
-fn integer_fault(text: &str, suffix: &str, magnitude: u128, negated: bool) -> Option<TypeFault>
+fn integer_error(text: &str, suffix: &str, magnitude: u128, negated: bool) -> Option<TypeError>
     requires { suffix.now ≢ [] }
-    ensures some { IfSome result (λ fault. HasFault fault Int (chars text.now) magnitude negated suffix.now) }
+    ensures some { IfSome result (λ error. HasTypeError error Int (chars text.now) magnitude negated suffix.now) }
     ensures none { IfNone result (HasType Int (chars text.now) magnitude negated suffix.now) }
 {
     if is_of_base(text) && begins_float(suffix) {
-        return Some(TypeFault::BasedFloat);
+        return Some(TypeError::BasedFloat);
     }
     match type_named(suffix) {
-        Some(ty) => range_fault(ty, magnitude, negated),
-        None => Some(TypeFault::UnknownSuffix),
+        Some(ty) => range_error(ty, magnitude, negated),
+        None => Some(TypeError::UnknownSuffix),
     }
 }
 
 /// Why no type has a float with this suffix.
-fn float_fault(text: &str, suffix: &str, negated: bool) -> Option<TypeFault>
+fn float_error(text: &str, suffix: &str, negated: bool) -> Option<TypeError>
     requires { suffix.now ≢ [] }
-    ensures some { IfSome result (λ fault. HasFault fault Float (chars text.now) 0 negated suffix.now) }
+    ensures some { IfSome result (λ error. HasTypeError error Float (chars text.now) 0 negated suffix.now) }
     ensures none { IfNone result (HasType Float (chars text.now) 0 negated suffix.now) }
 {
     match type_named(suffix) {
         Some(ty) => match greatest(ty, negated) {
-            Some(_) => Some(TypeFault::FloatSuffix),
+            Some(_) => Some(TypeError::FloatSuffix),
             None => None,
         },
-        None => Some(TypeFault::UnknownSuffix),
+        None => Some(TypeError::UnknownSuffix),
     }
 }
 
@@ -121,9 +121,9 @@ fn float_fault(text: &str, suffix: &str, negated: bool) -> Option<TypeFault>
 ///
 /// `found` is the literal's reading; `negated` says whether a minus may stand before it, which makes `128i8` a value of its type.
 /// No memory is taken.
-pub fn type_fault(text: &str, found: &Found, negated: bool) -> Option<TypeFault>
+pub fn type_error(text: &str, found: &Found, negated: bool) -> Option<TypeError>
     requires { IsFound text.now found.now }
-    ensures some { IfSome result (λ fault. HasFault fault found.now.kind (chars text.now) found.now.magnitude negated
+    ensures some { IfSome result (λ error. HasTypeError error found.now.kind (chars text.now) found.now.magnitude negated
         (suffix_in text.now found.now.body)) }
     ensures none { IfNone result (HasType found.now.kind (chars text.now) found.now.magnitude negated
         (suffix_in text.now found.now.body)) }
@@ -133,9 +133,9 @@ pub fn type_fault(text: &str, found: &Found, negated: bool) -> Option<TypeFault>
         return None;
     }
     match found.kind {
-        Kind::Int => integer_fault(text, suffix, found.magnitude, negated),
-        Kind::Float => float_fault(text, suffix, negated),
+        Kind::Int => integer_error(text, suffix, found.magnitude, negated),
+        Kind::Float => float_error(text, suffix, negated),
         Kind::Bool => None,
-        _ => Some(TypeFault::QuotedSuffix),
+        _ => Some(TypeError::QuotedSuffix),
     }
 }

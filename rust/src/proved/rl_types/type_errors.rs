@@ -1,4 +1,4 @@
-// Rendered from crates/rl_types/src/faults.rt by tools/render, which erases contracts: change that file, and render anew.
+// Rendered from crates/rl_types/src/type_errors.rt by tools/render, which erases contracts: change that file, and render anew.
 //! What Rust's types don't allow of a literal.
 
 use crate::rl_types::number_types::{NumberType, greatest, type_named};
@@ -8,7 +8,7 @@ use crate::rl_text::text::begins;
 
 /// Why no type of Rust has a literal.
 #[derive(Clone, Copy, PartialEq, Eq, Debug)]
-pub enum TypeFault {
+pub enum TypeError {
     /// A string, a character or a byte has a suffix.
     QuotedSuffix,
     /// The suffix of a number names no type of numbers.
@@ -21,26 +21,26 @@ pub enum TypeFault {
     OutOfRange,
 }
 
-impl TypeFault {
+impl TypeError {
     /// What is wrong, in words.
     pub fn words(self) -> &'static str {
         match self {
-            TypeFault::QuotedSuffix => "only numbers have suffixes",
-            TypeFault::UnknownSuffix => "no type of numbers has this name",
-            TypeFault::FloatSuffix => "a float's suffix is f32 or f64",
-            TypeFault::BasedFloat => "floats have base ten alone",
-            TypeFault::OutOfRange => "out of its type's range",
+            TypeError::QuotedSuffix => "only numbers have suffixes",
+            TypeError::UnknownSuffix => "unknown suffix",
+            TypeError::FloatSuffix => "a float's suffix is f32 or f64",
+            TypeError::BasedFloat => "floats have base ten alone",
+            TypeError::OutOfRange => "out of its type's range",
         }
     }
 
     /// What is wrong, by a name that stays, for programs.
     pub fn id(self) -> &'static str {
         match self {
-            TypeFault::QuotedSuffix => "quoted-suffix",
-            TypeFault::UnknownSuffix => "unknown-suffix",
-            TypeFault::FloatSuffix => "float-suffix",
-            TypeFault::BasedFloat => "based-float",
-            TypeFault::OutOfRange => "out-of-range",
+            TypeError::QuotedSuffix => "quoted-suffix",
+            TypeError::UnknownSuffix => "unknown-suffix",
+            TypeError::FloatSuffix => "float-suffix",
+            TypeError::BasedFloat => "based-float",
+            TypeError::OutOfRange => "out-of-range",
         }
     }
 }
@@ -56,32 +56,32 @@ fn begins_float(suffix: &str) -> bool {
 }
 
 /// Why an integer has not this type.
-fn range_fault(ty: NumberType, magnitude: u128, negated: bool) -> Option<TypeFault> {
+fn range_error(ty: NumberType, magnitude: u128, negated: bool) -> Option<TypeError> {
     match greatest(ty, negated) {
-        Some(most) if magnitude > most => Some(TypeFault::OutOfRange),
+        Some(most) if magnitude > most => Some(TypeError::OutOfRange),
         _ => None,
     }
 }
 
 /// Why no type has an integer with this suffix.
-fn integer_fault(text: &str, suffix: &str, magnitude: u128, negated: bool) -> Option<TypeFault> {
+fn integer_error(text: &str, suffix: &str, magnitude: u128, negated: bool) -> Option<TypeError> {
     if is_of_base(text) && begins_float(suffix) {
-        return Some(TypeFault::BasedFloat);
+        return Some(TypeError::BasedFloat);
     }
     match type_named(suffix) {
-        Some(ty) => range_fault(ty, magnitude, negated),
-        None => Some(TypeFault::UnknownSuffix),
+        Some(ty) => range_error(ty, magnitude, negated),
+        None => Some(TypeError::UnknownSuffix),
     }
 }
 
 /// Why no type has a float with this suffix.
-fn float_fault(text: &str, suffix: &str, negated: bool) -> Option<TypeFault> {
+fn float_error(text: &str, suffix: &str, negated: bool) -> Option<TypeError> {
     match type_named(suffix) {
         Some(ty) => match greatest(ty, negated) {
-            Some(_) => Some(TypeFault::FloatSuffix),
+            Some(_) => Some(TypeError::FloatSuffix),
             None => None,
         },
-        None => Some(TypeFault::UnknownSuffix),
+        None => Some(TypeError::UnknownSuffix),
     }
 }
 
@@ -90,15 +90,15 @@ fn float_fault(text: &str, suffix: &str, negated: bool) -> Option<TypeFault> {
 ///
 /// `found` is the literal's reading; `negated` says whether a minus may stand before it, which makes `128i8` a value of its type.
 /// No memory is taken.
-pub fn type_fault(text: &str, found: &Found, negated: bool) -> Option<TypeFault> {
+pub fn type_error(text: &str, found: &Found, negated: bool) -> Option<TypeError> {
     let suffix = found.suffix_in(text);
     if suffix.is_empty() {
         return None;
     }
     match found.kind {
-        Kind::Int => integer_fault(text, suffix, found.magnitude, negated),
-        Kind::Float => float_fault(text, suffix, negated),
+        Kind::Int => integer_error(text, suffix, found.magnitude, negated),
+        Kind::Float => float_error(text, suffix, negated),
         Kind::Bool => None,
-        _ => Some(TypeFault::QuotedSuffix),
+        _ => Some(TypeError::QuotedSuffix),
     }
 }

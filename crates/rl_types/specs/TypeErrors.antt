@@ -8,8 +8,8 @@ use Rattle.rl_forms.specs.declared.kind.Kind.TheVariants.{Int, Float, Bool as Bo
 use Rattle.rl_forms.specs.Numbers.{begins_base}
 use Rattle.rl_reading.specs.Founds.{is_quoted}
 use Rattle.rl_types.specs.NumberTypes.{greatest_of, number_name}
-use Rattle.rl_types.specs.declared.faults.TypeFault.{TypeFault}
-use Rattle.rl_types.specs.declared.faults.TypeFault.TheVariants.{QuotedSuffix, UnknownSuffix, FloatSuffix, BasedFloat, OutOfRange}
+use Rattle.rl_types.specs.declared.type_errors.TypeError.{TypeError}
+use Rattle.rl_types.specs.declared.type_errors.TypeError.TheVariants.{QuotedSuffix, UnknownSuffix, FloatSuffix, BasedFloat, OutOfRange}
 use Rattle.rl_types.specs.declared.number_types.NumberType.{NumberType}
 
 -- the suffix names this type
@@ -24,15 +24,15 @@ NamesNone suffix = (t : NumberType) → NamesType suffix t → ⊥
 abbrev pub IsBasedFloat : List ℕ → List ℕ → Type 0
 IsBasedFloat text suffix = IsTrue (begins_base text) × IsTrue (first_passes (λ b. b == code "f") suffix)
 
--- what each fault says
-abbrev pub HasFault : TypeFault → Kind → List ℕ → ℕ → Bool → List ℕ → Type 0
-HasFault QuotedSuffix kind text magnitude negated suffix = IsTrue (is_quoted kind) × (suffix ≢ [])
-HasFault UnknownSuffix kind text magnitude negated suffix =
+-- what each error says
+abbrev pub HasTypeError : TypeError → Kind → List ℕ → ℕ → Bool → List ℕ → Type 0
+HasTypeError QuotedSuffix kind text magnitude negated suffix = IsTrue (is_quoted kind) × (suffix ≢ [])
+HasTypeError UnknownSuffix kind text magnitude negated suffix =
     (((kind ≡ Int) × (IsBasedFloat text suffix → ⊥)) ⊎ (kind ≡ Float)) × (suffix ≢ []) × NamesNone suffix
-HasFault FloatSuffix kind text magnitude negated suffix =
+HasTypeError FloatSuffix kind text magnitude negated suffix =
     (kind ≡ Float) × ((t : NumberType) × NamesType suffix t × (greatest_of t negated ≢ None))
-HasFault BasedFloat kind text magnitude negated suffix = (kind ≡ Int) × IsBasedFloat text suffix
-HasFault OutOfRange kind text magnitude negated suffix =
+HasTypeError BasedFloat kind text magnitude negated suffix = (kind ≡ Int) × IsBasedFloat text suffix
+HasTypeError OutOfRange kind text magnitude negated suffix =
     (kind ≡ Int) × ((t : NumberType) × (greatest : ℕ) × NamesType suffix t × (greatest_of t negated ≡ Some greatest)
     × (greatest < magnitude))
 
@@ -49,7 +49,7 @@ HasType kind text magnitude negated suffix =
     (suffix ≡ []) ⊎ (kind ≡ BoolKind)
     ⊎ ((t : NumberType) × NamesType suffix t × IsOfType t kind text magnitude negated)
 
--- a fault and a type exclude each other
-abbrev pub ExcludesType : TypeFault → Kind → List ℕ → ℕ → Bool → List ℕ → Type 0
-ExcludesType fault kind text magnitude negated suffix =
-    HasFault fault kind text magnitude negated suffix → HasType kind text magnitude negated suffix → ⊥
+-- an error and a type exclude each other
+abbrev pub ExcludesType : TypeError → Kind → List ℕ → ℕ → Bool → List ℕ → Type 0
+ExcludesType error kind text magnitude negated suffix =
+    HasTypeError error kind text magnitude negated suffix → HasType kind text magnitude negated suffix → ⊥

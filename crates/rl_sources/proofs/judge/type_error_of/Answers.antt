@@ -1,5 +1,5 @@
 use Rattle.std.proofs.Common.{rules}
-use Rattle.rl_sources.proofs.judge.fault_of.Goals as goal
+use Rattle.rl_sources.proofs.judge.type_error_of.Goals as goal
 
 pub returns-in-Some-clause-some : goal.returns-in-Some-clause-some
 returns-in-Some-clause-some c = search rules steps 3000000
