@@ -13,19 +13,18 @@ use Rattle.rl_flaws.specs.BadPieces.{is_of_unit}
 use Rattle.rl_flaws.specs.Flawed.{AreFlawsOf, FlawsState, GivesFlaw, IsPlaceInLeft, StandsInLeft, TakesFlaw}
 use Rattle.rl_flaws.specs.declared.bad_piece.BadPiece.{BadPiece}
 use Rattle.rl_sources.specs.declared.finding.Finding.{Finding}
-use Rattle.rl_sources.specs.declared.finding.Wrong.TheVariants as wrong
+use Rattle.rl_sources.specs.declared.finding.Reason.{Reason}
 use Rattle.rl_reading.specs.declared.found.Found.{Found}
-use Rattle.rl_types.specs.declared.type_errors.TypeError.{TypeError}
 use Rattle.rl_sources.specs.declared.finding.Reason.TheVariants as reason
 use Rattle.rl_sources.specs.declared.options.Options.{Options}
 use Rattle.rl_sources.specs.declared.place.Place.{Place}
-use Rattle.rl_sources.specs.Findings.{FindsFlaw, IsFlawFinding, IsLimitFinding, IsPieceOf, IsShownPiece, IsTypeFinding, IsWrong}
+use Rattle.rl_sources.specs.Findings.{bytes_before, FindsFlaw, IsFlawFinding, IsLimitFinding, IsPieceOf, IsShownPiece, IsWholeFinding, IsWrongBy}
 use Rattle.rl_sources.specs.Held.{IsCutAt}
 use Rattle.rl_sources.specs.InFile.{AreCuts, IsFlawsOver}
 use Rattle.rl_sources.proofs.InFileLemmas.{file_cut, file_within}
 use Rattle.rl_sources.proofs.ReasonLemmas.{flaw_cut, has_place}
 use Rattle.rl_sources.specs.Places.{IsPlaceIn, line_front}
-use Rattle.rl_sources.specs.Scans.{AreAllFlawLines, AreFlawLines, AreReasonLines, IsFindingLine, IsLimitLine, IsTypeLine, finding_end}
+use Rattle.rl_sources.specs.Scans.{AreAllFlawLines, AreFlawLines, AreReasonLines, IsFindingLine, IsLimitLine, IsWholeLine, finding_end}
 
 -- ---- what the cursor gives stands in the text
 
@@ -162,14 +161,14 @@ flaw_lines options whole text read lo flaw start old new (inl e) other u is are 
     let same : read ≡ encode_utf8_all (lf_text text) = sym (encodes-chars read u) ∙ ap encode_utf8_all is in
     (line, (e.explains.no_token, (start, subst (λ (r : List ℕ). AreFlawsOf r start) same are, shows)), f)
 
--- ---- a literal that Rust has no type for
+-- ---- what is wrong with a literal as a whole
 
-pub type_error_line : (options : Options) (whole text : List ℕ) (found : Option Found) (lo : ℕ) (error : TypeError)
-    (finding : Finding) (old new : List ℕ) → IsWrong options.any_suffix text found (wrong.Type error)
-    → IsTypeFinding (chars text) error finding → Appends (IsFindingLine options whole (chars text) lo finding) old new
-    → Appends (IsTypeLine options whole text found lo) old new
-type_error_line options whole text found lo error finding old new bad is (line, shows, f) =
-    (line, (error, finding, bad, is, shows), f)
+pub whole_line : (options : Options) (whole text : List ℕ) (found : Option Found) (lo : ℕ) (why : Reason)
+    (finding : Finding) (old new : List ℕ) → IsWrongBy options (bytes_before whole lo) text found why
+    → IsWholeFinding (chars text) why finding → Appends (IsFindingLine options whole (chars text) lo finding) old new
+    → Appends (IsWholeLine options whole text found lo) old new
+whole_line options whole text found lo why finding old new bad is (line, shows, f) =
+    (line, (why, finding, bad, is, shows), f)
 
 -- ---- any of these
 
@@ -183,10 +182,10 @@ pub limit_says : (options : Options) (whole text : List ℕ) (found : Option Fou
     → Appends (AreReasonLines options whole text found lo) old new
 limit_says options whole text found lo old new (line, shows, f) = (line, inr (inl shows), f)
 
-pub type_says : (options : Options) (whole text : List ℕ) (found : Option Found) (lo : ℕ) (old new : List ℕ)
-    → Appends (IsTypeLine options whole text found lo) old new
+pub whole_says : (options : Options) (whole text : List ℕ) (found : Option Found) (lo : ℕ) (old new : List ℕ)
+    → Appends (IsWholeLine options whole text found lo) old new
     → Appends (AreReasonLines options whole text found lo) old new
-type_says options whole text found lo old new (line, shows, f) = (line, inr (inr shows), f)
+whole_says options whole text found lo old new (line, shows, f) = (line, inr (inr shows), f)
 
 -- ---- the places of findings
 

@@ -1,7 +1,8 @@
 -- The place of a flaw in the source, and its line.
 use Rattle.rl_reading.proofs.Names.{IsTail, byte_len}
 use Rattle.rl_text.proofs.Common.{IsAscii, IsCharBoundary, IsUtf8, List, [], ap, append_assoc, arith, chars, chars-IsAscii, chars-nil, codes, drop, encode_utf8, encodes-append, encodes-chars, is_ascii, length, length-append, list_all, refl, subst, sym, suc, false, true, ℕ, ◌==◌, ◌++◌, ◌+◌, ◌∙◌, ◌∷◌, ◌≡◌, ◌≤◌, inl, inr, take, ◌-◌}
-use Rattle.std.specs.Prelude.{encode_utf8_all}
+use Rattle.std.specs.Prelude.{encode_utf8_all, take, ◌-◌}
+use Rattle.std.specs.List.{slice_range}
 use Rattle.std.proofs.Math.Seq.{drop-append_seam}
 use Rattle.std.proofs.lemmas.Str.{IsCharBoundary-from_drop, IsAscii-append}
 use Rattle.rl_lexer.specs.Cursors.{CursorState, IsCursorState}
@@ -30,10 +31,18 @@ use Rattle.rl_types.specs.declared.type_errors.TypeError.TheVariants.{QuotedSuff
 use Rattle.rl_sources.specs.declared.finding.Finding.{Finding}
 use Rattle.rl_sources.specs.declared.finding.Reason.{Reason}
 use Rattle.rl_sources.specs.declared.finding.Reason.TheVariants as reason
-use Rattle.rl_sources.specs.Findings.{FindsFlaw, IsPieceOf, IsSlice, reason_id, reason_message}
+use Rattle.rl_sources.specs.Findings.{bytes_before, FindsFlaw, IsPieceOf, IsSlice, reason_id, reason_message}
 use Rattle.rl_sources.specs.Scans.{error_reason}
 use Rattle.rl_sources.specs.Steps.{BeginsRest, HasPlace}
 use Rattle.rl_sources.proofs.StepLemmas.{back_utf8, low_text}
+
+-- the text before a place
+pub taken_before : (text seen : List ℕ) (at : ℕ) (r : List ℕ) → seen ≡ text → IsUtf8 text → r ≡ slice_range text 0 at
+    → r ≡ bytes_before (chars seen) at
+taken_before text seen at r same u is =
+    let whole : at - 0 ≡ at = omega (arith) in
+    let bytes : encode_utf8_all (chars seen) ≡ text = ap (λ (z : List ℕ). encode_utf8_all (chars z)) same ∙ encodes-chars text u in
+    is ∙ ap (λ (n : ℕ). take n text) whole ∙ ap (λ (z : List ℕ). take at z) (sym bytes)
 
 -- a rest that isn't longer stands after another
 tail_by : (x y a b : List ℕ) → x ++ a ≡ y ++ b → length b ≤ length a → (z : List ℕ) × (a ≡ z ++ b)
@@ -193,6 +202,7 @@ type_error_low OutOfRange = refl
 
 pub reason_low : (why : Reason) → list_all is_ascii (reason_message why) ≡ true
 reason_low (reason.Flaw kind) = message_low kind
+reason_low reason.Reserved = refl
 reason_low (reason.Type error) = type_error_low error
 
 flaw_id_low : (kind : FlawKind) → list_all is_ascii (flaw_id kind) ≡ true
@@ -239,6 +249,7 @@ type_error_id_low OutOfRange = refl
 
 pub id_low : (why : Reason) → list_all is_ascii (reason_id why) ≡ true
 id_low (reason.Flaw kind) = flaw_id_low kind
+id_low reason.Reserved = refl
 id_low (reason.Type error) = type_error_id_low error
 
 -- the words of an error, as they are written

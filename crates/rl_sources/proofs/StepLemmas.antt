@@ -32,7 +32,9 @@ use Rattle.rl_sources.specs.Places.{line_front, place_text, IsPlaceIn}
 use Rattle.rl_sources.specs.Held.{Holds, IsHeldAt}
 use Rattle.rl_sources.specs.Scans.{IsPicked, IsPlacedLine, AreReasonLines, IsHeldLine, IsLineAt, IsLineEnd, IsLineIn, IsPickedLine, IsPrintedAs, IsShownLiteral}
 use Rattle.rl_sources.specs.Steps.{LooksForFlaws}
-use Rattle.rl_sources.specs.Findings.{FindsFlaw, FindsNoFlaw, HasFoundError, HasFoundType, IsBad, IsFoundIn, IsRight, IsWrong}
+use Rattle.rl_sources.specs.Findings.{bytes_before, FindsFlaw, FindsNoFlaw, HasFoundError, HasFoundType, IsBad, IsFoundIn, IsRight, IsWrong}
+use Rattle.rl_types.specs.Before.{may_negate}
+use Rattle.rl_types.specs.TypeErrors.{HasType, HasTypeError}
 use Rattle.rl_sources.specs.declared.finding.Wrong.{Wrong}
 use Rattle.rl_sources.specs.declared.finding.Wrong.TheVariants as wrong
 use Rattle.rl_types.specs.declared.type_errors.TypeError.{TypeError}
@@ -204,18 +206,35 @@ explained options whole text found lo hi old new read asked (shown, is, e) =
 
 -- a line that doesn't
 pub unexplained : (options : Options) (whole text : List ℕ) (found : Option Found) (lo hi : ℕ) (old new : List ℕ)
-    → IsFoundIn text found → (IsTrue options.explains → IsRight options.any_suffix text found)
+    → IsFoundIn text found → (IsTrue options.explains → IsRight options (bytes_before whole lo) text found)
     → Appends (IsPlacedLine options whole (chars text) lo hi) old new
     → Appends (IsLineIn options whole (chars text) lo hi) old new
 unexplained options whole text found lo hi old new read passes (shown, is, e) =
     (shown, (text, found, refl, read, inr (passes, is)), e)
 
 -- where lines say what is wrong, a literal without anything passes
-pub passes_unasked : (options : Options) (text : List ℕ) (found : Option Found) (bad : Option Wrong)
-    → IfNone bad (LooksForFlaws options → IsRight options.any_suffix text found) → (IsTrue options.explains → bad ≡ None)
-    → IsTrue options.explains → IsRight options.any_suffix text found
-passes_unasked options text found (Some f) none asked is = absurd (none-some f (sym (asked is)))
-passes_unasked options text found None none asked is = none (inl is)
+pub passes_unasked : (options : Options) (before text : List ℕ) (found : Option Found) (bad : Option Wrong)
+    → IfNone bad (LooksForFlaws options → IsRight options before text found) → (IsTrue options.explains → bad ≡ None)
+    → IsTrue options.explains → IsRight options before text found
+passes_unasked options before text found (Some f) none asked is = absurd (none-some f (sym (asked is)))
+passes_unasked options before text found None none asked is = none (inl is)
+
+-- that Rust has no type for what was found, or has one, as a minus before it was judged
+pub error_behind : (before text : List ℕ) (f : Found) (o : Option Found) (negated : Bool) (r : Option TypeError) → o ≡ Some f
+    → negated ≡ may_negate before
+    → IfSome r (λ e. HasTypeError e f.kind (chars text) f.magnitude negated (suffix_in text f.body))
+    → IfSome r (HasFoundError before text o)
+error_behind before text f o negated r is same h =
+    subst (λ (z : Option Found). IfSome r (HasFoundError before text z)) (sym is)
+    (subst (λ (n : Bool). IfSome r (λ e. HasTypeError e f.kind (chars text) f.magnitude n (suffix_in text f.body))) same h)
+
+pub type_behind : (before text : List ℕ) (f : Found) (o : Option Found) (negated : Bool) (r : Option TypeError) → o ≡ Some f
+    → negated ≡ may_negate before
+    → IfNone r (HasType f.kind (chars text) f.magnitude negated (suffix_in text f.body))
+    → IfNone r (HasFoundType before text o)
+type_behind before text f o negated r is same h =
+    subst (λ (z : Option Found). IfNone r (HasFoundType before text z)) (sym is)
+    (subst (λ (n : Bool). IfNone r (HasType f.kind (chars text) f.magnitude n (suffix_in text f.body))) same h)
 
 -- what is right isn't bad
 no_flaw_found : (text : List ℕ) (flaw : Flaw) → FindsNoFlaw text → FindsFlaw text flaw → ⊥
@@ -225,38 +244,39 @@ no_flaw_found text flaw (token, reads) (inr (_, (signed, e, no_float))) = elim r
   | inr f ↦ no_float (subst IsFloatBySuffix (signed_same text signed) f)
 ]
 
-no_error_found : (text : List ℕ) (found : Option Found) (error : TypeError) → HasFoundType text found
-    → HasFoundError text found error → ⊥
-no_error_found text None error has is = is
-no_error_found text (Some f) error has is =
-    no_both error f.kind (chars text) f.magnitude true (suffix_in text f.body) is has
+no_error_found : (before text : List ℕ) (found : Option Found) (error : TypeError) → HasFoundType before text found
+    → HasFoundError before text found error → ⊥
+no_error_found before text None error has is = is
+no_error_found before text (Some f) error has is =
+    no_both error f.kind (chars text) f.magnitude (may_negate before) (suffix_in text f.body) is has
 
-not_bad : (any : Bool) (text : List ℕ) (found : Option Found) (bad : Wrong) → IsRight any text found
-    → IsWrong any text found bad → ⊥
-not_bad any text found (wrong.Flaw flaw) right is = no_flaw_found (chars text) flaw right.0 is
-not_bad any text found (wrong.Type error) right is = elim right.1 [
-  | inl t ↦ false≢true (sym is.0 ∙ t)
-  | inr has ↦ no_error_found text found error has is.2
+not_bad : (options : Options) (before text : List ℕ) (found : Option Found) (bad : Wrong) → IsRight options before text found
+    → IsWrong options before text found bad → ⊥
+not_bad options before text found (wrong.Flaw flaw) right is = no_flaw_found (chars text) flaw right.0 is
+not_bad options before text found wrong.Reserved right is = false≢true (sym right.1 ∙ is.1)
+not_bad options before text found (wrong.Type error) right is = elim right.2 [
+  | inl t ↦ false≢true (sym is.2 ∙ t)
+  | inr has ↦ no_error_found before text found error has is.3
 ]
 
 -- what was looked for says whether a literal is picked
-pub picks_found : (options : Options) (text : List ℕ) (found : Option Found) (label : List ℕ) (bad : Option Wrong) (r b : Bool)
-    → r ≡ is_some bad → IfSome bad (IsWrong options.any_suffix text found)
-    → IfNone bad (LooksForFlaws options → IsRight options.any_suffix text found)
-    → IsTrue b ↔ Picks options.shown label (IsTrue r) → IsTrue b ↔ IsPicked options text found label
-picks_found options text found label wrongs r b is some none picks = go options.shown refl picks
+pub picks_found : (options : Options) (before text : List ℕ) (found : Option Found) (label : List ℕ) (bad : Option Wrong)
+    (r b : Bool) → r ≡ is_some bad → IfSome bad (IsWrong options before text found)
+    → IfNone bad (LooksForFlaws options → IsRight options before text found)
+    → IsTrue b ↔ Picks options.shown label (IsTrue r) → IsTrue b ↔ IsPicked options before text found label
+picks_found options before text found label wrongs r b is some none picks = go options.shown refl picks
   where
-    bad : (o : Option Wrong) → r ≡ is_some o → IfSome o (IsWrong options.any_suffix text found)
-        → IfNone o (LooksForFlaws options → IsRight options.any_suffix text found) → LooksForFlaws options
-        → IsTrue r ↔ IsBad options.any_suffix text found
+    bad : (o : Option Wrong) → r ≡ is_some o → IfSome o (IsWrong options before text found)
+        → IfNone o (LooksForFlaws options → IsRight options before text found) → LooksForFlaws options
+        → IsTrue r ↔ IsBad options before text found
     bad (Some w) e finds nothing looks = (λ _. (w, finds), λ _. e)
     bad None e finds nothing looks = (
       λ t. absurd (false≢true (sym e ∙ t)),
-      λ (w, finds). absurd (not_bad options.any_suffix text found w (nothing looks) finds),
+      λ (w, finds). absurd (not_bad options before text found w (nothing looks) finds),
     )
 
     go : (shown : Shown) → options.shown ≡ shown → IsTrue b ↔ Picks shown label (IsTrue r)
-        → IsTrue b ↔ Picks shown label (IsBad options.any_suffix text found)
+        → IsTrue b ↔ Picks shown label (IsBad options before text found)
     go All e p = p
     go (Only list) e p = p
     go Bad e p =
@@ -290,7 +310,8 @@ found_label text label kind None none is k e = (None, none, e ∙ ap label_of k)
 
 -- the line of a text that is picked
 pub picked_line : (options : Options) (whole text : List ℕ) (found : Option Found) (label : List ℕ) (lo hi : ℕ)
-    (old new : List ℕ) → IsLabelOf (chars text) label → IsFoundIn text found → IsPicked options text found label
+    (old new : List ℕ) → IsLabelOf (chars text) label → IsFoundIn text found
+    → IsPicked options (bytes_before whole lo) text found label
     → Appends (IsPickedLine options.finds options whole (chars text) lo hi) old new
     → Appends (IsShownLiteral options whole (chars text) lo hi) old new
 picked_line options whole text found label lo hi old new is_label read picked (shown, is, e) =
@@ -298,7 +319,8 @@ picked_line options whole text found label lo hi old new is_label read picked (s
 
 -- nothing of a text that isn't picked
 pub not_picked : (options : Options) (whole text : List ℕ) (found : Option Found) (label : List ℕ) (lo hi : ℕ) (old : List ℕ)
-    → IsLabelOf (chars text) label → IsFoundIn text found → (IsPicked options text found label → ⊥)
+    → IsLabelOf (chars text) label → IsFoundIn text found
+    → (IsPicked options (bytes_before whole lo) text found label → ⊥)
     → Appends (IsShownLiteral options whole (chars text) lo hi) old old
 not_picked options whole text found label lo hi old is_label read none =
     ([], (label, text, found, is_label, refl, read, inr (none, refl)), sym (append-nil old))

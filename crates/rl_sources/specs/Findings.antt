@@ -1,13 +1,15 @@
 -- What is wrong with a literal, and where. Texts are lists of characters, places are in bytes.
-use Rattle.std.specs.Prelude.{◌≡◌, ◌⊎◌, ℕ, ◌-◌, ◌≤◌, Bool, true, false, List, [], ◌∷◌, take, drop, encode_utf8_all, IsTrue, IsFalse, IfNone, IfSome, Option, Some, None, ⊤}
+use Rattle.std.specs.Prelude.{◌≡◌, ◌⊎◌, ℕ, ◌-◌, ◌≤◌, Bool, true, false, List, [], ◌∷◌, take, drop, encode_utf8_all, IsTrue, IsFalse, IfNone, IfSome, Option, Some, None, codes, ⊤}
 use Rattle.std.specs.Str.{IsCharBoundary, chars}
 use Rattle.rl_forms.specs.Reading.{HasNoReading, HasReading}
 use Rattle.rl_reading.specs.Founds.{IsFound, suffix_in}
 use Rattle.rl_reading.specs.declared.found.Found.{Found}
 use Rattle.rl_reasons.specs.Limits.{IsFloatBySuffix}
 use Rattle.rl_strict.specs.StrictShapes.{IsToken}
+use Rattle.rl_types.specs.Before.{may_negate, reserved}
 use Rattle.rl_types.specs.TypeErrors.{HasTypeError, HasType}
 use Rattle.rl_types.specs.declared.type_errors.TypeError.{TypeError}
+use Rattle.rl_sources.specs.declared.options.Options.{Options}
 use Rattle.rl_sources.specs.declared.finding.Wrong.{Wrong}
 use Rattle.rl_sources.specs.declared.finding.Wrong.TheVariants as wrong
 use Rattle.rl_text.specs.Texts.{byte_len}
@@ -25,10 +27,12 @@ use Rattle.rl_sources.specs.declared.finding.Reason.TheVariants as reason
 -- what is wrong, in words, and by a name that stays
 abbrev pub reason_message : Reason → List ℕ
 reason_message (reason.Flaw kind) = flaw_message kind
+reason_message reason.Reserved = codes "a reserved prefix stands right before it"
 reason_message (reason.Type error) = type_error_message error
 
 abbrev pub reason_id : Reason → List ℕ
 reason_id (reason.Flaw kind) = flaw_id kind
+reason_id reason.Reserved = codes "reserved-prefix"
 reason_id (reason.Type error) = type_error_id error
 
 -- the flaw of the text of a literal: as rustc reads it, it is no token; or it is an integer past 128 bits, and no float
@@ -44,30 +48,46 @@ pub record IsFoundIn (text : List ℕ) (found : Option Found) : Type 0 where
   pub none : IfNone found (HasNoReading (chars text))
   pub some : IfSome found (IsFound text)
 
--- Rust has no type for what was found, or has one; a minus may stand before it. A text without a reading is a float by its suffix.
-abbrev pub HasFoundError : List ℕ → Option Found → TypeError → Type 0
-HasFoundError text None error = ⊥
-HasFoundError text (Some found) error =
-    HasTypeError error found.kind (chars text) found.magnitude true (suffix_in text found.body)
+-- the bytes of a text before one of them
+abbrev pub bytes_before : List ℕ → ℕ → List ℕ
+bytes_before text at = take at (encode_utf8_all text)
 
-abbrev pub HasFoundType : List ℕ → Option Found → Type 0
-HasFoundType text None = ⊤
-HasFoundType text (Some found) = HasType found.kind (chars text) found.magnitude true (suffix_in text found.body)
+-- Rust has no type for what was found behind these bytes, or has one. A text without a reading is a float by its suffix.
+abbrev pub HasFoundError : List ℕ → List ℕ → Option Found → TypeError → Type 0
+HasFoundError before text None error = ⊥
+HasFoundError before text (Some found) error =
+    HasTypeError error found.kind (chars text) found.magnitude (may_negate before) (suffix_in text found.body)
 
--- what is wrong with the text of a literal, in bytes, of what was found; any suffix may stand there, or not
-abbrev pub IsWrong : Bool → List ℕ → Option Found → Wrong → Type 0
-IsWrong any_suffix text found (wrong.Flaw flaw) = FindsFlaw (chars text) flaw
-IsWrong any_suffix text found (wrong.Type error) =
-    IsFalse any_suffix × FindsNoFlaw (chars text) × HasFoundError text found error
+abbrev pub HasFoundType : List ℕ → List ℕ → Option Found → Type 0
+HasFoundType before text None = ⊤
+HasFoundType before text (Some found) =
+    HasType found.kind (chars text) found.magnitude (may_negate before) (suffix_in text found.body)
+
+-- What is wrong with the text of a literal, in bytes, which stands behind these, of what was found: it has flaws; what stands right
+-- before it is reserved in the edition; or Rust has no type for it, where that is asked for.
+abbrev pub IsWrong : Options → List ℕ → List ℕ → Option Found → Wrong → Type 0
+IsWrong options before text found (wrong.Flaw flaw) = FindsFlaw (chars text) flaw
+IsWrong options before text found wrong.Reserved =
+    FindsNoFlaw (chars text) × IsTrue (reserved options.edition before text)
+IsWrong options before text found (wrong.Type error) =
+    FindsNoFlaw (chars text) × IsFalse (reserved options.edition before text) × IsFalse options.any_suffix
+    × HasFoundError before text found error
 
 -- nothing is wrong with it
-abbrev pub IsRight : Bool → List ℕ → Option Found → Type 0
-IsRight any_suffix text found =
-    FindsNoFlaw (chars text) × (IsTrue any_suffix ⊎ HasFoundType text found)
+abbrev pub IsRight : Options → List ℕ → List ℕ → Option Found → Type 0
+IsRight options before text found =
+    FindsNoFlaw (chars text) × IsFalse (reserved options.edition before text)
+    × (IsTrue options.any_suffix ⊎ HasFoundType before text found)
 
 -- something is
-abbrev pub IsBad : Bool → List ℕ → Option Found → Type 0
-IsBad any_suffix text found = (wrong : Wrong) × IsWrong any_suffix text found wrong
+abbrev pub IsBad : Options → List ℕ → List ℕ → Option Found → Type 0
+IsBad options before text found = (why : Wrong) × IsWrong options before text found why
+
+-- it is wrong by this reason, which is that of the whole literal
+abbrev pub IsWrongBy : Options → List ℕ → List ℕ → Option Found → Reason → Type 0
+IsWrongBy options before text found (reason.Flaw kind) = ⊥
+IsWrongBy options before text found reason.Reserved = IsWrong options before text found wrong.Reserved
+IsWrongBy options before text found (reason.Type error) = IsWrong options before text found (wrong.Type error)
 
 -- the bytes from `lo` to `hi` are a text
 abbrev pub IsSlice : List ℕ → ℕ → ℕ → Type 0
@@ -101,9 +121,9 @@ pub record IsLimitFinding (text : List ℕ) (flaw : Flaw) (finding : Finding) : 
   pub from_is : finding.from ≡ 0
   pub to_is : finding.to ≡ byte_len text
 
--- That Rust has no type for a literal: place and piece are the whole literal.
-pub record IsTypeFinding (text : List ℕ) (error : TypeError) (finding : Finding) : Type 0 where
-  pub reason_is : finding.reason ≡ reason.Type error
+-- What is wrong with a literal as a whole: place and piece are the literal.
+pub record IsWholeFinding (text : List ℕ) (why : Reason) (finding : Finding) : Type 0 where
+  pub reason_is : finding.reason ≡ why
   pub lo_is : finding.lo ≡ 0
   pub hi_is : finding.hi ≡ byte_len text
   pub from_is : finding.from ≡ 0

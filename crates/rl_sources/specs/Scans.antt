@@ -33,12 +33,10 @@ use Rattle.rl_sources.specs.declared.place.Place.{Place}
 use Rattle.rl_sources.specs.declared.scan_error.ScanError.{ScanError}
 use Rattle.rl_sources.specs.declared.scan_error.ScanError.TheVariants.{Fault, Source}
 use Rattle.rl_sources.specs.Colors.{painted}
-use Rattle.rl_sources.specs.Findings.{AreFlawsLeft, IsBad, IsFlawFinding, IsFoundIn, IsLimitFinding, IsPieceOf, IsRight, IsTypeFinding, IsWrong, reason_message}
+use Rattle.rl_sources.specs.Findings.{AreFlawsLeft, bytes_before, IsBad, IsFlawFinding, IsFoundIn, IsLimitFinding, IsPieceOf, IsRight, IsWholeFinding, IsWrongBy, reason_message}
 use Rattle.rl_sources.specs.declared.finding.Finding.{Finding}
 use Rattle.rl_sources.specs.declared.finding.Reason.{Reason}
-use Rattle.rl_sources.specs.declared.finding.Wrong.TheVariants as wrong
 use Rattle.rl_reading.specs.declared.found.Found.{Found}
-use Rattle.rl_types.specs.declared.type_errors.TypeError.{TypeError}
 use Rattle.std.specs.Str.{chars}
 use Rattle.rl_sources.specs.Held.{Holds, IsHeldAt}
 use Rattle.rl_sources.specs.Hidden.{ShowsHidden}
@@ -115,25 +113,26 @@ IsLimitLine options whole text lo shown =
     IsToken (lf_text text) × ((flaw : Flaw) × (finding : Finding) × ExplainsLimit text flaw
     × IsLimitFinding text flaw finding × IsFindingLine options whole text lo finding shown)
 
--- the line of a literal, its text in bytes, that Rust has no type for
-abbrev pub IsTypeLine : Options → List ℕ → List ℕ → Option Found → ℕ → List ℕ → Type 0
-IsTypeLine options whole text found lo shown =
-    (error : TypeError) × (finding : Finding) × IsWrong options.any_suffix text found (wrong.Type error)
-    × IsTypeFinding (chars text) error finding × IsFindingLine options whole (chars text) lo finding shown
+-- the line of what is wrong with a literal as a whole, its text in bytes: what stands right before it is reserved, or Rust has no
+-- type for it
+abbrev pub IsWholeLine : Options → List ℕ → List ℕ → Option Found → ℕ → List ℕ → Type 0
+IsWholeLine options whole text found lo shown =
+    (why : Reason) × (finding : Finding) × IsWrongBy options (bytes_before whole lo) text found why
+    × IsWholeFinding (chars text) why finding × IsFindingLine options whole (chars text) lo finding shown
 
 -- the lines that say why a literal, its text in bytes, which begins at this byte of the whole source, is bad: one for each of its
--- flaws, or the one of an integer past 128 bits, or of what Rust has no type for
+-- flaws, or the one of an integer past 128 bits, or of what is wrong with it as a whole
 abbrev pub AreReasonLines : Options → List ℕ → List ℕ → Option Found → ℕ → List ℕ → Type 0
 AreReasonLines options whole text found lo shown =
     AreAllFlawLines options whole (chars text) lo shown ⊎ IsLimitLine options whole (chars text) lo shown
-    ⊎ IsTypeLine options whole text found lo shown
+    ⊎ IsWholeLine options whole text found lo shown
 
 -- the lines of a literal, its text in bytes, of what was found: where it is asked for, and it is bad, those that say why; else its
 -- line as a literal
 abbrev pub IsLineOfFound : Options → List ℕ → List ℕ → Option Found → ℕ → ℕ → List ℕ → Type 0
 IsLineOfFound options whole text found lo hi shown =
     (IsTrue options.explains × AreReasonLines options whole text found lo shown)
-    ⊎ ((IsTrue options.explains → IsRight options.any_suffix text found)
+    ⊎ ((IsTrue options.explains → IsRight options (bytes_before whole lo) text found)
     × IsPlacedLine options whole (chars text) lo hi shown)
 
 -- the same of a text, which is read
@@ -156,18 +155,18 @@ IsPickedLine None options whole text lo hi shown = IsLineIn options whole text l
 IsPickedLine (Some sought) options whole text lo hi shown =
     IsHeldLine sought.now options whole text lo shown
 
--- the literal, its text in bytes, of what was found, is picked, whose line begins with this word
-abbrev pub IsPicked : Options → List ℕ → Option Found → List ℕ → Type 0
-IsPicked options text found label = Picks options.shown label (IsBad options.any_suffix text found)
+-- the literal, its text in bytes, behind these, of what was found, is picked, whose line begins with this word
+abbrev pub IsPicked : Options → List ℕ → List ℕ → Option Found → List ℕ → Type 0
+IsPicked options before text found label = Picks options.shown label (IsBad options before text found)
 
 -- what is shown of a literal: where it is picked, what is shown of it then, else nothing
 abbrev pub IsShownLiteral : Options → List ℕ → List ℕ → ℕ → ℕ → List ℕ → Type 0
 IsShownLiteral options whole text lo hi shown =
     (label : List ℕ) × (bytes : List ℕ) × (found : Option Found) × IsLabelOf text label × (chars bytes ≡ text)
     × IsFoundIn bytes found
-    × ((IsPicked options bytes found label
+    × ((IsPicked options (bytes_before whole lo) bytes found label
     × IsPickedLine options.finds options whole text lo hi shown)
-    ⊎ ((IsPicked options bytes found label → ⊥) × (shown ≡ [])))
+    ⊎ ((IsPicked options (bytes_before whole lo) bytes found label → ⊥) × (shown ≡ [])))
 
 -- what is shown of a token: of a literal, and of the words `true` and `false`, what is shown of
 -- that literal; of anything else nothing

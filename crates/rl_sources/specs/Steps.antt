@@ -13,7 +13,7 @@ use Rattle.rl_sources.specs.declared.options.Shown.TheVariants.{Bad}
 use Rattle.rl_sources.specs.declared.step.Step.{Step}
 use Rattle.rl_sources.specs.declared.step.Step.TheVariants.{More, End, Error}
 use Rattle.rl_sources.specs.Places.{IsPlaceIn}
-use Rattle.rl_sources.specs.Findings.{IsFoundIn, IsRight, IsWrong}
+use Rattle.rl_sources.specs.Findings.{bytes_before, IsFoundIn, IsRight, IsWrong}
 use Rattle.rl_sources.specs.Scans.{ShowsUpTo, IsErrorAt}
 
 -- flaws are looked for: the line of a bad literal says why it is bad, or bad ones are shown
@@ -45,9 +45,9 @@ pub record BeginsRest (token : SourceToken) (text rest : List ℕ) : Type 0 wher
 pub record IsLiteralOf (options : Options) (text : List ℕ) (literal : Literal) : Type 0 where
   pub begins : BeginsRest literal.token.now text literal.rest.now
   pub is_read : IsFoundIn literal.token.now.text.now literal.found.now
-  pub wrong : IfSome literal.wrong (IsWrong options.any_suffix literal.token.now.text.now literal.found.now)
+  pub wrong : IfSome literal.wrong (IsWrong options (bytes_before (chars text) literal.token.now.lo) literal.token.now.text.now literal.found.now)
   pub right : IfNone literal.wrong
-      (LooksForFlaws options → IsRight options.any_suffix literal.token.now.text.now literal.found.now)
+      (LooksForFlaws options → IsRight options (bytes_before (chars text) literal.token.now.lo) literal.token.now.text.now literal.found.now)
 
 -- The cursor over tokens goes over the text whose places are looked for.
 pub record IsCursorOver (tokens : CursorState) (places : List ℕ) : Type 0 where

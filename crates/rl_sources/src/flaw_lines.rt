@@ -7,11 +7,10 @@ ghost use Rattle.rl_file_reasons.specs.FileTexts.{IsPlaceInFile, lf_text};
 ghost use Rattle.rl_flaws.specs.BadPieces.{is_of_unit};
 ghost use Rattle.rl_reasons.specs.declared.flaws.FlawKind.TheVariants.{TooLarge};
 ghost use Rattle.rl_lines.specs.Lines.{Appends};
-ghost use Rattle.rl_sources.specs.Findings.{FindsFlaw, IsFlawFinding, IsLimitFinding, IsTypeFinding, IsWrong};
-ghost use Rattle.rl_sources.specs.declared.finding.Wrong.TheVariants as wrong;
+ghost use Rattle.rl_sources.specs.Findings.{FindsFlaw, IsFlawFinding, IsLimitFinding, IsWholeFinding, IsWrong, IsWrongBy, bytes_before};
 ghost use Rattle.rl_sources.specs.Held.{IsCutAt};
 ghost use Rattle.rl_sources.specs.InFile.{AreCuts, IsFlawsOver, StandsInFile};
-ghost use Rattle.rl_sources.specs.Scans.{AreAllFlawLines, AreFlawLines, AreReasonLines, IsLimitLine, IsTypeLine};
+ghost use Rattle.rl_sources.specs.Scans.{AreAllFlawLines, AreFlawLines, AreReasonLines, IsLimitLine, IsWholeLine};
 ghost use Rattle.rl_sources.specs.Steps.{BeginsRest};
 
 use crate::finding::{Finding, Reason, Wrong};
@@ -22,7 +21,6 @@ use crate::place::Places;
 use crate::reason::push_finding;
 use rl_flaws::{BadPiece, Flaws, is_of_unit};
 use rl_reasons::{Flaw, FlawKind};
-use rl_types::TypeError;
 use std::alloc::{AllocError, Allocator};
 
 /// A place in the file, in bytes of the text.
@@ -180,14 +178,14 @@ fn push_flaws<'t, A: Allocator>(
     push_flaws_left(out, options, literal, places, flaws)
 }
 
-/// The finding of a literal that Rust has no type for.
-fn type_finding(text: &str, error: TypeError) -> Finding
-    ensures finding { IsTypeFinding (chars text.now) error result }
+/// The finding of what is wrong with a literal as a whole.
+fn whole_of(text: &str, reason: Reason) -> Finding
+    ensures finding { IsWholeFinding (chars text.now) reason result }
     ensures cut { IsCutAt (chars text.now) result.lo }
     ensures within { result.hi ≤ byte_len (chars text.now) }
 {
     Finding {
-        reason: Reason::Type(error),
+        reason,
         lo: 0,
         hi: text.len(),
         from: 0,
@@ -195,23 +193,24 @@ fn type_finding(text: &str, error: TypeError) -> Finding
     }
 }
 
-/// Appends the line of a literal that Rust has no type for.
-fn push_type_error<'t, A: Allocator>(
+/// Appends the line of what is wrong with a literal as a whole.
+fn push_whole<'t, A: Allocator>(
     out: &mut String<A>,
     options: &Options<'_>,
     literal: &Literal<'_, 't>,
     places: &mut Places<'t>,
-    error: TypeError,
+    reason: Reason,
 ) -> Result<(), AllocError>
     requires rest { BeginsRest literal.now.token.now places.old literal.now.rest.now }
-    requires wrong { IsWrong options.now.any_suffix literal.now.token.now.text.now literal.now.found.now (wrong.Type error) }
+    requires wrong { IsWrongBy options.now (bytes_before (chars places.old) literal.now.token.now.lo)
+        literal.now.token.now.text.now literal.now.found.now reason }
     ensures shown { OnOk result (Appends
-        (IsTypeLine options.now (chars places.old) literal.now.token.now.text.now literal.now.found.now
+        (IsWholeLine options.now (chars places.old) literal.now.token.now.text.now literal.now.found.now
         literal.now.token.now.lo)
         (chars (string_bytes out.old)) (chars (string_bytes out.new))) }
     ensures same { places.new ≡ places.old }
 {
-    let finding = type_finding(literal.token.text, error);
+    let finding = whole_of(literal.token.text, reason);
     push_finding(out, options, literal, places, finding)
 }
 
@@ -226,7 +225,8 @@ pub(crate) fn push_wrong<'t, A: Allocator>(
     wrong: Wrong,
 ) -> Result<(), AllocError>
     requires rest { BeginsRest literal.now.token.now places.old literal.now.rest.now }
-    requires wrong { IsWrong options.now.any_suffix literal.now.token.now.text.now literal.now.found.now wrong }
+    requires wrong { IsWrong options.now (bytes_before (chars places.old) literal.now.token.now.lo)
+        literal.now.token.now.text.now literal.now.found.now wrong }
     ensures shown { OnOk result (Appends
         (AreReasonLines options.now (chars places.old) literal.now.token.now.text.now literal.now.found.now
         literal.now.token.now.lo)
@@ -236,6 +236,7 @@ pub(crate) fn push_wrong<'t, A: Allocator>(
     match wrong {
         Wrong::Flaw(flaw) if is_limit(flaw) => push_limit(out, options, literal, places, flaw),
         Wrong::Flaw(flaw) => push_flaws(alloc, out, options, literal, places, flaw),
-        Wrong::Type(error) => push_type_error(out, options, literal, places, error),
+        Wrong::Reserved => push_whole(out, options, literal, places, Reason::Reserved),
+        Wrong::Type(error) => push_whole(out, options, literal, places, Reason::Type(error)),
     }
 }

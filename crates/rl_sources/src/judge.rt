@@ -2,14 +2,14 @@
 
 ghost use Rattle.std.specs.Prelude.{◌≡◌, ◌↔◌, None, Some, IsTrue, IfNone, IfSome};
 ghost use Rattle.std.specs.Str.{chars};
-ghost use Rattle.rl_sources.specs.Findings.{HasFoundError, HasFoundType, IsFoundIn, IsRight, IsWrong};
+ghost use Rattle.rl_sources.specs.Findings.{FindsNoFlaw, HasFoundError, HasFoundType, IsFoundIn, IsRight, IsWrong};
 ghost use Rattle.rl_sources.specs.Steps.{LooksForFlaws};
 
 use crate::finding::Wrong;
 use crate::options::{Options, Shown};
 use rl_file_reasons::explain_value_in_file;
 use rl_reading::Found;
-use rl_types::{TypeError, type_error};
+use rl_types::{TypeError, may_be_negated, type_error};
 
 /// Whether flaws are looked for.
 fn looks_for_flaws(options: &Options<'_>) -> bool
@@ -18,36 +18,59 @@ fn looks_for_flaws(options: &Options<'_>) -> bool
     options.explains || matches!(options.shown, Shown::Bad)
 }
 
-/// Why Rust has no type for a literal, of what reading it found; a minus may stand before it.
-fn type_error_of(text: &str, found: &Option<Found>) -> Option<TypeError>
+/// Why Rust has no type for a literal, of what reading it found and the text before it.
+fn type_error_of(before: &str, text: &str, found: &Option<Found>) -> Option<TypeError>
     requires { IsFoundIn text.now found.now }
-    ensures some { IfSome result (HasFoundError text.now found.now) }
-    ensures none { IfNone result (HasFoundType text.now found.now) }
+    ensures some { IfSome result (HasFoundError before.now text.now found.now) }
+    ensures none { IfNone result (HasFoundType before.now text.now found.now) }
 {
     match found {
-        Some(found) => type_error(text, found, true),
+        Some(found) => type_error(text, found, may_be_negated(before)),
         None => None,
     }
 }
 
-/// What is wrong with a literal, where that is looked for.
-pub(crate) fn wrong_in(options: &Options<'_>, text: &str, found: &Option<Found>) -> Option<Wrong>
-    requires { IsFoundIn text.now found.now }
-    ensures some { IfSome result (IsWrong options.now.any_suffix text.now found.now) }
-    ensures none { IfNone result (LooksForFlaws options.now → IsRight options.now.any_suffix text.now found.now) }
+/// What is wrong with a literal that has no flaw, of the text before it.
+fn wrong_beside(
+    options: &Options<'_>,
+    before: &str,
+    text: &str,
+    found: &Option<Found>,
+) -> Option<Wrong>
+    requires found { IsFoundIn text.now found.now }
+    requires no_flaw { FindsNoFlaw (chars text.now) }
+    ensures some { IfSome result (IsWrong options.now before.now text.now found.now) }
+    ensures none { IfNone result (IsRight options.now before.now text.now found.now) }
 {
-    if !looks_for_flaws(options) {
-        return None;
-    }
-    if let Some(flaw) = explain_value_in_file(text) {
-        return Some(Wrong::Flaw(flaw));
+    if options.edition.reserves(before, text) {
+        return Some(Wrong::Reserved);
     }
     if options.any_suffix {
         return None;
     }
-    match type_error_of(text, found) {
+    match type_error_of(before, text, found) {
         Some(error) => Some(Wrong::Type(error)),
         None => None,
+    }
+}
+
+/// What is wrong with a literal, of the text before it, where that is looked for.
+pub(crate) fn wrong_in(
+    options: &Options<'_>,
+    before: &str,
+    text: &str,
+    found: &Option<Found>,
+) -> Option<Wrong>
+    requires { IsFoundIn text.now found.now }
+    ensures some { IfSome result (IsWrong options.now before.now text.now found.now) }
+    ensures none { IfNone result (LooksForFlaws options.now → IsRight options.now before.now text.now found.now) }
+{
+    if !looks_for_flaws(options) {
+        return None;
+    }
+    match explain_value_in_file(text) {
+        Some(flaw) => Some(Wrong::Flaw(flaw)),
+        None => wrong_beside(options, before, text, found),
     }
 }
 

@@ -28,3 +28,4 @@ pub use crate::place::Place;
 pub use crate::reason::push_source_error;
 pub use crate::scan_error::ScanError;
 pub use crate::scanner::scan;
+pub use rl_types::Edition;

@@ -3,6 +3,8 @@
 ghost use Rattle.std.specs.Prelude.{◌↔◌, IsTrue};
 ghost use Rattle.rl_sources.specs.Options.{Names, Picks};
 
+use rl_types::Edition;
+
 /// How a literal is printed.
 #[derive(Clone, Copy)]
 pub enum Spelling {
@@ -31,7 +33,7 @@ pub enum Shown<'a> {
     /// Those whose lines begin with one of these words, in any case of their letters; commas separate the words.
     Only(&'a str),
     /// Those that are bad: no literal tokens of Rust, where a CR LF of the file is an LF, integers past 128 bits, or literals that
-    /// Rust has no type for.
+    /// Rust has no type for, or that stand right behind a reserved prefix.
     Bad,
     /// None: in their place the characters of the source are shown that turn or hide text, wherever they stand.
     Hidden,
@@ -68,6 +70,8 @@ pub struct Options<'a> {
     pub explains: bool,
     /// Whether a literal may have any suffix, as where a macro takes it, and any value.
     pub any_suffix: bool,
+    /// The edition, by which a word or hashes right before a quote are reserved.
+    pub edition: Edition,
     /// What stands before each place: a file's path as it is printed, or for the form `Json` as it is.
     pub path: Option<&'a str>,
 }
@@ -75,6 +79,7 @@ pub struct Options<'a> {
 impl Default for Options<'_> {
     ghost use Rattle.std.specs.Prelude.{◌≡◌, None, false};
     ghost use Rattle.rl_sources.specs.declared.options.Form.TheVariants.{Plain};
+    ghost use Rattle.rl_types.specs.declared.before.Edition.TheVariants.{E2021};
     ghost use Rattle.rl_sources.specs.declared.options.Shown.TheVariants.{All};
     ghost use Rattle.rl_sources.specs.declared.options.Spelling.TheVariants.{Value};
 
@@ -88,6 +93,7 @@ impl Default for Options<'_> {
       rejects_strays = false;
       explains = false;
       any_suffix = false;
+      edition = E2021;
       path = None;
     } };
 
@@ -106,6 +112,7 @@ impl Default for Options<'_> {
             rejects_strays: false,
             explains: false,
             any_suffix: false,
+            edition: Edition::E2021,
             path: None,
         }
     }

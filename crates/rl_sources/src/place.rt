@@ -5,6 +5,7 @@ ghost use Rattle.std.specs.Str.{chars, IsCharBoundary};
 ghost use Rattle.rl_text.specs.Texts.{byte_len};
 ghost use Rattle.rl_lexer.specs.Cursors.{IsCursorState};
 ghost use Rattle.rl_lexer.specs.Lines.{BeginsAt};
+ghost use Rattle.rl_sources.specs.Findings.{bytes_before};
 ghost use Rattle.rl_sources.specs.Held.{IsCutAt};
 ghost use Rattle.rl_sources.specs.Places.{line_front, worded_front, place_text, IsPlaceIn};
 ghost use Rattle.rl_sources.specs.Json.{object_front};
@@ -194,6 +195,14 @@ impl<'t> Places<'t> {
         ensures { result.now ≡ drop lo self.now }
     {
         &self.text[lo..]
+    }
+
+    /// The text before this byte.
+    pub(crate) fn before(&self, at: usize) -> &'t str
+        requires { IsCharBoundary self.now at }
+        ensures { result.now ≡ bytes_before (chars self.now) at }
+    {
+        &self.text[..at]
     }
 
     /// The byte where a rest of the text begins.

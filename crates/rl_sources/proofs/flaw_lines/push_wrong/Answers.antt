@@ -1,5 +1,5 @@
 use Rattle.rl_text.proofs.Common.{chars, on_ok_weaker}
-use Rattle.rl_sources.proofs.FlawLineLemmas.{all_flaws_say, limit_says}
+use Rattle.rl_sources.proofs.FlawLineLemmas.{all_flaws_say, limit_says, whole_says}
 use Rattle.rl_sources.proofs.flaw_lines.push_wrong.Goals as goal
 
 pub returns-in-Flaw-clause-shown : goal.returns-in-Flaw-clause-shown
@@ -11,3 +11,8 @@ pub returns-in-Flaw-2-clause-shown : goal.returns-in-Flaw-2-clause-shown
 returns-in-Flaw-2-clause-shown g c = on_ok_weaker c.push_flaws.result (all_flaws_say c.args.options.now
     (chars c.args.places.now) c.args.literal.now.token.now.text.now c.args.literal.now.found.now
     c.args.literal.now.token.now.lo _ _) c.push_flaws.ensures.shown
+
+pub returns-in-Reserved-clause-shown : goal.returns-in-Reserved-clause-shown
+returns-in-Reserved-clause-shown g c = on_ok_weaker c.push_whole.result (whole_says c.args.options.now
+    (chars c.args.places.now) c.args.literal.now.token.now.text.now c.args.literal.now.found.now
+    c.args.literal.now.token.now.lo _ _) c.push_whole.ensures.shown

@@ -9,6 +9,8 @@ use crate::rl_types::TypeError;
 pub(crate) enum Reason {
     /// It is no literal token, or an integer past 128 bits.
     Flaw(FlawKind),
+    /// What stands right before it is reserved.
+    Reserved,
     /// Rust has no type for it.
     Type(TypeError),
 }
@@ -28,10 +30,12 @@ pub(crate) struct Finding {
     pub(crate) to: usize,
 }
 
-/// What is wrong with a literal, as it was judged: its first flaw, or that Rust has no type for it.
+/// What is wrong with a literal, as it was judged: its first flaw, that what stands right before it is
+/// reserved, or that Rust has no type for it.
 #[derive(Clone, Copy)]
 pub(crate) enum Wrong {
     Flaw(Flaw),
+    Reserved,
     Type(TypeError),
 }
 
@@ -40,6 +44,7 @@ impl Reason {
     pub(crate) fn words(self) -> &'static str {
         match self {
             Reason::Flaw(kind) => kind.words(),
+            Reason::Reserved => "a reserved prefix stands right before it",
             Reason::Type(error) => error.words(),
         }
     }
@@ -48,6 +53,7 @@ impl Reason {
     pub(crate) fn id(self) -> &'static str {
         match self {
             Reason::Flaw(kind) => kind.id(),
+            Reason::Reserved => "reserved-prefix",
             Reason::Type(error) => error.id(),
         }
     }

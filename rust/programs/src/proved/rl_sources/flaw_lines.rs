@@ -10,7 +10,6 @@ use crate::rl_sources::place::Places;
 use crate::rl_sources::reason::push_finding;
 use crate::rl_flaws::{BadPiece, Flaws, is_of_unit};
 use crate::rl_reasons::{Flaw, FlawKind};
-use crate::rl_types::TypeError;
 use crate::rattle_std::alloc::{AllocError, Allocator};
 
 /// A place in the file, in bytes of the text.
@@ -118,10 +117,10 @@ fn push_flaws<'t, A: Allocator>(
     push_flaws_left(out, options, literal, places, flaws)
 }
 
-/// The finding of a literal that Rust has no type for.
-fn type_finding(text: &str, error: TypeError) -> Finding {
+/// The finding of what is wrong with a literal as a whole.
+fn whole_of(text: &str, reason: Reason) -> Finding {
     Finding {
-        reason: Reason::Type(error),
+        reason,
         lo: 0,
         hi: text.len(),
         from: 0,
@@ -129,15 +128,15 @@ fn type_finding(text: &str, error: TypeError) -> Finding {
     }
 }
 
-/// Appends the line of a literal that Rust has no type for.
-fn push_type_error<'t, A: Allocator>(
+/// Appends the line of what is wrong with a literal as a whole.
+fn push_whole<'t, A: Allocator>(
     out: &mut String<A>,
     options: &Options<'_>,
     literal: &Literal<'_, 't>,
     places: &mut Places<'t>,
-    error: TypeError,
+    reason: Reason,
 ) -> Result<(), AllocError> {
-    let finding = type_finding(literal.token.text, error);
+    let finding = whole_of(literal.token.text, reason);
     push_finding(out, options, literal, places, finding)
 }
 
@@ -154,6 +153,7 @@ pub(crate) fn push_wrong<'t, A: Allocator>(
     match wrong {
         Wrong::Flaw(flaw) if is_limit(flaw) => push_limit(out, options, literal, places, flaw),
         Wrong::Flaw(flaw) => push_flaws(alloc, out, options, literal, places, flaw),
-        Wrong::Type(error) => push_type_error(out, options, literal, places, error),
+        Wrong::Reserved => push_whole(out, options, literal, places, Reason::Reserved),
+        Wrong::Type(error) => push_whole(out, options, literal, places, Reason::Type(error)),
     }
 }

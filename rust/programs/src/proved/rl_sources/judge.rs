@@ -5,35 +5,53 @@ use crate::rl_sources::finding::Wrong;
 use crate::rl_sources::options::{Options, Shown};
 use crate::rl_file_reasons::explain_value_in_file;
 use crate::rl_reading::Found;
-use crate::rl_types::{TypeError, type_error};
+use crate::rl_types::{TypeError, may_be_negated, type_error};
 
 /// Whether flaws are looked for.
 fn looks_for_flaws(options: &Options<'_>) -> bool {
     options.explains || matches!(options.shown, Shown::Bad)
 }
 
-/// Why Rust has no type for a literal, of what reading it found; a minus may stand before it.
-fn type_error_of(text: &str, found: &Option<Found>) -> Option<TypeError> {
+/// Why Rust has no type for a literal, of what reading it found and the text before it.
+fn type_error_of(before: &str, text: &str, found: &Option<Found>) -> Option<TypeError> {
     match found {
-        Some(found) => type_error(text, found, true),
+        Some(found) => type_error(text, found, may_be_negated(before)),
         None => None,
     }
 }
 
-/// What is wrong with a literal, where that is looked for.
-pub(crate) fn wrong_in(options: &Options<'_>, text: &str, found: &Option<Found>) -> Option<Wrong> {
-    if !looks_for_flaws(options) {
-        return None;
-    }
-    if let Some(flaw) = explain_value_in_file(text) {
-        return Some(Wrong::Flaw(flaw));
+/// What is wrong with a literal that has no flaw, of the text before it.
+fn wrong_beside(
+    options: &Options<'_>,
+    before: &str,
+    text: &str,
+    found: &Option<Found>,
+) -> Option<Wrong> {
+    if options.edition.reserves(before, text) {
+        return Some(Wrong::Reserved);
     }
     if options.any_suffix {
         return None;
     }
-    match type_error_of(text, found) {
+    match type_error_of(before, text, found) {
         Some(error) => Some(Wrong::Type(error)),
         None => None,
+    }
+}
+
+/// What is wrong with a literal, of the text before it, where that is looked for.
+pub(crate) fn wrong_in(
+    options: &Options<'_>,
+    before: &str,
+    text: &str,
+    found: &Option<Found>,
+) -> Option<Wrong> {
+    if !looks_for_flaws(options) {
+        return None;
+    }
+    match explain_value_in_file(text) {
+        Some(flaw) => Some(Wrong::Flaw(flaw)),
+        None => wrong_beside(options, before, text, found),
     }
 }
 

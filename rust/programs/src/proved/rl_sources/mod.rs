@@ -28,3 +28,4 @@ pub use crate::rl_sources::place::Place;
 pub use crate::rl_sources::reason::push_source_error;
 pub use crate::rl_sources::scan_error::ScanError;
 pub use crate::rl_sources::scanner::scan;
+pub use crate::rl_types::Edition;

@@ -1,6 +1,8 @@
 // Rendered from crates/rl_sources/src/options.rt by tools/render, which erases contracts: change that file, and render anew.
 //! How a source is scanned.
 
+use crate::rl_types::Edition;
+
 /// How a literal is printed.
 #[derive(Clone, Copy)]
 pub enum Spelling {
@@ -29,7 +31,7 @@ pub enum Shown<'a> {
     /// Those whose lines begin with one of these words, in any case of their letters; commas separate the words.
     Only(&'a str),
     /// Those that are bad: no literal tokens of Rust, where a CR LF of the file is an LF, integers past 128 bits, or literals that
-    /// Rust has no type for.
+    /// Rust has no type for, or that stand right behind a reserved prefix.
     Bad,
     /// None: in their place the characters of the source are shown that turn or hide text, wherever they stand.
     Hidden,
@@ -66,6 +68,8 @@ pub struct Options<'a> {
     pub explains: bool,
     /// Whether a literal may have any suffix, as where a macro takes it, and any value.
     pub any_suffix: bool,
+    /// The edition, by which a word or hashes right before a quote are reserved.
+    pub edition: Edition,
     /// What stands before each place: a file's path as it is printed, or for the form `Json` as it is.
     pub path: Option<&'a str>,
 }
@@ -86,6 +90,7 @@ impl Default for Options<'_> {
             rejects_strays: false,
             explains: false,
             any_suffix: false,
+            edition: Edition::E2021,
             path: None,
         }
     }

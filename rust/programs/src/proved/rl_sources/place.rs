@@ -146,6 +146,11 @@ impl<'t> Places<'t> {
         &self.text[lo..]
     }
 
+    /// The text before this byte.
+    pub(crate) fn before(&self, at: usize) -> &'t str {
+        &self.text[..at]
+    }
+
     /// The byte where a rest of the text begins.
     pub(crate) fn byte_of(&self, rest: &'t str) -> usize {
         self.text.len() - rest.len()

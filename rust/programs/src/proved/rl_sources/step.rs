@@ -189,7 +189,8 @@ fn push_literal_token<'t, A: Allocator + Copy>(
     places: &mut Places<'t>,
 ) -> Result<(), AllocError> {
     let found = find(token.text);
-    let wrong = wrong_in(options, token.text, &found);
+    let before = places.before(token.lo);
+    let wrong = wrong_in(options, before, token.text, &found);
     let label = label_of(kind_of(&found));
     if !options.shown.picks(label, wrong.is_some()) {
         return Ok(());

@@ -1,5 +1,5 @@
 use Rattle.rl_text.proofs.Common.{[], ap, arith, chars, encodes-chars, length, refl, sym}
-use Rattle.rl_sources.proofs.flaw_lines.type_finding.Goals as goal
+use Rattle.rl_sources.proofs.flaw_lines.whole_of.Goals as goal
 
 pub returns-clause-finding : goal.returns-clause-finding
 returns-clause-finding c = record {
