@@ -37,17 +37,40 @@ holds_comment [] = false
 holds_comment (b ∷ back) =
     not (b == 10) && (((b == 47) && comes_first 47 back) || holds_comment back)
 
--- a minus comes first, or what may be the end of a comment or white space past ASCII
-abbrev pub can_end_minus : List ℕ → Bool
-can_end_minus [] = false
-can_end_minus (b ∷ back) = (b == 45) || (b == 47) || nat_le 128 b
+-- a slash comes first, as at a comment's end, or white space past ASCII may
+abbrev pub may_end_comment : List ℕ → Bool
+may_end_comment [] = false
+may_end_comment (b ∷ back) = (b == 47) || nat_le 128 b
 
--- A minus may stand before: but for white space and opening parentheses it comes first, or what may be a comment's end
--- does. In another line that may be two slashes and what follows them.
-abbrev pub may_negate : List ℕ → Bool
-may_negate before =
-    can_end_minus (reverse (without Passed before))
+-- what may be a comment stands before: at the end but for white space and opening parentheses, or in another line
+abbrev pub is_hidden : List ℕ → Bool
+is_hidden before =
+    may_end_comment (reverse (without Passed before))
     || (comes_first 10 (reverse (without Inline before)) && holds_comment (reverse (without Passed before)))
+
+-- what stands before but for these, where no comment may hide it
+abbrev pub seen_before : List ℕ → Option (List ℕ)
+seen_before before = cond (is_hidden before) None (Some (without Passed before))
+
+-- a minus may stand before
+abbrev pub ends_in_minus : Option (List ℕ) → Bool
+ends_in_minus None = true
+ends_in_minus (Some front) = comes_first 45 (reverse front)
+
+abbrev pub may_negate : List ℕ → Bool
+may_negate before = ends_in_minus (seen_before before)
+
+-- one dot comes first, and not two
+abbrev pub one_dot_first : List ℕ → Bool
+one_dot_first [] = false
+one_dot_first (b ∷ back) = (b == 46) && not (comes_first 46 back)
+
+abbrev pub ends_in_dot : Option (List ℕ) → Bool
+ends_in_dot None = true
+ends_in_dot (Some front) = one_dot_first (reverse front)
+
+abbrev pub may_be_field : List ℕ → Bool
+may_be_field before = ends_in_dot (seen_before before)
 
 -- it begins as a name does, and not as a number
 abbrev pub begins_name : List ℕ → Bool

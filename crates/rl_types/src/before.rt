@@ -1,8 +1,8 @@
 //! What stands right before a literal.
 
-ghost use Rattle.std.specs.Prelude.{◌≡◌, ◌≤◌, length};
+ghost use Rattle.std.specs.Prelude.{◌≡◌, ◌≤◌, length, option_map};
 ghost use Rattle.std.specs.Prelude.{reverse};
-ghost use Rattle.rl_types.specs.Before.{can_end_minus, has_part, holds_comment, is_after_hashes, is_after_word, may_negate, reserved, reserving, without, year_of};
+ghost use Rattle.rl_types.specs.Before.{has_part, holds_comment, is_after_hashes, is_after_word, may_be_field, may_negate, one_dot_first, reserved, reserving, seen_before, without, year_of};
 
 /// An edition of Rust.
 #[derive(Clone, Copy, PartialEq, Eq, Debug)]
@@ -70,22 +70,50 @@ fn holds_comment(bytes: &[u8]) -> bool
     false
 }
 
-/// Whether a minus, a comment or a character past ASCII ends here.
-fn can_end_minus(bytes: &[u8]) -> bool
-    ensures { result ≡ can_end_minus (reverse bytes.now) }
-{
-    matches!(bytes, [.., b'-' | b'/' | 128..])
-}
-
-/// Whether a minus may stand before a literal, of the text before it: a minus, a comment or a character past ASCII, but for white
-/// space and opening parentheses, or a line before with two slashes.
-pub fn may_be_negated(before: &str) -> bool
-    ensures { result ≡ may_negate before.now }
+/// What stands before, but for white space, line ends and opening parentheses. `None` where a comment may hide it: where a slash or a
+/// character past ASCII comes before these, or they begin a line and two slashes stand in the one before.
+fn seen_before(before: &str) -> Option<&[u8]>
+    ensures { option_map (λ front. front.now) result ≡ seen_before before.now }
 {
     let bytes = before.as_bytes();
     let inline = trimmed(bytes, Part::Inline);
     let all = trimmed(bytes, Part::Passed);
-    can_end_minus(all) || matches!(inline, [.., b'\n']) && holds_comment(all)
+    if matches!(all, [.., b'/' | 128..]) || matches!(inline, [.., b'\n']) && holds_comment(all) {
+        return None;
+    }
+    Some(all)
+}
+
+/// Whether a minus may stand before a literal, of the text before it: it does, but for white space, comments and opening parentheses,
+/// or what may be a comment hides whether it does.
+pub fn may_be_negated(before: &str) -> bool
+    ensures { result ≡ may_negate before.now }
+{
+    match seen_before(before) {
+        Some(front) => matches!(front, [.., b'-']),
+        None => true,
+    }
+}
+
+/// Whether one dot ends here, and not two.
+fn ends_in_one_dot(bytes: &[u8]) -> bool
+    ensures { result ≡ one_dot_first (reverse bytes.now) }
+{
+    match bytes {
+        [rest @ .., b'.'] => !matches!(rest, [.., b'.']),
+        _ => false,
+    }
+}
+
+/// Whether a number may be a field of a tuple, of the text before it: one dot stands there, and not two, but for white space and
+/// comments, or what may be a comment hides whether it does.
+pub fn may_be_field(before: &str) -> bool
+    ensures { result ≡ may_be_field before.now }
+{
+    match seen_before(before) {
+        Some(front) => ends_in_one_dot(front),
+        None => true,
+    }
 }
 
 /// Whether a word ends here that is no number and no part of a literal, a lifetime or a raw identifier.
