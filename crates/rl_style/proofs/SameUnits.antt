@@ -150,7 +150,7 @@ unit_allowed style k us (ByteEscape high low) q h = byte_allowed style.escape_di
 unit_allowed style k us (UnicodeEscape digits) q h = code_allowed style.escape_digits k digits h
 unit_allowed style k us (LineBreak blanks) q h = h
 
-all_allowed : (style : Style) (k : Kind) (vs us : List StrictUnit) → HasUnits k vs
+pub all_allowed : (style : Style) (k : Kind) (vs us : List StrictUnit) → HasUnits k vs
     → list_all (is_strict_unit k) us ≡ true → list_all (is_strict_unit k) (map (restyled style k) us) ≡ true
 all_allowed style k vs [] q h = refl
 all_allowed style k vs (u ∷ us) q h =
@@ -160,7 +160,7 @@ all_allowed style k vs (u ∷ us) q h =
 
 -- ---- how many
 
-same_count : (style : Style) (k : Kind) (us : List StrictUnit) → HasUnits k us → HasUnits k (map (restyled style k) us)
+pub same_count : (style : Style) (k : Kind) (us : List StrictUnit) → HasUnits k us → HasUnits k (map (restyled style k) us)
 same_count style Str us h = tt
 same_count style ByteStr us h = tt
 same_count style CStr us h = tt
@@ -199,7 +199,7 @@ quote_ends : (b : Bool) (c : ℕ) (us : List StrictUnit) → BlanksEnd us → Bl
 quote_ends true c us e = e
 quote_ends false c us e = e
 
-blanks_stay : (style : Style) (k : Kind) (us : List StrictUnit) → list_all (is_strict_unit k) us ≡ true → BlanksEnd us
+pub blanks_stay : (style : Style) (k : Kind) (us : List StrictUnit) → list_all (is_strict_unit k) us ≡ true → BlanksEnd us
     → BlanksEnd (map (restyled style k) us)
 blanks_stay style k [] h b = tt
 blanks_stay style k (u ∷ us) h b = go u (and_parts (is_strict_unit k u) (list_all (is_strict_unit k) us) h).1 b
@@ -252,7 +252,7 @@ unit_contents style k (UnicodeEscape digits) h = ap (λ n. strict_content_of k (
     (code_cased style.escape_digits digits)
 unit_contents style k (LineBreak blanks) h = refl
 
-all_contents : (style : Style) (k : Kind) (us : List StrictUnit) → list_all (is_strict_unit k) us ≡ true
+pub all_contents : (style : Style) (k : Kind) (us : List StrictUnit) → list_all (is_strict_unit k) us ≡ true
     → flat_map (strict_contents (strict_content_of k)) (map (restyled style k) us)
     ≡ flat_map (strict_contents (strict_content_of k)) us
 all_contents style k [] h = refl
@@ -275,7 +275,7 @@ cooked_strict t Int v x s = absurd s.count
 cooked_strict t Float v x s = absurd s.count
 cooked_strict t BoolKind v x s = absurd s.count
 
-abbrev written : (style : Style) (t u : List ℕ) (k : Kind) (v : Contents) (x : List ℕ) (s : StrictCooked t k v x)
+abbrev pub written : (style : Style) (t u : List ℕ) (k : Kind) (v : Contents) (x : List ℕ) (s : StrictCooked t k v x)
     → u ≡ strict_opener k ++ (flat_map strict_text (map (restyled style k) s.units) ++ (strict_closer k ++ x))
     → StrictCooked u k v x
 written style t u k v x s e = record {
