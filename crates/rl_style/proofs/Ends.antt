@@ -8,19 +8,19 @@ use Rattle.rl_style.proofs.Decimals.{decimal_is}
 use Rattle.rl_style.specs.Around.{is_head, SameFront, KeepsItsEnds}
 
 -- both begin with this, and then go on
-alike : (front : List ℕ) (h : ℕ) (x y : List ℕ) → is_head h ≡ true → (h ≡ 114 → ⊥)
+pub alike : (front : List ℕ) (h : ℕ) (x y : List ℕ) → is_head h ≡ true → (h ≡ 114 → ⊥)
     → SameFront (front ++ (h ∷ x)) (front ++ (h ∷ y))
-alike front h x y is other = record { front = front; head = h; old_rest = x; new_rest = y; is_head = is; raw = λ e. absurd (other e); old_is = refl; new_is = refl }
+alike front h x y is other = record { front = front; head = h; new_head = h; same_head = inl refl; old_rest = x; new_rest = y; is_head = is; raw = λ e. absurd (other e); old_is = refl; new_is = refl }
 
 raw_alike : (front x y : List ℕ) → BeginsHashedQuote x → BeginsHashedQuote y
     → SameFront (front ++ (114 ∷ x)) (front ++ (114 ∷ y))
-raw_alike front x y a b = record { front = front; head = 114; old_rest = x; new_rest = y; is_head = refl; raw = λ e. (a, b); old_is = refl; new_is = refl }
+raw_alike front x y a b = record { front = front; head = 114; new_head = 114; same_head = inl refl; old_rest = x; new_rest = y; is_head = refl; raw = λ e. (a, b); old_is = refl; new_is = refl }
 
-not_r : (h : ℕ) → (h == 114) ≡ false → h ≡ 114 → ⊥
+pub not_r : (h : ℕ) → (h == 114) ≡ false → h ≡ 114 → ⊥
 not_r h other e = let q : (h == 114) ≡ true = ap (λ z. z == 114) e in let k : true ≡ false = sym q
     ∙ other in absurd (cc)
 
-quoted_front : (p : LiteralPrefix) (a b : List BodyPart) (x after : List ℕ)
+pub quoted_front : (p : LiteralPrefix) (a b : List BodyPart) (x after : List ℕ)
     → SameFront (lexeme_text (QuotedLexeme p a x) ++ after) (lexeme_text (QuotedLexeme p b x) ++ after)
 quoted_front NoPrefix a b x after = alike [] 34 (body_text a ++ 34 ∷ x ++ after) (body_text b ++ 34 ∷ x ++ after) refl
     (not_r 34 refl)
@@ -29,7 +29,7 @@ quoted_front BytePrefix a b x after = alike (98 ∷ []) 34 (body_text a ++ 34 �
 quoted_front CPrefix a b x after = alike (99 ∷ []) 34 (body_text a ++ 34 ∷ x ++ after) (body_text b ++ 34 ∷ x ++ after)
     refl (not_r 34 refl)
 
-character_front : (k : Bool) (a b : CharacterBody) (x after : List ℕ)
+pub character_front : (k : Bool) (a b : CharacterBody) (x after : List ℕ)
     → SameFront (lexeme_text (CharacterLexeme k a x) ++ after) (lexeme_text (CharacterLexeme k b x) ++ after)
 character_front false a b x after = alike [] 39 (character_body_text a ++ 39 ∷ x ++ after)
     (character_body_text b ++ 39 ∷ x ++ after) refl (not_r 39 refl)
@@ -46,7 +46,7 @@ raw_rest n body x after = (((replicate n 35 ++ (34 ∷ body)) ++ (34 ∷ replica
 raw_opens : (n : ℕ) (body x after : List ℕ) → BeginsHashedQuote (raw_rest n body x after)
 raw_opens n body x after = record { hashes = n; rest = body ++ (34 ∷ (replicate n 35 ++ (x ++ after))); text_is = raw_text n body x after }
 
-raw_front : (p : LiteralPrefix) (n m : ℕ) (a b x after : List ℕ)
+pub raw_front : (p : LiteralPrefix) (n m : ℕ) (a b x after : List ℕ)
     → SameFront (lexeme_text (RawLexeme p n a x) ++ after) (lexeme_text (RawLexeme p m b x) ++ after)
 raw_front NoPrefix n m a b x after = raw_alike [] (raw_rest n a x after) (raw_rest m b x after) (raw_opens n a x after)
     (raw_opens m b x after)

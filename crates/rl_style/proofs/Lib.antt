@@ -21,3 +21,7 @@ pub mod Unraws
 pub mod UnrawCuts
 pub mod OneAnswer
 pub mod NoRule
+pub mod QuotedLexemes
+pub mod Lexings
+pub mod Restyled
+pub mod RestyledCuts

@@ -2,12 +2,13 @@
 use Rattle.rl_text.proofs.Common.{◌≡◌, ℕ, ◌&&◌, ◌||◌, Bool, true, false, not, ◌==◌, cond, List, [], ◌∷◌, ◌++◌, map, None, refl, sym, ap, subst, ◌∙◌, inl, inr, flat_map}
 use Rattle.rl_reading.proofs.Names.{Kind, StrictUnit, Itself, QuoteEscape, PlainEscape, AsciiEscape, ByteEscape, UnicodeEscape, LineBreak, strict_text}
 use Rattle.rl_forms.specs.Written.{closer}
-use Rattle.rl_forms.specs.Strict.{strict_closer, strict_opener}
+use Rattle.rl_forms.specs.Spelling.{place_value}
+use Rattle.rl_forms.specs.Strict.{spaced_value, strict_closer, strict_opener}
 use Rattle.rl_forms.proofs.StrictQuoted.{between}
 use Rattle.rl_writing.specs.RawStrings.{raw_text}
 use Rattle.rl_style.specs.declared.style.Style.{Style}
 use Rattle.rl_style.specs.Cases.{cased, drops_underscores, exponent_letter, kept_digits, number_character, significant}
-use Rattle.rl_style.specs.Rewriting.{HasHashes, HasNoRule, Rewrites, RewritesCooked, RewritesFloat, RewritesInt, RewritesRaw, cased_digit, restyled}
+use Rattle.rl_style.specs.Rewriting.{HasHashes, HasNoRule, Rewrites, RewritesCooked, RewritesFloat, RewritesInt, RewritesRaw, cased_digit, is_named, is_visible, letter_of, respelled, restyled, visible_unit}
 use Rattle.rl_text.specs.Texts.{first_passes}
 use Rattle.rl_lexer.specs.Lexemes.{is_base_letter}
 use Rattle.rl_style.proofs.CaseLemmas.{none_right}
@@ -72,13 +73,28 @@ codes_kept : (ds : List (ℕ × ℕ)) → map (cased_digit None) ds ≡ ds
 codes_kept [] = refl
 codes_kept ((a, b) ∷ ds) = ap (λ z. (a, b) ∷ z) (codes_kept ds)
 
+-- no escape by number becomes shorter
+escape_kept : (style : Style) (k : Kind) (n : ℕ) (escape : StrictUnit) → HasNoRule style
+    → respelled style k n escape ≡ escape
+escape_kept style k n escape r =
+    ap (λ b. cond (b && is_visible n) (visible_unit k n)
+    (cond (style.named_escapes && is_named n) (PlainEscape (letter_of n)) escape)) r.ascii_escapes
+    ∙ ap (λ b. cond (b && is_named n) (PlainEscape (letter_of n)) escape) r.named_escapes
+
 unit_kept : (style : Style) (k : Kind) (u : StrictUnit) → HasNoRule style → restyled style k u ≡ u
 unit_kept style k (QuoteEscape c) n = ap (λ b. cond (b && not (c == closer k)) (Itself c) (QuoteEscape c))
     n.quote_escapes
-unit_kept style k (AsciiEscape high low) n = ap (λ z. AsciiEscape (cased z high) (cased z low)) n.escape_digits
-unit_kept style k (ByteEscape high low) n = ap (λ z. ByteEscape (cased z high) (cased z low)) n.escape_digits
+unit_kept style k (AsciiEscape high low) n =
+    escape_kept style k (place_value 16 (high ∷ low ∷ []))
+    (AsciiEscape (cased style.escape_digits high) (cased style.escape_digits low)) n
+    ∙ ap (λ z. AsciiEscape (cased z high) (cased z low)) n.escape_digits
+unit_kept style k (ByteEscape high low) n =
+    escape_kept style k (place_value 16 (high ∷ low ∷ []))
+    (ByteEscape (cased style.escape_digits high) (cased style.escape_digits low)) n
+    ∙ ap (λ z. ByteEscape (cased z high) (cased z low)) n.escape_digits
 unit_kept style k (UnicodeEscape digits) n =
-    ap (λ z. UnicodeEscape (map (cased_digit z) digits)) n.escape_digits ∙ ap UnicodeEscape (codes_kept digits)
+    escape_kept style k (spaced_value digits) (UnicodeEscape (map (cased_digit style.escape_digits) digits)) n
+    ∙ ap (λ z. UnicodeEscape (map (cased_digit z) digits)) n.escape_digits ∙ ap UnicodeEscape (codes_kept digits)
 unit_kept style k (Itself c) n = refl
 unit_kept style k (PlainEscape c) n = refl
 unit_kept style k (LineBreak blanks) n = refl

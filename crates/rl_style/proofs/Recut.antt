@@ -1,5 +1,5 @@
 -- A text in which one literal is written anew is cut as before everywhere else.
-use Rattle.rl_text.proofs.Common.{◌≡◌, ℕ, ◌≤◌, ◌+◌, ◌-◌, inl, inr, Bool, true, false, not, ◌||◌, ◌==◌, cond, List, [], ◌∷◌, ◌++◌, append-nil, Option, Some, None, refl, sym, ◌∙◌, ap, subst, arith, nat_tests, append_assoc, lit<, and_parts, list_all, is_ascii_digit, is_xid_start, AllByRecursion}
+use Rattle.rl_text.proofs.Common.{◌≡◌, ℕ, ◌≤◌, ◌+◌, ◌-◌, ◌⊎◌, inl, inr, Bool, true, false, not, ◌||◌, ◌==◌, cond, List, [], ◌∷◌, ◌++◌, append-nil, Option, Some, None, refl, sym, ◌∙◌, ap, subst, arith, nat_tests, append_assoc, lit<, and_parts, list_all, is_ascii_digit, is_xid_start, AllByRecursion}
 use Rattle.rl_text.proofs.Basics.{false_unless}
 use Rattle.rl_text.proofs.ScanLemmas.{not_false}
 use Rattle.rl_text.specs.Texts.{is_white, is_among, first_passes, byte_len, is_start}
@@ -171,6 +171,18 @@ shifted at from to t (w ∷ ws) r low (after, skipped, is, place, more) =
 
 -- ---- the whole cut
 
+-- no token in front tells the texts apart
+abbrev pub Alike : List ℕ → List ℕ → Type 0
+Alike a b = (a ≡ b) ⊎ SameFront a b
+
+pub alike_more : (s a b : List ℕ) → Alike a b → Alike (s ++ a) (s ++ b)
+alike_more s a b (inl e) = inl (ap (λ z. s ++ z) e)
+alike_more s a b (inr f) = inr (front_more s a b f)
+
+alike_stays : (w : SourceLexeme) (a b : List ℕ) → Alike a b → IsProper w a → IsProper w b
+alike_stays w a b (inl e) is = subst (λ (z : List ℕ). IsProper w z) e is
+alike_stays w a b (inr f) is = stays_around w a b f is
+
 -- the same, and what the tokens in front need to know of it
 pub record Recut (at : ℕ) (t : List ℕ) (before after : List CutSource) (old new : Lexeme) (place : ℕ) (r : List ℕ) :
     Type 0 where
@@ -178,15 +190,34 @@ pub record Recut (at : ℕ) (t : List ℕ) (before after : List CutSource) (old 
   pub rest : List ℕ
   pub text_is : t ≡ front ++ (lexeme_text old ++ rest)
   pub place_is : place ≡ at + byte_len front
-  pub same_front : SameFront (lexeme_text old ++ rest) (lexeme_text new ++ rest)
+  pub same_front : Alike (lexeme_text old ++ rest) (lexeme_text new ++ rest)
   pub cuts : SourcesUpTo at (front ++ (lexeme_text new ++ rest)) (before ++ (placed_literal new place
       ∷ moved (place + byte_len (lexeme_text old)) (place + byte_len (lexeme_text new)) after)) r
 
-at_literal : (at : ℕ) (t : List ℕ) (after : List CutSource) (old new : Lexeme) (place : ℕ) (r : List ℕ)
-    → SourcesUpTo at t (placed_literal old place ∷ after) r → SameEnds old new → Recut at t [] after old new place r
-at_literal at t after old new place r (rest, skipped, is, place_is, more) ends =
+-- what follows the literal in a cut, before which it is a token
+abbrev pub literal_rest : (at : ℕ) (t : List ℕ) (before after : List CutSource) (old : Lexeme) (place : ℕ) (r : List ℕ)
+    → SourcesUpTo at t (before ++ (placed_literal old place ∷ after)) r → List ℕ
+literal_rest at t [] after old place r (rest, skipped, is, place_is, more) = rest
+literal_rest at t (d ∷ before) after old place r (u, skipped, is, place_is, more) = literal_rest (source_end d) u before
+    after old place r more
+
+pub literal_is : (at : ℕ) (t : List ℕ) (before after : List CutSource) (old : Lexeme) (place : ℕ) (r : List ℕ)
+    → (cut : SourcesUpTo at t (before ++ (placed_literal old place ∷ after)) r)
+    → IsLexeme old (literal_rest at t before after old place r cut)
+literal_is at t [] after old place r (rest, skipped, is, place_is, more) = is
+literal_is at t (d ∷ before) after old place r (u, skipped, is, place_is, more) = literal_is (source_end d) u before
+    after old place r more
+
+-- The new literal is a token where the old one was, and begins as it did.
+abbrev pub Follows : Lexeme → Lexeme → List ℕ → Type 0
+Follows old new rest = IsLexeme new rest × Alike (lexeme_text old ++ rest) (lexeme_text new ++ rest)
+
+at_literal : (at : ℕ) (t : List ℕ) (after : List CutSource) (old new : Lexeme) (place : ℕ) (r rest : List ℕ)
+    → Skipped t (lexeme_text old ++ rest) → place + byte_len (lexeme_text old ++ rest) ≡ at + byte_len t
+    → SourcesUpTo (place + byte_len (lexeme_text old)) rest after r → Follows old new rest
+    → Recut at t [] after old new place r
+at_literal at t after old new place r rest skipped place_is more (new_is, same) =
     let (front, text_is, to) = skips_to t (lexeme_text old ++ rest) (lexeme_full old rest) skipped in
-    let (new_is, same) = keeps_its_ends old new rest ends is in
     let here : place ≡ at + byte_len front = place_of at place t front (lexeme_text old ++ rest) text_is place_is in
     let e : ℕ = place + byte_len (lexeme_text old) in
     let f : ℕ = place + byte_len (lexeme_text new) in
@@ -234,7 +265,7 @@ one_more at t d before after old new place r u sound skipped is place_is more =
     let here : d.at ≡ at + byte_len front = place_of at d.at t front (s ++ u) text_is place_is in
     let proper : IsProper d.token w = subst (λ (z : List ℕ). IsProper d.token z) more.text_is (sound_proper d.token u
     sound is) in
-    let stays : IsProper d.token v = stays_around d.token w v (front_more more.front (lexeme_text old ++ more.rest)
+    let stays : IsProper d.token v = alike_stays d.token w v (alike_more more.front (lexeme_text old ++ more.rest)
     (lexeme_text new ++ more.rest) more.same_front) proper in
     let whole : (front ++ (s ++ more.front)) ++ (lexeme_text new ++ more.rest) ≡ front ++ (s ++ v) = joined front s
     more.front (lexeme_text new ++ more.rest) in
@@ -265,15 +296,27 @@ one_more at t d before after old new place r u sound skipped is place_is more =
     }
 
 pub recut : (at : ℕ) (t : List ℕ) (before after : List CutSource) (old new : Lexeme) (place : ℕ) (r : List ℕ)
-    → SourcesUpTo at t (before ++ (placed_literal old place ∷ after)) r → AllByRecursion IsSound before
-    → SameEnds old new
+    → (cut : SourcesUpTo at t (before ++ (placed_literal old place ∷ after)) r) → AllByRecursion IsSound before
+    → Follows old new (literal_rest at t before after old place r cut)
     → Recut at t before after old new place r
-recut at t [] after old new place r cut sound ends = at_literal at t after old new place r cut ends
-recut at t (d ∷ before) after old new place r (u, skipped, is, place_is, more) (first, sound) ends =
+recut at t [] after old new place r (rest, skipped, is, place_is, more) sound follows = at_literal at t after old new
+    place r rest skipped place_is more follows
+recut at t (d ∷ before) after old new place r (u, skipped, is, place_is, more) (first, sound) follows =
     one_more at t d before after old new place r u first skipped is place_is
-    (recut (source_end d) u before after old new place r more sound ends)
+    (recut (source_end d) u before after old new place r more sound follows)
+
+ends_follow : (old new : Lexeme) (rest : List ℕ) → SameEnds old new → IsLexeme old rest → Follows old new rest
+ends_follow old new rest ends is = let (new_is, same) = keeps_its_ends old new rest ends is in (new_is, inr same)
+
+-- a literal with the same ends is one
+pub recut_ends : (at : ℕ) (t : List ℕ) (before after : List CutSource) (old new : Lexeme) (place : ℕ) (r : List ℕ)
+    → SourcesUpTo at t (before ++ (placed_literal old place ∷ after)) r → AllByRecursion IsSound before
+    → SameEnds old new → Recut at t before after old new place r
+recut_ends at t before after old new place r cut sound ends = recut at t before after old new place r cut sound
+    (ends_follow old new (literal_rest at t before after old place r cut) ends
+    (literal_is at t before after old place r cut))
 
 pub keeps_the_cut : KeepsTheCut
 keeps_the_cut at t before after old new place r cut sound ends =
-    let m = recut at t before after old new place r cut sound ends in
+    let m = recut_ends at t before after old new place r cut sound ends in
     record { front = m.front; rest = m.rest; text_is = m.text_is; place_is = m.place_is; cuts = m.cuts }

@@ -146,14 +146,29 @@ letter_follows z x d ds e h =
 
 -- ---- the forms
 
+abbrev pub FloatForm : List ℕ → List ℕ → Type 0
+FloatForm numeral x = IsDotAlone numeral x ⊎ (IsPointed numeral x ⊎ IsScientific numeral x)
+
+-- with a dot alone, with digits after it, or with an exponent
+pub data FloatShape : Type 0 where
+  DotShape : FloatShape
+  PointShape : FloatShape
+  PowerShape : FloatShape
+
+abbrev pub shape_of : (numeral x : List ℕ) → FloatForm numeral x → FloatShape
+shape_of numeral x (inl a) = DotShape
+shape_of numeral x (inr (inl a)) = PointShape
+shape_of numeral x (inr (inr a)) = PowerShape
+
 -- the numeral, by its whole part and what follows
-record Numeral (f : ℕ → List ℕ) (numeral x : List ℕ) : Type 0 where
-  whole : List ℕ
-  new : List ℕ
-  are_digits : IsDigits whole
-  new_is : flat_map f numeral ≡ whole ++ new
-  follows : first_passes is_base_letter (new ++ x) ≡ false
-  form : IsDotAlone (flat_map f numeral) x ⊎ (IsPointed (flat_map f numeral) x ⊎ IsScientific (flat_map f numeral) x)
+pub record Numeral (f : ℕ → List ℕ) (numeral x : List ℕ) (shape : FloatShape) : Type 0 where
+  pub whole : List ℕ
+  pub new : List ℕ
+  pub are_digits : IsDigits whole
+  pub new_is : flat_map f numeral ≡ whole ++ new
+  pub follows : first_passes is_base_letter (new ++ x) ≡ false
+  pub form : FloatForm (flat_map f numeral) x
+  pub same_shape : shape_of (flat_map f numeral) x form ≡ shape
 
 -- a whole part, a dot and what follows it
 pointed_is : (drops plus : Bool) (digits letter : Option Case) (numeral d z : List ℕ) → numeral ≡ d ++ (46 ∷ z)
@@ -164,8 +179,8 @@ pointed_is drops plus digits letter numeral d z e =
     ap (flat_map f) e ∙ flat_map-append f d (46 ∷ z)
     ∙ ap (λ y. flat_map f d ++ (y ++ flat_map f z)) (dot_stays drops plus digits letter)
 
-form_is : (drops plus : Bool) (digits letter : Option Case) (numeral x : List ℕ) → IsDotAlone numeral x
-    ⊎ (IsPointed numeral x ⊎ IsScientific numeral x) → Numeral (becomes drops false plus digits letter) numeral x
+pub form_is : (drops plus : Bool) (digits letter : Option Case) (numeral x : List ℕ) → (form : FloatForm numeral x)
+    → Numeral (becomes drops false plus digits letter) numeral x (shape_of numeral x form)
 form_is drops plus digits letter numeral x (inl (d, h, e, n)) =
     let f : ℕ → List ℕ = becomes drops false plus digits letter in
     let is = pointed_is drops plus digits letter numeral d [] e in
@@ -177,6 +192,7 @@ form_is drops plus digits letter numeral x (inl (d, h, e, n)) =
       new_is = is;
       follows = refl;
       form = inl (flat_map f d, whole, is, n);
+      same_shape = refl;
     }
 form_is drops plus digits letter numeral x (inr (inl (d, z, h, k, e, n))) =
     let f : ℕ → List ℕ = becomes drops false plus digits letter in
@@ -189,6 +205,7 @@ form_is drops plus digits letter numeral x (inr (inl (d, z, h, k, e, n))) =
       new_is = is;
       follows = refl;
       form = inr (inl (flat_map f d, flat_map f z, whole, digits_are drops plus digits letter z k, is, n));
+      same_shape = refl;
     }
 form_is drops plus digits letter numeral x (inr (inr (d, e, h, s, inl n))) =
     let f : ℕ → List ℕ = becomes drops false plus digits letter in
@@ -202,6 +219,7 @@ form_is drops plus digits letter numeral x (inr (inr (d, e, h, s, inl n))) =
       new_is = is;
       follows = letter_follows (flat_map f e) x p.first p.rest p.is p.is_letter;
       form = inr (inr (flat_map f d, flat_map f e, whole, p.exponent, inl is));
+      same_shape = refl;
     }
 form_is drops plus digits letter numeral x (inr (inr (d, e, h, s, inr (z, k, n)))) =
     let f : ℕ → List ℕ = becomes drops false plus digits letter in
@@ -229,11 +247,12 @@ form_is drops plus digits letter numeral x (inr (inr (d, e, h, s, inr (z, k, n))
               ∙ sym (append_assoc (flat_map f d) (46 ∷ flat_map f z) (flat_map f e)),
         ),
       ));
+      same_shape = refl;
     }
 
 -- ---- the contents
 
-abbrev spelled : List ℕ → List ℕ
+abbrev pub spelled : List ℕ → List ℕ
 spelled cs = map (λ c. cond (c == 69) 101 c) (filter (λ c. not (c == 95 || c == 43)) cs)
 
 -- one character more on both sides
@@ -291,7 +310,7 @@ more_letter drops plus digits letter c a b e l s =
           | inr q ↦ ap (λ z. spelled (z ∷ a)) (eqb-true d 69 q)
         ]
 
-spelled_same : (drops plus : Bool) (digits letter : Option Case) (cs : List ℕ)
+pub spelled_same : (drops plus : Bool) (digits letter : Option Case) (cs : List ℕ)
     → spelled (flat_map (becomes drops false plus digits letter) cs) ≡ spelled cs
 spelled_same drops plus digits letter [] = refl
 spelled_same drops plus digits letter (c ∷ cs) =
@@ -305,7 +324,7 @@ spelled_same drops plus digits letter (c ∷ cs) =
 
 -- ---- the literal
 
-abbrev written : (style : Style) (t u : List ℕ) (v : Contents) (x : List ℕ) (s : StrictFloat t v x)
+abbrev pub written : (style : Style) (t u : List ℕ) (v : Contents) (x : List ℕ) (s : StrictFloat t v x)
     → u ≡ flat_map (number_character style (drops_underscores style x) false) s.numeral ++ x → StrictFloat u v x
 written style t u v x s e =
     let drops : Bool = drops_underscores style x in
@@ -338,3 +357,11 @@ float_stays style t u c = record {
   new_is = c.new_is ∙ ap (λ z. z ++ c.suffix) (sym (twice (drops_underscores style c.suffix) false style.exponent_plus
       style.hex_digits style.exponent_letter c.float.numeral));
 }
+
+-- it has the shape of the old one
+pub same_shape : (style : Style) (t u : List ℕ) (v : Contents) (x : List ℕ) (s : StrictFloat t v x)
+    → (e : u ≡ flat_map (number_character style (drops_underscores style x) false) s.numeral ++ x)
+    → shape_of (flat_map (number_character style (drops_underscores style x) false) s.numeral) x
+    (written style t u v x s e).form ≡ shape_of s.numeral x s.form
+same_shape style t u v x s e = (form_is (drops_underscores style x) style.exponent_plus style.hex_digits
+    style.exponent_letter s.numeral x s.form).same_shape

@@ -141,7 +141,7 @@ kept_zeros : (style : Style) (base : ℕ) (x : List ℕ) → first_passes is_bas
 kept_zeros style base x h = ap (λ b. (style.leading_zeros && base == 10) && not b) h
     ∙ none_right (style.leading_zeros && base == 10)
 
-decimal_front : (style : Style) (t : List ℕ) (v : Contents) (x : List ℕ) → (i : StrictInt t v x) → i.prefix ≡ []
+pub decimal_front : (style : Style) (t : List ℕ) (v : Contents) (x : List ℕ) → (i : StrictInt t v x) → i.prefix ≡ []
     → IsDigits i.row → IsDecimalText t
     → IsDigits (flat_map (number_character style (drops_underscores style x) false) (kept_digits style i.base x i.row))
     × IsDecimalText (flat_map (number_character style (drops_underscores style x) false)
@@ -173,7 +173,7 @@ decimal_front style t v x i e d h =
 
 -- ---- the literal
 
-abbrev written : (style : Style) (t u : List ℕ) (v : Contents) (x : List ℕ) (i : StrictInt t v x) → u
+abbrev pub written : (style : Style) (t u : List ℕ) (v : Contents) (x : List ℕ) (i : StrictInt t v x) → u
     ≡ flat_map (number_character style (drops_underscores style x) (i.base == 16))
     (i.prefix ++ kept_digits style i.base x i.row) ++ x → StrictInt u v x
 written style t u v x i e =

@@ -118,14 +118,14 @@ pub fewest_suits : (k : Kind) (n : ℕ) (inside : List ℕ) → is_string k ≡ 
     → Suits inside n
 fewest_suits k n inside s f = strict_suits k n inside (raw_contents k inside) s f.strict
 
-hashes_suit : (fewest : Bool) (t : List ℕ) (k : Kind) (v : Contents) (x : List ℕ) (s : StrictRaw t k v x) (n : ℕ)
+pub hashes_suit : (fewest : Bool) (t : List ℕ) (k : Kind) (v : Contents) (x : List ℕ) (s : StrictRaw t k v x) (n : ℕ)
     → HasHashes fewest k s.inside s.hashes n → Suits s.inside n
 hashes_suit true t k v x s n h = fewest_suits k n s.inside (raw_string t k v x s) h
 hashes_suit false t k v x s n h = subst (Suits s.inside) (sym h) (record { few = s.few; first_close = s.first_close })
 
 -- ---- the literal
 
-abbrev written : (t u : List ℕ) (k : Kind) (v : Contents) (x : List ℕ) (s : StrictRaw t k v x) (n : ℕ)
+abbrev pub written : (t u : List ℕ) (k : Kind) (v : Contents) (x : List ℕ) (s : StrictRaw t k v x) (n : ℕ)
     → Suits s.inside n → u ≡ raw_text k n s.inside ++ x → StrictRaw u k v x
 written t u k v x s n h e = record {
   hashes = n;

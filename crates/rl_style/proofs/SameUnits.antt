@@ -1,17 +1,18 @@
 -- A literal whose units are written anew is the same literal.
-use Rattle.rl_text.proofs.Common.{◌≡◌, ℕ, ◌<◌, ◌||◌, ◌&&◌, Bool, true, false, not, ◌==◌, cond, nat_le, nat_lt, List, [], ◌∷◌, ◌++◌, length, map, refl, sym, ap, ◌∙◌, inl, inr, arith, ◌⊎◌, append-nil, and_from, and_parts, cases_Bool, cases_lt, or_from, eqb-true, not-true, agree_below_at, is_ascii_hexdigit, all_scalars, list_all, flat_map, length-map, encode_utf8_all, encode_ascii, Some, None}
+use Rattle.rl_text.proofs.Common.{nat_tests, or_cases, subst, ◌≡◌, ℕ, ◌<◌, ◌||◌, ◌&&◌, Bool, true, false, not, ◌==◌, cond, nat_le, nat_lt, List, [], ◌∷◌, ◌++◌, length, map, refl, sym, ap, ◌∙◌, inl, inr, arith, ◌⊎◌, append-nil, and_from, and_parts, cases_Bool, cases_lt, or_from, eqb-true, not-true, agree_below_at, is_ascii_hexdigit, all_scalars, list_all, flat_map, length-map, encode_utf8_all, encode_ascii, Some, None}
 use Rattle.std.specs.Prelude.{Option}
 use Rattle.rl_text.proofs.Basics.{apart}
 use Rattle.rl_reading.proofs.Names.{Kind, Str, ByteStr, CStr, Byte, Char, Int, Float, BoolKind, first_passes, Contents, StrictUnit, Itself, QuoteEscape, PlainEscape, AsciiEscape, ByteEscape, UnicodeEscape, LineBreak, strict_text, strict_contents, strict_content_of, is_dropped_blank, is_strict_unit, place_value, quoted_contents}
 use Rattle.rl_forms.specs.Written.{closer}
-use Rattle.rl_forms.specs.Strict.{Strict, StrictCooked, HasUnits, BlanksEnd, is_octal, is_unicode_escape, spaced_value, strict_opener, strict_closer}
+use Rattle.rl_forms.specs.Strict.{Strict, StrictCooked, HasUnits, BlanksEnd, is_octal, plain_escapes, plain_value_in, is_unicode_escape, spaced_value, strict_opener, strict_closer}
 use Rattle.rl_forms.proofs.StrictQuoted.{between}
 use Rattle.rl_style.specs.declared.style.Case.{Case}
 use Rattle.rl_style.specs.declared.style.Case.TheVariants.{Lower, Upper}
 use Rattle.rl_style.specs.declared.style.Style.{Style}
 use Rattle.rl_style.specs.Cases.{cased, lower_case, upper_case}
 use Rattle.rl_style.specs.Rewriting.{SameLiteral, RewritesCooked, cased_digit, restyled}
-use Rattle.rl_style.proofs.CaseLemmas.{cased_past, cased_value, spelled_cased, twice_cased}
+use Rattle.rl_style.specs.Rewriting.{is_named, is_visible, letter_of, respelled, visible_unit}
+use Rattle.rl_style.proofs.CaseLemmas.{none_right, cased_past, cased_value, spelled_cased, twice_cased}
 
 -- ---- digits
 
@@ -139,18 +140,161 @@ code_allowed case CStr ds h =
     ∙ ap (λ n. is_unicode_escape ds && not (n == 0)) (code_cased case ds) ∙ h
 code_allowed case kind ds h = absurd (cc)
 
+-- ---- escapes by number that become shorter
+
+-- what holds of each of the three, holds of what such an escape becomes
+abbrev chosen : Bool → Bool → Kind → ℕ → StrictUnit → StrictUnit
+chosen a b k n escape = cond a (visible_unit k n) (cond b (PlainEscape (letter_of n)) escape)
+
+pub respelled_any : (P : StrictUnit → Type 0) (style : Style) (k : Kind) (n : ℕ) (escape : StrictUnit)
+    → (is_visible n ≡ true → P (visible_unit k n)) → (is_named n ≡ true → P (PlainEscape (letter_of n))) → P escape
+    → P (respelled style k n escape)
+respelled_any P style k n escape visible named other =
+    go (style.ascii_escapes && is_visible n) (style.named_escapes && is_named n) refl refl
+  where
+    go : (a b : Bool) → (style.ascii_escapes && is_visible n) ≡ a → (style.named_escapes && is_named n) ≡ b
+        → P (chosen a b k n escape)
+    go true b e f = visible (and_parts style.ascii_escapes (is_visible n) e).1
+    go false true e f = named (and_parts style.named_escapes (is_named n) f).1
+    go false false e f = other
+
+pub visible_any : (P : StrictUnit → Type 0) (k : Kind) (n : ℕ) → ((n == closer k) ≡ true → P (QuoteEscape n))
+    → ((n == 92) ≡ true → P (PlainEscape n)) → P (Itself n) → P (visible_unit k n)
+visible_any P k n quote backslash other = go (n == closer k) (n == 92) refl refl
+  where
+    go : (a b : Bool) → (n == closer k) ≡ a → (n == 92) ≡ b → P (cond a (QuoteEscape n) (cond b (PlainEscape n)
+        (Itself n)))
+    go true b e f = quote e
+    go false true e f = backslash f
+    go false false e f = other
+
+pub visible_low : (n : ℕ) → is_visible n ≡ true → n < 128
+visible_low n h = grind (arith, nat_tests)
+
+pub named_low : (n : ℕ) → is_named n ≡ true → n < 128
+named_low n h = grind (arith, nat_tests)
+
+follows : (a b : Bool) → a ≡ true → (not a || b) ≡ true → b ≡ true
+follows true b h k = k
+follows false b h k = absurd (cc)
+
+-- tests of what is below 128, one by one
+visible_test : (test : ℕ → Bool) (n : ℕ) → is_visible n ≡ true
+    → ((n < 128) → (not (is_visible n) || test n) ≡ true) → test n ≡ true
+visible_test test n v all = follows (is_visible n) (test n) v (all (visible_low n v))
+
+visible_allowed : (k : Kind) (us : List StrictUnit) (n : ℕ) → HasUnits k us → is_visible n ≡ true
+    → is_strict_unit k (visible_unit k n) ≡ true
+visible_allowed Str us n q v = visible_test (λ n. is_strict_unit Str (visible_unit Str n)) n v
+    (λ low. agree_below_at (λ n. not (is_visible n) || is_strict_unit Str (visible_unit Str n)) (λ n. true) 128 n refl
+    low)
+visible_allowed ByteStr us n q v = visible_test (λ n. is_strict_unit ByteStr (visible_unit ByteStr n)) n v
+    (λ low. agree_below_at (λ n. not (is_visible n) || is_strict_unit ByteStr (visible_unit ByteStr n)) (λ n. true) 128
+    n refl low)
+visible_allowed CStr us n q v = visible_test (λ n. is_strict_unit CStr (visible_unit CStr n)) n v
+    (λ low. agree_below_at (λ n. not (is_visible n) || is_strict_unit CStr (visible_unit CStr n)) (λ n. true) 128 n refl
+    low)
+visible_allowed Byte us n q v = visible_test (λ n. is_strict_unit Byte (visible_unit Byte n)) n v
+    (λ low. agree_below_at (λ n. not (is_visible n) || is_strict_unit Byte (visible_unit Byte n)) (λ n. true) 128 n refl
+    low)
+visible_allowed Char us n q v = visible_test (λ n. is_strict_unit Char (visible_unit Char n)) n v
+    (λ low. agree_below_at (λ n. not (is_visible n) || is_strict_unit Char (visible_unit Char n)) (λ n. true) 128 n refl
+    low)
+visible_allowed kind us n q v = absurd q
+
+-- LF, CR and TAB one by one
+named_any : (P : ℕ → Type 0) (n : ℕ) → is_named n ≡ true → P 10 → P 13 → P 9 → P n
+named_any P n h a b c =
+    elim (or_cases (n == 10 || n == 13) (n == 9) h) [
+      | inl e ↦ elim (or_cases (n == 10) (n == 13) e) [
+        | inl f ↦ subst P (sym (eqb-true n 10 f)) a
+        | inr f ↦ subst P (sym (eqb-true n 13 f)) b
+      ]
+      | inr e ↦ subst P (sym (eqb-true n 9 e)) c
+    ]
+
+named_allowed : (k : Kind) (us : List StrictUnit) (n : ℕ) → HasUnits k us → is_named n ≡ true
+    → is_strict_unit k (PlainEscape (letter_of n)) ≡ true
+named_allowed Str us n q h = named_any (λ n. is_strict_unit Str (PlainEscape (letter_of n)) ≡ true) n h refl refl refl
+named_allowed ByteStr us n q h = named_any (λ n. is_strict_unit ByteStr (PlainEscape (letter_of n)) ≡ true) n h refl refl
+    refl
+named_allowed CStr us n q h = named_any (λ n. is_strict_unit CStr (PlainEscape (letter_of n)) ≡ true) n h refl refl refl
+named_allowed Byte us n q h = named_any (λ n. is_strict_unit Byte (PlainEscape (letter_of n)) ≡ true) n h refl refl refl
+named_allowed Char us n q h = named_any (λ n. is_strict_unit Char (PlainEscape (letter_of n)) ≡ true) n h refl refl refl
+named_allowed kind us n q h = absurd q
+
+respelled_allowed : (style : Style) (k : Kind) (us : List StrictUnit) (n : ℕ) (escape : StrictUnit) → HasUnits k us
+    → is_strict_unit k escape ≡ true → is_strict_unit k (respelled style k n escape) ≡ true
+respelled_allowed style k us n escape q h = respelled_any (λ u. is_strict_unit k u ≡ true) style k n escape
+    (visible_allowed k us n q) (named_allowed k us n q) h
+
+-- none of them begins with a blank
+respelled_front : (style : Style) (k : Kind) (n : ℕ) (escape : StrictUnit) (rest : List ℕ)
+    → first_passes is_dropped_blank (strict_text escape ++ rest) ≡ false
+    → first_passes is_dropped_blank (strict_text (respelled style k n escape) ++ rest) ≡ false
+respelled_front style k n escape rest h =
+    respelled_any Free style k n escape (λ v. visible_any Free k n (λ e. refl) (λ e. refl) (solid v)) (λ e. refl) h
+  where
+    Free : StrictUnit → Type 0
+    Free u = first_passes is_dropped_blank (strict_text u ++ rest) ≡ false
+
+    solid : is_visible n ≡ true → is_dropped_blank n ≡ false
+    solid v = not-true (is_dropped_blank n) (visible_test (λ n. not (is_dropped_blank n)) n v
+        (λ low. agree_below_at (λ n. not (is_visible n) || not (is_dropped_blank n)) (λ n. true) 128 n refl low))
+
+respelled_ends : (style : Style) (k : Kind) (n : ℕ) (escape : StrictUnit) (us : List StrictUnit) → BlanksEnd us
+    → BlanksEnd (escape ∷ us) → BlanksEnd (respelled style k n escape ∷ us)
+respelled_ends style k n escape us b h =
+    respelled_any (λ u. BlanksEnd (u ∷ us)) style k n escape
+    (λ v. visible_any (λ u. BlanksEnd (u ∷ us)) k n (λ e. b) (λ e. b) b) (λ e. b) h
+
+-- they stand for the same
+held_low : (k : Kind) (n : ℕ) → n < 128 → strict_content_of k (n ∷ []) ≡ n ∷ []
+held_low CStr n low = append-nil _ ∙ encode_ascii n low
+held_low Str n low = refl
+held_low ByteStr n low = refl
+held_low Byte n low = refl
+held_low Char n low = refl
+held_low Int n low = refl
+held_low Float n low = refl
+held_low BoolKind n low = refl
+
+visible_contents : (k : Kind) (n : ℕ) → is_visible n ≡ true → strict_contents (strict_content_of k) (visible_unit k n)
+    ≡ n ∷ []
+visible_contents k n v =
+    visible_any (λ u. strict_contents (strict_content_of k) u ≡ n ∷ []) k n (λ e. refl)
+    (λ e. ap (plain_value_in plain_escapes) (eqb-true n 92 e) ∙ ap (λ z. z ∷ []) (sym (eqb-true n 92 e)))
+    (held_low k n (visible_low n v))
+
+named_contents : (n : ℕ) → is_named n ≡ true → plain_value_in plain_escapes (letter_of n) ≡ n ∷ []
+named_contents n h = named_any (λ n. plain_value_in plain_escapes (letter_of n) ≡ n ∷ []) n h refl refl refl
+
+respelled_contents : (style : Style) (k : Kind) (n : ℕ) (escape : StrictUnit) (v : List ℕ) → (n < 128 → n ∷ [] ≡ v)
+    → strict_contents (strict_content_of k) escape ≡ v
+    → strict_contents (strict_content_of k) (respelled style k n escape) ≡ v
+respelled_contents style k n escape v same h =
+    respelled_any (λ u. strict_contents (strict_content_of k) u ≡ v) style k n escape
+    (λ e. visible_contents k n e ∙ same (visible_low n e)) (λ e. named_contents n e ∙ same (named_low n e)) h
+
+-- ---- any unit
+
 unit_allowed : (style : Style) (k : Kind) (us : List StrictUnit) (u : StrictUnit) → HasUnits k us
     → is_strict_unit k u ≡ true → is_strict_unit k (restyled style k u) ≡ true
 unit_allowed style k us (QuoteEscape c) q h = quote_kept (style.quote_escapes && not (c == closer k)) k us c q h
     (not_closer style.quote_escapes k c)
 unit_allowed style k us (Itself c) q h = h
 unit_allowed style k us (PlainEscape c) q h = h
-unit_allowed style k us (AsciiEscape high low) q h = ascii_allowed style.escape_digits k high low h
-unit_allowed style k us (ByteEscape high low) q h = byte_allowed style.escape_digits k high low h
-unit_allowed style k us (UnicodeEscape digits) q h = code_allowed style.escape_digits k digits h
+unit_allowed style k us (AsciiEscape high low) q h = respelled_allowed style k us (place_value 16 (high ∷ low ∷ []))
+    (AsciiEscape (cased style.escape_digits high) (cased style.escape_digits low)) q
+    (ascii_allowed style.escape_digits k high low h)
+unit_allowed style k us (ByteEscape high low) q h = respelled_allowed style k us (place_value 16 (high ∷ low ∷ []))
+    (ByteEscape (cased style.escape_digits high) (cased style.escape_digits low)) q
+    (byte_allowed style.escape_digits k high low h)
+unit_allowed style k us (UnicodeEscape digits) q h = respelled_allowed style k us (spaced_value digits)
+    (UnicodeEscape (map (cased_digit style.escape_digits) digits)) q (code_allowed style.escape_digits k digits h)
 unit_allowed style k us (LineBreak blanks) q h = h
 
-all_allowed : (style : Style) (k : Kind) (vs us : List StrictUnit) → HasUnits k vs
+pub all_allowed : (style : Style) (k : Kind) (vs us : List StrictUnit) → HasUnits k vs
     → list_all (is_strict_unit k) us ≡ true → list_all (is_strict_unit k) (map (restyled style k) us) ≡ true
 all_allowed style k vs [] q h = refl
 all_allowed style k vs (u ∷ us) q h =
@@ -160,7 +304,7 @@ all_allowed style k vs (u ∷ us) q h =
 
 -- ---- how many
 
-same_count : (style : Style) (k : Kind) (us : List StrictUnit) → HasUnits k us → HasUnits k (map (restyled style k) us)
+pub same_count : (style : Style) (k : Kind) (us : List StrictUnit) → HasUnits k us → HasUnits k (map (restyled style k) us)
 same_count style Str us h = tt
 same_count style ByteStr us h = tt
 same_count style CStr us h = tt
@@ -190,16 +334,22 @@ front_stays style k (QuoteEscape c ∷ us) h n =
     quote_front (style.quote_escapes && not (c == closer k)) k c (flat_map strict_text (map (restyled style k) us)) p.0
 front_stays style k (Itself c ∷ us) h n = n
 front_stays style k (PlainEscape c ∷ us) h n = refl
-front_stays style k (AsciiEscape high low ∷ us) h n = refl
-front_stays style k (ByteEscape high low ∷ us) h n = refl
-front_stays style k (UnicodeEscape digits ∷ us) h n = refl
+front_stays style k (AsciiEscape high low ∷ us) h n = respelled_front style k (place_value 16 (high ∷ low ∷ []))
+    (AsciiEscape (cased style.escape_digits high) (cased style.escape_digits low))
+    (flat_map strict_text (map (restyled style k) us)) refl
+front_stays style k (ByteEscape high low ∷ us) h n = respelled_front style k (place_value 16 (high ∷ low ∷ []))
+    (ByteEscape (cased style.escape_digits high) (cased style.escape_digits low))
+    (flat_map strict_text (map (restyled style k) us)) refl
+front_stays style k (UnicodeEscape digits ∷ us) h n = respelled_front style k (spaced_value digits)
+    (UnicodeEscape (map (cased_digit style.escape_digits) digits)) (flat_map strict_text (map (restyled style k) us))
+    refl
 front_stays style k (LineBreak blanks ∷ us) h n = refl
 
 quote_ends : (b : Bool) (c : ℕ) (us : List StrictUnit) → BlanksEnd us → BlanksEnd (quote_unit b c ∷ us)
 quote_ends true c us e = e
 quote_ends false c us e = e
 
-blanks_stay : (style : Style) (k : Kind) (us : List StrictUnit) → list_all (is_strict_unit k) us ≡ true → BlanksEnd us
+pub blanks_stay : (style : Style) (k : Kind) (us : List StrictUnit) → list_all (is_strict_unit k) us ≡ true → BlanksEnd us
     → BlanksEnd (map (restyled style k) us)
 blanks_stay style k [] h b = tt
 blanks_stay style k (u ∷ us) h b = go u (and_parts (is_strict_unit k u) (list_all (is_strict_unit k) us) h).1 b
@@ -212,9 +362,14 @@ blanks_stay style k (u ∷ us) h b = go u (and_parts (is_strict_unit k u) (list_
         (ih p b)
     go (Itself c) p b ih = ih p b
     go (PlainEscape c) p b ih = ih p b
-    go (AsciiEscape high low) p b ih = ih p b
-    go (ByteEscape high low) p b ih = ih p b
-    go (UnicodeEscape digits) p b ih = ih p b
+    go (AsciiEscape high low) p b ih = respelled_ends style k (place_value 16 (high ∷ low ∷ []))
+        (AsciiEscape (cased style.escape_digits high) (cased style.escape_digits low)) (map (restyled style k) us)
+        (ih p b) (ih p b)
+    go (ByteEscape high low) p b ih = respelled_ends style k (place_value 16 (high ∷ low ∷ []))
+        (ByteEscape (cased style.escape_digits high) (cased style.escape_digits low)) (map (restyled style k) us)
+        (ih p b) (ih p b)
+    go (UnicodeEscape digits) p b ih = respelled_ends style k (spaced_value digits)
+        (UnicodeEscape (map (cased_digit style.escape_digits) digits)) (map (restyled style k) us) (ih p b) (ih p b)
     go (LineBreak blanks) p b ih = (front_stays style k us p b.0, ih p b.1)
 
 -- ---- contents
@@ -246,13 +401,21 @@ unit_contents : (style : Style) (k : Kind) (u : StrictUnit) → is_strict_unit k
 unit_contents style k (QuoteEscape c) h = quote_contents (style.quote_escapes && not (c == closer k)) k c h
 unit_contents style k (Itself c) h = refl
 unit_contents style k (PlainEscape c) h = refl
-unit_contents style k (AsciiEscape high low) h = ap (λ n. n ∷ []) (two_cased style.escape_digits high low)
-unit_contents style k (ByteEscape high low) h = ap (λ n. n ∷ []) (two_cased style.escape_digits high low)
-unit_contents style k (UnicodeEscape digits) h = ap (λ n. strict_content_of k (n ∷ []))
-    (code_cased style.escape_digits digits)
+unit_contents style k (AsciiEscape high low) h = respelled_contents style k (place_value 16 (high ∷ low ∷ []))
+    (AsciiEscape (cased style.escape_digits high) (cased style.escape_digits low)) (place_value 16 (high ∷ low ∷ []) ∷
+    [])
+    (λ low. refl) (ap (λ n. n ∷ []) (two_cased style.escape_digits high low))
+unit_contents style k (ByteEscape high low) h = respelled_contents style k (place_value 16 (high ∷ low ∷ []))
+    (ByteEscape (cased style.escape_digits high) (cased style.escape_digits low)) (place_value 16 (high ∷ low ∷ []) ∷
+    [])
+    (λ low. refl) (ap (λ n. n ∷ []) (two_cased style.escape_digits high low))
+unit_contents style k (UnicodeEscape digits) h = respelled_contents style k (spaced_value digits)
+    (UnicodeEscape (map (cased_digit style.escape_digits) digits)) (strict_content_of k (spaced_value digits ∷ []))
+    (λ low. sym (held_low k (spaced_value digits) low)) (ap (λ n. strict_content_of k (n ∷ []))
+    (code_cased style.escape_digits digits))
 unit_contents style k (LineBreak blanks) h = refl
 
-all_contents : (style : Style) (k : Kind) (us : List StrictUnit) → list_all (is_strict_unit k) us ≡ true
+pub all_contents : (style : Style) (k : Kind) (us : List StrictUnit) → list_all (is_strict_unit k) us ≡ true
     → flat_map (strict_contents (strict_content_of k)) (map (restyled style k) us)
     ≡ flat_map (strict_contents (strict_content_of k)) us
 all_contents style k [] h = refl
@@ -275,7 +438,7 @@ cooked_strict t Int v x s = absurd s.count
 cooked_strict t Float v x s = absurd s.count
 cooked_strict t BoolKind v x s = absurd s.count
 
-abbrev written : (style : Style) (t u : List ℕ) (k : Kind) (v : Contents) (x : List ℕ) (s : StrictCooked t k v x)
+abbrev pub written : (style : Style) (t u : List ℕ) (k : Kind) (v : Contents) (x : List ℕ) (s : StrictCooked t k v x)
     → u ≡ strict_opener k ++ (flat_map strict_text (map (restyled style k) s.units) ++ (strict_closer k ++ x))
     → StrictCooked u k v x
 written style t u k v x s e = record {
@@ -313,19 +476,52 @@ twice_digits case (d ∷ ds) =
     ap (λ n. (n, d.1) ∷ map (cased_digit case) (map (cased_digit case) ds)) (twice_cased case d.0)
     ∙ ap (λ z. one ∷ z) (twice_digits case ds)
 
+-- an escape by number that is written anew again
+twice_respelled : (style : Style) (k : Kind) (n : ℕ) (escape : StrictUnit) → restyled style k escape
+    ≡ respelled style k n escape → restyled style k (respelled style k n escape) ≡ respelled style k n escape
+twice_respelled style k n escape h = go (style.ascii_escapes && is_visible n) (style.named_escapes && is_named n) refl
+    refl
+  where
+    quote : (n == closer k) ≡ true → restyled style k (QuoteEscape n) ≡ QuoteEscape n
+    quote e = ap (λ b. quote_unit (style.quote_escapes && not b) n) e
+        ∙ ap (λ b. quote_unit b n) (none_right style.quote_escapes)
+
+    go : (a b : Bool) → (style.ascii_escapes && is_visible n) ≡ a → (style.named_escapes && is_named n) ≡ b
+        → restyled style k (chosen a b k n escape) ≡ chosen a b k n escape
+    go true b e f = visible_any (λ u. restyled style k u ≡ u) k n quote (λ e. refl) refl
+    go false true e f = refl
+    go false false e f = h
+        ∙ ap (λ a. chosen a (style.named_escapes && is_named n) k n escape) e
+        ∙ ap (λ b. chosen false b k n escape) f
+
 twice_unit : (style : Style) (k : Kind) (u : StrictUnit) → restyled style k (restyled style k u) ≡ restyled style k u
 twice_unit style k (QuoteEscape c) = twice_quote (style.quote_escapes && not (c == closer k)) style k c refl
 twice_unit style k (Itself c) = refl
 twice_unit style k (PlainEscape c) = refl
 twice_unit style k (AsciiEscape high low) =
     let case : Option Case = style.escape_digits in
-    ap (λ z. AsciiEscape z (cased case (cased case low))) (twice_cased case high)
-    ∙ ap (λ z. AsciiEscape (cased case high) z) (twice_cased case low)
+    let n : ℕ = place_value 16 (high ∷ low ∷ []) in
+    let h : ℕ = cased case high in
+    let l : ℕ = cased case low in
+    twice_respelled style k n (AsciiEscape h l)
+    (ap (λ m. respelled style k m (AsciiEscape (cased case h) (cased case l))) (two_cased case high low)
+    ∙ ap (λ z. respelled style k n (AsciiEscape z (cased case l))) (twice_cased case high)
+    ∙ ap (λ z. respelled style k n (AsciiEscape h z)) (twice_cased case low))
 twice_unit style k (ByteEscape high low) =
     let case : Option Case = style.escape_digits in
-    ap (λ z. ByteEscape z (cased case (cased case low))) (twice_cased case high)
-    ∙ ap (λ z. ByteEscape (cased case high) z) (twice_cased case low)
-twice_unit style k (UnicodeEscape digits) = ap UnicodeEscape (twice_digits style.escape_digits digits)
+    let n : ℕ = place_value 16 (high ∷ low ∷ []) in
+    let h : ℕ = cased case high in
+    let l : ℕ = cased case low in
+    twice_respelled style k n (ByteEscape h l)
+    (ap (λ m. respelled style k m (ByteEscape (cased case h) (cased case l))) (two_cased case high low)
+    ∙ ap (λ z. respelled style k n (ByteEscape z (cased case l))) (twice_cased case high)
+    ∙ ap (λ z. respelled style k n (ByteEscape h z)) (twice_cased case low))
+twice_unit style k (UnicodeEscape digits) =
+    let case : Option Case = style.escape_digits in
+    let new : List (ℕ × ℕ) = map (cased_digit case) digits in
+    twice_respelled style k (spaced_value digits) (UnicodeEscape new)
+    (ap (λ m. respelled style k m (UnicodeEscape (map (cased_digit case) new))) (code_cased case digits)
+    ∙ ap (λ z. respelled style k (spaced_value digits) (UnicodeEscape z)) (twice_digits case digits))
 twice_unit style k (LineBreak blanks) = refl
 
 twice_units : (style : Style) (k : Kind) (us : List StrictUnit) → map (restyled style k) (map (restyled style k) us)

@@ -1,11 +1,12 @@
 -- Units are taken from a text one at a time, and each is written anew by its text.
-use Rattle.rl_text.proofs.Common.{◌≡◌, ℕ, ◌||◌, ◌&&◌, Bool, true, false, not, ◌==◌, cond, List, [], ◌∷◌, ◌++◌, map, Some, None, refl, sym, ap, subst, ◌∙◌, append_assoc, append-nil, append_cancel_right, and_from, and_parts, or_from, list_all, flat_map, map-append, replicate, zero, suc, scalar, encode_utf8_all, encodes-append, encodes-chars, IsUtf8}
+use Rattle.rl_text.proofs.Common.{◌≡◌, ℕ, ◌<◌, ◌≤◌, inl, inr, arith, nat_lt, lt-ltb, ltb-true, cases_lt, agree_below_at, ◌||◌, ◌&&◌, Bool, true, false, not, ◌==◌, cond, List, [], ◌∷◌, ◌++◌, map, Some, None, refl, sym, ap, subst, ◌∙◌, append_assoc, append-nil, append_cancel_right, and_from, and_parts, or_from, list_all, flat_map, map-append, replicate, zero, suc, scalar, encode_utf8_all, encodes-append, encodes-chars, IsUtf8}
 use Rattle.std.specs.Prelude.{Option}
 use Rattle.std.specs.Str.{chars}
-use Rattle.rl_text.proofs.Basics.{apart}
-use Rattle.rl_reading.proofs.Names.{flat_map-append, Kind, Str, ByteStr, CStr, Byte, Char, first_passes, IsTail, StrictUnit, Itself, QuoteEscape, PlainEscape, AsciiEscape, ByteEscape, UnicodeEscape, LineBreak, strict_text, is_strict_unit, unit_text, unit_value}
+use Rattle.rl_text.proofs.Basics.{apart, false_unless}
+use Rattle.rl_text.proofs.LowBytes.{encode_is_high, low_front}
+use Rattle.rl_reading.proofs.Names.{flat_map-append, Kind, Str, ByteStr, CStr, Byte, Char, Int, Float, BoolKind, content_of, holds_characters, place_value, strict_content_of, strict_contents, first_passes, IsTail, StrictUnit, Itself, QuoteEscape, PlainEscape, AsciiEscape, ByteEscape, UnicodeEscape, LineBreak, strict_text, is_strict_unit, unit_text, unit_value}
 use Rattle.rl_forms.specs.Written.{closer}
-use Rattle.rl_forms.specs.Strict.{BlanksEnd, is_bare_character, is_bare_in_string, is_plain_letter, spaced_digit}
+use Rattle.rl_forms.specs.Strict.{BlanksEnd, is_bare_character, is_bare_in_string, is_plain_letter, plain_escapes, plain_value_in, spaced_digit, spaced_value}
 use Rattle.rl_forms.proofs.StrictQuoted.{MayFollow, no_blank, no_return, stands}
 use Rattle.rl_reading.specs.Mirrors.UnitAt.{unit_at}
 use Rattle.rl_reading.proofs.UnitLemmas.{some_pair, unit_complete, unit_nil, unit_sound}
@@ -13,11 +14,11 @@ use Rattle.rl_style.specs.declared.style.Case.{Case}
 use Rattle.rl_style.specs.declared.style.Case.TheVariants.{Lower, Upper}
 use Rattle.rl_style.specs.declared.style.Style.{Style}
 use Rattle.rl_style.specs.Cases.{cased}
-use Rattle.rl_style.specs.Rewriting.{cased_digit, restyled}
-use Rattle.rl_style.specs.Mirrors.{AreUnits, restyled_escape, restyled_text}
+use Rattle.rl_style.specs.Rewriting.{cased_digit, is_named, is_visible, letter_of, respelled, restyled, visible_unit}
+use Rattle.rl_style.specs.Mirrors.{AreUnits, ascii_in, number_text, restyled_escape, restyled_text, visible_text}
 use Rattle.std.proofs.Math.Utf8.{scalars}
-use Rattle.rl_style.proofs.CaseLemmas.{scalars_cased}
-use Rattle.rl_style.proofs.SameUnits.{quote_of}
+use Rattle.rl_style.proofs.CaseLemmas.{none_right, scalars_cased}
+use Rattle.rl_style.proofs.SameUnits.{named_low, quote_of, visible_low}
 use Rattle.rl_style.proofs.WrittenTexts.{scalars_join}
 
 -- ---- rests
@@ -46,24 +47,110 @@ bare_front Byte c h = apart (λ c. is_strict_unit Byte (Itself c)) c 92 h refl
 bare_front Char c h = apart is_bare_character c 92 h refl
 bare_front kind c h = absurd (cc)
 
-letter_of : (k : Kind) (c : ℕ) → is_strict_unit k (PlainEscape c) ≡ true → is_plain_letter c ≡ true
-letter_of CStr c h = (and_parts (is_plain_letter c) (not (c == 48)) h).0
-letter_of _ c h = h
+letter_of_plain : (k : Kind) (c : ℕ) → is_strict_unit k (PlainEscape c) ≡ true → is_plain_letter c ≡ true
+letter_of_plain CStr c h = (and_parts (is_plain_letter c) (not (c == 48)) h).0
+letter_of_plain _ c h = h
 
-abbrev otherwise : Style → Kind → ℕ → List ℕ → List ℕ
-otherwise style k c cs = cond (c == 120 || c == 117) (map (cased style.escape_digits) (92 ∷ c ∷ cs)) (92 ∷ c ∷ cs)
+abbrev otherwise : Style → Kind → ℕ → ℕ → List ℕ → List ℕ
+otherwise style k n c cs = cond (c == 120 || c == 117) (number_text style k n (92 ∷ c ∷ cs)) (92 ∷ c ∷ cs)
+
+-- the number that a unit's contents begin with, where it is of ASCII
+record IsOf (n m : ℕ) : Type 0 where
+  low : n < 128 → m ≡ n
+  high : 128 ≤ n → m ≡ 128
+
+alone_of : (n : ℕ) → IsOf n (ascii_in (n ∷ []))
+alone_of n = record {
+  low = λ l. ap (λ b. cond b n 128) (lt-ltb n 128 l);
+  high = λ h. ap (λ b. cond b n 128) (false_unless (nat_lt n 128)
+      (λ b. let l = ltb-true n 128 b in absurd (omega (arith, l, h))));
+}
+
+-- its bytes, where the kind holds bytes
+bytes_of : (n : ℕ) → IsOf n (ascii_in (encode_utf8_all (n ∷ [])))
+bytes_of n = record {
+  low = λ l. ap ascii_in (low_front n [] l) ∙ (alone_of n).low l;
+  high = λ h.
+      let (b, bs, same, high, more) = encode_is_high n h in
+      ap (λ z. ascii_in (z ++ [])) same ∙ (alone_of b).high high;
+}
+
+held_of : (k : Kind) (n : ℕ) → IsOf n (ascii_in (strict_content_of k (n ∷ [])))
+held_of CStr n = bytes_of n
+held_of Str n = alone_of n
+held_of ByteStr n = alone_of n
+held_of Byte n = alone_of n
+held_of Char n = alone_of n
+held_of Int n = alone_of n
+held_of Float n = alone_of n
+held_of BoolKind n = alone_of n
+
+-- a character's value in the code
+pub content_ascii : (k : Kind) (n m : ℕ) → m ≡ cond (nat_lt n 128) n 128 → m ≡ ascii_in (content_of k (n ∷ []))
+content_ascii k n m e = go (holds_characters k)
+  where
+    bytes : cond (nat_lt n 128) n 128 ≡ ascii_in (encode_utf8_all (n ∷ []))
+    bytes =
+        elim (cases_lt n 128) [
+          | inl low ↦ (alone_of n).low low ∙ sym ((bytes_of n).low low)
+          | inr high ↦ (alone_of n).high high ∙ sym ((bytes_of n).high high)
+        ]
+
+    go : (b : Bool) → m ≡ ascii_in (cond b (n ∷ []) (encode_utf8_all (n ∷ [])))
+    go true = e
+    go false = e ∙ bytes
+
+-- an escape by number, by what it spells
+visible_is : (a b : Bool) (n : ℕ) → cond (a || b) (92 ∷ n ∷ []) (n ∷ [])
+    ≡ strict_text (cond a (QuoteEscape n) (cond b (PlainEscape n) (Itself n)))
+visible_is true b n = refl
+visible_is false true n = refl
+visible_is false false n = refl
+
+spelled_so : (a b : Bool) (k : Kind) (n : ℕ) (text : List ℕ) (escape : StrictUnit) → text ≡ strict_text escape
+    → cond a (visible_text k n) (cond b (92 ∷ letter_of n ∷ []) text)
+    ≡ strict_text (cond a (visible_unit k n) (cond b (PlainEscape (letter_of n)) escape))
+spelled_so true b k n text escape e = visible_is (n == closer k) (n == 92) n
+spelled_so false true k n text escape e = refl
+spelled_so false false k n text escape e = e
+
+number_is : (style : Style) (k : Kind) (n m : ℕ) (text : List ℕ) (escape : StrictUnit) → IsOf n m
+    → map (cased style.escape_digits) text ≡ strict_text escape
+    → number_text style k m text ≡ strict_text (respelled style k n escape)
+number_is style k n m text escape of same =
+    elim (cases_lt n 128) [
+      | inl low ↦ ap (λ z. number_text style k z text) (of.low low)
+          ∙ spelled_so (style.ascii_escapes && is_visible n) (style.named_escapes && is_named n) k n
+          (map (cased style.escape_digits) text) escape same
+      | inr high ↦
+          let none : is_visible n ≡ false = false_unless (is_visible n)
+          (λ v. let l = visible_low n v in absurd (omega (arith, l, high))) in
+          let unnamed : is_named n ≡ false = false_unless (is_named n)
+          (λ v. let l = named_low n v in absurd (omega (arith, l, high))) in
+          let all : List ℕ = map (cased style.escape_digits) text in
+          ap (λ z. number_text style k z text) (of.high high)
+          ∙ ap (λ b. cond b (visible_text k 128) (cond (style.named_escapes && false) (92 ∷ letter_of 128 ∷ []) all))
+          (none_right style.ascii_escapes)
+          ∙ ap (λ b. cond b (92 ∷ letter_of 128 ∷ []) all) (none_right style.named_escapes) ∙ same
+          ∙ ap strict_text (sym (ap (λ b. cond (style.ascii_escapes && b) (visible_unit k n)
+          (cond (style.named_escapes && is_named n) (PlainEscape (letter_of n)) escape)) none
+          ∙ ap (λ b. cond b (visible_unit k n)
+          (cond (style.named_escapes && is_named n) (PlainEscape (letter_of n)) escape)) (none_right style.ascii_escapes)
+          ∙ ap (λ b. cond (style.named_escapes && b) (PlainEscape (letter_of n)) escape) unnamed
+          ∙ ap (λ b. cond b (PlainEscape (letter_of n)) escape) (none_right style.named_escapes)))
+    ]
 
 -- a plain escape, which begins neither as a quote nor as a number
-plain_text : (style : Style) (k : Kind) (c : ℕ) → is_plain_letter c ≡ true → restyled_escape style k (c ∷ [])
+plain_text : (style : Style) (k : Kind) (n c : ℕ) → is_plain_letter c ≡ true → restyled_escape style k n (c ∷ [])
     ≡ 92 ∷ c ∷ []
-plain_text style k c h =
+plain_text style k n c h =
     let a = apart is_plain_letter c 39 h refl in
     let b = apart is_plain_letter c 34 h refl in
     let x = apart is_plain_letter c 120 h refl in
     let u = apart is_plain_letter c 117 h refl in
-    ap (λ z. cond z (cond (style.quote_escapes && not (c == closer k)) (c ∷ []) (92 ∷ c ∷ [])) (otherwise style k c []))
+    ap (λ z. cond z (cond (style.quote_escapes && not (c == closer k)) (c ∷ []) (92 ∷ c ∷ [])) (otherwise style k n c []))
     (or_from (c == 39) (c == 34) a b)
-    ∙ ap (λ z. cond z (map (cased style.escape_digits) (92 ∷ c ∷ [])) (92 ∷ c ∷ [])) (or_from (c == 120) (c == 117) x u)
+    ∙ ap (λ z. cond z (number_text style k n (92 ∷ c ∷ [])) (92 ∷ c ∷ [])) (or_from (c == 120) (c == 117) x u)
 
 quote_text : (b : Bool) (c : ℕ) → cond b (c ∷ []) (92 ∷ c ∷ []) ≡ strict_text (cond b (Itself c) (QuoteEscape c))
 quote_text true c = refl
@@ -112,89 +199,119 @@ code_text case ds =
     ∙ ap (λ z. flat_map spaced_digit (map (cased_digit case) ds) ++ z) (brace case))
 
 pub unit_restyled : (style : Style) (k : Kind) (u : StrictUnit) → is_strict_unit k u ≡ true
-    → restyled_text style k (strict_text u) ≡ strict_text (restyled style k u)
+    → restyled_text style k (ascii_in (strict_contents (strict_content_of k) u)) (strict_text u)
+    ≡ strict_text (restyled style k u)
 unfolding restyled_text
-unit_restyled style k (Itself c) h = ap (λ b. cond b (restyled_escape style k []) (c ∷ [])) (bare_front k c h)
+unit_restyled style k (Itself c) h =
+    let n : ℕ = ascii_in (strict_contents (strict_content_of k) (Itself c)) in
+    ap (λ b. cond b (restyled_escape style k n []) (c ∷ [])) (bare_front k c h)
 unit_restyled style k (QuoteEscape c) h =
-    ap (λ b. cond b (cond (style.quote_escapes && not (c == closer k)) (c ∷ []) (92 ∷ c ∷ [])) (otherwise style k c []))
+    let n : ℕ = ascii_in (c ∷ []) in
+    ap (λ b. cond b (cond (style.quote_escapes && not (c == closer k)) (c ∷ []) (92 ∷ c ∷ []))
+    (otherwise style k n c []))
     (quote_of k c h) ∙ quote_text (style.quote_escapes && not (c == closer k)) c
-unit_restyled style k (PlainEscape c) h = plain_text style k c (letter_of k c h)
-unit_restyled style k (AsciiEscape high low) h = hex_front style.escape_digits (high ∷ low ∷ [])
-unit_restyled style k (ByteEscape high low) h = hex_front style.escape_digits (high ∷ low ∷ [])
-unit_restyled style k (UnicodeEscape digits) h = code_text style.escape_digits digits
+unit_restyled style k (PlainEscape c) h = plain_text style k (ascii_in (plain_value_in plain_escapes c)) c
+    (letter_of_plain k c h)
+unit_restyled style k (AsciiEscape high low) h =
+    let n : ℕ = place_value 16 (high ∷ low ∷ []) in
+    number_is style k n (ascii_in (n ∷ [])) (92 ∷ 120 ∷ high ∷ low ∷ [])
+    (AsciiEscape (cased style.escape_digits high) (cased style.escape_digits low)) (alone_of n)
+    (hex_front style.escape_digits (high ∷ low ∷ []))
+unit_restyled style k (ByteEscape high low) h =
+    let n : ℕ = place_value 16 (high ∷ low ∷ []) in
+    number_is style k n (ascii_in (n ∷ [])) (92 ∷ 120 ∷ high ∷ low ∷ [])
+    (ByteEscape (cased style.escape_digits high) (cased style.escape_digits low)) (alone_of n)
+    (hex_front style.escape_digits (high ∷ low ∷ []))
+unit_restyled style k (UnicodeEscape digits) h =
+    let n : ℕ = spaced_value digits in
+    number_is style k n (ascii_in (strict_content_of k (n ∷ []))) (strict_text (UnicodeEscape digits))
+    (UnicodeEscape (map (cased_digit style.escape_digits) digits)) (held_of k n) (code_text style.escape_digits digits)
 unit_restyled style k (LineBreak blanks) h = refl
 
 -- ---- the bytes that are put
 
-at_escape : (style : Style) (k : Kind) (t cs : List ℕ) → t ≡ 92 ∷ cs → restyled_text style k t
-    ≡ restyled_escape style k cs
+at_escape : (style : Style) (k : Kind) (n : ℕ) (t cs : List ℕ) → t ≡ 92 ∷ cs → restyled_text style k n t
+    ≡ restyled_escape style k n cs
 unfolding restyled_text
-at_escape style k t cs e = ap (restyled_text style k) e
+at_escape style k n t cs e = ap (restyled_text style k n) e
 
 -- a character after the backslash, by which it is
-quoted_escape : (style : Style) (k : Kind) (c : ℕ) (cs : List ℕ) → (c == 39 || c == 34) ≡ true
-    → restyled_escape style k (c ∷ cs) ≡ cond (style.quote_escapes && not (c == closer k)) (c ∷ cs) (92 ∷ c ∷ cs)
-quoted_escape style k c cs q =
-    ap (λ b. cond b (cond (style.quote_escapes && not (c == closer k)) (c ∷ cs) (92 ∷ c ∷ cs)) (otherwise style k c cs))
-    q
+quoted_escape : (style : Style) (k : Kind) (n c : ℕ) (cs : List ℕ) → (c == 39 || c == 34) ≡ true
+    → restyled_escape style k n (c ∷ cs) ≡ cond (style.quote_escapes && not (c == closer k)) (c ∷ cs) (92 ∷ c ∷ cs)
+quoted_escape style k n c cs q =
+    ap (λ b. cond b (cond (style.quote_escapes && not (c == closer k)) (c ∷ cs) (92 ∷ c ∷ cs))
+    (otherwise style k n c cs)) q
 
-other_escape : (style : Style) (k : Kind) (c : ℕ) (cs : List ℕ) → (c == 39 || c == 34) ≡ false
-    → restyled_escape style k (c ∷ cs) ≡ otherwise style k c cs
-other_escape style k c cs q =
-    ap (λ b. cond b (cond (style.quote_escapes && not (c == closer k)) (c ∷ cs) (92 ∷ c ∷ cs)) (otherwise style k c cs))
-    q
+other_escape : (style : Style) (k : Kind) (n c : ℕ) (cs : List ℕ) → (c == 39 || c == 34) ≡ false
+    → restyled_escape style k n (c ∷ cs) ≡ otherwise style k n c cs
+other_escape style k n c cs q =
+    ap (λ b. cond b (cond (style.quote_escapes && not (c == closer k)) (c ∷ cs) (92 ∷ c ∷ cs))
+    (otherwise style k n c cs)) q
 
-pub bared_bytes : (style : Style) (k : Kind) (unit escape w : List ℕ) (c : ℕ) → IsUtf8 escape
+pub bared_bytes : (style : Style) (k : Kind) (n : ℕ) (unit escape w : List ℕ) (c : ℕ) → IsUtf8 escape
     → chars unit ≡ 92 ∷ chars escape → chars escape ≡ c ∷ w → (c == 39 || c == 34) ≡ true
     → (style.quote_escapes && not (c == closer k)) ≡ true
-    → encode_utf8_all (restyled_text style k (chars unit)) ≡ escape
-bared_bytes style k unit escape w c u e f q h =
-    ap encode_utf8_all (at_escape style k (chars unit) (c ∷ w) (e ∙ ap (λ z. 92 ∷ z) f) ∙ quoted_escape style k c w q
+    → encode_utf8_all (restyled_text style k n (chars unit)) ≡ escape
+bared_bytes style k n unit escape w c u e f q h =
+    ap encode_utf8_all (at_escape style k n (chars unit) (c ∷ w) (e ∙ ap (λ z. 92 ∷ z) f)
+    ∙ quoted_escape style k n c w q
     ∙ ap (λ b. cond b (c ∷ w) (92 ∷ c ∷ w)) h ∙ sym f) ∙ encodes-chars escape u
 
-pub kept_bytes : (style : Style) (k : Kind) (unit escape w : List ℕ) (c : ℕ) → IsUtf8 unit
+pub kept_bytes : (style : Style) (k : Kind) (n : ℕ) (unit escape w : List ℕ) (c : ℕ) → IsUtf8 unit
     → chars unit ≡ 92 ∷ chars escape → chars escape ≡ c ∷ w → (c == 39 || c == 34) ≡ true
     → (style.quote_escapes && not (c == closer k)) ≡ false
-    → encode_utf8_all (restyled_text style k (chars unit)) ≡ unit
-kept_bytes style k unit escape w c u e f q h =
+    → encode_utf8_all (restyled_text style k n (chars unit)) ≡ unit
+kept_bytes style k n unit escape w c u e f q h =
     let text : chars unit ≡ 92 ∷ c ∷ w = e ∙ ap (λ z. 92 ∷ z) f in
-    ap encode_utf8_all (at_escape style k (chars unit) (c ∷ w) text ∙ quoted_escape style k c w q
+    ap encode_utf8_all (at_escape style k n (chars unit) (c ∷ w) text ∙ quoted_escape style k n c w q
     ∙ ap (λ b. cond b (c ∷ w) (92 ∷ c ∷ w)) h ∙ sym text) ∙ encodes-chars unit u
 
-pub cased_bytes : (style : Style) (k : Kind) (unit escape w : List ℕ) (c : ℕ) → chars unit ≡ 92 ∷ chars escape
-    → chars escape ≡ c ∷ w → (c == 39 || c == 34) ≡ false → (c == 120 || c == 117) ≡ true
-    → encode_utf8_all (restyled_text style k (chars unit)) ≡ encode_utf8_all
-    (map (cased style.escape_digits) (chars unit))
-cased_bytes style k unit escape w c e f q h =
-    let text : chars unit ≡ 92 ∷ c ∷ w = e ∙ ap (λ z. 92 ∷ z) f in
-    ap encode_utf8_all (at_escape style k (chars unit) (c ∷ w) text ∙ other_escape style k c w q
-    ∙ ap (λ b. cond b (map (cased style.escape_digits) (92 ∷ c ∷ w)) (92 ∷ c ∷ w)) h
-    ∙ ap (map (cased style.escape_digits)) (sym text))
-
-pub other_bytes : (style : Style) (k : Kind) (unit escape w : List ℕ) (c : ℕ) → IsUtf8 unit
+pub number_bytes : (style : Style) (k : Kind) (n : ℕ) (unit escape w : List ℕ) (c : ℕ)
     → chars unit ≡ 92 ∷ chars escape → chars escape ≡ c ∷ w → (c == 39 || c == 34) ≡ false
-    → (c == 120 || c == 117) ≡ false → encode_utf8_all (restyled_text style k (chars unit)) ≡ unit
-other_bytes style k unit escape w c u e f q h =
+    → (c == 120 || c == 117) ≡ true → encode_utf8_all (restyled_text style k n (chars unit))
+    ≡ encode_utf8_all (number_text style k n (chars unit))
+number_bytes style k n unit escape w c e f q h =
     let text : chars unit ≡ 92 ∷ c ∷ w = e ∙ ap (λ z. 92 ∷ z) f in
-    ap encode_utf8_all (at_escape style k (chars unit) (c ∷ w) text ∙ other_escape style k c w q
-    ∙ ap (λ b. cond b (map (cased style.escape_digits) (92 ∷ c ∷ w)) (92 ∷ c ∷ w)) h ∙ sym text) ∙ encodes-chars unit u
+    ap encode_utf8_all (at_escape style k n (chars unit) (c ∷ w) text ∙ other_escape style k n c w q
+    ∙ ap (λ b. cond b (number_text style k n (92 ∷ c ∷ w)) (92 ∷ c ∷ w)) h ∙ ap (number_text style k n) (sym text))
 
-pub alone_bytes : (style : Style) (k : Kind) (unit escape : List ℕ) → IsUtf8 unit → chars unit ≡ 92 ∷ chars escape
-    → chars escape ≡ [] → encode_utf8_all (restyled_text style k (chars unit)) ≡ unit
-alone_bytes style k unit escape u e f =
+pub other_bytes : (style : Style) (k : Kind) (n : ℕ) (unit escape w : List ℕ) (c : ℕ) → IsUtf8 unit
+    → chars unit ≡ 92 ∷ chars escape → chars escape ≡ c ∷ w → (c == 39 || c == 34) ≡ false
+    → (c == 120 || c == 117) ≡ false → encode_utf8_all (restyled_text style k n (chars unit)) ≡ unit
+other_bytes style k n unit escape w c u e f q h =
+    let text : chars unit ≡ 92 ∷ c ∷ w = e ∙ ap (λ z. 92 ∷ z) f in
+    ap encode_utf8_all (at_escape style k n (chars unit) (c ∷ w) text ∙ other_escape style k n c w q
+    ∙ ap (λ b. cond b (number_text style k n (92 ∷ c ∷ w)) (92 ∷ c ∷ w)) h ∙ sym text) ∙ encodes-chars unit u
+
+pub alone_bytes : (style : Style) (k : Kind) (n : ℕ) (unit escape : List ℕ) → IsUtf8 unit
+    → chars unit ≡ 92 ∷ chars escape → chars escape ≡ []
+    → encode_utf8_all (restyled_text style k n (chars unit)) ≡ unit
+alone_bytes style k n unit escape u e f =
     let text : chars unit ≡ 92 ∷ [] = e ∙ ap (λ z. 92 ∷ z) f in
-    ap encode_utf8_all (at_escape style k (chars unit) [] text ∙ sym text) ∙ encodes-chars unit u
+    ap encode_utf8_all (at_escape style k n (chars unit) [] text ∙ sym text) ∙ encodes-chars unit u
 
-no_escape : (style : Style) (k : Kind) (t : List ℕ) → first_passes (λ c. c == 92) t ≡ false → restyled_text style k t
-    ≡ t
+no_escape : (style : Style) (k : Kind) (n : ℕ) (t : List ℕ) → first_passes (λ c. c == 92) t ≡ false
+    → restyled_text style k n t ≡ t
 unfolding restyled_text
-no_escape style k [] h = refl
-no_escape style k (c ∷ cs) h = ap (λ b. cond b (restyled_escape style k cs) (c ∷ cs)) h
+no_escape style k n [] h = refl
+no_escape style k n (c ∷ cs) h = ap (λ b. cond b (restyled_escape style k n cs) (c ∷ cs)) h
 
-pub plain_bytes : (style : Style) (k : Kind) (unit : List ℕ) → IsUtf8 unit → first_passes (λ c. c == 92) (chars unit)
-    ≡ false
-    → encode_utf8_all (restyled_text style k (chars unit)) ≡ unit
-plain_bytes style k unit u h = ap encode_utf8_all (no_escape style k (chars unit) h) ∙ encodes-chars unit u
+pub plain_bytes : (style : Style) (k : Kind) (n : ℕ) (unit : List ℕ) → IsUtf8 unit
+    → first_passes (λ c. c == 92) (chars unit) ≡ false
+    → encode_utf8_all (restyled_text style k n (chars unit)) ≡ unit
+plain_bytes style k n unit u h = ap encode_utf8_all (no_escape style k n (chars unit) h) ∙ encodes-chars unit u
+
+-- what an escape by number becomes, by which it is
+pub visible_bytes : (style : Style) (k : Kind) (n : ℕ) (text : List ℕ) → (style.ascii_escapes && is_visible n) ≡ true
+    → number_text style k n text ≡ visible_text k n
+visible_bytes style k n text h = ap (λ b. cond b (visible_text k n) (cond (style.named_escapes && is_named n)
+    (92 ∷ letter_of n ∷ []) (map (cased style.escape_digits) text))) h
+
+pub unseen_bytes : (style : Style) (k : Kind) (n : ℕ) (text : List ℕ) → (style.ascii_escapes && is_visible n) ≡ false
+    → number_text style k n text ≡ cond (style.named_escapes && is_named n) (92 ∷ letter_of n ∷ [])
+    (map (cased style.escape_digits) text)
+unseen_bytes style k n text h = ap (λ b. cond b (visible_text k n) (cond (style.named_escapes && is_named n)
+    (92 ∷ letter_of n ∷ []) (map (cased style.escape_digits) text))) h
 
 -- ---- the units that were passed
 
@@ -220,6 +337,7 @@ blanks_after (UnicodeEscape digits) us b = b
 -- the first of a row of units is the one that is read
 record FirstIs (k : Kind) (u : StrictUnit) (us : List StrictUnit) (t : List ℕ) : Type 0 where
   value : List ℕ
+  value_is : value ≡ strict_contents (strict_content_of k) u
   read : unit_at k t ≡ Some (value, flat_map strict_text us)
   is_unit : is_strict_unit k u ≡ true
   left : AreUnits k us (flat_map strict_text us)
@@ -232,6 +350,7 @@ first_is k u us t a =
     let rest : List ℕ = flat_map strict_text us in
     record {
       value = unit_value k s.unit;
+      value_is = s.value_is;
       read = ap (unit_at k) (a.inside_is ∙ ap (λ z. z ++ rest) (sym s.text_is))
           ∙ unit_complete k s.unit rest s.is_unit (s.ends_before rest (may_follow k u us p.1 a.blanks_end));
       is_unit = p.0;
@@ -254,13 +373,17 @@ texts_once style k (u ∷ us) [] t a b =
 texts_once style k (u ∷ us) (v ∷ vs) t a b =
     let f = first_is k u us t a in
     let g = first_is k v vs t b in
-    let rest : flat_map strict_text us ≡ flat_map strict_text vs =
-    (some_pair (f.value, flat_map strict_text us) (g.value, flat_map strict_text vs) (sym f.read ∙ g.read)).1 in
+    let read = some_pair (f.value, flat_map strict_text us) (g.value, flat_map strict_text vs) (sym f.read ∙ g.read) in
+    let rest : flat_map strict_text us ≡ flat_map strict_text vs = read.1 in
+    let value : ascii_in (strict_contents (strict_content_of k) u) ≡ ascii_in
+    (strict_contents (strict_content_of k) v) = ap ascii_in (sym f.value_is ∙ read.0 ∙ g.value_is) in
     let text : strict_text u ≡ strict_text v = append_cancel_right (strict_text u) (strict_text v)
     (flat_map strict_text us)
     (sym f.text_is ∙ g.text_is ∙ ap (λ z. strict_text v ++ z) (sym rest)) in
     let one : strict_text (restyled style k u) ≡ strict_text (restyled style k v) =
-    sym (unit_restyled style k u f.is_unit) ∙ ap (restyled_text style k) text ∙ unit_restyled style k v g.is_unit in
+    sym (unit_restyled style k u f.is_unit)
+    ∙ ap (restyled_text style k (ascii_in (strict_contents (strict_content_of k) u))) text
+    ∙ ap (λ n. restyled_text style k n (strict_text v)) value ∙ unit_restyled style k v g.is_unit in
     ap (λ z. z ++ flat_map strict_text (map (restyled style k) us)) one
     ∙ ap (λ z. strict_text (restyled style k v) ++ z) (texts_once style k us vs (flat_map strict_text us) f.left
     (subst (AreUnits k vs) (sym rest) g.left))
@@ -286,7 +409,7 @@ texts_more style k us u =
 
 pub passed_step : (style : Style) (k : Kind) (us : List StrictUnit) (rest v piece after out new front : List ℕ)
     → UnitsPassed style k us rest out front → Some (v, after) ≡ unit_at k rest → rest ≡ piece ++ after
-    → new ≡ out ++ encode_utf8_all (restyled_text style k piece) → UnitsPassed style k us after new front
+    → new ≡ out ++ encode_utf8_all (restyled_text style k (ascii_in v) piece) → UnitsPassed style k us after new front
 passed_step style k us rest v piece after out new front p e cut w = go p.left p.units_are p.left_are
   where
     go : (left : List StrictUnit) → us ≡ p.done ++ left → AreUnits k left rest → UnitsPassed style k us after new front
@@ -304,7 +427,8 @@ passed_step style k us rest v piece after out new front p e cut w = go p.left p.
           left = left;
           units_are = are ∙ sym (append_assoc p.done (u ∷ []) left);
           left_are = subst (λ z. AreUnits k left z) (sym rest_is) f.left;
-          out_is = w ∙ ap (λ z. out ++ encode_utf8_all z) (ap (restyled_text style k) is
+          out_is = w ∙ ap (λ z. out ++ encode_utf8_all z) (ap (restyled_text style k (ascii_in v)) is
+              ∙ ap (λ n. restyled_text style k (ascii_in n) (strict_text u)) (same.0 ∙ f.value_is)
               ∙ unit_restyled style k u f.is_unit)
               ∙ ap (λ z. z ++ encode_utf8_all one) p.out_is ∙ append_assoc front (encode_utf8_all old)
               (encode_utf8_all one)
@@ -338,21 +462,49 @@ chosen_scalars : (b : Bool) (x y : List ℕ) → scalars x ≡ true → scalars 
 chosen_scalars true x y h k = h
 chosen_scalars false x y h k = k
 
-escape_scalars : (style : Style) (k : Kind) (cs : List ℕ) → scalars cs ≡ true → scalars (restyled_escape style k cs)
-    ≡ true
-escape_scalars style k [] h = refl
-escape_scalars style k (c ∷ cs) h =
+number_scalars : (style : Style) (k : Kind) (n : ℕ) (cs : List ℕ) → n ≤ 128 → scalars cs ≡ true
+    → scalars (number_text style k n cs) ≡ true
+number_scalars style k n cs small h =
+    let one : scalar n ≡ true = scalar_low n small in
+    let letter : scalar (letter_of n) ≡ true = chosen_scalar (n == 10) 110 (cond (n == 13) 114 116) refl
+    (chosen_scalar (n == 13) 114 116 refl refl) in
+    chosen_scalars (style.ascii_escapes && is_visible n) _ _
+    (chosen_scalars (n == closer k || n == 92) (92 ∷ n ∷ []) (n ∷ []) (and_from (scalar n) true one refl)
+    (and_from (scalar n) true one refl))
+    (chosen_scalars (style.named_escapes && is_named n) (92 ∷ letter_of n ∷ []) _
+    (and_from (scalar (letter_of n)) true letter refl) (scalars_cased style.escape_digits cs h))
+  where
+    scalar_low : (n : ℕ) → n ≤ 128 → scalar n ≡ true
+    scalar_low n s = agree_below_at scalar (λ n. true) 129 n refl (omega (arith, s))
+
+    chosen_scalar : (b : Bool) (x y : ℕ) → scalar x ≡ true → scalar y ≡ true → scalar (cond b x y) ≡ true
+    chosen_scalar true x y h k = h
+    chosen_scalar false x y h k = k
+
+escape_scalars : (style : Style) (k : Kind) (n : ℕ) (cs : List ℕ) → n ≤ 128 → scalars cs ≡ true
+    → scalars (restyled_escape style k n cs) ≡ true
+escape_scalars style k n [] small h = refl
+escape_scalars style k n (c ∷ cs) small h =
     chosen_scalars (c == 39 || c == 34) _ _
     (chosen_scalars (style.quote_escapes && not (c == closer k)) (c ∷ cs) (92 ∷ c ∷ cs) h h)
-    (chosen_scalars (c == 120 || c == 117) (map (cased style.escape_digits) (92 ∷ c ∷ cs)) (92 ∷ c ∷ cs)
-    (scalars_cased style.escape_digits (92 ∷ c ∷ cs) h) h)
+    (chosen_scalars (c == 120 || c == 117) (number_text style k n (92 ∷ c ∷ cs)) (92 ∷ c ∷ cs)
+    (number_scalars style k n (92 ∷ c ∷ cs) small h) h)
 
-text_scalars : (style : Style) (k : Kind) (t : List ℕ) → scalars t ≡ true → scalars (restyled_text style k t) ≡ true
+text_scalars : (style : Style) (k : Kind) (n : ℕ) (t : List ℕ) → n ≤ 128 → scalars t ≡ true
+    → scalars (restyled_text style k n t) ≡ true
 unfolding restyled_text
-text_scalars style k [] h = refl
-text_scalars style k (c ∷ cs) h =
+text_scalars style k n [] small h = refl
+text_scalars style k n (c ∷ cs) small h =
     let p = and_parts (scalar c) (scalars cs) h in
-    chosen_scalars (c == 92) (restyled_escape style k cs) (c ∷ cs) (escape_scalars style k cs p.1) h
+    chosen_scalars (c == 92) (restyled_escape style k n cs) (c ∷ cs) (escape_scalars style k n cs small p.1) h
+
+ascii_small : (v : List ℕ) → ascii_in v ≤ 128
+ascii_small [] = omega arith
+ascii_small (n ∷ ns) = go (nat_lt n 128) refl
+  where
+    go : (b : Bool) → nat_lt n 128 ≡ b → cond b n 128 ≤ 128
+    go true h = let l = ltb-true n 128 h in omega (arith, l)
+    go false h = omega arith
 
 pub units_scalars : (style : Style) (k : Kind) (us : List StrictUnit) → list_all (is_strict_unit k) us ≡ true
     → scalars (flat_map strict_text us) ≡ true → scalars (flat_map strict_text (map (restyled style k) us)) ≡ true
@@ -361,5 +513,7 @@ units_scalars style k (u ∷ us) each h =
     let p = and_parts (is_strict_unit k u) (list_all (is_strict_unit k) us) each in
     let q = scalars_split (strict_text u) (flat_map strict_text us) h in
     scalars_join (strict_text (restyled style k u)) (flat_map strict_text (map (restyled style k) us))
-    (ap scalars (sym (unit_restyled style k u p.0)) ∙ text_scalars style k (strict_text u) q.0)
+    (ap scalars (sym (unit_restyled style k u p.0)) ∙ text_scalars style k
+    (ascii_in (strict_contents (strict_content_of k) u)) (strict_text u)
+    (ascii_small (strict_contents (strict_content_of k) u)) q.0)
     (units_scalars style k us p.1 q.1)

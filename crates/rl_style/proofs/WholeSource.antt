@@ -1,13 +1,12 @@
 -- A source without `#!` in front, in which one literal is written anew, is cut as before everywhere else.
 use Rattle.rl_text.proofs.Common.{◌≡◌, ℕ, ◌+◌, inl, inr, Bool, true, false, ◌==◌, cond, List, [], ◌∷◌, ◌++◌, refl, sym, ◌∙◌, ap, arith, codes, append_assoc}
 use Rattle.rl_text.specs.Texts.{first_passes, begins, byte_len}
-use Rattle.rl_lexer.specs.Lexemes.{lexeme_text}
-use Rattle.rl_lexer.specs.Sources.{without_mark, IsScriptLine, IsWithoutLine}
+use Rattle.rl_lexer.specs.Lexemes.{Lexeme, lexeme_text}
+use Rattle.rl_lexer.specs.Sources.{CutSource, IsCutUpTo, without_mark, IsScriptLine, IsWithoutLine}
 use Rattle.rl_lexer.proofs.CutLemmas.{byte_len-append}
-use Rattle.rl_style.specs.Around.{SameFront}
-use Rattle.rl_style.specs.Recut.{KeepsTheSource}
-use Rattle.rl_style.proofs.FrontTests.{front_more, same_first, same_script}
-use Rattle.rl_style.proofs.Recut.{Recut, recut}
+use Rattle.rl_style.specs.Recut.{IsRecutSource, KeepsTheSource, placed_literal}
+use Rattle.rl_style.proofs.FrontTests.{code_on, same_first, same_script}
+use Rattle.rl_style.proofs.Recut.{Alike, Recut, alike_more, recut_ends}
 
 abbrev is_mark : ℕ → Bool
 is_mark c = c == 65279
@@ -46,19 +45,27 @@ no_script t r h is =
     let q : true ≡ false = sym (ap (begins (codes "#!")) is.text_is) ∙ h in
     absurd (cc)
 
+mark_agrees : (a b : List ℕ) → Alike a b → first_passes is_mark a ≡ first_passes is_mark b
+mark_agrees a b (inl e) = ap (first_passes is_mark) e
+mark_agrees a b (inr f) = same_first is_mark (code_on 65279 refl) a b f
+
+script_agrees : (a b : List ℕ) → Alike a b → begins (codes "#!") a ≡ begins (codes "#!") b
+script_agrees a b (inl e) = ap (begins (codes "#!")) e
+script_agrees a b (inr f) = same_script a b f
+
 -- the body is what follows the mark
 body_is : (t body : List ℕ) → begins (codes "#!") t ≡ false → IsWithoutLine t body → body ≡ t
 body_is t body h (inl is) = absurd (no_script t body h is)
 body_is t body h (inr is) = is.0
 
-pub keeps_the_source : KeepsTheSource
-keeps_the_source t before after old new place r no_line cut sound ends =
-    let m : Recut cut.at cut.body before after old new place r = recut cut.at cut.body before after old new place r
-    cut.are_cuts sound ends in
+pub source_recut : (t : List ℕ) (before after : List CutSource) (old new : Lexeme) (place : ℕ) (r : List ℕ)
+    → begins (codes "#!") (without_mark t) ≡ false → (cut : IsCutUpTo t (before ++ (placed_literal old place ∷ after)) r)
+    → Recut cut.at cut.body before after old new place r → IsRecutSource t before after old new place r
+source_recut t before after old new place r no_line cut m =
     let whole : cut.body ≡ without_mark t = body_is (without_mark t) cut.body no_line cut.front in
     let was : List ℕ = m.front ++ (lexeme_text old ++ m.rest) in
     let body : List ℕ = m.front ++ (lexeme_text new ++ m.rest) in
-    let same : SameFront was body = front_more m.front (lexeme_text old ++ m.rest) (lexeme_text new ++ m.rest)
+    let same : Alike was body = alike_more m.front (lexeme_text old ++ m.rest) (lexeme_text new ++ m.rest)
     m.same_front in
     let was_is : without_mark t ≡ was = sym whole ∙ m.text_is in
     let k : Marked t = marked t in
@@ -68,9 +75,9 @@ keeps_the_source t before after old new place r no_line cut sound ends =
     let text : List ℕ = (k.mark ++ m.front) ++ (lexeme_text new ++ m.rest) in
     let text_is : text ≡ k.mark ++ body = append_assoc k.mark m.front (lexeme_text new ++ m.rest) in
     let bare : without_mark text ≡ body = ap without_mark text_is ∙ k.goes body (ap (first_passes is_mark) was_is
-    ∙ same_first is_mark was body same) in
+    ∙ mark_agrees was body same) in
     let free : begins (codes "#!") (without_mark text) ≡ false = ap (begins (codes "#!")) bare
-    ∙ sym (same_script was body
+    ∙ sym (script_agrees was body
     same) ∙ sym (ap (begins (codes "#!")) was_is) ∙ no_line in
     record {
       front = k.mark ++ m.front;
@@ -86,3 +93,7 @@ keeps_the_source t before after old new place r no_line cut sound ends =
         are_cuts = m.cuts;
       };
     }
+
+pub keeps_the_source : KeepsTheSource
+keeps_the_source t before after old new place r no_line cut sound ends = source_recut t before after old new place r
+    no_line cut (recut_ends cut.at cut.body before after old new place r cut.are_cuts sound ends)

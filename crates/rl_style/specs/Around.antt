@@ -13,16 +13,22 @@ use Rattle.rl_lexer.specs.Sources.{SourceLexeme, IsProper}
 abbrev pub is_head : ℕ → Bool
 is_head c = is_among (codes "\"'rbc") c || is_ascii_digit c
 
+-- no token in front of a literal tells which of two digits it begins with
+abbrev pub SameHead : ℕ → ℕ → Type 0
+SameHead old new = (old ≡ new) ⊎ (IsTrue (is_ascii_digit old) × IsTrue (is_ascii_digit new))
+
 -- Both texts begin alike, up to a quote, a digit, or the `r` of a raw literal.
 pub record SameFront (old new : List ℕ) : Type 0 where
   pub front : List ℕ
   pub head : ℕ
+  pub new_head : ℕ
   pub old_rest : List ℕ
   pub new_rest : List ℕ
   pub is_head : IsTrue (is_head head)
+  pub same_head : SameHead head new_head
   pub raw : head ≡ code "r" → BeginsHashedQuote old_rest × BeginsHashedQuote new_rest
   pub old_is : old ≡ front ++ (head ∷ old_rest)
-  pub new_is : new ≡ front ++ (head ∷ new_rest)
+  pub new_is : new ≡ front ++ (new_head ∷ new_rest)
 
 -- A token, bad quotes and strays aside, stays one before the other text.
 abbrev pub StaysAround : Type 0

@@ -2,4 +2,5 @@ pub mod Cases
 pub mod Rewriting
 pub mod Around
 pub mod Recut
+pub mod Restyled
 pub mod Mirrors

@@ -1,5 +1,5 @@
 -- Mirrors of the code, for private functions and proofs alone.
-use Rattle.std.specs.Prelude.{◌≡◌, ℕ, ◌<◌, not, ◌&&◌, ◌||◌, ◌==◌, List, [], ◌∷◌, ◌++◌, Option, Some, None, map, replicate, IsTrue, if◌then◌else◌}
+use Rattle.std.specs.Prelude.{◌≡◌, ℕ, ◌<◌, not, ◌&&◌, ◌||◌, ◌==◌, nat_lt, List, [], ◌∷◌, ◌++◌, Option, Some, None, map, replicate, IsTrue, if◌then◌else◌}
 use Rattle.std.specs.List.{flat_map, list_all}
 use Prim.Native.Char.{code}
 use Rattle.rl_forms.specs.declared.kind.Kind.{Kind}
@@ -9,6 +9,7 @@ use Rattle.rl_reading.specs.declared.quoted_forms.QuotedForm.{QuotedForm}
 use Rattle.rl_reading.specs.Mirrors.OpenerAt.{found_opener, opener_at}
 use Rattle.rl_style.specs.declared.style.Style.{Style}
 use Rattle.rl_style.specs.Cases.{cased}
+use Rattle.rl_style.specs.Rewriting.{is_named, is_visible, letter_of}
 
 -- one or none
 abbrev pub one_or_none : Option ℕ → List ℕ
@@ -45,16 +46,32 @@ pub record CookedParts (kind : Kind) (text inside suffix : List ℕ) : Type 0 wh
   pub is_suffix : IsStrictSuffix suffix
   pub text_is : text ≡ strict_opener kind ++ (inside ++ (strict_closer kind ++ suffix))
 
--- an escape, by what follows its backslash
-abbrev pub restyled_escape : Style → Kind → List ℕ → List ℕ
-restyled_escape style kind [] = code "\\" ∷ []
-restyled_escape style kind (c ∷ cs) =
+-- what a value of one unit begins with, where that is of ASCII; else no character of it
+abbrev pub ascii_in : List ℕ → ℕ
+ascii_in [] = 128
+ascii_in (n ∷ ns) = if nat_lt n 128 then n else 128
+
+-- a visible character, as it is written in the kind
+abbrev pub visible_text : Kind → ℕ → List ℕ
+visible_text kind c = if c == closer kind || c == code "\\" then code "\\" ∷ c ∷ [] else c ∷ []
+
+-- an escape by number that spells this, by its text
+abbrev pub number_text : Style → Kind → ℕ → List ℕ → List ℕ
+number_text style kind n text =
+    if style.ascii_escapes && is_visible n then visible_text kind n
+    else (if style.named_escapes && is_named n then code "\\" ∷ letter_of n ∷ []
+    else map (cased style.escape_digits) text)
+
+-- an escape that stands for this, by what follows its backslash
+abbrev pub restyled_escape : Style → Kind → ℕ → List ℕ → List ℕ
+restyled_escape style kind n [] = code "\\" ∷ []
+restyled_escape style kind n (c ∷ cs) =
     if c == code "'" || c == code "\""
     then (if style.quote_escapes && not (c == closer kind) then c ∷ cs else code "\\" ∷ c ∷ cs)
-    else (if c == code "x" || c == code "u" then map (cased style.escape_digits) (code "\\" ∷ c ∷ cs)
+    else (if c == code "x" || c == code "u" then number_text style kind n (code "\\" ∷ c ∷ cs)
     else code "\\" ∷ c ∷ cs)
 
--- a unit, by its text
-unfoldable pub restyled_text : Style → Kind → List ℕ → List ℕ
-restyled_text style kind [] = []
-restyled_text style kind (c ∷ cs) = if c == code "\\" then restyled_escape style kind cs else c ∷ cs
+-- a unit that stands for this, by its text
+unfoldable pub restyled_text : Style → Kind → ℕ → List ℕ → List ℕ
+restyled_text style kind n [] = []
+restyled_text style kind n (c ∷ cs) = if c == code "\\" then restyled_escape style kind n cs else c ∷ cs

@@ -1,10 +1,12 @@
 -- Literals written anew: what a style makes of a strict text, and what every style keeps. A character is its code.
-use Rattle.std.specs.Prelude.{◌≡◌, ◌⊎◌, ℕ, Bool, true, false, not, ◌&&◌, ◌==◌, List, ◌++◌, Option, None, map, if◌then◌else◌}
+use Rattle.std.specs.Prelude.{◌≡◌, ◌⊎◌, ℕ, Bool, true, false, not, ◌&&◌, ◌||◌, ◌==◌, nat_le, List, [], ◌∷◌, ◌++◌, Option, None, map, if◌then◌else◌}
 use Rattle.std.specs.List.{flat_map}
+use Prim.Native.Char.{code}
 use Rattle.rl_forms.specs.declared.kind.Kind.{Kind}
 use Rattle.rl_forms.specs.Reading.{Contents}
 use Rattle.rl_forms.specs.Written.{closer}
-use Rattle.rl_forms.specs.Strict.{StrictUnit, Itself, QuoteEscape, AsciiEscape, ByteEscape, UnicodeEscape, strict_text, strict_opener, strict_closer, StrictBool, StrictCooked, StrictFloat, StrictInt, StrictRaw, Strict}
+use Rattle.rl_forms.specs.Strict.{StrictUnit, Itself, QuoteEscape, PlainEscape, AsciiEscape, ByteEscape, UnicodeEscape, spaced_value, strict_text, strict_opener, strict_closer, StrictBool, StrictCooked, StrictFloat, StrictInt, StrictRaw, Strict}
+use Rattle.rl_forms.specs.Spelling.{place_value}
 use Rattle.rl_writing.specs.RawStrings.{raw_text, HasFewestHashes}
 use Rattle.rl_style.specs.declared.style.Case.{Case}
 use Rattle.rl_style.specs.declared.style.Style.{Style}
@@ -60,16 +62,40 @@ pub record RewritesRaw (style : Style) (old new : List ℕ) : Type 0 where
 abbrev pub cased_digit : Option Case → ℕ × ℕ → ℕ × ℕ
 cased_digit case digit = (cased case digit.0, digit.1)
 
--- what a unit becomes: a quote that doesn't close the literal stands for itself, and escapes by number have their
--- digits in one case
+-- visible characters of ASCII, from `!` to `~`. A space is none of them: a line break before it would drop it.
+abbrev pub is_visible : ℕ → Bool
+is_visible c = nat_le (code "!") c && nat_le c (code "~")
+
+-- such a character as a unit: with a backslash where it closes the literal or is a backslash
+abbrev pub visible_unit : Kind → ℕ → StrictUnit
+visible_unit kind c = if c == closer kind then QuoteEscape c else (if c == code "\\" then PlainEscape c else Itself c)
+
+-- LF, CR and TAB, and the letters of their escapes
+abbrev pub is_named : ℕ → Bool
+is_named c = c == code "\n" || c == code "\r" || c == code "\t"
+
+abbrev pub letter_of : ℕ → ℕ
+letter_of c = if c == code "\n" then code "n" else (if c == code "\r" then code "r" else code "t")
+
+-- what an escape by number becomes that spells this character or byte; the last is the escape itself
+abbrev pub respelled : Style → Kind → ℕ → StrictUnit → StrictUnit
+respelled style kind c escape =
+    if style.ascii_escapes && is_visible c then visible_unit kind c
+    else (if style.named_escapes && is_named c then PlainEscape (letter_of c) else escape)
+
+-- what a unit becomes: a quote that doesn't close the literal stands for itself, and so does a visible character that
+-- is spelled by its number; other escapes by number have their digits in one case
 abbrev pub restyled : Style → Kind → StrictUnit → StrictUnit
 restyled style kind (QuoteEscape c) =
     if style.quote_escapes && not (c == closer kind) then Itself c else QuoteEscape c
 restyled style kind (AsciiEscape high low) =
-    AsciiEscape (cased style.escape_digits high) (cased style.escape_digits low)
+    respelled style kind (place_value 16 (high ∷ low ∷ []))
+    (AsciiEscape (cased style.escape_digits high) (cased style.escape_digits low))
 restyled style kind (ByteEscape high low) =
-    ByteEscape (cased style.escape_digits high) (cased style.escape_digits low)
-restyled style kind (UnicodeEscape digits) = UnicodeEscape (map (cased_digit style.escape_digits) digits)
+    respelled style kind (place_value 16 (high ∷ low ∷ []))
+    (ByteEscape (cased style.escape_digits high) (cased style.escape_digits low))
+restyled style kind (UnicodeEscape digits) =
+    respelled style kind (spaced_value digits) (UnicodeEscape (map (cased_digit style.escape_digits) digits))
 restyled style kind unit = unit
 
 -- The old text is a literal with escapes; in the new one each unit is what the style makes of it.
@@ -105,5 +131,7 @@ pub record HasNoRule (style : Style) : Type 0 where
   pub exponent_letter : style.exponent_letter ≡ None
   pub exponent_plus : style.exponent_plus ≡ false
   pub escape_digits : style.escape_digits ≡ None
+  pub ascii_escapes : style.ascii_escapes ≡ false
+  pub named_escapes : style.named_escapes ≡ false
   pub quote_escapes : style.quote_escapes ≡ false
   pub raw_hashes : style.raw_hashes ≡ false

@@ -1,20 +1,21 @@
 //! Literals with escapes written anew, unit by unit.
 
-ghost use Rattle.std.specs.Prelude.{◌≡◌, ◌≤◌, ◌+◌, ◌++◌, ◌∷◌, ◌||◌, ◌&&◌, ◌==◌, not, List, length, map, take, encode_utf8_all};
+ghost use Rattle.std.specs.Prelude.{◌≡◌, ◌<◌, ◌≤◌, ◌+◌, ◌++◌, ◌∷◌, [], ◌||◌, ◌&&◌, ◌==◌, not, nat_lt, if◌then◌else◌, List, length, map, take, encode_utf8_all};
 ghost use Rattle.std.specs.List.{flat_map};
 ghost use Rattle.std.specs.Str.{chars, IsUtf8};
 ghost use Rattle.rl_text.specs.Texts.{code};
 ghost use Rattle.rl_forms.specs.Strict.{StrictUnit, strict_text};
 ghost use Rattle.rl_forms.specs.Written.{closer};
-ghost use Rattle.rl_style.specs.Mirrors.{AreUnits, CookedParts, restyled_text};
-ghost use Rattle.rl_style.specs.Rewriting.{RewritesCooked, restyled};
+ghost use Rattle.rl_reading.specs.Mirrors.UnitAt.{piece_value};
+ghost use Rattle.rl_style.specs.Mirrors.{AreUnits, CookedParts, ascii_in, number_text, restyled_text, visible_text};
+ghost use Rattle.rl_style.specs.Rewriting.{RewritesCooked, is_named, is_visible, letter_of, restyled};
 
 use crate::case::put_cased;
 use crate::style::Style;
 use rl_forms::Kind;
 use rl_forms::written_unit::closer;
-use rl_reading::units::unit;
-use rl_text::room::{put_char, put_text};
+use rl_reading::units::{Piece, unit};
+use rl_text::room::{put_byte, put_char, put_text};
 use rl_text::text::{before, split_char, strip_byte};
 
 /// Whether it is one of the two quotes.
@@ -38,7 +39,98 @@ fn is_bared(style: Style, kind: Kind, quote: char) -> bool
     style.quote_escapes && quote != closer(kind)
 }
 
-/// Puts an escape, written anew, by what follows its backslash.
+/// The number where it is of ASCII, or 128.
+fn ascii_or(code: u32) -> u8
+    ensures value { result ≡ (if nat_lt code 128 then code else 128) }
+    ensures small { result ≤ 128 }
+{
+    if code < 128 { code as u8 } else { 128 }
+}
+
+/// The character or byte of ASCII that the piece is, or 128.
+fn ascii_of(kind: Kind, piece: Piece) -> u8
+    ensures value { result ≡ ascii_in (piece_value kind piece) }
+    ensures small { result ≤ 128 }
+{
+    match piece {
+        Piece::Character(c) => ascii_or(c as u32),
+        Piece::Byte(byte) => ascii_or(byte as u32),
+        Piece::Nothing => 128,
+    }
+}
+
+/// Whether the character stands for itself where an escape by number spells it.
+fn is_visible(style: Style, byte: u8) -> bool
+    ensures { result ≡ (style.ascii_escapes && is_visible byte) }
+{
+    style.ascii_escapes && matches!(byte, b'!'..=b'~')
+}
+
+/// Whether the character has a letter where an escape by number spells it.
+fn is_named(style: Style, byte: u8) -> bool
+    ensures { result ≡ (style.named_escapes && is_named byte) }
+{
+    style.named_escapes && matches!(byte, b'\n' | b'\r' | b'\t')
+}
+
+/// The letter of the escape that stands for LF, CR or TAB.
+fn letter_of(byte: u8) -> u8
+    ensures value { result ≡ letter_of byte }
+    ensures ascii { result < 128 }
+{
+    match byte {
+        b'\n' => b'n',
+        b'\r' => b'r',
+        _ => b't',
+    }
+}
+
+/// Puts a backslash and a character.
+fn put_pair(out: &mut [u8], at: usize, byte: u8) -> usize
+    requires room { at + 2 ≤ length out.old }
+    requires ascii { byte < 128 }
+    ensures end { result ≡ at + 2 }
+    ensures bytes { take result out.new ≡ take at out.old ++ encode_utf8_all (code "\\" ∷ byte ∷ []) }
+    ensures len { length out.new ≡ length out.old }
+{
+    let end = put_byte(out, at, b'\\');
+    put_byte(out, end, byte)
+}
+
+/// Puts a visible character of ASCII into a literal of the kind.
+fn put_visible(out: &mut [u8], at: usize, kind: Kind, byte: u8) -> usize
+    requires room { at + 2 ≤ length out.old }
+    requires ascii { byte < 128 }
+    ensures end { result ≤ at + 2 }
+    ensures bytes { take result out.new ≡ take at out.old ++ encode_utf8_all (visible_text kind byte) }
+    ensures len { length out.new ≡ length out.old }
+{
+    if byte as char == closer(kind) || byte == b'\\' {
+        return put_pair(out, at, byte);
+    }
+    put_byte(out, at, byte)
+}
+
+/// Puts an escape by number, written anew, that spells this character or byte of ASCII, or 128.
+fn put_number(out: &mut [u8], at: usize, kind: Kind, style: Style, unit: &str, byte: u8) -> usize
+    requires room { at + length unit.now ≤ length out.old }
+    requires two { 2 ≤ length unit.now }
+    requires small { byte ≤ 128 }
+    ensures end { result ≤ at + length unit.now }
+    ensures bytes { take result out.new
+        ≡ take at out.old ++ encode_utf8_all (number_text style kind byte (chars unit.now)) }
+    ensures len { length out.new ≡ length out.old }
+{
+    if is_visible(style, byte) {
+        return put_visible(out, at, kind, byte);
+    }
+    if is_named(style, byte) {
+        return put_pair(out, at, letter_of(byte));
+    }
+    put_cased(out, at, style.escape_digits, unit)
+}
+
+/// Puts an escape, written anew, by what follows its backslash and what it stands for.
 fn put_escape(
     out: &mut [u8],
     at: usize,
@@ -46,13 +138,15 @@ fn put_escape(
     style: Style,
     unit: &str,
     escape: &str,
+    byte: u8,
 ) -> usize
     requires text { chars unit.now ≡ code "\\" ∷ chars escape.now }
     requires room { at + length unit.now ≤ length out.old }
-    requires shorter { length escape.now ≤ length unit.now }
+    requires shorter { length escape.now < length unit.now }
+    requires small { byte ≤ 128 }
     ensures end { result ≤ at + length unit.now }
     ensures bytes { take result out.new
-        ≡ take at out.old ++ encode_utf8_all (restyled_text style kind (chars unit.now)) }
+        ≡ take at out.old ++ encode_utf8_all (restyled_text style kind byte (chars unit.now)) }
     ensures len { length out.new ≡ length out.old }
 {
     let Some((first, _)) = split_char(escape) else {
@@ -65,21 +159,22 @@ fn put_escape(
         return put_text(out, at, unit);
     }
     if begins_number(first) {
-        return put_cased(out, at, style.escape_digits, unit);
+        return put_number(out, at, kind, style, unit, byte);
     }
     put_text(out, at, unit)
 }
 
-/// Puts a unit, written anew.
-fn put_unit(out: &mut [u8], at: usize, kind: Kind, style: Style, unit: &str) -> usize
-    requires { at + length unit.now ≤ length out.old }
+/// Puts a unit, written anew, that stands for this character or byte of ASCII, or 128.
+fn put_unit(out: &mut [u8], at: usize, kind: Kind, style: Style, unit: &str, byte: u8) -> usize
+    requires room { at + length unit.now ≤ length out.old }
+    requires small { byte ≤ 128 }
     ensures end { result ≤ at + length unit.now }
     ensures bytes { take result out.new
-        ≡ take at out.old ++ encode_utf8_all (restyled_text style kind (chars unit.now)) }
+        ≡ take at out.old ++ encode_utf8_all (restyled_text style kind byte (chars unit.now)) }
     ensures len { length out.new ≡ length out.old }
 {
     match strip_byte(unit, b'\\') {
-        Some(escape) => put_escape(out, at, kind, style, unit, escape),
+        Some(escape) => put_escape(out, at, kind, style, unit, escape, byte),
         None => put_text(out, at, unit),
     }
 }
@@ -94,8 +189,15 @@ fn put_units(out: &mut [u8], at: usize, kind: Kind, style: Style, inside: &str) 
 {
     let mut end = at;
     let mut rest = inside;
-    while let Some((_, after)) = unit(kind, rest) {
-        end = put_unit(out, end, kind, style, before(rest, after));
+    while let Some((piece, after)) = unit(kind, rest) {
+        end = put_unit(
+            out,
+            end,
+            kind,
+            style,
+            before(rest, after),
+            ascii_of(kind, piece),
+        );
         rest = after;
     }
     end

@@ -4,6 +4,7 @@ ghost use Rattle.std.specs.Prelude.{List, ℕ, ◌≡◌};
 ghost use Rattle.rl_style.specs.declared.style.Style.{Style};
 ghost use Rattle.rl_style.specs.Around.{StaysAround, StaysBeforeQuote, KeepsItsEnds};
 ghost use Rattle.rl_style.specs.Recut.{KeepsTheCut, KeepsTheCutUnraw, KeepsTheSource};
+ghost use Rattle.rl_style.specs.Restyled.{KeepsTheRestyledCut, KeepsTheRestyledSource};
 ghost use Rattle.rl_style.specs.Rewriting.{HasNoRule, SameLiteral, Rewrites};
 
 /// A literal that is written anew is the same literal: its kind, its contents and its suffix are what they were.
@@ -46,6 +47,17 @@ pub fn the_cut_is_kept()
 /// literal may hide or show the end of a comment, by which a first line is an interpreter's line or none.
 pub fn the_source_is_kept()
     ensures { KeepsTheSource }
+{}
+
+/// A text in which a literal is written anew in a style is cut as before everywhere else: what
+/// [`rewrite_into`](crate::rewrite_into) writes is one token of the same form.
+pub fn the_restyled_cut_is_kept()
+    ensures { KeepsTheRestyledCut }
+{}
+
+/// A source that doesn't begin with `#!`, and in which a literal is written anew in a style, is cut as before everywhere else.
+pub fn the_restyled_source_is_kept()
+    ensures { KeepsTheRestyledSource }
 {}
 
 /// A token in front of a raw string stays one before a string with escapes, where the text between them ends with neither a hash nor

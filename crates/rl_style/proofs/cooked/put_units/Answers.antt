@@ -1,16 +1,17 @@
-use Rattle.rl_text.proofs.Common.{◌≡◌, ◌+◌, ◌∙◌, length, ap, sym, arith, rules}
+use Rattle.rl_text.proofs.Common.{◌≡◌, ◌+◌, ◌∙◌, ◌++◌, length, take, ap, sym, arith, rules, encode_utf8_all}
 use Rattle.std.proofs.Common.{length-append}
 use Rattle.std.specs.Str.{chars}
+use Rattle.rl_style.specs.Mirrors.{restyled_text}
 use Rattle.rl_style.proofs.UnitTexts.{passed_end, passed_step, unit_tail}
 use Rattle.rl_style.proofs.cooked.put_units.Goals as goal
 
 pub before-requires : goal.before-requires
-before-requires c = unit_tail c.args.kind c.loop-after.rest.now c.in-Some.after.now _ (search rules) (search rules)
+before-requires c = unit_tail c.args.kind c.loop-piece.rest.now c.in-Some.after.now _ (search rules) (search rules)
     c.in-Some.ensures.value
 
-pub loop-after-preserved : goal.loop-after-preserved
-loop-after-preserved c =
-    let l = c.loop-after in
+pub loop-piece-preserved : goal.loop-piece-preserved
+loop-piece-preserved c =
+    let l = c.loop-piece in
     let b = c.before-in-Some in
     let p = c.put_unit-end.ensures in
     let long : length l.rest.now ≡ length b.result.now + length c.in-Some.after.now = ap length b.ensures.cut
@@ -18,11 +19,13 @@ loop-after-preserved c =
     record {
       utf8 = search rules;
       passed = λ us a. passed_step c.args.style c.args.kind us (chars l.rest.now) _ (chars b.result.now)
-          (chars c.in-Some.after.now) _ _ _ (l.invariant.passed us a) c.in-Some.ensures.value b.ensures.chars p.bytes;
+          (chars c.in-Some.after.now) _ _ _ (l.invariant.passed us a) c.in-Some.ensures.value b.ensures.chars
+          (p.bytes ∙ ap (λ n. take l.end l.out ++ encode_utf8_all (restyled_text c.args.style c.args.kind n
+          (chars b.result.now))) c.ascii_of.ensures.value);
       room = omega (arith, l.invariant.room, long, p.end);
       len = p.len ∙ l.invariant.len;
     }
 
 pub returns-clause-bytes : goal.returns-clause-bytes
-returns-clause-bytes c = λ us a. passed_end c.args.style c.args.kind us (chars c.loop-after.rest.now) _ _
-    (c.loop-after.invariant.passed us a) (sym c.in_default.ensures.value)
+returns-clause-bytes c = λ us a. passed_end c.args.style c.args.kind us (chars c.loop-piece.rest.now) _ _
+    (c.loop-piece.invariant.passed us a) (sym c.in_default.ensures.value)

@@ -8,8 +8,8 @@ use Rattle.rl_style.specs.Mirrors.{AreUnits}
 use Rattle.rl_style.proofs.UnitTexts.{UnitsPassed}
 use Rattle.rl_style.proofs.cooked.put_units.Given as goal
 
-abbrev pub invariant-loop-after : goal.invariant-loop-after
-invariant-loop-after l = record {
+abbrev pub invariant-loop-piece : goal.invariant-loop-piece
+invariant-loop-piece l = record {
   utf8 : shadow (Utf8 l.rest);
   passed : (us : List StrictUnit) → AreUnits l.kind us (chars l.inside)
       → UnitsPassed l.style l.kind us (chars l.rest) (take l.end l.out) (take l.fn.at l.initial.out);
@@ -17,5 +17,5 @@ invariant-loop-after l = record {
   len : length l.out ≡ length l.initial.out;
 }
 
-abbrev pub decreases-loop-after : goal.decreases-loop-after
-decreases-loop-after l = length l.rest
+abbrev pub decreases-loop-piece : goal.decreases-loop-piece
+decreases-loop-piece l = length l.rest

@@ -1,0 +1,286 @@
+-- A literal written anew is a token where the old one was, and begins so that no token in front can tell.
+use Rattle.rl_text.proofs.Common.{◌≡◌, ℕ, ◌≤◌, ◌⊎◌, nat_lt, digit_value, ◌||◌, inl, inr, Bool, true, false, List, [], ◌∷◌, ◌++◌, Some, refl, sym, ◌∙◌, ap, subst, arith, append_assoc, and_from, and_parts, codes, list_all, list_all-append, is_ascii_digit}
+use Rattle.rl_text.specs.Texts.{is_among, is_continue, is_row_part}
+use Rattle.rl_text.specs.Classes.{after_run}
+use Rattle.rl_forms.specs.declared.kind.Kind.{Kind}
+use Rattle.rl_forms.specs.declared.kind.Kind.TheVariants.{Str, ByteStr, CStr, Byte, Char, Int, Float, Bool as BoolKind}
+use Rattle.rl_forms.specs.Reading.{Contents}
+use Rattle.rl_forms.specs.Strict.{BasedPrefix, IsDecimalText, IsDigits, StrictCooked, StrictFloat, StrictInt, StrictRaw}
+use Rattle.rl_lexer.specs.Lexemes.{LexemeForm, LiteralPrefix, NoPrefix, BytePrefix, CPrefix, QuotedLexeme, RawLexeme, CharacterLexeme, is_base_letter, lexeme_text}
+use Rattle.rl_lexer.specs.Mirrors.LexemeAt.{after_decimal, after_lexed_exponent, after_suffix, lexeme_at}
+use Rattle.rl_style.specs.declared.style.Style.{Style}
+use Rattle.rl_style.specs.Around.{SameFront}
+use Rattle.rl_style.specs.Rewriting.{Rewrites, RewritesCooked, RewritesFloat, RewritesInt, RewritesRaw}
+use Rattle.rl_style.proofs.Ends.{character_front, quoted_front, raw_front}
+use Rattle.rl_style.proofs.Lexings.{DecimalForm, based_goes, character_goes, decimal_ends, decimal_goes, digits_gone, fraction_gone, pointed_power_ends, power_ends, quoted_goes, raw_goes, row_goes_on, suffix_goes_on}
+use Rattle.rl_style.proofs.QuotedLexemes.{SingleKind, StringKind, byte_kind, byte_string_kind, c_string_kind, character_kind, raw_body, single_parts, string_kind, string_parts}
+use Rattle.rl_style.proofs.SameFloats.{DotShape, FloatForm, FloatShape, PointShape, PowerShape, same_shape, shape_of}
+use Rattle.rl_style.proofs.SameFloats as floats
+use Rattle.rl_style.proofs.SameIntegers as integers
+use Rattle.rl_style.proofs.SameRaw as raws
+use Rattle.rl_style.proofs.SameUnits as units
+
+-- Where the old text is a token, the new one is; and both begin so that no token in front can tell.
+pub record Replaces (t u y : List ℕ) : Type 0 where
+  pub goes : (f : LexemeForm) → lexeme_at (t ++ y) ≡ Some (f, y) → lexeme_at (u ++ y) ≡ Some (f, y)
+  pub front : SameFront (t ++ y) (u ++ y)
+
+-- ---- quoted literals
+
+-- both are strings of one prefix
+strings_replace : (k : Kind) (t u x y : List ℕ) (v w : Contents) → StringKind k → StrictCooked t k v x
+    → StrictCooked u k w x → Replaces t u y
+strings_replace k t u x y v w f a b =
+    let p = string_parts k t x v f a in
+    let q = string_parts k u x w f b in
+    let old = ap (λ z. lexeme_at (z ++ y)) p.text_is ∙ quoted_goes f.before p.parts x y p.is_body in
+    let new = ap (λ z. lexeme_at (z ++ y)) q.text_is ∙ quoted_goes f.before q.parts x y q.is_body in
+    record {
+      goes = λ g h. new ∙ sym old ∙ h;
+      front = subst (λ z. SameFront (z ++ y) (u ++ y)) (sym p.text_is)
+          (subst (λ z. SameFront (lexeme_text (QuotedLexeme f.before p.parts x) ++ y) (z ++ y)) (sym q.text_is)
+          (quoted_front f.before p.parts q.parts x y));
+    }
+
+singles_replace : (k : Kind) (t u x y : List ℕ) (v w : Contents) → SingleKind k → StrictCooked t k v x
+    → StrictCooked u k w x → Replaces t u y
+singles_replace k t u x y v w f a b =
+    let p = single_parts k t x v f a in
+    let q = single_parts k u x w f b in
+    let old = ap (λ z. lexeme_at (z ++ y)) p.text_is ∙ character_goes f.is_byte p.inside x y p.is_body in
+    let new = ap (λ z. lexeme_at (z ++ y)) q.text_is ∙ character_goes f.is_byte q.inside x y q.is_body in
+    record {
+      goes = λ g h. new ∙ sym old ∙ h;
+      front = subst (λ z. SameFront (z ++ y) (u ++ y)) (sym p.text_is)
+          (subst (λ z. SameFront (lexeme_text (CharacterLexeme f.is_byte p.inside x) ++ y) (z ++ y)) (sym q.text_is)
+          (character_front f.is_byte p.inside q.inside x y));
+    }
+
+pub cooked_replace : (k : Kind) (t u x y : List ℕ) (v w : Contents) → StrictCooked t k v x → StrictCooked u k w x
+    → Replaces t u y
+cooked_replace Str t u x y v w a b = strings_replace Str t u x y v w string_kind a b
+cooked_replace ByteStr t u x y v w a b = strings_replace ByteStr t u x y v w byte_string_kind a b
+cooked_replace CStr t u x y v w a b = strings_replace CStr t u x y v w c_string_kind a b
+cooked_replace Byte t u x y v w a b = singles_replace Byte t u x y v w byte_kind a b
+cooked_replace Char t u x y v w a b = singles_replace Char t u x y v w character_kind a b
+cooked_replace Int t u x y v w a b = absurd a.count
+cooked_replace Float t u x y v w a b = absurd a.count
+cooked_replace BoolKind t u x y v w a b = absurd a.count
+
+raws_replace : (p : LiteralPrefix) (k : Kind) (t u x y : List ℕ) (v w : Contents) → (a : StrictRaw t k v x)
+    → (b : StrictRaw u k w x)
+    → t ≡ lexeme_text (RawLexeme p a.hashes a.inside x) → u ≡ lexeme_text (RawLexeme p b.hashes b.inside x)
+    → Replaces t u y
+raws_replace p k t u x y v w a b e g =
+    let old = ap (λ z. lexeme_at (z ++ y)) e ∙ raw_goes p a.hashes a.inside x y (raw_body a.hashes a.inside
+    a.first_close) in
+    let new = ap (λ z. lexeme_at (z ++ y)) g ∙ raw_goes p b.hashes b.inside x y (raw_body b.hashes b.inside
+    b.first_close) in
+    record {
+      goes = λ f h. new ∙ sym old ∙ h;
+      front = subst (λ z. SameFront (z ++ y) (u ++ y)) (sym e)
+          (subst (λ z. SameFront (lexeme_text (RawLexeme p a.hashes a.inside x) ++ y) (z ++ y)) (sym g)
+          (raw_front p a.hashes b.hashes a.inside b.inside x y));
+    }
+
+raw_replace : (k : Kind) (t u x y : List ℕ) (v w : Contents) → StrictRaw t k v x → StrictRaw u k w x → Replaces t u y
+raw_replace Str t u x y v w a b = raws_replace NoPrefix Str t u x y v w a b a.text b.text
+raw_replace ByteStr t u x y v w a b = raws_replace BytePrefix ByteStr t u x y v w a b a.text b.text
+raw_replace CStr t u x y v w a b = raws_replace CPrefix CStr t u x y v w a b a.text b.text
+raw_replace Byte t u x y v w a b = absurd a.allowed
+raw_replace Char t u x y v w a b = absurd a.allowed
+raw_replace Int t u x y v w a b = absurd a.allowed
+raw_replace Float t u x y v w a b = absurd a.allowed
+raw_replace BoolKind t u x y v w a b = absurd a.allowed
+
+-- ---- numbers
+
+-- both begin with a digit
+digits_front : (t u y : List ℕ) (c d : ℕ) (m n : List ℕ) → t ≡ c ∷ m → u ≡ d ∷ n → is_ascii_digit c ≡ true
+    → is_ascii_digit d ≡ true → SameFront (t ++ y) (u ++ y)
+digits_front t u y c d m n e g a b = record {
+  front = [];
+  head = c;
+  new_head = d;
+  old_rest = m ++ y;
+  new_rest = n ++ y;
+  is_head = ap (λ z. is_among (codes "\"'rbc") c || z) a ∙ or_true (is_among (codes "\"'rbc") c);
+  same_head = inr (a, b);
+  raw = λ r. absurd (let k : true ≡ false = sym a ∙ ap is_ascii_digit r in cc);
+  old_is = ap (λ z. z ++ y) e;
+  new_is = ap (λ z. z ++ y) g;
+}
+  where
+    or_true : (b : Bool) → (b || true) ≡ true
+    or_true true = refl
+    or_true false = refl
+
+-- decimals that end alike
+decimals_replace : (t u y : List ℕ) (s : DecimalForm t) (r : DecimalForm u)
+    → (after_decimal (s.more ++ y) ≡ y → after_decimal (r.more ++ y) ≡ y) → Replaces t u y
+decimals_replace t u y s r same = record {
+  goes = λ f h. let p = decimal_ends t y f s h in decimal_goes u y f r p.0 (same p.1);
+  front = digits_front t u y s.digit r.digit s.more r.more s.text_is r.text_is s.is_digit r.is_digit;
+}
+
+-- digits, and what follows them
+record DigitsThen (row z t : List ℕ) : Type 0 where
+  form : DecimalForm t
+  rest : List ℕ
+  each : list_all (is_row_part is_ascii_digit) rest ≡ true
+  more_is : form.more ≡ rest ++ z
+
+digits_then : (row z t : List ℕ) → IsDigits row → IsDecimalText t → t ≡ row ++ z → DigitsThen row z t
+digits_then [] z t (first, each) is e = absurd (cc)
+digits_then (d ∷ row) z t (first, each) is e = record {
+  form = record { digit = d; more = row ++ z; is_digit = first; is_decimal = subst IsDecimalText e is; text_is = e };
+  rest = row;
+  each = (and_parts (is_row_part is_ascii_digit d) (list_all (is_row_part is_ascii_digit) row) each).1;
+  more_is = refl;
+}
+
+-- integers of base ten
+ten_then : (t x : List ℕ) (v : Contents) (s : StrictInt t v x) → s.prefix ≡ [] → IsDigits s.row → IsDecimalText t
+    → DigitsThen s.row x t
+ten_then t x v s none digits is = digits_then s.row x t digits is (s.text ∙ ap (λ z. (z ++ s.row) ++ x) none)
+
+ten_end : (row x t y : List ℕ) → (d : DigitsThen row x t) → after_decimal (d.form.more ++ y) ≡ after_decimal (x ++ y)
+ten_end row x t y d = ap (λ z. after_decimal (z ++ y)) d.more_is ∙ ap after_decimal (append_assoc d.rest x y)
+    ∙ digits_gone d.rest (x ++ y) d.each
+
+-- integers with a prefix
+record Based (t x : List ℕ) (prefix : List ℕ) : Type 0 where
+  letter : ℕ
+  digits : List ℕ
+  is_letter : is_base_letter letter ≡ true
+  each : list_all is_continue digits ≡ true
+  text_is : t ≡ 48 ∷ letter ∷ digits
+  prefix_is : prefix ≡ 48 ∷ letter ∷ []
+
+based : (letter n : ℕ) (t x : List ℕ) (v : Contents) (s : StrictInt t v x) → s.prefix ≡ 48 ∷ letter ∷ [] → s.base ≡ n
+    → n ≤ 16 → is_base_letter letter ≡ true → Based t x s.prefix
+based letter n t x v s front base few is =
+    let row = row_goes_on n s.row few (subst (λ (k : ℕ). list_all (is_row_part (λ d. nat_lt (digit_value d) k)) s.row
+    ≡ true) base s.each) in
+    record {
+      letter = letter;
+      digits = s.row ++ x;
+      is_letter = is;
+      each = list_all-append is_continue s.row x ∙ and_from _ _ row (suffix_goes_on x s.suffix.0);
+      text_is = s.text ∙ ap (λ z. (z ++ s.row) ++ x) front;
+      prefix_is = front;
+    }
+
+each_based : (t x : List ℕ) (v : Contents) (s : StrictInt t v x) → BasedPrefix s.prefix s.base → Based t x s.prefix
+each_based t x v s (inl g) = based 98 2 t x v s g.0 g.1 (omega arith) refl
+each_based t x v s (inr (inl g)) = based 111 8 t x v s g.0 g.1 (omega arith) refl
+each_based t x v s (inr (inr g)) = based 120 16 t x v s g.0 g.1 (omega arith) refl
+
+not_ten : (prefix : List ℕ) (base : ℕ) → BasedPrefix prefix base → base ≡ 10 → ⊥
+not_ten prefix base (inl g) e = let b = g.1 in absurd (omega (arith, b, e))
+not_ten prefix base (inr (inl g)) e = let b = g.1 in absurd (omega (arith, b, e))
+not_ten prefix base (inr (inr g)) e = let b = g.1 in absurd (omega (arith, b, e))
+
+based_replace : (t u x y p q : List ℕ) → Based t x p → Based u x q → Replaces t u y
+based_replace t u x y p q a b =
+    let old = ap (λ z. lexeme_at (z ++ y)) a.text_is ∙ based_goes a.letter a.digits y a.is_letter a.each in
+    let new = ap (λ z. lexeme_at (z ++ y)) b.text_is ∙ based_goes b.letter b.digits y b.is_letter b.each in
+    record {
+      goes = λ f h. new ∙ sym old ∙ h;
+      front = digits_front t u y 48 48 (a.letter ∷ a.digits) (b.letter ∷ b.digits) a.text_is b.text_is refl refl;
+    }
+
+pub integers_replace : (t u x y : List ℕ) (v w : Contents) (a : StrictInt t v x) (b : StrictInt u w x)
+    → b.base ≡ a.base → Replaces t u y
+integers_replace t u x y v w a b same = go a.is_front b.is_front
+  where
+    go : ((a.prefix ≡ []) × (a.base ≡ 10) × IsDigits a.row × IsDecimalText t) ⊎ BasedPrefix a.prefix a.base
+        → ((b.prefix ≡ []) × (b.base ≡ 10) × IsDigits b.row × IsDecimalText u) ⊎ BasedPrefix b.prefix b.base
+        → Replaces t u y
+    go (inl f) (inl g) =
+        let d = ten_then t x v a f.0 f.2 f.3 in
+        let e = ten_then u x w b g.0 g.2 g.3 in
+        decimals_replace t u y d.form e.form (λ h. ten_end b.row x u y e ∙ sym (ten_end a.row x t y d) ∙ h)
+    go (inr f) (inr g) = based_replace t u x y a.prefix b.prefix (each_based t x v a f) (each_based u x w b g)
+    go (inl f) (inr g) = absurd (not_ten b.prefix b.base g (same ∙ f.1))
+    go (inr f) (inl g) = absurd (not_ten a.prefix a.base f (sym same ∙ g.1))
+
+-- floats: where the lexer goes on after the numeral, by its shape
+abbrev shape_end : FloatShape → List ℕ → List ℕ
+shape_end DotShape z = after_decimal (46 ∷ z)
+shape_end PointShape z = after_suffix (after_lexed_exponent (after_run (is_row_part is_ascii_digit) z))
+shape_end PowerShape z = after_suffix (after_run (is_row_part is_ascii_digit) z)
+
+record FloatParts (t x : List ℕ) (shape : FloatShape) : Type 0 where
+  form : DecimalForm t
+  ends : (y : List ℕ) → after_decimal (form.more ++ y) ≡ shape_end shape (x ++ y)
+
+float_parts : (t x : List ℕ) (v : Contents) (s : StrictFloat t v x) (form : FloatForm s.numeral x)
+    → FloatParts t x (shape_of s.numeral x form)
+float_parts t x v s (inl (d, h, e, n)) =
+    let r = digits_then d (46 ∷ x) t h s.no_prefix (s.text ∙ ap (λ z. z ++ x) e ∙ append_assoc d (46 ∷ []) x) in
+    record {
+      form = r.form;
+      ends = λ y. ap (λ z. after_decimal (z ++ y)) r.more_is ∙ ap after_decimal (append_assoc r.rest (46 ∷ x) y)
+          ∙ digits_gone r.rest (46 ∷ x ++ y) r.each;
+    }
+float_parts t x v s (inr (inl (d, f, h, k, e, n))) =
+    let r = digits_then d (46 ∷ f ++ x) t h s.no_prefix (s.text ∙ ap (λ z. z ++ x) e ∙ append_assoc d (46 ∷ f) x) in
+    record {
+      form = r.form;
+      ends = λ y. ap (λ z. after_decimal (z ++ y)) r.more_is ∙ ap after_decimal (append_assoc r.rest (46 ∷ f ++ x) y)
+          ∙ digits_gone r.rest (46 ∷ (f ++ x) ++ y) r.each
+          ∙ ap (λ z. after_decimal (46 ∷ z)) (append_assoc f x y) ∙ fraction_gone f (x ++ y) k;
+    }
+float_parts t x v s (inr (inr (d, p, h, k, inl e))) =
+    let r = digits_then d (p ++ x) t h s.no_prefix (s.text ∙ ap (λ z. z ++ x) e ∙ append_assoc d p x) in
+    record {
+      form = r.form;
+      ends = λ y. ap (λ z. after_decimal (z ++ y)) r.more_is ∙ ap after_decimal (append_assoc r.rest (p ++ x) y
+          ∙ ap (λ z. r.rest ++ z) (append_assoc p x y)) ∙ power_ends r.rest p (x ++ y) r.each k;
+    }
+float_parts t x v s (inr (inr (d, p, h, k, inr (f, g, e)))) =
+    let r = digits_then d (46 ∷ f ++ (p ++ x)) t h s.no_prefix (s.text ∙ ap (λ z. z ++ x) e ∙ regrouped d f p x) in
+    record {
+      form = r.form;
+      ends = λ y. ap (λ z. after_decimal (z ++ y)) r.more_is ∙ ap after_decimal (grouped r.rest f p x y)
+          ∙ pointed_power_ends r.rest f p (x ++ y) r.each g k;
+    }
+  where
+    regrouped : (d f p x : List ℕ) → ((d ++ (46 ∷ f)) ++ p) ++ x ≡ d ++ (46 ∷ f ++ (p ++ x))
+    regrouped d f p x = simp append_assoc
+
+    grouped : (r f p x y : List ℕ) → (r ++ (46 ∷ f ++ (p ++ x))) ++ y ≡ r ++ (46 ∷ f ++ (p ++ (x ++ y)))
+    grouped r f p x y = simp append_assoc
+
+pub floats_replace : (t u x y : List ℕ) (v w : Contents) (a : StrictFloat t v x) (b : StrictFloat u w x)
+    → shape_of b.numeral x b.form ≡ shape_of a.numeral x a.form → Replaces t u y
+floats_replace t u x y v w a b same =
+    let d = float_parts t x v a a.form in
+    let e = float_parts u x w b b.form in
+    decimals_replace t u y d.form e.form (λ h. e.ends y ∙ ap (λ z. shape_end z (x ++ y)) same ∙ sym (d.ends y) ∙ h)
+
+-- ---- any literal but a word
+
+abbrev pub RewritesForm : Style → List ℕ → List ℕ → Type 0
+RewritesForm style t u =
+    RewritesInt style t u ⊎ (RewritesFloat style t u ⊎ (RewritesRaw style t u ⊎ RewritesCooked style t u))
+
+pub replaces : (style : Style) (t u y : List ℕ) → RewritesForm style t u → Replaces t u y
+replaces style t u y (inl c) = integers_replace t u c.suffix y c.contents c.contents c.int
+    (integers.written style t u c.contents c.suffix c.int c.new_is) refl
+replaces style t u y (inr (inl c)) = floats_replace t u c.suffix y c.contents c.contents c.float
+    (floats.written style t u c.contents c.suffix c.float c.new_is)
+    (same_shape style t u c.contents c.suffix c.float c.new_is)
+replaces style t u y (inr (inr (inl c))) = raw_replace c.kind t u c.suffix y c.contents c.contents c.raw
+    (raws.written t u c.kind c.contents c.suffix c.raw c.hashes
+    (raws.hashes_suit style.raw_hashes t c.kind c.contents c.suffix c.raw c.hashes c.hashes_are) c.new_is)
+replaces style t u y (inr (inr (inr c))) = cooked_replace c.kind t u c.suffix y c.contents c.contents c.cooked
+    (units.written style t u c.kind c.contents c.suffix c.cooked c.new_is)
+
+pub word_or_form : (style : Style) (t u : List ℕ) → Rewrites style t u → (u ≡ t) ⊎ RewritesForm style t u
+word_or_form style t u (inl c) = inr (inl c)
+word_or_form style t u (inr (inl c)) = inr (inr (inl c))
+word_or_form style t u (inr (inr (inl c))) = inr (inr (inr (inl c)))
+word_or_form style t u (inr (inr (inr (inl c)))) = inr (inr (inr (inr c)))
+word_or_form style t u (inr (inr (inr (inr c)))) = inl c.new_is
