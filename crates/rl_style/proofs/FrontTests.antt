@@ -281,5 +281,21 @@ script_agrees (c ∷ []) h k x y s =
     ap (λ b. c == 35 && (b && begins [] x)) n.0 ∙ sym (ap (λ b. c == 35 && (b && begins [] y)) n.1)
 script_agrees (c ∷ d ∷ f) h k x y s = refl
 
+attribute_agrees : Agrees (begins (codes "#!["))
+attribute_agrees [] h k x y s =
+    let n = other_heads h k 35 x y s refl in
+    ap (λ b. b && begins (codes "![") x) n.0 ∙ sym (ap (λ b. b && begins (codes "![") y) n.1)
+attribute_agrees (c ∷ []) h k x y s =
+    let n = other_heads h k 33 x y s refl in
+    ap (λ b. c == 35 && (b && begins (codes "[") x)) n.0 ∙ sym (ap (λ b. c == 35 && (b && begins (codes "[") y)) n.1)
+attribute_agrees (c ∷ d ∷ []) h k x y s =
+    let n = other_heads h k 91 x y s refl in
+    ap (λ b. c == 35 && (d == 33 && (b && begins [] x))) n.0
+    ∙ sym (ap (λ b. c == 35 && (d == 33 && (b && begins [] y))) n.1)
+attribute_agrees (c ∷ d ∷ e ∷ f) h k x y s = refl
+
+pub same_attribute : (a b : List ℕ) → SameFront a b → begins (codes "#![") a ≡ begins (codes "#![") b
+same_attribute a b s = both (begins (codes "#![")) attribute_agrees a b s
+
 pub same_script : (a b : List ℕ) → SameFront a b → begins (codes "#!") a ≡ begins (codes "#!") b
 same_script a b s = both (begins (codes "#!")) script_agrees a b s

@@ -73,11 +73,11 @@ keeps_the_restyled_cut style at t before after old u place r cut sound w =
     }
 
 pub keeps_the_restyled_source : KeepsTheRestyledSource
-keeps_the_restyled_source style t before after old u place r no_line cut sound w =
+keeps_the_restyled_source style t before after old u place r code cut sound w =
     let n = new_cut style cut.at cut.body before after old u place r cut.are_cuts sound w in
     record {
       new = n.new;
       text_is = n.text_is;
       same_form = n.same_form;
-      recut = source_recut t before after old n.new place r no_line cut n.cut;
+      recut = source_recut t before after old n.new place r code cut n.cut;
     }

@@ -1,11 +1,13 @@
--- A source without `#!` in front, in which one literal is written anew, is cut as before everywhere else.
-use Rattle.rl_text.proofs.Common.{◌≡◌, ℕ, ◌+◌, inl, inr, Bool, true, false, ◌==◌, cond, List, [], ◌∷◌, ◌++◌, refl, sym, ◌∙◌, ap, arith, codes, append_assoc}
-use Rattle.rl_text.specs.Texts.{first_passes, begins, byte_len}
+-- A source whose first line is no interpreter's, in which one literal is written anew, is cut as before everywhere else.
+use Rattle.rl_text.proofs.Common.{◌≡◌, ℕ, ◌+◌, inl, inr, Bool, true, false, not, ◌||◌, ◌==◌, and_parts, both_ways, cond, List, [], ◌∷◌, ◌++◌, refl, sym, ◌∙◌, ap, arith, codes, append_assoc}
+use Rattle.rl_text.specs.Texts.{first_passes, begins, begins_char, byte_len, is_white}
 use Rattle.rl_lexer.specs.Lexemes.{Lexeme, lexeme_text}
 use Rattle.rl_lexer.specs.Sources.{CutSource, IsCutUpTo, without_mark, IsScriptLine, IsWithoutLine}
+use Rattle.rl_lexer.specs.Skipping.{Skipped}
+use Rattle.rl_lexer.proofs.Pieces.{is_equal, skipped_none}
 use Rattle.rl_lexer.proofs.CutLemmas.{byte_len-append}
-use Rattle.rl_style.specs.Recut.{IsRecutSource, KeepsTheSource, placed_literal}
-use Rattle.rl_style.proofs.FrontTests.{code_on, same_first, same_script}
+use Rattle.rl_style.specs.Recut.{IsRecutSource, KeepsTheSource, begins_with_code, placed_literal}
+use Rattle.rl_style.proofs.FrontTests.{code_on, same_attribute, same_first, same_script}
 use Rattle.rl_style.proofs.Recut.{Alike, Recut, alike_more, recut_ends}
 
 abbrev is_mark : ℕ → Bool
@@ -40,29 +42,41 @@ marked (c ∷ t) = go (c == 65279) refl
           goes = λ u e. unmarked u (sym e ∙ ap (first_passes is_mark) same ∙ h);
         }
 
-no_script : (t r : List ℕ) → begins (codes "#!") t ≡ false → IsScriptLine t r → ⊥
-no_script t r h is =
-    let q : true ≡ false = sym (ap (begins (codes "#!")) is.text_is) ∙ h in
-    absurd (cc)
+-- what follows `#!` is no line where it begins with a bracket
+no_line : (l : List ℕ) → begins (codes "[") l ≡ true → ((s : List ℕ) → Skipped l s → begins_char 91 s ≡ false) → ⊥
+no_line [] h none = both_ways false refl h
+no_line (c ∷ x) h none =
+    let e : c ≡ 91 = is_equal c 91 (and_parts (c == 91) (begins [] x) h).0 in
+    let here : Skipped (c ∷ x) (c ∷ x) = skipped_none (c ∷ x) (ap is_white e) (ap (λ z. z == 47) e) in
+    both_ways (begins_char 91 (c ∷ x)) (none (c ∷ x) here) (ap (λ z. z == 91) e)
+
+-- as code begins, but for the mark
+abbrev is_code : List ℕ → Bool
+is_code t = not (begins (codes "#!") t) || begins (codes "#![") t
+
+no_script : (t r : List ℕ) → is_code t ≡ true → IsScriptLine t r → ⊥
+no_script t r h is = no_line (is.line ++ r) (sym (ap is_code is.text_is) ∙ h) is.no_attribute
 
 mark_agrees : (a b : List ℕ) → Alike a b → first_passes is_mark a ≡ first_passes is_mark b
 mark_agrees a b (inl e) = ap (first_passes is_mark) e
 mark_agrees a b (inr f) = same_first is_mark (code_on 65279 refl) a b f
 
-script_agrees : (a b : List ℕ) → Alike a b → begins (codes "#!") a ≡ begins (codes "#!") b
-script_agrees a b (inl e) = ap (begins (codes "#!")) e
-script_agrees a b (inr f) = same_script a b f
+code_agrees : (a b : List ℕ) → Alike a b → is_code a ≡ is_code b
+code_agrees a b (inl e) = ap is_code e
+code_agrees a b (inr f) =
+    ap (λ z. not z || begins (codes "#![") a) (same_script a b f)
+    ∙ ap (λ z. not (begins (codes "#!") b) || z) (same_attribute a b f)
 
 -- the body is what follows the mark
-body_is : (t body : List ℕ) → begins (codes "#!") t ≡ false → IsWithoutLine t body → body ≡ t
+body_is : (t body : List ℕ) → is_code t ≡ true → IsWithoutLine t body → body ≡ t
 body_is t body h (inl is) = absurd (no_script t body h is)
 body_is t body h (inr is) = is.0
 
 pub source_recut : (t : List ℕ) (before after : List CutSource) (old new : Lexeme) (place : ℕ) (r : List ℕ)
-    → begins (codes "#!") (without_mark t) ≡ false → (cut : IsCutUpTo t (before ++ (placed_literal old place ∷ after)) r)
+    → begins_with_code t ≡ true → (cut : IsCutUpTo t (before ++ (placed_literal old place ∷ after)) r)
     → Recut cut.at cut.body before after old new place r → IsRecutSource t before after old new place r
-source_recut t before after old new place r no_line cut m =
-    let whole : cut.body ≡ without_mark t = body_is (without_mark t) cut.body no_line cut.front in
+source_recut t before after old new place r code cut m =
+    let whole : cut.body ≡ without_mark t = body_is (without_mark t) cut.body code cut.front in
     let was : List ℕ = m.front ++ (lexeme_text old ++ m.rest) in
     let body : List ℕ = m.front ++ (lexeme_text new ++ m.rest) in
     let same : Alike was body = alike_more m.front (lexeme_text old ++ m.rest) (lexeme_text new ++ m.rest)
@@ -76,9 +90,8 @@ source_recut t before after old new place r no_line cut m =
     let text_is : text ≡ k.mark ++ body = append_assoc k.mark m.front (lexeme_text new ++ m.rest) in
     let bare : without_mark text ≡ body = ap without_mark text_is ∙ k.goes body (ap (first_passes is_mark) was_is
     ∙ mark_agrees was body same) in
-    let free : begins (codes "#!") (without_mark text) ≡ false = ap (begins (codes "#!")) bare
-    ∙ sym (script_agrees was body
-    same) ∙ sym (ap (begins (codes "#!")) was_is) ∙ no_line in
+    let free : begins_with_code text ≡ true = ap is_code bare ∙ sym (code_agrees was body same)
+    ∙ sym (ap is_code was_is) ∙ code in
     record {
       front = k.mark ++ m.front;
       rest = m.rest;
@@ -95,5 +108,5 @@ source_recut t before after old new place r no_line cut m =
     }
 
 pub keeps_the_source : KeepsTheSource
-keeps_the_source t before after old new place r no_line cut sound ends = source_recut t before after old new place r
-    no_line cut (recut_ends cut.at cut.body before after old new place r cut.are_cuts sound ends)
+keeps_the_source t before after old new place r code cut sound ends = source_recut t before after old new place r
+    code cut (recut_ends cut.at cut.body before after old new place r cut.are_cuts sound ends)

@@ -1,5 +1,5 @@
 -- A source whose literal is written anew: which tokens it is cut into.
-use Rattle.std.specs.Prelude.{◌≡◌, ℕ, ◌+◌, ◌-◌, List, [], ◌∷◌, ◌++◌, IsTrue, IsFalse, codes, ⊤}
+use Rattle.std.specs.Prelude.{◌≡◌, ℕ, ◌+◌, ◌-◌, Bool, not, ◌||◌, List, [], ◌∷◌, ◌++◌, IsTrue, codes, ⊤}
 use Rattle.std.specs.List.{AllByRecursion}
 use Rattle.rl_text.specs.Texts.{begins, byte_len}
 use Rattle.rl_lexer.specs.Lexemes.{BodyPart, IsBody, NoPrefix, Lexeme, RawLexeme, QuotedLexeme, lexeme_text}
@@ -51,11 +51,15 @@ pub record IsRecutSource (t : List ℕ) (before after : List CutSource) (old new
   pub cuts : IsCutUpTo (front ++ (lexeme_text new ++ rest)) (before ++ (placed_literal new place
       ∷ moved (place + byte_len (lexeme_text old)) (place + byte_len (lexeme_text new)) after)) r
 
--- A source that doesn't begin with `#!` is cut as before everywhere else.
+-- the source begins without `#!`, or with an attribute's `#![`, so its first line is no interpreter's, whatever literals it holds
+abbrev pub begins_with_code : List ℕ → Bool
+begins_with_code t = not (begins (codes "#!") (without_mark t)) || begins (codes "#![") (without_mark t)
+
+-- Such a source is cut as before everywhere else.
 abbrev pub KeepsTheSource : Type 0
 KeepsTheSource =
     (t : List ℕ) (before after : List CutSource) (old new : Lexeme) (place : ℕ) (r : List ℕ)
-    → IsFalse (begins (codes "#!") (without_mark t)) → IsCutUpTo t (before ++ (placed_literal old place ∷ after)) r
+    → IsTrue (begins_with_code t) → IsCutUpTo t (before ++ (placed_literal old place ∷ after)) r
     → AllByRecursion IsSound before → SameEnds old new → IsRecutSource t before after old new place r
 
 -- A raw string without prefix may become one with escapes where neither a hash nor a dot stands before it.

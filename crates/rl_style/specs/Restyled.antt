@@ -1,11 +1,10 @@
 -- A source in which a literal is written anew in a style: which tokens it is cut into.
-use Rattle.std.specs.Prelude.{◌≡◌, ℕ, List, ◌∷◌, ◌++◌, IsFalse, codes}
+use Rattle.std.specs.Prelude.{◌≡◌, ℕ, List, ◌∷◌, ◌++◌, IsTrue}
 use Rattle.std.specs.List.{AllByRecursion}
-use Rattle.rl_text.specs.Texts.{begins}
 use Rattle.rl_lexer.specs.Lexemes.{Lexeme, form_of, lexeme_text}
-use Rattle.rl_lexer.specs.Sources.{CutSource, IsCutUpTo, SourcesUpTo, without_mark}
+use Rattle.rl_lexer.specs.Sources.{CutSource, IsCutUpTo, SourcesUpTo}
 use Rattle.rl_style.specs.declared.style.Style.{Style}
-use Rattle.rl_style.specs.Recut.{IsRecut, IsRecutSource, IsSound, placed_literal}
+use Rattle.rl_style.specs.Recut.{IsRecut, IsRecutSource, IsSound, begins_with_code, placed_literal}
 use Rattle.rl_style.specs.Rewriting.{Rewrites}
 
 -- The new text is one token of the old one's form, and with it in the old one's place the text is cut as before.
@@ -31,10 +30,10 @@ pub record IsRestyledSource (t : List ℕ) (before after : List CutSource) (old 
   pub same_form : form_of new ≡ form_of old
   pub recut : IsRecutSource t before after old new place r
 
--- The same of a source that doesn't begin with `#!`.
+-- The same of a source whose first line is no interpreter's.
 abbrev pub KeepsTheRestyledSource : Type 0
 KeepsTheRestyledSource =
     (style : Style) (t : List ℕ) (before after : List CutSource) (old : Lexeme) (written : List ℕ) (place : ℕ)
-    (r : List ℕ) → IsFalse (begins (codes "#!") (without_mark t))
+    (r : List ℕ) → IsTrue (begins_with_code t)
     → IsCutUpTo t (before ++ (placed_literal old place ∷ after)) r → AllByRecursion IsSound before
     → Rewrites style (lexeme_text old) written → IsRestyledSource t before after old written place r

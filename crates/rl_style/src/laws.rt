@@ -43,8 +43,9 @@ pub fn the_cut_is_kept()
     ensures { KeepsTheCut }
 {}
 
-/// A source that doesn't begin with `#!`, and in which one literal is written anew, is cut as before everywhere else. After `#!` the
-/// literal may hide or show the end of a comment, by which a first line is an interpreter's line or none.
+/// A source in which one literal is written anew is cut as before everywhere else, where it begins without `#!` or with an attribute's
+/// `#![` ([`may_restyle`](crate::may_restyle)). After another `#!` the literal may hide or show the end of a comment, by which a first
+/// line is an interpreter's line or none.
 pub fn the_source_is_kept()
     ensures { KeepsTheSource }
 {}
@@ -55,7 +56,8 @@ pub fn the_restyled_cut_is_kept()
     ensures { KeepsTheRestyledCut }
 {}
 
-/// A source that doesn't begin with `#!`, and in which a literal is written anew in a style, is cut as before everywhere else.
+/// A source in which a literal is written anew in a style is cut as before everywhere else, where it begins without `#!` or with an
+/// attribute's `#![`.
 pub fn the_restyled_source_is_kept()
     ensures { KeepsTheRestyledSource }
 {}

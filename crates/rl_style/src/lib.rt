@@ -9,6 +9,8 @@ mod numbers;
 mod raw;
 mod rewrite;
 mod style;
+mod whole;
 
 pub use crate::rewrite::rewrite_into;
 pub use crate::style::{Case, Style};
+pub use crate::whole::may_restyle;

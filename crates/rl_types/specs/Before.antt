@@ -69,8 +69,13 @@ abbrev pub ends_in_dot : Option (List ℕ) → Bool
 ends_in_dot None = true
 ends_in_dot (Some front) = one_dot_first (reverse front)
 
-abbrev pub may_be_field : List ℕ → Bool
-may_be_field before = ends_in_dot (seen_before before)
+-- a number that one dot may stand before
+abbrev pub begins_number : List ℕ → Bool
+begins_number [] = false
+begins_number (b ∷ bytes) = is_ascii_digit b
+
+abbrev pub may_be_field : List ℕ → List ℕ → Bool
+may_be_field before literal = begins_number literal && ends_in_dot (seen_before before)
 
 -- it begins as a name does, and not as a number
 abbrev pub begins_name : List ℕ → Bool
