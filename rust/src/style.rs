@@ -51,6 +51,8 @@ pub struct Style {
     exponent_letter: Option<Case>,
     exponent_plus: bool,
     escape_digits: Option<Case>,
+    ascii_escapes: bool,
+    named_escapes: bool,
     quote_escapes: bool,
     raw_hashes: bool,
 }
@@ -73,6 +75,8 @@ impl Style {
             exponent_letter: None,
             exponent_plus: false,
             escape_digits: None,
+            ascii_escapes: false,
+            named_escapes: false,
             quote_escapes: false,
             raw_hashes: false,
         }
@@ -184,6 +188,44 @@ impl Style {
         }
     }
 
+    /// The same with visible characters of ASCII, from `!` to `~`, for the escapes by number that spell them, or with what stands
+    /// there. The quote that closes the literal, and a backslash, get a backslash. A space stays an escape: after a line break it
+    /// would be dropped.
+    ///
+    /// ```
+    /// use navyspindle::{rewrite, Style};
+    ///
+    /// let style = Style::new().drop_ascii_escapes(true);
+    /// assert_eq!(rewrite(r#""\x41\u{2d}\x5a\x20""#, style)?, r#""A-Z\x20""#);
+    /// assert_eq!(rewrite(r#""\x22\x27\x5c""#, style)?, r#""\"'\\""#);
+    /// # Ok::<(), navyspindle::ParseError>(())
+    /// ```
+    #[must_use]
+    pub const fn drop_ascii_escapes(self, dropped: bool) -> Self {
+        Style {
+            ascii_escapes: dropped,
+            ..self
+        }
+    }
+
+    /// The same with `\n`, `\r` and `\t` for the escapes by number that spell LF, CR and TAB, or with what stands there. `\x00`
+    /// stays: before a digit `\0` would be read as octal in other languages.
+    ///
+    /// ```
+    /// use navyspindle::{rewrite, Style};
+    ///
+    /// let style = Style::new().named_escapes(true);
+    /// assert_eq!(rewrite(r#""\x0d\u{a}\x09\x00""#, style)?, r#""\r\n\t\x00""#);
+    /// # Ok::<(), navyspindle::ParseError>(())
+    /// ```
+    #[must_use]
+    pub const fn named_escapes(self, named: bool) -> Self {
+        Style {
+            named_escapes: named,
+            ..self
+        }
+    }
+
     /// The same without the backslash of a quote that doesn't close its literal, or with what stands there.
     ///
     /// ```
@@ -228,6 +270,8 @@ impl Style {
             exponent_letter: self.exponent_letter.map(Case::proved),
             exponent_plus: self.exponent_plus,
             escape_digits: self.escape_digits.map(Case::proved),
+            ascii_escapes: self.ascii_escapes,
+            named_escapes: self.named_escapes,
             quote_escapes: self.quote_escapes,
             raw_hashes: self.raw_hashes,
         }

@@ -17,6 +17,8 @@ fn style_of(letters: &str) -> Style {
         'u' => style.drop_underscores(true),
         'z' => style.drop_leading_zeros(true),
         'p' => style.drop_exponent_plus(true),
+        'a' => style.drop_ascii_escapes(true),
+        'n' => style.named_escapes(true),
         'q' => style.drop_quote_escapes(true),
         'h' => style.fewest_hashes(true),
         _ => style,
@@ -74,7 +76,7 @@ fn read_alike(old: &str, new: &str) -> bool {
 
 #[test]
 fn what_is_written_reads_alike() {
-    let all = style_of("xuzepdqh");
+    let all = style_of("xuzepdanqh");
     for row in ROWS.lines() {
         let text = decoded(row.split(' ').nth(1).unwrap());
         if let Ok(written) = rewrite(&text, all) {
@@ -87,7 +89,7 @@ fn what_is_written_reads_alike() {
 #[test]
 fn errors_are_those_of_the_reader() {
     for text in ["", "0b102", "\"a\\q\"", "r\"a\"b\"", "'ab'", "1e", "x"] {
-        let error = rewrite(text, style_of("xuzepdqh")).unwrap_err();
+        let error = rewrite(text, style_of("xuzepdanqh")).unwrap_err();
         assert_eq!(error, Lit::parse(text).unwrap_err(), "{text}");
     }
     // A minus is a token of its own.

@@ -190,14 +190,8 @@ fn put_units(out: &mut [u8], at: usize, kind: Kind, style: Style, inside: &str) 
     let mut end = at;
     let mut rest = inside;
     while let Some((piece, after)) = unit(kind, rest) {
-        end = put_unit(
-            out,
-            end,
-            kind,
-            style,
-            before(rest, after),
-            ascii_of(kind, piece),
-        );
+        let byte = ascii_of(kind, piece);
+        end = put_unit(out, end, kind, style, before(rest, after), byte);
         rest = after;
     }
     end

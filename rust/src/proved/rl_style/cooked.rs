@@ -5,8 +5,8 @@ use crate::rl_style::case::put_cased;
 use crate::rl_style::style::Style;
 use crate::rl_forms::Kind;
 use crate::rl_forms::written_unit::closer;
-use crate::rl_reading::units::unit;
-use crate::rl_text::room::{put_char, put_text};
+use crate::rl_reading::units::{Piece, unit};
+use crate::rl_text::room::{put_byte, put_char, put_text};
 use crate::rl_text::text::{before, split_char, strip_byte};
 
 /// Whether it is one of the two quotes.
@@ -24,7 +24,65 @@ fn is_bared(style: Style, kind: Kind, quote: char) -> bool {
     style.quote_escapes && quote != closer(kind)
 }
 
-/// Puts an escape, written anew, by what follows its backslash.
+/// The number where it is of ASCII, or 128.
+fn ascii_or(code: u32) -> u8 {
+    if code < 128 { code as u8 } else { 128 }
+}
+
+/// The character or byte of ASCII that the piece is, or 128.
+fn ascii_of(kind: Kind, piece: Piece) -> u8 {
+    match piece {
+        Piece::Character(c) => ascii_or(c as u32),
+        Piece::Byte(byte) => ascii_or(byte as u32),
+        Piece::Nothing => 128,
+    }
+}
+
+/// Whether the character stands for itself where an escape by number spells it.
+fn is_visible(style: Style, byte: u8) -> bool {
+    style.ascii_escapes && matches!(byte, b'!'..=b'~')
+}
+
+/// Whether the character has a letter where an escape by number spells it.
+fn is_named(style: Style, byte: u8) -> bool {
+    style.named_escapes && matches!(byte, b'\n' | b'\r' | b'\t')
+}
+
+/// The letter of the escape that stands for LF, CR or TAB.
+fn letter_of(byte: u8) -> u8 {
+    match byte {
+        b'\n' => b'n',
+        b'\r' => b'r',
+        _ => b't',
+    }
+}
+
+/// Puts a backslash and a character.
+fn put_pair(out: &mut [u8], at: usize, byte: u8) -> usize {
+    let end = put_byte(out, at, b'\\');
+    put_byte(out, end, byte)
+}
+
+/// Puts a visible character of ASCII into a literal of the kind.
+fn put_visible(out: &mut [u8], at: usize, kind: Kind, byte: u8) -> usize {
+    if byte as char == closer(kind) || byte == b'\\' {
+        return put_pair(out, at, byte);
+    }
+    put_byte(out, at, byte)
+}
+
+/// Puts an escape by number, written anew, that spells this character or byte of ASCII, or 128.
+fn put_number(out: &mut [u8], at: usize, kind: Kind, style: Style, unit: &str, byte: u8) -> usize {
+    if is_visible(style, byte) {
+        return put_visible(out, at, kind, byte);
+    }
+    if is_named(style, byte) {
+        return put_pair(out, at, letter_of(byte));
+    }
+    put_cased(out, at, style.escape_digits, unit)
+}
+
+/// Puts an escape, written anew, by what follows its backslash and what it stands for.
 fn put_escape(
     out: &mut [u8],
     at: usize,
@@ -32,6 +90,7 @@ fn put_escape(
     style: Style,
     unit: &str,
     escape: &str,
+    byte: u8,
 ) -> usize {
     let Some((first, _)) = split_char(escape) else {
         return put_text(out, at, unit);
@@ -43,15 +102,15 @@ fn put_escape(
         return put_text(out, at, unit);
     }
     if begins_number(first) {
-        return put_cased(out, at, style.escape_digits, unit);
+        return put_number(out, at, kind, style, unit, byte);
     }
     put_text(out, at, unit)
 }
 
-/// Puts a unit, written anew.
-fn put_unit(out: &mut [u8], at: usize, kind: Kind, style: Style, unit: &str) -> usize {
+/// Puts a unit, written anew, that stands for this character or byte of ASCII, or 128.
+fn put_unit(out: &mut [u8], at: usize, kind: Kind, style: Style, unit: &str, byte: u8) -> usize {
     match strip_byte(unit, b'\\') {
-        Some(escape) => put_escape(out, at, kind, style, unit, escape),
+        Some(escape) => put_escape(out, at, kind, style, unit, escape, byte),
         None => put_text(out, at, unit),
     }
 }
@@ -60,8 +119,9 @@ fn put_unit(out: &mut [u8], at: usize, kind: Kind, style: Style, unit: &str) -> 
 fn put_units(out: &mut [u8], at: usize, kind: Kind, style: Style, inside: &str) -> usize {
     let mut end = at;
     let mut rest = inside;
-    while let Some((_, after)) = unit(kind, rest) {
-        end = put_unit(out, end, kind, style, before(rest, after));
+    while let Some((piece, after)) = unit(kind, rest) {
+        let byte = ascii_of(kind, piece);
+        end = put_unit(out, end, kind, style, before(rest, after), byte);
         rest = after;
     }
     end

@@ -25,6 +25,11 @@ pub struct Style {
     pub exponent_plus: bool,
     /// The case of the digits of `\x` and `\u{..}`.
     pub escape_digits: Option<Case>,
+    /// Whether a visible character of ASCII stands for itself where an escape by number spells it: `"A"` for `"\x41"`. The quote that
+    /// closes the literal and a backslash get a backslash before them.
+    pub ascii_escapes: bool,
+    /// Whether LF, CR and TAB are `\n`, `\r` and `\t` where an escape by number spells them.
+    pub named_escapes: bool,
     /// Whether a quote that doesn't close the literal loses its backslash: `"'"` for `"\'"`.
     pub quote_escapes: bool,
     /// Whether a raw string has the fewest hashes that its text needs.

@@ -21,7 +21,7 @@ loop-piece-preserved c =
       passed = λ us a. passed_step c.args.style c.args.kind us (chars l.rest.now) _ (chars b.result.now)
           (chars c.in-Some.after.now) _ _ _ (l.invariant.passed us a) c.in-Some.ensures.value b.ensures.chars
           (p.bytes ∙ ap (λ n. take l.end l.out ++ encode_utf8_all (restyled_text c.args.style c.args.kind n
-          (chars b.result.now))) c.ascii_of.ensures.value);
+          (chars b.result.now))) c.ascii_of-byte.ensures.value);
       room = omega (arith, l.invariant.room, long, p.end);
       len = p.len ∙ l.invariant.len;
     }
