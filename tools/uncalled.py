@@ -80,7 +80,7 @@ def without(text, entry):
 def with_expectation(text, entry):
     """The text in which rustc expects that nothing makes these variants of an enum, and says so where it is otherwise."""
     name, variants = re.fullmatch(r"(\w+)::\{(.*)\}", entry.item).groups()
-    found = re.search(rf"^pub enum {name} \{{\n((?:(?!\}}).*\n)*)", text, re.M)
+    found = re.search(rf"^(?:pub )?enum {name} \{{\n((?:(?!\}}).*\n)*)", text, re.M)
     if not found or not set(variants.split(", ")) <= set(re.findall(r"^    (\w+)", found[1], re.M)):
         fail(f"{entry.file} has no variants {entry.item}")
     at = front_of(text, found.start(), r"#\[.*\]")

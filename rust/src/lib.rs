@@ -82,6 +82,8 @@ mod proc_macros;
 )]
 #[rustfmt::skip]
 mod proved;
+#[cfg(all(feature = "sources", feature = "style"))]
+mod restyle;
 #[cfg(feature = "settings")]
 mod setting;
 #[cfg(feature = "settings")]
@@ -148,6 +150,8 @@ pub use parse_error::{FlawKind, ParseError, ParseErrorKind};
 pub use places::{Places, Segment, SegmentValue, Segments};
 #[cfg(feature = "proc-macro")]
 pub use proc_macros::{next_literal, next_of, LitOfKind, MacroError};
+#[cfg(all(feature = "sources", feature = "style"))]
+pub use restyle::{restyle, Edit, Restyles};
 /// [`Lit::type_error`] returns it.
 ///
 /// ```

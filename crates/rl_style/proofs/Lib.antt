@@ -25,3 +25,4 @@ pub mod QuotedLexemes
 pub mod Lexings
 pub mod Restyled
 pub mod RestyledCuts
+mod RestylableLemmas

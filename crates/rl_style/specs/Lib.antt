@@ -4,3 +4,4 @@ pub mod Around
 pub mod Recut
 pub mod Restyled
 pub mod Mirrors
+pub mod Restylable

@@ -7,10 +7,12 @@ mod cooked;
 pub mod laws;
 mod numbers;
 mod raw;
+mod restylable;
 mod rewrite;
 mod style;
 mod whole;
 
+pub use crate::restylable::{Restylable, Restylables};
 pub use crate::rewrite::rewrite_into;
 pub use crate::style::{Case, Style};
 pub use crate::whole::may_restyle;

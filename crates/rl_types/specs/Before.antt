@@ -60,23 +60,6 @@ ends_in_minus (Some front) = comes_first 45 (reverse front)
 abbrev pub may_negate : List ℕ → Bool
 may_negate before = ends_in_minus (seen_before before)
 
--- one dot comes first, and not two
-abbrev pub one_dot_first : List ℕ → Bool
-one_dot_first [] = false
-one_dot_first (b ∷ back) = (b == 46) && not (comes_first 46 back)
-
-abbrev pub ends_in_dot : Option (List ℕ) → Bool
-ends_in_dot None = true
-ends_in_dot (Some front) = one_dot_first (reverse front)
-
--- a number that one dot may stand before
-abbrev pub begins_number : List ℕ → Bool
-begins_number [] = false
-begins_number (b ∷ bytes) = is_ascii_digit b
-
-abbrev pub may_be_field : List ℕ → List ℕ → Bool
-may_be_field before literal = begins_number literal && ends_in_dot (seen_before before)
-
 -- it begins as a name does, and not as a number
 abbrev pub begins_name : List ℕ → Bool
 begins_name [] = false

@@ -2,7 +2,7 @@
 
 ghost use Rattle.std.specs.Prelude.{◌≡◌, ◌≤◌, length, option_map};
 ghost use Rattle.std.specs.Prelude.{reverse};
-ghost use Rattle.rl_types.specs.Before.{ends_in_dot, has_part, holds_comment, is_after_hashes, is_after_word, may_be_field, may_negate, one_dot_first, reserved, reserving, seen_before, without, year_of};
+ghost use Rattle.rl_types.specs.Before.{has_part, holds_comment, is_after_hashes, is_after_word, may_negate, reserved, reserving, seen_before, without, year_of};
 
 /// An edition of Rust.
 #[derive(Clone, Copy, PartialEq, Eq, Debug)]
@@ -93,35 +93,6 @@ pub fn may_be_negated(before: &str) -> bool
         Some(front) => matches!(front, [.., b'-']),
         None => true,
     }
-}
-
-/// Whether one dot ends here, and not two.
-fn ends_in_one_dot(bytes: &[u8]) -> bool
-    ensures { result ≡ one_dot_first (reverse bytes.now) }
-{
-    match bytes {
-        [rest @ .., b'.'] => !matches!(rest, [.., b'.']),
-        _ => false,
-    }
-}
-
-/// Whether the text may end in the dot before a field: one dot ends it, and not two, but for white space and comments, or what may be a
-/// comment hides whether it does.
-fn may_end_in_dot(before: &str) -> bool
-    ensures { result ≡ ends_in_dot (seen_before before.now) }
-{
-    match seen_before(before) {
-        Some(front) => ends_in_one_dot(front),
-        None => true,
-    }
-}
-
-/// Whether a literal may be a field of a tuple, of the text before it: it is a number, and one dot stands there, and not two, but for
-/// white space and comments, or what may be a comment hides whether it does.
-pub fn may_be_field(before: &str, literal: &str) -> bool
-    ensures { result ≡ may_be_field before.now literal.now }
-{
-    matches!(literal.as_bytes(), [b'0'..=b'9', ..]) && may_end_in_dot(before)
 }
 
 /// Whether a word ends here that is no number and no part of a literal, a lifetime or a raw identifier.

@@ -6,6 +6,6 @@ pub mod laws;
 mod number_types;
 mod type_errors;
 
-pub use crate::before::{Edition, may_be_field, may_be_negated, reserved_from};
+pub use crate::before::{Edition, may_be_negated, reserved_from};
 pub use crate::number_types::{NumberType, greatest, type_named};
 pub use crate::type_errors::{TypeError, type_error};

@@ -6,8 +6,12 @@ mod case;
 mod cooked;
 mod numbers;
 mod raw;
+mod restylable;
 mod rewrite;
 mod style;
+mod whole;
 
+pub use crate::rl_style::restylable::{Restylable, Restylables};
 pub use crate::rl_style::rewrite::rewrite_into;
 pub use crate::rl_style::style::{Case, Style};
+pub use crate::rl_style::whole::may_restyle;

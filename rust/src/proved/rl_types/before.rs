@@ -60,18 +60,25 @@ fn holds_comment(bytes: &[u8]) -> bool {
     false
 }
 
-/// Whether a minus, a comment or a character past ASCII ends here.
-fn can_end_minus(bytes: &[u8]) -> bool {
-    matches!(bytes, [.., b'-' | b'/' | 128..])
-}
-
-/// Whether a minus may stand before a literal, of the text before it: a minus, a comment or a character past ASCII, but for white
-/// space and opening parentheses, or a line before with two slashes.
-pub fn may_be_negated(before: &str) -> bool {
+/// What stands before, but for white space, line ends and opening parentheses. `None` where a comment may hide it: where a slash or a
+/// character past ASCII comes before these, or they begin a line and two slashes stand in the one before.
+fn seen_before(before: &str) -> Option<&[u8]> {
     let bytes = before.as_bytes();
     let inline = trimmed(bytes, Part::Inline);
     let all = trimmed(bytes, Part::Passed);
-    can_end_minus(all) || matches!(inline, [.., b'\n']) && holds_comment(all)
+    if matches!(all, [.., b'/' | 128..]) || matches!(inline, [.., b'\n']) && holds_comment(all) {
+        return None;
+    }
+    Some(all)
+}
+
+/// Whether a minus may stand before a literal, of the text before it: it does, but for white space, comments and opening parentheses,
+/// or what may be a comment hides whether it does.
+pub fn may_be_negated(before: &str) -> bool {
+    match seen_before(before) {
+        Some(front) => matches!(front, [.., b'-']),
+        None => true,
+    }
 }
 
 /// Whether a word ends here that is no number and no part of a literal, a lifetime or a raw identifier.

@@ -1,0 +1,106 @@
+//! The literals of a source that may be written anew.
+
+ghost use Rattle.std.specs.Prelude.{◌≡◌, ◌+◌, [], length, IfSome, IfNone};
+ghost use Rattle.std.specs.Str.{chars};
+ghost use Rattle.rl_lexer.specs.Sources.{IsCutUpTo, SourceErrorAt};
+ghost use Rattle.rl_style.specs.Restylable.{GivesLiteral, GivesNone, dots_after, is_field};
+ghost use Rattle.rl_style.specs.declared.restylable.Dots.TheVariants as dots;
+
+use rl_lexer::{Form, LexError, SourceForm, SourceToken, Sources};
+use std::marker::Model;
+
+/// How many dots end the tokens so far, one right behind the other.
+#[derive(Clone, Copy)]
+pub(crate) enum Dots {
+    No,
+    One,
+    More,
+}
+
+/// A literal of a source.
+#[derive(Clone, Copy)]
+pub struct Restylable<'t> {
+    /// Its token.
+    pub token: SourceToken<'t>,
+    /// Whether it may be a field of a tuple, as in `t.0`: a number after one dot. Then it isn't to be written anew, since a field has
+    /// one name.
+    pub is_field: bool,
+}
+
+/// The literals of a source, each with whether it may be a field, as they are asked for. It takes no memory.
+#[derive(Drop)]
+pub struct Restylables<'t> {
+    tokens: Sources<'t>,
+    dots: Dots,
+    // the place after the last token
+    end: usize,
+}
+
+impl<'t> Model for Restylables<'t> {
+    ghost use Rattle.rl_style.specs.Restylable.{RestylableState};
+
+    ghost Value = { RestylableState };
+
+    ghost view = { λ r. record { tokens = r.tokens; dots = r.dots; end = r.end } };
+}
+
+/// How many dots end the tokens after one more.
+fn dots_after(dots: Dots, end: usize, token: SourceToken<'_>) -> Dots
+    ensures { result ≡ dots_after dots end token.entry }
+{
+    if !matches!(token.form, SourceForm::Token(Form::Mark('.'))) {
+        return Dots::No;
+    }
+    match dots {
+        Dots::One | Dots::More if token.lo == end => Dots::More,
+        _ => Dots::One,
+    }
+}
+
+/// Whether a literal after so many dots may be a field.
+fn is_field(dots: Dots, token: SourceToken<'_>) -> bool
+    ensures { result ≡ is_field dots token.entry }
+{
+    matches!(dots, Dots::One) && matches!(token.text.as_bytes(), [b'0'..=b'9', ..])
+}
+
+impl<'t> Restylables<'t> {
+    /// Those of a source, from its front.
+    pub fn new(text: &'t str) -> Restylables<'t>
+        ensures text { result.tokens.text ≡ text.now }
+        ensures begun { IsCutUpTo (chars text.now) [] (chars result.tokens.rest) }
+        ensures no_dots { result.dots ≡ dots.No }
+    {
+        Restylables {
+            tokens: Sources::new(text),
+            dots: Dots::No,
+            end: 0,
+        }
+    }
+
+    /// The next literal: a literal token, whether it reads or not, or one of the words `true` and `false`. `None` at the end of the
+    /// source and at its first error, which [`Restylables::error`] tells.
+    pub fn next(&mut self) -> Option<Restylable<'t>>
+        ensures found { IfSome result (λ l. GivesLiteral self.old l self.new) }
+        ensures none { IfNone result (GivesNone self.old self.new) }
+    {
+        while let Some(token) = self.tokens.next() {
+            let dots = self.dots;
+            self.dots = dots_after(dots, self.end, token);
+            self.end = token.hi;
+            if token.is_literal() {
+                let is_field = is_field(dots, token);
+                return Some(Restylable { token, is_field });
+            }
+        }
+        None
+    }
+
+    /// The error that stands at what is left: a quote or a comment that isn't closed.
+    pub fn error(&self) -> Option<LexError>
+        ensures error { IfSome result (λ e. SourceErrorAt e.kind (chars self.now.tokens.rest)) }
+        ensures place { IfSome result (λ e. e.at + length self.now.tokens.rest ≡ length self.now.tokens.text) }
+    {
+        self.tokens.error()
+    }
+}

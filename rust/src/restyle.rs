@@ -1,0 +1,130 @@
+//! Whole sources whose literals are written anew in another style.
+
+use crate::error::ListError;
+use crate::rl_style::{may_restyle, Restylable, Restylables};
+use crate::style::{rewrite, Style};
+use alloc::borrow::Cow;
+use alloc::string::String;
+use core::fmt;
+use core::iter::FusedIterator;
+use core::ops::Range;
+
+/// A literal of a source that a style writes otherwise; see [`restyle`].
+#[derive(Clone, Debug, PartialEq, Eq)]
+pub struct Edit {
+    range: Range<usize>,
+    text: String,
+}
+
+impl Edit {
+    /// The bytes of the literal in the source.
+    pub fn range(&self) -> Range<usize> {
+        self.range.clone()
+    }
+
+    /// Its text in the style.
+    pub fn text(&self) -> &str {
+        &self.text
+    }
+}
+
+/// The edits that bring the literals of a source into a style; see [`restyle`].
+#[must_use = "an iterator does nothing until it is asked"]
+pub struct Restyles<'t> {
+    text: &'t str,
+    style: Style,
+    literals: Restylables<'t>,
+    is_done: bool,
+}
+
+/// The edits that bring the literals of a whole Rust source into a style, in order; [`Restyles::apply`] makes them.
+///
+/// It is proved that the source is cut into the same tokens then, each literal aside, which has the same kind, contents and suffix.
+/// These stay as they are: literals that Rust rejects, strings that hold a CR, numbers after one dot, which may be fields (`t.0`), and all
+/// of a source that begins with an interpreter's line (`#!`, and not `#![`). A macro sees how a literal is written, by `stringify!`, by
+/// an arm of `macro_rules!` that names one, and by `concat!` of floats: to leave what is in macros alone, pass over their edits.
+///
+/// ```
+/// use navyspindle::{restyle, Case, Style};
+///
+/// let text = r####"let a = (0xFF, r##"b"##, t.0, 1..0xABu8);"####;
+/// let style = Style::new().hex_digits(Case::Lower).fewest_hashes(true);
+/// let edits: Vec<_> = restyle(text, style).collect::<Result<_, _>>()?;
+/// assert_eq!((edits[0].range(), edits[0].text()), (9..13, "0xff"));
+/// assert_eq!(edits.len(), 3);
+/// assert_eq!(restyle(text, style).apply()?, r#"let a = (0xff, r"b", t.0, 1..0xabu8);"#);
+/// # Ok::<(), navyspindle::ListError>(())
+/// ```
+pub fn restyle(text: &str, style: Style) -> Restyles<'_> {
+    Restyles {
+        text,
+        style,
+        literals: Restylables::new(text),
+        is_done: !may_restyle(text),
+    }
+}
+
+impl<'t> Restyles<'t> {
+    /// The text with the edits that are left; borrowed where there are none.
+    ///
+    /// # Errors
+    ///
+    /// The first error of the source: a quote or a comment that isn't closed. Nothing is changed then.
+    pub fn apply(self) -> Result<Cow<'t, str>, ListError> {
+        let whole = self.text;
+        let (mut text, mut at) = (String::new(), 0);
+        for edit in self {
+            let edit = edit?;
+            text.push_str(&whole[at..edit.range.start]);
+            text.push_str(&edit.text);
+            at = edit.range.end;
+        }
+        if at == 0 {
+            return Ok(Cow::Borrowed(whole));
+        }
+        text.push_str(&whole[at..]);
+        Ok(Cow::Owned(text))
+    }
+}
+
+/// The edit that brings a literal into the style; `None` where it stays as it is.
+fn edit_of(style: Style, literal: Restylable<'_>) -> Option<Edit> {
+    if literal.is_field {
+        return None;
+    }
+    match rewrite(literal.token.text, style) {
+        Ok(Cow::Owned(text)) => Some(Edit {
+            range: literal.token.lo..literal.token.hi,
+            text,
+        }),
+        _ => None,
+    }
+}
+
+impl Iterator for Restyles<'_> {
+    type Item = Result<Edit, ListError>;
+
+    fn next(&mut self) -> Option<Self::Item> {
+        while !self.is_done {
+            let Some(literal) = self.literals.next() else {
+                self.is_done = true;
+                let error = self.literals.error()?;
+                return Some(Err(ListError::of_source(self.text, error)));
+            };
+            if let Some(edit) = edit_of(self.style, literal) {
+                return Some(Ok(edit));
+            }
+        }
+        None
+    }
+}
+
+impl FusedIterator for Restyles<'_> {}
+
+impl fmt::Debug for Restyles<'_> {
+    fn fmt(&self, f: &mut fmt::Formatter<'_>) -> fmt::Result {
+        f.debug_struct("Restyles")
+            .field("style", &self.style)
+            .finish_non_exhaustive()
+    }
+}

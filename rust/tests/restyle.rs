@@ -1,0 +1,129 @@
+//! Whole sources in a style.
+#![cfg(all(feature = "sources", feature = "style"))]
+
+use navyspindle::{restyle, source, Case, Edit, Lit, Style};
+use std::borrow::Cow;
+
+const STYLE: Style = Style::new()
+    .hex_digits(Case::Lower)
+    .exponent_letter(Case::Lower)
+    .drop_exponent_plus(true)
+    .drop_underscores(true)
+    .drop_leading_zeros(true)
+    .escape_digits(Case::Upper)
+    .drop_quote_escapes(true)
+    .fewest_hashes(true);
+
+fn styled(text: &str) -> Cow<'_, str> {
+    restyle(text, STYLE).apply().unwrap()
+}
+
+#[test]
+fn numbers_behind_a_dot_stay() {
+    for text in [
+        "t.0_1",
+        "t. 0_1",
+        "t.\n0_1",
+        "t./* 1 */0_1",
+        "t. // 1\n0_1",
+        "t.\u{200e}0_1",
+        "(t).0x_F",
+        "f(t.1E5)",
+    ] {
+        assert!(
+            matches!(styled(text), Cow::Borrowed(same) if same == text),
+            "{text:?}"
+        );
+    }
+}
+
+#[test]
+fn other_numbers_do_not() {
+    for (text, written) in [
+        ("0_1..0_2", "1..2"),
+        ("0xF_F..=0_2", "0xff..=2"),
+        ("0_1.max(0_2)", "1.max(2)"),
+        ("1.5E+3.max(2.)", "1.5e3.max(2.)"),
+        ("// t.\n\n0xF", "// t.\n\n0xf"),
+        ("\"t.\" 0xF", "\"t.\" 0xf"),
+        ("t.0.f(0xF)", "t.0.f(0xf)"),
+        ("a. .0_1", "a. .0_1"),
+        ("(0_1, .. 0_1)", "(1, .. 1)"),
+        ("\".\" 0_1", "\".\" 1"),
+        ("t.r\"a\" 0_1", "t.r\"a\" 1"),
+        ("[1, // t.\n 0xF]", "[1, // t.\n 0xf]"),
+        ("[1, 2,\n 0xF]", "[1, 2,\n 0xf]"),
+    ] {
+        assert_eq!(styled(text), written, "{text:?}");
+    }
+}
+
+#[test]
+fn an_interpreters_line_keeps_all() {
+    for (text, written) in [
+        ("#!/bin/sh\n0xF", "#!/bin/sh\n0xF"),
+        ("\u{feff}#! /*\n0xF \"*/\"", "\u{feff}#! /*\n0xF \"*/\""),
+        ("#![a(0xF)]\n0xF", "#![a(0xf)]\n0xf"),
+        ("\u{feff}#![a]\n0xF", "\u{feff}#![a]\n0xf"),
+        ("#[a]\n0xF", "#[a]\n0xf"),
+        ("# !0xF", "# !0xf"),
+    ] {
+        assert_eq!(styled(text), written, "{text:?}");
+    }
+}
+
+#[test]
+fn what_rust_rejects_stays() {
+    for text in [
+        "0b1_2 '\\q' \"\\u{fF\"",
+        "\"\\'\r\n\"",
+        "r#\"a\r\n\"#",
+        "true",
+        "",
+        "// 0xF",
+        "'aF",
+    ] {
+        assert!(
+            matches!(styled(text), Cow::Borrowed(same) if same == text),
+            "{text:?}"
+        );
+    }
+}
+
+#[test]
+fn an_open_quote_is_an_error() {
+    let text = "0xF \"a";
+    let error = restyle(text, STYLE).apply().unwrap_err();
+    assert_eq!(error.at(), 4);
+    let found: Vec<_> = restyle(text, STYLE).collect();
+    assert_eq!(found.len(), 2);
+    let edit = found[0].as_ref().unwrap();
+    assert_eq!((edit.range(), edit.text()), (0..3, "0xf"));
+    assert!(found[1].is_err());
+}
+
+#[test]
+fn edits_stand_in_order_and_once_is_enough() {
+    let text =
+        "f(0xFF_u8, r##\"a\"##, \"\\'\\xff\", 1_000, '\\u{aB}', b'\\x0a', 1E+5, r#\"\"\"#, t.0_0);";
+    let edits: Vec<Edit> = restyle(text, STYLE).collect::<Result<_, _>>().unwrap();
+    assert!(edits
+        .windows(2)
+        .all(|pair| pair[0].range().end <= pair[1].range().start));
+    let written = styled(text);
+    assert_eq!(
+        written,
+        "f(0xffu8, r\"a\", \"\\'\\xff\", 1000, '\\u{AB}', b'\\x0A', 1e5, r#\"\"\"#, t.0_0);"
+    );
+    assert!(matches!(styled(&written), Cow::Borrowed(_)));
+    let (old, new) = (literals(text), literals(&written));
+    assert_eq!(old.len(), new.len());
+    for (one, other) in old.iter().zip(&new) {
+        assert_eq!(one.kind(), other.kind());
+        assert_eq!(one.suffix(), other.suffix());
+    }
+}
+
+fn literals(text: &str) -> Vec<Lit<'_>> {
+    source(text).map(|item| item.unwrap().1).collect()
+}
