@@ -8,8 +8,9 @@
 A literal is taken apart by the token grammar of the Rust Reference, each part is mapped by itself, and the parts are put together
 again. Nothing of the repository is asked. A style is a word of letters: `x` and `X` hexadecimal digits in lower and in upper case,
 `u` no underscores in numbers, `z` no zeros in front of integers of base ten, `e` and `E` the exponent's letter, `d` and `D` the digits
-of escapes, `a` visible characters of ASCII bare and `n` letters for LF, CR and TAB where escapes by number spell them, `p` no plus, `q` no needless backslash before a quote, `h` the fewest hashes. A row is a style, a text and what it becomes,
-both in hexadecimal: `=` stands for the text itself, and `!` for what is no literal.
+of escapes, `c` the fewest of `\\u{..}`, `a` visible characters of ASCII and `n` letters for LF, CR and TAB where escapes by number
+spell them, `p` no plus, `q` no needless backslash before a quote, `h` the fewest hashes. A row is a style, a text and what it
+becomes, both in hexadecimal: `=` stands for the text itself, and `!` for what is no literal.
 
 The laws: what is written is a literal of the same kind, with the same contents and the same suffix, and the style leaves it as it
 is."""
@@ -27,7 +28,7 @@ HEX = '0123456789abcdefABCDEF'
 OPENERS = {'Str': '"', 'ByteStr': 'b"', 'CStr': 'c"', 'Byte': "b'", 'Char': "'"}
 RAW_OPENERS = {'Str': 'r', 'ByteStr': 'br', 'CStr': 'cr'}
 LETTERS = {'n': 10, 'r': 13, 't': 9, '\\': 92, '0': 0}
-RULES = ['x', 'X', 'u', 'z', 'e', 'E', 'd', 'D', 'a', 'n', 'p', 'q', 'h']
+RULES = ['x', 'X', 'u', 'z', 'e', 'E', 'd', 'D', 'c', 'a', 'n', 'p', 'q', 'h']
 NAMES = {10: '\\n', 13: '\\r', 9: '\\t'}
 
 
@@ -210,6 +211,8 @@ def unit(style, kind, it):
                     ('\\' if chr(it.code) in (closer(kind), '\\') else '') + chr(it.code), it.code)
     if it.what in ('hex', 'unicode') and 'n' in style and it.code in NAMES:
         return Unit('letter', NAMES[it.code], it.code)
+    if it.what == 'unicode' and 'c' in style:
+        it = it._replace(text='\\u{%s}' % (it.text[3:-1].replace('_', '').lstrip('0') or '0'))
     if it.what in ('hex', 'unicode'):
         return it._replace(text=it.text[:2] + cased(style, 'd', 'D', it.text[2:]))
     return it
@@ -245,7 +248,7 @@ def rewrite(style, text):
 
 SUFFIXES = ['', 'x', 'u8', '_x', 'e1', 'b1', 'r', 'é', 'f32', 'o7', 'E', 'aB', 'F']
 PIECES = ['a', ' ', '\n', "'", '"', "\\'", '\\"', '\\\\', '\\n', '\\0', '\\x41', '\\x2a', '\\x2A', '\\x27', '\\x0A', '\\x00', '\\x7F', '\\xfF',
-          '\\u{41}', '\\u{0000e9}', '\\u{E_9_}', '\\u{202E}', '\\u{D}', '\\u{aBcD}', '\\x09', '\\u{5c}', '\\x5C', '\\x20', '\\u{22}', '\\u{7f}', '\\u{141}', '\\xc1', '\\\n', '\\\n \t', 'é', '\u202e', '1', 'x', '{', '\t']
+          '\\u{41}', '\\u{0000e9}', '\\u{E_9_}', '\\u{202E}', '\\u{D}', '\\u{aBcD}', '\\x09', '\\u{5c}', '\\x5C', '\\x20', '\\u{22}', '\\u{7f}', '\\u{141}', '\\xc1', '\\u{0_0}', '\\u{0_1_0}', '\\u{000041}', '\\\n', '\\\n \t', 'é', '\u202e', '1', 'x', '{', '\t']
 RAW_PIECES = ['"', '"#', '#', 'a', '\\', '\n', '"##', ' ', 'é', '"#"']
 NUMBERS = ['019_.eE+-xaF', '01_.eE+-']
 
@@ -293,8 +296,8 @@ def long_texts(dice, count):
 
 def styles():
     for x, e, d in itertools.product(['', 'x', 'X'], ['', 'e', 'E'], ['', 'd', 'D']):
-        for u, z, a, n, p, q, h in itertools.product(['', 'u'], ['', 'z'], ['', 'a'], ['', 'n'], ['', 'p'], ['', 'q'], ['', 'h']):
-            yield x + u + z + e + d + a + n + p + q + h
+        for letters in itertools.product(*(['', letter] for letter in 'uzcanpqh')):
+            yield x + e + d + ''.join(letters)
 
 
 def broken(style, text):
@@ -315,7 +318,7 @@ def check_laws(dice):
     texts = {text for text in itertools.chain(short_texts(), long_texts(dice, 40000)) if literal(text)}
     every, changed = sorted(texts), 0
     for style in styles():
-        for text in every if len(style) > 9 or style in RULES else dice.sample(every, 300):
+        for text in every if len(style) > 10 or style in RULES else dice.sample(every, 150):
             changed += rewrite(style, text) != text
             law = broken(style, text)
             if law:

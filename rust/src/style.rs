@@ -51,6 +51,7 @@ pub struct Style {
     exponent_letter: Option<Case>,
     exponent_plus: bool,
     escape_digits: Option<Case>,
+    code_digits: bool,
     ascii_escapes: bool,
     named_escapes: bool,
     quote_escapes: bool,
@@ -75,6 +76,7 @@ impl Style {
             exponent_letter: None,
             exponent_plus: false,
             escape_digits: None,
+            code_digits: false,
             ascii_escapes: false,
             named_escapes: false,
             quote_escapes: false,
@@ -188,6 +190,23 @@ impl Style {
         }
     }
 
+    /// The same with the fewest digits in `\u{..}`, without underscores and without zeros in front, or with those that stand there.
+    ///
+    /// ```
+    /// use navyspindle::{rewrite, Style};
+    ///
+    /// let style = Style::new().fewest_escape_digits(true);
+    /// assert_eq!(rewrite(r#""\u{00e9}\u{1_F600_}\u{00}""#, style)?, r#""\u{e9}\u{1F600}\u{0}""#);
+    /// # Ok::<(), navyspindle::ParseError>(())
+    /// ```
+    #[must_use]
+    pub const fn fewest_escape_digits(self, fewest: bool) -> Self {
+        Style {
+            code_digits: fewest,
+            ..self
+        }
+    }
+
     /// The same with visible characters of ASCII, from `!` to `~`, for the escapes by number that spell them, or with what stands
     /// there. The quote that closes the literal, and a backslash, get a backslash. A space stays an escape: after a line break it
     /// would be dropped.
@@ -270,6 +289,7 @@ impl Style {
             exponent_letter: self.exponent_letter.map(Case::proved),
             exponent_plus: self.exponent_plus,
             escape_digits: self.escape_digits.map(Case::proved),
+            code_digits: self.code_digits,
             ascii_escapes: self.ascii_escapes,
             named_escapes: self.named_escapes,
             quote_escapes: self.quote_escapes,

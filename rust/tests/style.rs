@@ -17,6 +17,7 @@ fn style_of(letters: &str) -> Style {
         'u' => style.drop_underscores(true),
         'z' => style.drop_leading_zeros(true),
         'p' => style.drop_exponent_plus(true),
+        'c' => style.fewest_escape_digits(true),
         'a' => style.drop_ascii_escapes(true),
         'n' => style.named_escapes(true),
         'q' => style.drop_quote_escapes(true),
@@ -76,7 +77,7 @@ fn read_alike(old: &str, new: &str) -> bool {
 
 #[test]
 fn what_is_written_reads_alike() {
-    let all = style_of("xuzepdanqh");
+    let all = style_of("xuzepdcanqh");
     for row in ROWS.lines() {
         let text = decoded(row.split(' ').nth(1).unwrap());
         if let Ok(written) = rewrite(&text, all) {
@@ -89,7 +90,7 @@ fn what_is_written_reads_alike() {
 #[test]
 fn errors_are_those_of_the_reader() {
     for text in ["", "0b102", "\"a\\q\"", "r\"a\"b\"", "'ab'", "1e", "x"] {
-        let error = rewrite(text, style_of("xuzepdanqh")).unwrap_err();
+        let error = rewrite(text, style_of("xuzepdcanqh")).unwrap_err();
         assert_eq!(error, Lit::parse(text).unwrap_err(), "{text}");
     }
     // A minus is a token of its own.

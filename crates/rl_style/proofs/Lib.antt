@@ -5,6 +5,7 @@ pub mod LeadingZeros
 pub mod SameIntegers
 pub mod SameFloats
 pub mod SameRaw
+pub mod CodeDigits
 pub mod SameUnits
 pub mod SameLiterals
 pub mod QuotedParts

@@ -8,7 +8,7 @@ use Rattle.rl_forms.proofs.StrictQuoted.{between}
 use Rattle.rl_writing.specs.RawStrings.{raw_text}
 use Rattle.rl_style.specs.declared.style.Style.{Style}
 use Rattle.rl_style.specs.Cases.{cased, drops_underscores, exponent_letter, kept_digits, number_character, significant}
-use Rattle.rl_style.specs.Rewriting.{HasHashes, HasNoRule, Rewrites, RewritesCooked, RewritesFloat, RewritesInt, RewritesRaw, cased_digit, is_named, is_visible, letter_of, respelled, restyled, visible_unit}
+use Rattle.rl_style.specs.Rewriting.{HasHashes, HasNoRule, Rewrites, RewritesCooked, RewritesFloat, RewritesInt, RewritesRaw, cased_digit, code_digits, fewest_digits, is_named, is_visible, letter_of, respelled, restyled, visible_unit}
 use Rattle.rl_text.specs.Texts.{first_passes}
 use Rattle.rl_lexer.specs.Lexemes.{is_base_letter}
 use Rattle.rl_style.proofs.CaseLemmas.{none_right}
@@ -93,7 +93,9 @@ unit_kept style k (ByteEscape high low) n =
     (ByteEscape (cased style.escape_digits high) (cased style.escape_digits low)) n
     ∙ ap (λ z. ByteEscape (cased z high) (cased z low)) n.escape_digits
 unit_kept style k (UnicodeEscape digits) n =
-    escape_kept style k (spaced_value digits) (UnicodeEscape (map (cased_digit style.escape_digits) digits)) n
+    escape_kept style k (spaced_value digits) (UnicodeEscape (code_digits style digits)) n
+    ∙ ap (λ b. UnicodeEscape (map (cased_digit style.escape_digits) (cond b (fewest_digits digits) digits)))
+    n.code_digits
     ∙ ap (λ z. UnicodeEscape (map (cased_digit z) digits)) n.escape_digits ∙ ap UnicodeEscape (codes_kept digits)
 unit_kept style k (Itself c) n = refl
 unit_kept style k (PlainEscape c) n = refl

@@ -11,7 +11,8 @@ use Rattle.rl_style.specs.declared.style.Case.TheVariants.{Lower, Upper}
 use Rattle.rl_style.specs.declared.style.Style.{Style}
 use Rattle.rl_style.specs.Cases.{cased, lower_case, upper_case}
 use Rattle.rl_style.specs.Rewriting.{SameLiteral, RewritesCooked, cased_digit, restyled}
-use Rattle.rl_style.specs.Rewriting.{is_named, is_visible, letter_of, respelled, visible_unit}
+use Rattle.rl_style.specs.Rewriting.{code_digits, fewest_digits, is_named, is_visible, letter_of, respelled, visible_unit}
+use Rattle.rl_style.proofs.CodeDigits.{code_twice, fewest_unicode, fewest_value}
 use Rattle.rl_style.proofs.CaseLemmas.{none_right, cased_past, cased_value, spelled_cased, twice_cased}
 
 -- ---- digits
@@ -63,6 +64,29 @@ unicode_cased case ds =
     (all_hex case ds)
     ∙ ap (λ n. (nat_le 1 (length ds) && nat_le (length ds) 6) && list_all (λ d. is_ascii_hexdigit d.0) ds
     && all_scalars (n ∷ [])) (code_cased case ds)
+
+-- ---- with the fewest digits
+
+abbrev kept_digits : Style → List (ℕ × ℕ) → List (ℕ × ℕ)
+kept_digits style ds = cond style.code_digits (fewest_digits ds) ds
+
+kept_value : (style : Style) (ds : List (ℕ × ℕ)) → spaced_value (kept_digits style ds) ≡ spaced_value ds
+kept_value style ds = go style.code_digits
+  where
+    go : (b : Bool) → spaced_value (cond b (fewest_digits ds) ds) ≡ spaced_value ds
+    go true = fewest_value ds
+    go false = refl
+
+kept_unicode : (style : Style) (ds : List (ℕ × ℕ)) → is_unicode_escape ds ≡ true
+    → is_unicode_escape (kept_digits style ds) ≡ true
+kept_unicode style ds h = go style.code_digits
+  where
+    go : (b : Bool) → is_unicode_escape (cond b (fewest_digits ds) ds) ≡ true
+    go true = fewest_unicode ds h
+    go false = h
+
+pub code_value : (style : Style) (ds : List (ℕ × ℕ)) → spaced_value (code_digits style ds) ≡ spaced_value ds
+code_value style ds = code_cased style.escape_digits (kept_digits style ds) ∙ kept_value style ds
 
 -- ---- one unit
 
@@ -131,14 +155,19 @@ byte_allowed case CStr high low h =
     ∙ ap (λ n. (is_ascii_hexdigit high && is_ascii_hexdigit low) && not (n == 0)) (two_cased case high low) ∙ h
 byte_allowed case kind high low h = absurd (cc)
 
-code_allowed : (case : Option Case) (k : Kind) (ds : List (ℕ × ℕ)) → is_strict_unit k (UnicodeEscape ds) ≡ true
-    → is_strict_unit k (UnicodeEscape (map (cased_digit case) ds)) ≡ true
-code_allowed case Str ds h = unicode_cased case ds ∙ h
-code_allowed case Char ds h = unicode_cased case ds ∙ h
-code_allowed case CStr ds h =
-    ap (λ b. b && not (spaced_value (map (cased_digit case) ds) == 0)) (unicode_cased case ds)
-    ∙ ap (λ n. is_unicode_escape ds && not (n == 0)) (code_cased case ds) ∙ h
-code_allowed case kind ds h = absurd (cc)
+code_unicode : (style : Style) (ds : List (ℕ × ℕ)) → is_unicode_escape ds ≡ true
+    → is_unicode_escape (code_digits style ds) ≡ true
+code_unicode style ds h = unicode_cased style.escape_digits (kept_digits style ds) ∙ kept_unicode style ds h
+
+code_allowed : (style : Style) (k : Kind) (ds : List (ℕ × ℕ)) → is_strict_unit k (UnicodeEscape ds) ≡ true
+    → is_strict_unit k (UnicodeEscape (code_digits style ds)) ≡ true
+code_allowed style Str ds h = code_unicode style ds h
+code_allowed style Char ds h = code_unicode style ds h
+code_allowed style CStr ds h =
+    let p = and_parts (is_unicode_escape ds) (not (spaced_value ds == 0)) h in
+    and_from (is_unicode_escape (code_digits style ds)) (not (spaced_value (code_digits style ds) == 0))
+    (code_unicode style ds p.0) (ap (λ n. not (n == 0)) (code_value style ds) ∙ p.1)
+code_allowed style kind ds h = absurd (cc)
 
 -- ---- escapes by number that become shorter
 
@@ -291,7 +320,7 @@ unit_allowed style k us (ByteEscape high low) q h = respelled_allowed style k us
     (ByteEscape (cased style.escape_digits high) (cased style.escape_digits low)) q
     (byte_allowed style.escape_digits k high low h)
 unit_allowed style k us (UnicodeEscape digits) q h = respelled_allowed style k us (spaced_value digits)
-    (UnicodeEscape (map (cased_digit style.escape_digits) digits)) q (code_allowed style.escape_digits k digits h)
+    (UnicodeEscape (code_digits style digits)) q (code_allowed style k digits h)
 unit_allowed style k us (LineBreak blanks) q h = h
 
 pub all_allowed : (style : Style) (k : Kind) (vs us : List StrictUnit) → HasUnits k vs
@@ -341,7 +370,7 @@ front_stays style k (ByteEscape high low ∷ us) h n = respelled_front style k (
     (ByteEscape (cased style.escape_digits high) (cased style.escape_digits low))
     (flat_map strict_text (map (restyled style k) us)) refl
 front_stays style k (UnicodeEscape digits ∷ us) h n = respelled_front style k (spaced_value digits)
-    (UnicodeEscape (map (cased_digit style.escape_digits) digits)) (flat_map strict_text (map (restyled style k) us))
+    (UnicodeEscape (code_digits style digits)) (flat_map strict_text (map (restyled style k) us))
     refl
 front_stays style k (LineBreak blanks ∷ us) h n = refl
 
@@ -369,7 +398,7 @@ blanks_stay style k (u ∷ us) h b = go u (and_parts (is_strict_unit k u) (list_
         (ByteEscape (cased style.escape_digits high) (cased style.escape_digits low)) (map (restyled style k) us)
         (ih p b) (ih p b)
     go (UnicodeEscape digits) p b ih = respelled_ends style k (spaced_value digits)
-        (UnicodeEscape (map (cased_digit style.escape_digits) digits)) (map (restyled style k) us) (ih p b) (ih p b)
+        (UnicodeEscape (code_digits style digits)) (map (restyled style k) us) (ih p b) (ih p b)
     go (LineBreak blanks) p b ih = (front_stays style k us p b.0, ih p b.1)
 
 -- ---- contents
@@ -410,9 +439,9 @@ unit_contents style k (ByteEscape high low) h = respelled_contents style k (plac
     [])
     (λ low. refl) (ap (λ n. n ∷ []) (two_cased style.escape_digits high low))
 unit_contents style k (UnicodeEscape digits) h = respelled_contents style k (spaced_value digits)
-    (UnicodeEscape (map (cased_digit style.escape_digits) digits)) (strict_content_of k (spaced_value digits ∷ []))
+    (UnicodeEscape (code_digits style digits)) (strict_content_of k (spaced_value digits ∷ []))
     (λ low. sym (held_low k (spaced_value digits) low)) (ap (λ n. strict_content_of k (n ∷ []))
-    (code_cased style.escape_digits digits))
+    (code_value style digits))
 unit_contents style k (LineBreak blanks) h = refl
 
 pub all_contents : (style : Style) (k : Kind) (us : List StrictUnit) → list_all (is_strict_unit k) us ≡ true
@@ -468,14 +497,6 @@ twice_quote : (b : Bool) (style : Style) (k : Kind) (c : ℕ) → b ≡ (style.q
 twice_quote true style k c e = refl
 twice_quote false style k c e = ap (λ z. quote_unit z c) (sym e)
 
-twice_digits : (case : Option Case) (ds : List (ℕ × ℕ)) → map (cased_digit case) (map (cased_digit case) ds)
-    ≡ map (cased_digit case) ds
-twice_digits case [] = refl
-twice_digits case (d ∷ ds) =
-    let one : (ℕ × ℕ) = (cased case d.0, d.1) in
-    ap (λ n. (n, d.1) ∷ map (cased_digit case) (map (cased_digit case) ds)) (twice_cased case d.0)
-    ∙ ap (λ z. one ∷ z) (twice_digits case ds)
-
 -- an escape by number that is written anew again
 twice_respelled : (style : Style) (k : Kind) (n : ℕ) (escape : StrictUnit) → restyled style k escape
     ≡ respelled style k n escape → restyled style k (respelled style k n escape) ≡ respelled style k n escape
@@ -517,11 +538,10 @@ twice_unit style k (ByteEscape high low) =
     ∙ ap (λ z. respelled style k n (ByteEscape z (cased case l))) (twice_cased case high)
     ∙ ap (λ z. respelled style k n (ByteEscape h z)) (twice_cased case low))
 twice_unit style k (UnicodeEscape digits) =
-    let case : Option Case = style.escape_digits in
-    let new : List (ℕ × ℕ) = map (cased_digit case) digits in
+    let new : List (ℕ × ℕ) = code_digits style digits in
     twice_respelled style k (spaced_value digits) (UnicodeEscape new)
-    (ap (λ m. respelled style k m (UnicodeEscape (map (cased_digit case) new))) (code_cased case digits)
-    ∙ ap (λ z. respelled style k (spaced_value digits) (UnicodeEscape z)) (twice_digits case digits))
+    (ap (λ m. respelled style k m (UnicodeEscape (code_digits style new))) (code_value style digits)
+    ∙ ap (λ z. respelled style k (spaced_value digits) (UnicodeEscape z)) (code_twice style digits))
 twice_unit style k (LineBreak blanks) = refl
 
 twice_units : (style : Style) (k : Kind) (us : List StrictUnit) → map (restyled style k) (map (restyled style k) us)

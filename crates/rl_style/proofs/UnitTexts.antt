@@ -1,22 +1,28 @@
 -- Units are taken from a text one at a time, and each is written anew by its text.
-use Rattle.rl_text.proofs.Common.{◌≡◌, ℕ, ◌<◌, ◌≤◌, inl, inr, arith, nat_lt, lt-ltb, ltb-true, cases_lt, agree_below_at, ◌||◌, ◌&&◌, Bool, true, false, not, ◌==◌, cond, List, [], ◌∷◌, ◌++◌, map, Some, None, refl, sym, ap, subst, ◌∙◌, append_assoc, append-nil, append_cancel_right, and_from, and_parts, or_from, list_all, flat_map, map-append, replicate, zero, suc, scalar, encode_utf8_all, encodes-append, encodes-chars, IsUtf8}
+use Rattle.std.proofs.Common.{length-append}
+use Rattle.rl_text.proofs.Common.{length, ◌+◌, ◌≢◌, drop, eqb-true, ◌≡◌, ℕ, ◌<◌, ◌≤◌, inl, inr, arith, nat_lt, lt-ltb, ltb-true, cases_lt, agree_below_at, ◌||◌, ◌&&◌, Bool, true, false, not, ◌==◌, cond, List, [], ◌∷◌, ◌++◌, map, Some, None, refl, sym, ap, subst, ◌∙◌, append_assoc, append-nil, append_cancel_right, and_from, and_parts, or_from, list_all, flat_map, map-append, replicate, zero, suc, scalar, encode_utf8_all, encodes-append, encodes-chars, IsUtf8}
 use Rattle.std.specs.Prelude.{Option}
 use Rattle.std.specs.Str.{chars}
 use Rattle.rl_text.proofs.Basics.{apart, false_unless}
 use Rattle.rl_text.proofs.LowBytes.{encode_is_high, low_front}
 use Rattle.rl_reading.proofs.Names.{flat_map-append, Kind, Str, ByteStr, CStr, Byte, Char, Int, Float, BoolKind, content_of, holds_characters, place_value, strict_content_of, strict_contents, first_passes, IsTail, StrictUnit, Itself, QuoteEscape, PlainEscape, AsciiEscape, ByteEscape, UnicodeEscape, LineBreak, strict_text, is_strict_unit, unit_text, unit_value}
 use Rattle.rl_forms.specs.Written.{closer}
-use Rattle.rl_forms.specs.Strict.{BlanksEnd, is_bare_character, is_bare_in_string, is_plain_letter, plain_escapes, plain_value_in, spaced_digit, spaced_value}
+use Rattle.rl_forms.specs.Strict.{BlanksEnd, is_bare_character, is_bare_in_string, is_plain_letter, is_unicode_escape, plain_escapes, plain_value_in, spaced_digit, spaced_value}
 use Rattle.rl_forms.proofs.StrictQuoted.{MayFollow, no_blank, no_return, stands}
 use Rattle.rl_reading.specs.Mirrors.UnitAt.{unit_at}
 use Rattle.rl_reading.proofs.UnitLemmas.{some_pair, unit_complete, unit_nil, unit_sound}
 use Rattle.rl_style.specs.declared.style.Case.{Case}
 use Rattle.rl_style.specs.declared.style.Case.TheVariants.{Lower, Upper}
 use Rattle.rl_style.specs.declared.style.Style.{Style}
-use Rattle.rl_style.specs.Cases.{cased}
-use Rattle.rl_style.specs.Rewriting.{cased_digit, is_named, is_visible, letter_of, respelled, restyled, visible_unit}
-use Rattle.rl_style.specs.Mirrors.{AreUnits, ascii_in, number_text, restyled_escape, restyled_text, visible_text}
+use Rattle.rl_style.specs.Cases.{cased, is_padding}
+use Rattle.rl_text.specs.Classes.{after_run}
+use Rattle.rl_text.specs.Texts.{begins}
+use Rattle.rl_forms.specs.Spelling.{without_underscores}
+use Rattle.rl_writing.proofs.AsciiLemmas.{encoded_low, low_chars}
+use Rattle.rl_style.specs.Rewriting.{cased_digit, code_digits, fewest_digits, is_named, is_visible, letter_of, respelled, restyled, visible_unit}
+use Rattle.rl_style.specs.Mirrors.{AreUnits, ascii_in, digits_text, fewest_text, number_text, zero_closed, restyled_escape, restyled_text, visible_text}
 use Rattle.std.proofs.Math.Utf8.{scalars}
+use Rattle.rl_style.proofs.CodeDigits.{fewest_is, hex_of, unicode_hex}
 use Rattle.rl_style.proofs.CaseLemmas.{none_right, scalars_cased}
 use Rattle.rl_style.proofs.SameUnits.{named_low, quote_of, visible_low}
 use Rattle.rl_style.proofs.WrittenTexts.{scalars_join}
@@ -115,19 +121,19 @@ spelled_so false true k n text escape e = refl
 spelled_so false false k n text escape e = e
 
 number_is : (style : Style) (k : Kind) (n m : ℕ) (text : List ℕ) (escape : StrictUnit) → IsOf n m
-    → map (cased style.escape_digits) text ≡ strict_text escape
+    → digits_text style text ≡ strict_text escape
     → number_text style k m text ≡ strict_text (respelled style k n escape)
 number_is style k n m text escape of same =
     elim (cases_lt n 128) [
       | inl low ↦ ap (λ z. number_text style k z text) (of.low low)
           ∙ spelled_so (style.ascii_escapes && is_visible n) (style.named_escapes && is_named n) k n
-          (map (cased style.escape_digits) text) escape same
+          (digits_text style text) escape same
       | inr high ↦
           let none : is_visible n ≡ false = false_unless (is_visible n)
           (λ v. let l = visible_low n v in absurd (omega (arith, l, high))) in
           let unnamed : is_named n ≡ false = false_unless (is_named n)
           (λ v. let l = named_low n v in absurd (omega (arith, l, high))) in
-          let all : List ℕ = map (cased style.escape_digits) text in
+          let all : List ℕ = digits_text style text in
           ap (λ z. number_text style k z text) (of.high high)
           ∙ ap (λ b. cond b (visible_text k 128) (cond (style.named_escapes && false) (92 ∷ letter_of 128 ∷ []) all))
           (none_right style.ascii_escapes)
@@ -182,21 +188,50 @@ underscores case zero = refl
 underscores case (suc n) = ap (λ z. z ∷ map (cased case) (replicate n 95)) (underscore case)
     ∙ ap (λ z. 95 ∷ z) (underscores case n)
 
-digits_text : (case : Option Case) (ds : List (ℕ × ℕ)) → map (cased case) (flat_map spaced_digit ds)
+row_text : (case : Option Case) (ds : List (ℕ × ℕ)) → map (cased case) (flat_map spaced_digit ds)
     ≡ flat_map spaced_digit (map (cased_digit case) ds)
-digits_text case [] = refl
-digits_text case (d ∷ ds) =
+row_text case [] = refl
+row_text case (d ∷ ds) =
     map-append (cased case) (spaced_digit d) (flat_map spaced_digit ds)
     ∙ ap (λ z. (cased case d.0 ∷ z) ++ map (cased case) (flat_map spaced_digit ds)) (underscores case d.1)
-    ∙ ap (λ z. (cased case d.0 ∷ replicate d.1 95) ++ z) (digits_text case ds)
+    ∙ ap (λ z. (cased case d.0 ∷ replicate d.1 95) ++ z) (row_text case ds)
 
-code_text : (case : Option Case) (ds : List (ℕ × ℕ)) → map (cased case) (strict_text (UnicodeEscape ds))
-    ≡ strict_text (UnicodeEscape (map (cased_digit case) ds))
-code_text case ds =
-    code_front case (flat_map spaced_digit ds ++ (125 ∷ []))
-    ∙ ap (λ z. 92 ∷ 117 ∷ 123 ∷ z) (map-append (cased case) (flat_map spaced_digit ds) (125 ∷ [])
-    ∙ ap (λ z. z ++ map (cased case) (125 ∷ [])) (digits_text case ds)
-    ∙ ap (λ z. flat_map spaced_digit (map (cased_digit case) ds) ++ z) (brace case))
+-- digits and the brace after them
+closed_text : (case : Option Case) (ds : List (ℕ × ℕ)) → map (cased case) (flat_map spaced_digit ds ++ (125 ∷ []))
+    ≡ flat_map spaced_digit (map (cased_digit case) ds) ++ (125 ∷ [])
+closed_text case ds =
+    map-append (cased case) (flat_map spaced_digit ds) (125 ∷ [])
+    ∙ ap (λ z. z ++ map (cased case) (125 ∷ [])) (row_text case ds)
+    ∙ ap (λ z. flat_map spaced_digit (map (cased_digit case) ds) ++ z) (brace case)
+
+code_text : (style : Style) (ds : List (ℕ × ℕ)) → list_all hex_of ds ≡ true
+    → digits_text style (strict_text (UnicodeEscape ds)) ≡ strict_text (UnicodeEscape (code_digits style ds))
+code_text style ds h = go style.code_digits
+  where
+    inside : List ℕ
+    inside = flat_map spaced_digit ds ++ (125 ∷ [])
+
+    go : (b : Bool) → cond (b && true) (92 ∷ 117 ∷ 123 ∷ map (cased style.escape_digits) (fewest_text inside))
+        (map (cased style.escape_digits) (92 ∷ 117 ∷ 123 ∷ inside))
+        ≡ strict_text (UnicodeEscape (map (cased_digit style.escape_digits) (cond b (fewest_digits ds) ds)))
+    go true = ap (λ z. 92 ∷ 117 ∷ 123 ∷ z) (ap (map (cased style.escape_digits)) (fewest_is ds h)
+        ∙ closed_text style.escape_digits (fewest_digits ds))
+    go false = code_front style.escape_digits inside
+        ∙ ap (λ z. 92 ∷ 117 ∷ 123 ∷ z) (closed_text style.escape_digits ds)
+
+hex_text : (style : Style) (high low : ℕ) → digits_text style (92 ∷ 120 ∷ high ∷ low ∷ [])
+    ≡ 92 ∷ 120 ∷ map (cased style.escape_digits) (high ∷ low ∷ [])
+hex_text style high low =
+    ap (λ b. cond b (92 ∷ 117 ∷ 123 ∷ map (cased style.escape_digits) (fewest_text (low ∷ [])))
+    (map (cased style.escape_digits) (92 ∷ 120 ∷ high ∷ low ∷ []))) (none_right style.code_digits)
+    ∙ hex_front style.escape_digits (high ∷ low ∷ [])
+
+-- the digits of an escape that the kind has
+hexes : (k : Kind) (ds : List (ℕ × ℕ)) → is_strict_unit k (UnicodeEscape ds) ≡ true → list_all hex_of ds ≡ true
+hexes Str ds h = unicode_hex ds h
+hexes Char ds h = unicode_hex ds h
+hexes CStr ds h = unicode_hex ds (and_parts (is_unicode_escape ds) (not (spaced_value ds == 0)) h).0
+hexes kind ds h = absurd (cc)
 
 pub unit_restyled : (style : Style) (k : Kind) (u : StrictUnit) → is_strict_unit k u ≡ true
     → restyled_text style k (ascii_in (strict_contents (strict_content_of k) u)) (strict_text u)
@@ -216,16 +251,16 @@ unit_restyled style k (AsciiEscape high low) h =
     let n : ℕ = place_value 16 (high ∷ low ∷ []) in
     number_is style k n (ascii_in (n ∷ [])) (92 ∷ 120 ∷ high ∷ low ∷ [])
     (AsciiEscape (cased style.escape_digits high) (cased style.escape_digits low)) (alone_of n)
-    (hex_front style.escape_digits (high ∷ low ∷ []))
+    (hex_text style high low)
 unit_restyled style k (ByteEscape high low) h =
     let n : ℕ = place_value 16 (high ∷ low ∷ []) in
     number_is style k n (ascii_in (n ∷ [])) (92 ∷ 120 ∷ high ∷ low ∷ [])
     (ByteEscape (cased style.escape_digits high) (cased style.escape_digits low)) (alone_of n)
-    (hex_front style.escape_digits (high ∷ low ∷ []))
+    (hex_text style high low)
 unit_restyled style k (UnicodeEscape digits) h =
     let n : ℕ = spaced_value digits in
     number_is style k n (ascii_in (strict_content_of k (n ∷ []))) (strict_text (UnicodeEscape digits))
-    (UnicodeEscape (map (cased_digit style.escape_digits) digits)) (held_of k n) (code_text style.escape_digits digits)
+    (UnicodeEscape (code_digits style digits)) (held_of k n) (code_text style digits (hexes k digits h))
 unit_restyled style k (LineBreak blanks) h = refl
 
 -- ---- the bytes that are put
@@ -301,17 +336,69 @@ pub plain_bytes : (style : Style) (k : Kind) (n : ℕ) (unit : List ℕ) → IsU
     → encode_utf8_all (restyled_text style k n (chars unit)) ≡ unit
 plain_bytes style k n unit u h = ap encode_utf8_all (no_escape style k n (chars unit) h) ∙ encodes-chars unit u
 
--- what an escape by number becomes, by which it is
-pub visible_bytes : (style : Style) (k : Kind) (n : ℕ) (text : List ℕ) → (style.ascii_escapes && is_visible n) ≡ true
-    → number_text style k n text ≡ visible_text k n
-visible_bytes style k n text h = ap (λ b. cond b (visible_text k n) (cond (style.named_escapes && is_named n)
-    (92 ∷ letter_of n ∷ []) (map (cased style.escape_digits) text))) h
+-- ---- an escape by number that is put
 
-pub unseen_bytes : (style : Style) (k : Kind) (n : ℕ) (text : List ℕ) → (style.ascii_escapes && is_visible n) ≡ false
-    → number_text style k n text ≡ cond (style.named_escapes && is_named n) (92 ∷ letter_of n ∷ [])
-    (map (cased style.escape_digits) text)
-unseen_bytes style k n text h = ap (λ b. cond b (visible_text k n) (cond (style.named_escapes && is_named n)
-    (92 ∷ letter_of n ∷ []) (map (cased style.escape_digits) text))) h
+opened : (t : List ℕ) → begins (92 ∷ 117 ∷ 123 ∷ []) t ≡ true → t ≡ 92 ∷ 117 ∷ 123 ∷ drop 3 t
+opened [] h = absurd (cc)
+opened (a ∷ []) h = absurd (let e : false ≡ true = sym (none_right (a == 92)) ∙ h in cc)
+opened (a ∷ b ∷ []) h =
+    let p = and_parts (a == 92) ((b == 117) && false) h in
+    absurd (let e : false ≡ true = sym (none_right (b == 117)) ∙ p.1 in cc)
+opened (a ∷ b ∷ c ∷ t) h =
+    let p = and_parts (a == 92) ((b == 117) && ((c == 123) && true)) h in
+    let q = and_parts (b == 117) ((c == 123) && true) p.1 in
+    let r = and_parts (c == 123) true q.1 in
+    ap (λ z. z ∷ b ∷ c ∷ t) (eqb-true a 92 p.0) ∙ ap (λ z. 92 ∷ z ∷ c ∷ t) (eqb-true b 117 q.0)
+    ∙ ap (λ z. 92 ∷ 117 ∷ z ∷ t) (eqb-true c 123 r.0)
+
+pub opened_length : (text inside prefix : List ℕ) → IsUtf8 text → IsUtf8 inside → prefix ≡ 92 ∷ 117 ∷ 123 ∷ []
+    → chars text ≡ chars prefix ++ chars inside → length text ≡ 3 + length inside
+opened_length text inside prefix ut ui is e =
+    let front : List ℕ = 92 ∷ 117 ∷ 123 ∷ [] in
+    let whole : chars text ≡ front ++ chars inside = e
+    ∙ ap (λ z. z ++ chars inside) (ap chars is ∙ low_chars front refl) in
+    let bytes : text ≡ front ++ inside = sym (encodes-chars text ut) ∙ ap encode_utf8_all whole
+    ∙ encodes-append front (chars inside)
+    ∙ ap (λ z. z ++ encode_utf8_all (chars inside)) (encoded_low front refl)
+    ∙ ap (λ z. front ++ z) (encodes-chars inside ui) in
+    ap length bytes ∙ length-append front inside
+
+code_bytes : (style : Style) (text inside prefix : List ℕ) → style.code_digits ≡ true → prefix
+    ≡ 92 ∷ 117 ∷ 123 ∷ []
+    → chars text ≡ chars prefix ++ chars inside
+    → encode_utf8_all (digits_text style (chars text))
+    ≡ prefix ++ encode_utf8_all (map (cased style.escape_digits) (fewest_text (chars inside)))
+code_bytes style text inside prefix rule is e =
+    let whole : chars text ≡ 92 ∷ 117 ∷ 123 ∷ chars inside = e
+    ∙ ap (λ z. z ++ chars inside) (ap chars is ∙ low_chars (92 ∷ 117 ∷ 123 ∷ []) refl) in
+    let new : List ℕ = map (cased style.escape_digits) (fewest_text (chars inside)) in
+    ap (λ z. encode_utf8_all (digits_text style z)) whole
+    ∙ ap (λ b. encode_utf8_all (cond (b && true) (92 ∷ 117 ∷ 123 ∷ new)
+    (map (cased style.escape_digits) (92 ∷ 117 ∷ 123 ∷ chars inside)))) rule
+    ∙ encodes-append (92 ∷ 117 ∷ 123 ∷ []) new
+    ∙ ap (λ z. z ++ encode_utf8_all new) (encoded_low (92 ∷ 117 ∷ 123 ∷ []) refl ∙ sym is)
+
+pub code_written : (style : Style) (text inside prefix a b d : List ℕ) → style.code_digits ≡ true → prefix
+    ≡ 92 ∷ 117 ∷ 123 ∷ [] → chars text ≡ chars prefix ++ chars inside → b ≡ a ++ prefix
+    → d ≡ b ++ encode_utf8_all (map (cased style.escape_digits) (fewest_text (chars inside)))
+    → d ≡ a ++ encode_utf8_all (digits_text style (chars text))
+code_written style text inside prefix a b d rule is e f g =
+    let new : List ℕ = encode_utf8_all (map (cased style.escape_digits) (fewest_text (chars inside))) in
+    g ∙ ap (λ z. z ++ new) f ∙ append_assoc a prefix new
+    ∙ ap (λ z. a ++ z) (sym (code_bytes style text inside prefix rule is e))
+
+pub cased_code : (style : Style) (text prefix : List ℕ) → prefix ≡ 92 ∷ 117 ∷ 123 ∷ []
+    → ((x : List ℕ) → chars text ≢ chars prefix ++ x)
+    → digits_text style (chars text) ≡ map (cased style.escape_digits) (chars text)
+cased_code style text prefix is none =
+    let closed : begins (92 ∷ 117 ∷ 123 ∷ []) (chars text) ≡ false = false_unless
+    (begins (92 ∷ 117 ∷ 123 ∷ []) (chars text))
+    (λ h. none (drop 3 (chars text)) (opened (chars text) h
+    ∙ ap (λ z. z ++ drop 3 (chars text)) (sym (ap chars is ∙ low_chars (92 ∷ 117 ∷ 123 ∷ []) refl)))) in
+    ap (λ b. cond (style.code_digits && b) (92 ∷ 117 ∷ 123 ∷ map (cased style.escape_digits)
+    (fewest_text (drop 3 (chars text)))) (map (cased style.escape_digits) (chars text))) closed
+    ∙ ap (λ b. cond b (92 ∷ 117 ∷ 123 ∷ map (cased style.escape_digits)
+    (fewest_text (drop 3 (chars text)))) (map (cased style.escape_digits) (chars text))) (none_right style.code_digits)
 
 -- ---- the units that were passed
 
@@ -462,6 +549,41 @@ chosen_scalars : (b : Bool) (x y : List ℕ) → scalars x ≡ true → scalars 
 chosen_scalars true x y h k = h
 chosen_scalars false x y h k = k
 
+bare_scalars : (cs : List ℕ) → scalars cs ≡ true → scalars (without_underscores cs) ≡ true
+bare_scalars [] h = refl
+bare_scalars (c ∷ cs) h =
+    let p = and_parts (scalar c) (scalars cs) h in
+    chosen_scalars (not (c == 95)) (c ∷ without_underscores cs) (without_underscores cs)
+    (and_from (scalar c) (scalars (without_underscores cs)) p.0 (bare_scalars cs p.1)) (bare_scalars cs p.1)
+
+run_scalars : (test : ℕ → Bool) (cs : List ℕ) → scalars cs ≡ true → scalars (after_run test cs) ≡ true
+run_scalars test [] h = refl
+run_scalars test (c ∷ cs) h =
+    chosen_scalars (test c) (after_run test cs) (c ∷ cs)
+    (run_scalars test cs (and_parts (scalar c) (scalars cs) h).1) h
+
+zero_scalars : (cs : List ℕ) → scalars cs ≡ true → scalars (zero_closed cs) ≡ true
+zero_scalars [] h = refl
+zero_scalars (c ∷ cs) h = chosen_scalars (c == 125) (48 ∷ c ∷ cs) (c ∷ cs) h h
+
+fewest_scalars : (cs : List ℕ) → scalars cs ≡ true → scalars (fewest_text cs) ≡ true
+fewest_scalars [] h = refl
+fewest_scalars (c ∷ cs) h =
+    chosen_scalars (is_padding c) _ _
+    (bare_scalars (zero_closed (after_run is_padding cs)) (zero_scalars (after_run is_padding cs)
+    (run_scalars is_padding cs (and_parts (scalar c) (scalars cs) h).1))) (bare_scalars (c ∷ cs) h)
+
+drop_scalars : (n : ℕ) (cs : List ℕ) → scalars cs ≡ true → scalars (drop n cs) ≡ true
+drop_scalars zero cs h = h
+drop_scalars (suc n) [] h = refl
+drop_scalars (suc n) (c ∷ cs) h = drop_scalars n cs (and_parts (scalar c) (scalars cs) h).1
+
+digits_scalars : (style : Style) (cs : List ℕ) → scalars cs ≡ true → scalars (digits_text style cs) ≡ true
+digits_scalars style cs h =
+    chosen_scalars (style.code_digits && begins (92 ∷ 117 ∷ 123 ∷ []) cs) _ _
+    (scalars_cased style.escape_digits (fewest_text (drop 3 cs)) (fewest_scalars (drop 3 cs) (drop_scalars 3 cs h)))
+    (scalars_cased style.escape_digits cs h)
+
 number_scalars : (style : Style) (k : Kind) (n : ℕ) (cs : List ℕ) → n ≤ 128 → scalars cs ≡ true
     → scalars (number_text style k n cs) ≡ true
 number_scalars style k n cs small h =
@@ -472,7 +594,7 @@ number_scalars style k n cs small h =
     (chosen_scalars (n == closer k || n == 92) (92 ∷ n ∷ []) (n ∷ []) (and_from (scalar n) true one refl)
     (and_from (scalar n) true one refl))
     (chosen_scalars (style.named_escapes && is_named n) (92 ∷ letter_of n ∷ []) _
-    (and_from (scalar (letter_of n)) true letter refl) (scalars_cased style.escape_digits cs h))
+    (and_from (scalar (letter_of n)) true letter refl) (digits_scalars style cs h))
   where
     scalar_low : (n : ℕ) → n ≤ 128 → scalar n ≡ true
     scalar_low n s = agree_below_at scalar (λ n. true) 129 n refl (omega (arith, s))

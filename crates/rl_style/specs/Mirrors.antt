@@ -1,14 +1,17 @@
 -- Mirrors of the code, for private functions and proofs alone.
-use Rattle.std.specs.Prelude.{◌≡◌, ℕ, ◌<◌, not, ◌&&◌, ◌||◌, ◌==◌, nat_lt, List, [], ◌∷◌, ◌++◌, Option, Some, None, map, replicate, IsTrue, if◌then◌else◌}
+use Rattle.std.specs.Prelude.{◌≡◌, ℕ, ◌<◌, not, ◌&&◌, ◌||◌, ◌==◌, nat_lt, List, [], ◌∷◌, ◌++◌, Option, Some, None, map, replicate, codes, drop, IsTrue, if◌then◌else◌}
 use Rattle.std.specs.List.{flat_map, list_all}
 use Prim.Native.Char.{code}
 use Rattle.rl_forms.specs.declared.kind.Kind.{Kind}
 use Rattle.rl_forms.specs.Strict.{BlanksEnd, HasUnits, IsRawInside, IsStrictSuffix, StrictUnit, is_strict_unit, strict_closer, strict_opener, strict_raw_opener, strict_text}
+use Rattle.rl_forms.specs.Spelling.{without_underscores}
 use Rattle.rl_forms.specs.Written.{closer}
+use Rattle.rl_text.specs.Classes.{after_run}
+use Rattle.rl_text.specs.Texts.{begins}
 use Rattle.rl_reading.specs.declared.quoted_forms.QuotedForm.{QuotedForm}
 use Rattle.rl_reading.specs.Mirrors.OpenerAt.{found_opener, opener_at}
 use Rattle.rl_style.specs.declared.style.Style.{Style}
-use Rattle.rl_style.specs.Cases.{cased}
+use Rattle.rl_style.specs.Cases.{cased, is_padding}
 use Rattle.rl_style.specs.Rewriting.{is_named, is_visible, letter_of}
 
 -- one or none
@@ -55,12 +58,29 @@ ascii_in (n ∷ ns) = if nat_lt n 128 then n else 128
 abbrev pub visible_text : Kind → ℕ → List ℕ
 visible_text kind c = if c == closer kind || c == code "\\" then code "\\" ∷ c ∷ [] else c ∷ []
 
+-- digits, and what follows them, without underscores and without zeros in front; of zeros alone one before the brace
+abbrev pub zero_closed : List ℕ → List ℕ
+zero_closed [] = []
+zero_closed (c ∷ cs) = if c == code "}" then code "0" ∷ c ∷ cs else c ∷ cs
+
+abbrev pub fewest_text : List ℕ → List ℕ
+fewest_text [] = []
+fewest_text (c ∷ cs) =
+    if is_padding c then without_underscores (zero_closed (after_run is_padding cs)) else without_underscores (c ∷ cs)
+
+-- an escape by number, with the fewest digits where it is `\u{..}`
+abbrev pub digits_text : Style → List ℕ → List ℕ
+digits_text style text =
+    if style.code_digits && begins (codes "\\u{") text
+    then codes "\\u{" ++ map (cased style.escape_digits) (fewest_text (drop 3 text))
+    else map (cased style.escape_digits) text
+
 -- an escape by number that spells this, by its text
 abbrev pub number_text : Style → Kind → ℕ → List ℕ → List ℕ
 number_text style kind n text =
     if style.ascii_escapes && is_visible n then visible_text kind n
     else (if style.named_escapes && is_named n then code "\\" ∷ letter_of n ∷ []
-    else map (cased style.escape_digits) text)
+    else digits_text style text)
 
 -- an escape that stands for this, by what follows its backslash
 abbrev pub restyled_escape : Style → Kind → ℕ → List ℕ → List ℕ

@@ -62,6 +62,19 @@ pub record RewritesRaw (style : Style) (old new : List ℕ) : Type 0 where
 abbrev pub cased_digit : Option Case → ℕ × ℕ → ℕ × ℕ
 cased_digit case digit = (cased case digit.0, digit.1)
 
+-- the digits of `\u{..}` without underscores, and without the zeros in front of the others
+abbrev pub bare_digit : ℕ × ℕ → ℕ × ℕ
+bare_digit digit = (digit.0, 0)
+
+abbrev pub fewest_digits : List (ℕ × ℕ) → List (ℕ × ℕ)
+fewest_digits [] = []
+fewest_digits (d ∷ []) = bare_digit d ∷ []
+fewest_digits (d ∷ e ∷ ds) = if d.0 == code "0" then fewest_digits (e ∷ ds) else map bare_digit (d ∷ e ∷ ds)
+
+abbrev pub code_digits : Style → List (ℕ × ℕ) → List (ℕ × ℕ)
+code_digits style digits =
+    map (cased_digit style.escape_digits) (if style.code_digits then fewest_digits digits else digits)
+
 -- visible characters of ASCII, from `!` to `~`. A space is none of them: a line break before it would drop it.
 abbrev pub is_visible : ℕ → Bool
 is_visible c = nat_le (code "!") c && nat_le c (code "~")
@@ -95,7 +108,7 @@ restyled style kind (ByteEscape high low) =
     respelled style kind (place_value 16 (high ∷ low ∷ []))
     (ByteEscape (cased style.escape_digits high) (cased style.escape_digits low))
 restyled style kind (UnicodeEscape digits) =
-    respelled style kind (spaced_value digits) (UnicodeEscape (map (cased_digit style.escape_digits) digits))
+    respelled style kind (spaced_value digits) (UnicodeEscape (code_digits style digits))
 restyled style kind unit = unit
 
 -- The old text is a literal with escapes; in the new one each unit is what the style makes of it.
@@ -131,6 +144,7 @@ pub record HasNoRule (style : Style) : Type 0 where
   pub exponent_letter : style.exponent_letter ≡ None
   pub exponent_plus : style.exponent_plus ≡ false
   pub escape_digits : style.escape_digits ≡ None
+  pub code_digits : style.code_digits ≡ false
   pub ascii_escapes : style.ascii_escapes ≡ false
   pub named_escapes : style.named_escapes ≡ false
   pub quote_escapes : style.quote_escapes ≡ false

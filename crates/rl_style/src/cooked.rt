@@ -10,7 +10,7 @@ ghost use Rattle.rl_reading.specs.Mirrors.UnitAt.{piece_value};
 ghost use Rattle.rl_style.specs.Mirrors.{AreUnits, CookedParts, ascii_in, number_text, restyled_text, visible_text};
 ghost use Rattle.rl_style.specs.Rewriting.{RewritesCooked, is_named, is_visible, letter_of, restyled};
 
-use crate::case::put_cased;
+use crate::codes::put_digits;
 use crate::style::Style;
 use rl_forms::Kind;
 use rl_forms::written_unit::closer;
@@ -127,7 +127,7 @@ fn put_number(out: &mut [u8], at: usize, kind: Kind, style: Style, unit: &str, b
     if is_named(style, byte) {
         return put_pair(out, at, letter_of(byte));
     }
-    put_cased(out, at, style.escape_digits, unit)
+    put_digits(out, at, style, unit)
 }
 
 /// Puts an escape, written anew, by what follows its backslash and what it stands for.

@@ -3,6 +3,7 @@
 #![tactic(auto)]
 
 mod case;
+mod codes;
 mod cooked;
 pub mod laws;
 mod numbers;

@@ -86,7 +86,7 @@ fn put_numeral(out: &mut [u8], style: Style, drops: bool, hex: bool, numeral: &s
 }
 
 /// The text after the zeros and underscores at its front.
-fn skip_padding(text: &str) -> &str
+pub(crate) fn skip_padding(text: &str) -> &str
     ensures rest { chars result.now ≡ after_run is_padding (chars text.now) }
     ensures shorter { length result.now ≤ length text.now }
 {

@@ -24,6 +24,8 @@ pub struct Style {
     pub exponent_plus: bool,
     /// The case of the digits of `\x` and `\u{..}`.
     pub escape_digits: Option<Case>,
+    /// Whether the digits of `\u{..}` have no underscores and no zeros in front: `\u{e9}` for `\u{00_e9}`.
+    pub code_digits: bool,
     /// Whether a visible character of ASCII stands for itself where an escape by number spells it: `"A"` for `"\x41"`. The quote that
     /// closes the literal and a backslash get a backslash before them.
     pub ascii_escapes: bool,

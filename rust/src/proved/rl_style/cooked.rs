@@ -1,7 +1,7 @@
 // Rendered from crates/rl_style/src/cooked.rt by tools/render, which erases contracts: change that file, and render anew.
 //! Literals with escapes written anew, unit by unit.
 
-use crate::rl_style::case::put_cased;
+use crate::rl_style::codes::put_digits;
 use crate::rl_style::style::Style;
 use crate::rl_forms::Kind;
 use crate::rl_forms::written_unit::closer;
@@ -79,7 +79,7 @@ fn put_number(out: &mut [u8], at: usize, kind: Kind, style: Style, unit: &str, b
     if is_named(style, byte) {
         return put_pair(out, at, letter_of(byte));
     }
-    put_cased(out, at, style.escape_digits, unit)
+    put_digits(out, at, style, unit)
 }
 
 /// Puts an escape, written anew, by what follows its backslash and what it stands for.

@@ -3,6 +3,7 @@
 //! taken.
 
 mod case;
+mod codes;
 mod cooked;
 mod numbers;
 mod raw;

@@ -57,7 +57,7 @@ fn put_numeral(out: &mut [u8], style: Style, drops: bool, hex: bool, numeral: &s
 }
 
 /// The text after the zeros and underscores at its front.
-fn skip_padding(text: &str) -> &str {
+pub(crate) fn skip_padding(text: &str) -> &str {
     let mut rest = text;
     while let Some(('0' | '_', after)) = split_char(rest) {
         rest = after;
