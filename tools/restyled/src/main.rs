@@ -1,0 +1,36 @@
+//! Writes Rust files in a style: the paths of the files come on standard input, a line each; the first argument is `lower` or `upper`,
+//! the second a folder. Of each file that the style changes, its path and that of the new one are printed, with a tab between.
+
+use navyspindle::{restyle, Case, Style};
+use std::borrow::Cow;
+use std::io::{stdin, BufRead};
+use std::{env, fs};
+
+/// A style with all rules.
+fn style_of(case: Case) -> Style {
+    Style::new()
+        .hex_digits(case)
+        .drop_underscores(true)
+        .drop_leading_zeros(true)
+        .exponent_letter(case)
+        .drop_exponent_plus(true)
+        .escape_digits(case)
+        .drop_ascii_escapes(true)
+        .named_escapes(true)
+        .fewest_escape_digits(true)
+        .drop_quote_escapes(true)
+        .fewest_hashes(true)
+}
+
+fn main() {
+    let words: Vec<String> = env::args().collect();
+    let style = style_of(if words[1] == "upper" { Case::Upper } else { Case::Lower });
+    for (at, path) in stdin().lock().lines().map_while(Result::ok).enumerate() {
+        let Ok(text) = fs::read_to_string(&path) else { continue };
+        if let Ok(Cow::Owned(written)) = restyle(&text, style).apply() {
+            let new = format!("{}/{at}.rs", words[2]);
+            fs::write(&new, written).expect("room for the files");
+            println!("{path}\t{new}");
+        }
+    }
+}
