@@ -1,0 +1,6 @@
+pub mod Pieces
+pub mod SpotLemmas
+pub mod PlaceLemmas
+pub mod ColorLemmas
+pub mod JsonStringLemmas
+pub mod GithubLemmas
