@@ -4,3 +4,4 @@ pub mod PlaceLemmas
 pub mod ColorLemmas
 pub mod JsonStringLemmas
 pub mod GithubLemmas
+pub mod ContextLemmas

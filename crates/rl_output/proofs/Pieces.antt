@@ -1,7 +1,9 @@
 -- What is appended, piece by piece.
-use Rattle.rl_text.proofs.Common.{Bool, IsAscii, IsUtf8, List, [], ap, append_assoc, arith, chars, chars-IsAscii, cond, false, is_ascii, list_all, ltb-true, and_parts, nat_tests, sym, true, zero, suc, ℕ, ◌%◌, ◌++◌, ◌/◌, ◌<◌, ◌==◌, ◌∙◌, ◌∷◌, ◌≡◌}
+use Rattle.rl_text.proofs.Common.{Bool, IsAscii, IsUtf8, List, [], ap, append_assoc, arith, chars, chars-IsAscii, cond, false, is_ascii, list_all, ltb-true, and_parts, nat_tests, refl, sym, true, zero, suc, ℕ, ◌%◌, ◌++◌, ◌/◌, ◌<◌, ◌==◌, ◌∙◌, ◌∷◌, ◌≡◌}
 use Rattle.std.specs.Fmt.{digits, decimal, digits_onto, digit_glyph}
 use Rattle.std.proofs.lemmas.Str.Ascii.{IsAscii-nil, IsAscii-cons}
+use Rattle.std.proofs.lemmas.Str.{IsUtf8-past_char}
+use Rattle.std.specs.Prelude.{encode_utf8_all}
 use Rattle.rl_lines.proofs.LineLemmas.{pushed}
 
 -- ---- ASCII
@@ -63,3 +65,9 @@ chosen_on b x y old new is e = e ∙ ap (λ (t : Bool). old ++ cond t x y) (sym 
 
 pub chosen_off : (b : Bool) (x y old new : List ℕ) → b ≡ false → new ≡ old ++ y → new ≡ old ++ cond b x y
 chosen_off b x y old new is e = e ∙ ap (λ (t : Bool). old ++ cond t x y) (sym is)
+
+-- what is left after the front of a text is a text
+pub back_utf8 : (front back : List ℕ) → IsUtf8 (encode_utf8_all (front ++ back)) → IsUtf8 (encode_utf8_all back)
+back_utf8 [] back u = u
+back_utf8 (c ∷ cs) back u = back_utf8 cs back (IsUtf8-past_char (encode_utf8_all (c ∷ (cs ++ back)))
+    (encode_utf8_all (cs ++ back)) c u refl)

@@ -5,3 +5,5 @@ pub mod JsonStrings
 pub mod Members
 pub mod Github
 pub mod Fronts
+pub mod ErrorIds
+pub mod Contexts

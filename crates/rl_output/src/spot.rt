@@ -5,6 +5,7 @@ ghost use Rattle.std.specs.Str.{chars, IsCharBoundary};
 ghost use Rattle.rl_lexer.specs.Cursors.{IsCursorState};
 ghost use Rattle.rl_lexer.specs.Sources.{without_mark as unmarked};
 ghost use Rattle.rl_text.specs.Texts.{IsTail};
+ghost use Rattle.rl_output.specs.Contexts.{IsBeforeInLine};
 ghost use Rattle.rl_output.specs.Spots.{next_spot, spot_after, covered, IsExtentOf, IsSpotOf};
 
 use rl_lexer::without_mark;
@@ -149,19 +150,28 @@ fn extent_from(text: &str, rest: &str, start: Spot, lo: usize, hi: usize) -> Ext
     Extent { lo, hi, start, end }
 }
 
+/// What stands in the line of a place before it, where a rest of the text begins at that place.
+fn before_in_line<'t>(text: &'t str, rest: &str, spot: Spot) -> &'t str
+    requires { IsSpotOf text.now rest.now spot }
+    ensures { IsBeforeInLine (chars text.now) (chars rest.now) (chars result.now) }
+{
+    let front = before(text, rest);
+    &front[front.len() + 1 - spot.byte_column..]
+}
+
 /// The places of a text. From one place to a later one only what stands between them is gone over; an earlier one is looked for
 /// from the front. A place is named by the rest of the text that begins there. No memory is taken.
 ///
 /// A byte order mark at the text's front has no column: it counts as what follows it.
 #[derive(Drop)]
-pub struct Spots<'t> {
+pub struct Places<'t> {
     text: &'t str,
     // what is left of the text at the last place
     rest: &'t str,
     spot: Spot,
 }
 
-impl<'t> Model for Spots<'t> {
+impl<'t> Model for Places<'t> {
     ghost use Rattle.std.specs.Prelude.{List, ℕ};
     ghost use Rattle.rl_output.specs.Spots.{IsSpotOf};
 
@@ -172,12 +182,12 @@ impl<'t> Model for Spots<'t> {
     ghost invariant = { λ p. IsSpotOf p.text.now p.rest.now p.spot };
 }
 
-impl<'t> Spots<'t> {
+impl<'t> Places<'t> {
     /// Of a text.
-    pub fn new(text: &'t str) -> Spots<'t>
+    pub fn new(text: &'t str) -> Places<'t>
         ensures { result ≡ text.now }
     {
-        Spots {
+        Places {
             text,
             rest: text,
             spot: FIRST,
@@ -222,5 +232,15 @@ impl<'t> Spots<'t> {
     {
         let start = self.at(rest);
         extent_from(self.text, rest, start, lo, hi)
+    }
+
+    /// What stands in the line of a place before it, where a rest of the text begins there.
+    pub fn line_before(&mut self, rest: &'t str) -> &'t str
+        requires { IsCursorState self.old rest.now }
+        ensures line { IsBeforeInLine (chars self.old) (chars rest.now) (chars result.now) }
+        ensures same { self.new ≡ self.old }
+    {
+        let spot = self.at(rest);
+        before_in_line(self.text, rest, spot)
     }
 }

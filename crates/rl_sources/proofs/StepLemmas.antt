@@ -41,12 +41,6 @@ use Rattle.rl_reasons.specs.Limits.{IsFloatBySuffix}
 use Rattle.rl_file_reasons.proofs.FilePlaces.{signed_same}
 use Rattle.rl_reasons.proofs.LimitLemmas.{read_within}
 
--- what is left after the front of a text is a text
-pub back_utf8 : (front back : List ℕ) → IsUtf8 (encode_utf8_all (front ++ back)) → IsUtf8 (encode_utf8_all back)
-back_utf8 [] back u = u
-back_utf8 (c ∷ cs) back u = back_utf8 cs back (IsUtf8-past_char (encode_utf8_all (c ∷ (cs ++ back)))
-    (encode_utf8_all (cs ++ back)) c u refl)
-
 -- The line that was appended begins where the text ended before.
 pub record EndsInLine (old now line : List ℕ) : Type 0 where
   pub boundary : IsCharBoundary now (length old)
