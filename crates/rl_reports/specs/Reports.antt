@@ -18,18 +18,18 @@ use Rattle.rl_reports.specs.declared.command.PlaceForm.{PlaceForm}
 use Rattle.rl_reports.specs.declared.command.PlaceForm.TheVariants as form
 use Rattle.rl_reports.specs.declared.command.Output.{Output}
 use Rattle.rl_reports.specs.declared.command.Output.TheVariants as output
-use Rattle.rl_sources.specs.declared.color.Paint.TheVariants as paint
-use Rattle.rl_sources.specs.declared.options.Form.{Form}
-use Rattle.rl_sources.specs.declared.options.Form.TheVariants.{Plain}
+use Rattle.rl_output.specs.declared.color.Paint.TheVariants as paint
+use Rattle.rl_output.specs.declared.form.Form.{Form}
+use Rattle.rl_output.specs.declared.form.Form.TheVariants.{Plain}
 use Rattle.rl_sources.specs.declared.options.Options.{Options}
 use Rattle.rl_sources.specs.declared.options.Shown.{Shown}
 use Rattle.rl_sources.specs.declared.options.Shown.TheVariants.{All, Only, Bad, Hidden}
-use Rattle.rl_sources.specs.declared.place.Place.{Place}
-use Rattle.rl_sources.specs.declared.place.Place.TheVariants.{Bytes, Line, Both}
+use Rattle.rl_output.specs.declared.place.Place.{Place}
+use Rattle.rl_output.specs.declared.place.Place.TheVariants.{Bytes, Line, Both}
 use Rattle.rl_reports.specs.declared.report.Report.{Report}
-use Rattle.rl_sources.specs.Colors.{painted}
-use Rattle.rl_sources.specs.Json.{is_json}
-use Rattle.rl_sources.specs.Places.{line_front}
+use Rattle.rl_output.specs.Colors.{painted}
+use Rattle.rl_output.specs.Forms.{is_json}
+use Rattle.rl_output.specs.Fronts.{line_front}
 use Rattle.rl_sources.specs.Scans.{Scans, StopsAtError, error_end}
 
 -- the path of standard input

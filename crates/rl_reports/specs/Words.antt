@@ -13,8 +13,8 @@ use Rattle.rl_reports.specs.declared.command.PlaceForm.TheVariants as form
 use Rattle.rl_reports.specs.declared.command.Output.{Output}
 use Rattle.rl_reports.specs.declared.command.Output.TheVariants as output
 use Rattle.rl_reports.specs.declared.command.Command.{Command}
-use Rattle.rl_sources.specs.declared.options.Form.{Form}
-use Rattle.rl_sources.specs.declared.options.Form.TheVariants as written
+use Rattle.rl_output.specs.declared.form.Form.{Form}
+use Rattle.rl_output.specs.declared.form.Form.TheVariants as written
 use Rattle.rl_sources.specs.declared.options.Shown.{Shown}
 use Rattle.rl_sources.specs.declared.options.Spelling.{Spelling}
 use Rattle.rl_sources.specs.declared.options.Spelling.TheVariants.{Value, Source}

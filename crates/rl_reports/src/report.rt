@@ -6,7 +6,7 @@ ghost use Rattle.rl_files.specs.Visible.{visible};
 ghost use Rattle.rl_files.specs.Walks.{FileAt, visited};
 ghost use Rattle.rl_files.specs.declared.tree.PathError.{PathError};
 ghost use Rattle.rl_lexer.specs.LexErrors.{lex_message};
-ghost use Rattle.rl_sources.specs.Places.{line_front};
+ghost use Rattle.rl_output.specs.Fronts.{line_front};
 ghost use Rattle.rl_sources.specs.Scans.{error_end};
 ghost use Rattle.rl_reports.specs.Reports.{is_input as input, is_by_line as by_line, is_bad as bad, is_alarm as alarm, IsShownPath, IsPathIn, IsOptionsFor, IsScannedAs, error_form, error_path, error_line_place, worded_place as as_words, error_text, line_count, count_line, path_line, printed_of, in_report, IsTextReport, IsErrorReport, IsNotUtf8, IsReport};
 

@@ -18,13 +18,14 @@ use Rattle.rl_reading.specs.declared.found.Found.{Found}
 use Rattle.rl_types.specs.declared.type_errors.TypeError.{TypeError}
 use Rattle.rl_sources.specs.declared.finding.Reason.TheVariants as reason
 use Rattle.rl_sources.specs.declared.options.Options.{Options}
-use Rattle.rl_sources.specs.declared.place.Place.{Place}
+use Rattle.rl_output.specs.declared.place.Place.{Place}
 use Rattle.rl_sources.specs.Findings.{FindsFlaw, IsFlawFinding, IsLimitFinding, IsPieceOf, IsShownPiece, IsTypeFinding, IsWrong}
 use Rattle.rl_sources.specs.Held.{IsCutAt}
 use Rattle.rl_sources.specs.InFile.{AreCuts, IsFlawsOver}
 use Rattle.rl_sources.proofs.InFileLemmas.{file_cut, file_within}
 use Rattle.rl_sources.proofs.ReasonLemmas.{flaw_cut, has_place}
-use Rattle.rl_sources.specs.Places.{IsPlaceIn, line_front}
+use Rattle.rl_sources.specs.Places.{IsPlaceIn}
+use Rattle.rl_output.specs.Fronts.{line_front}
 use Rattle.rl_sources.specs.Scans.{AreAllFlawLines, AreFlawLines, AreReasonLines, IsFindingLine, IsLimitLine, IsTypeLine, finding_end}
 
 -- ---- what the cursor gives stands in the text

@@ -6,12 +6,13 @@ use Rattle.rl_lexer.proofs.ErrorKinds.{char_len}
 use Rattle.rl_lines.specs.Lines.{Appends}
 use Rattle.rl_lines.proofs.LineLemmas.{pushed}
 use Rattle.rl_sources.specs.declared.options.Options.{Options}
-use Rattle.rl_sources.specs.declared.place.Place.{Place}
+use Rattle.rl_output.specs.declared.place.Place.{Place}
 use Rattle.rl_sources.specs.Hidden.{AreHiddenLines, IsHiddenLine, IsShownCharacter, character_words, hidden_end, hides, is_layout}
 use Rattle.rl_files.specs.Visible.{needs_escape}
-use Rattle.rl_sources.specs.Places.{line_front, IsPlaceIn}
-use Rattle.rl_sources.proofs.JsonLemmas.{two_pieces}
-use Rattle.rl_sources.specs.Json.{string_member}
+use Rattle.rl_sources.specs.Places.{IsPlaceIn}
+use Rattle.rl_output.specs.Fronts.{line_front}
+use Rattle.rl_output.proofs.Pieces.{two_pieces}
+use Rattle.rl_output.specs.Members.{string_member}
 
 -- ASCII that prints hides nothing
 plain_shown : (c : ℕ) → 32 ≤ c → c ≤ 126 → needs_escape c ≡ false
@@ -95,20 +96,3 @@ pub passes_all : (options : Options) (whole all rest lines : List ℕ) → Passe
 passes_all options whole all rest lines passes nil =
     subst (AreHiddenLines options whole all) (append-nil lines) (passes.goes_on []
     (subst (λ (r : List ℕ). AreHiddenLines options whole r []) (sym nil) refl))
-
--- the words of a character, and the line's end
-pub words_line : (old a new words : List ℕ) (c : ℕ) → IsUtf8 old → words ≡ character_words c → a ≡ old ++ words
-    → chars new ≡ chars a ++ codes "\n" → chars new ≡ chars old ++ (chars (character_words c) ++ codes "\n")
-words_line old a new words c utf8 words_are pushes ends =
-    ends ∙ ap (λ (z : List ℕ). z ++ codes "\n") (pushed old a words utf8 pushes
-    ∙ ap (λ (z : List ℕ). chars old ++ chars z) words_are)
-    ∙ append_assoc (chars old) (chars (character_words c)) (codes "\n")
-
--- the member of an object, and its end
-pub words_member : (old mid new words : List ℕ) (c : ℕ) → words ≡ character_words c
-    → mid ≡ old ++ string_member (codes "hidden") (chars words) → new ≡ mid ++ codes "}\n"
-    → new ≡ old ++ (string_member (codes "hidden") (chars (character_words c)) ++ codes "}\n")
-words_member old mid new words c words_are member ends =
-    ends ∙ ap (λ (z : List ℕ). z ++ codes "}\n") (member
-    ∙ ap (λ (z : List ℕ). old ++ string_member (codes "hidden") (chars z)) words_are)
-    ∙ append_assoc old (string_member (codes "hidden") (chars (character_words c))) (codes "}\n")

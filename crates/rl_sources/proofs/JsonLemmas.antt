@@ -18,10 +18,12 @@ use Rattle.rl_lines.proofs.PrintLemmas.{truth_chars}
 use Rattle.rl_lines.specs.Lines.{Appends, kind_label}
 use Rattle.rl_lines.proofs.LineLemmas.{pushed}
 use Rattle.rl_sources.specs.Held.{AreContentsOf}
-use Rattle.rl_sources.specs.Json.{more_numbers, number_array, json_value, string_member, literal_members, IsJsonLiteral, IsJsonValueOf}
-use Rattle.rl_sources.specs.JsonStrings.{json_string}
-use Rattle.rl_sources.proofs.ReasonLemmas.{id_low, lex_low, reason_low}
-use Rattle.rl_sources.proofs.StepLemmas.{decimal_ascii, low_text}
+use Rattle.rl_sources.specs.Json.{more_numbers, number_array, json_value, literal_members, IsJsonLiteral, IsJsonValueOf}
+use Rattle.rl_output.specs.Members.{string_member}
+use Rattle.rl_output.specs.JsonStrings.{json_string}
+use Rattle.rl_sources.proofs.ReasonLemmas.{error_id_low, id_low, lex_low, reason_low}
+use Rattle.rl_output.specs.ErrorIds.{error_id}
+use Rattle.rl_output.proofs.Pieces.{ascii_chars, ascii_pushed, decimal_ascii, five_parts, four_parts, three_pieces}
 
 -- ---- numbers
 
@@ -120,6 +122,9 @@ reason_words_are why new e = ap chars e ∙ ascii_chars (reason_message why) (re
 
 pub reason_id_is : (why : Reason) (new : List ℕ) → new ≡ reason_id why → chars new ≡ reason_id why
 reason_id_is why new e = ap chars e ∙ ascii_chars (reason_id why) (id_low why)
+
+pub error_id_is : (kind : LexKind) (new : List ℕ) → new ≡ error_id kind → chars new ≡ error_id kind
+error_id_is kind new e = ap chars e ∙ ascii_chars (error_id kind) (error_id_low kind)
 
 pub error_words_are : (kind : LexKind) (new : List ℕ) → new ≡ lex_message kind → chars new ≡ lex_message kind
 error_words_are kind new e = ap chars e ∙ ascii_chars (lex_message kind) (lex_low kind)

@@ -1,6 +1,6 @@
 -- What is appended for one token.
 use Rattle.rl_reading.proofs.Names.{HasNoReading, HasReading, Kind}
-use Rattle.rl_text.proofs.Common.{Bool, IsAscii, IsUtf8, List, None, Option, Some, [], ap, append_assoc, arith, chars, chars-IsAscii, cond, false, inl, inr, lit<, nat_tests, refl, subst, suc, sym, true, zero, ℕ, ◌%◌, ◌++◌, ◌/◌, ◌<◌, ◌==◌, ◌&&◌, ◌∙◌, ◌∷◌, ◌≡◌, ◌⊎◌, IsCharBoundary, and_parts, codes, is_ascii, list_all, ltb-true, length, take, drop, ◌+◌, chars-append, chars_from_encodes, encodes-append, encodes-chars, length-append, take-append_seam}
+use Rattle.rl_text.proofs.Common.{Bool, IsAscii, IsUtf8, List, None, Option, Some, [], ap, append_assoc, arith, chars, chars-IsAscii, chars-nil, cond, false, inl, inr, lit<, nat_tests, refl, subst, suc, sym, true, zero, ℕ, ◌%◌, ◌++◌, ◌/◌, ◌<◌, ◌==◌, ◌&&◌, ◌∙◌, ◌∷◌, ◌≡◌, ◌⊎◌, IsCharBoundary, and_parts, codes, is_ascii, list_all, ltb-true, length, take, drop, ◌+◌, chars-append, chars_from_encodes, encodes-append, encodes-chars, length-append, take-append_seam}
 use Rattle.std.specs.Fmt.{digits, decimal, digits_onto, digit_glyph}
 use Rattle.std.proofs.lemmas.List.{append-nil}
 use Rattle.std.proofs.lemmas.Str.{IsAscii-append, IsUtf8-past_char, IsCharBoundary-from_drop}
@@ -20,15 +20,20 @@ use Rattle.rl_lines.specs.Lines.{label_of, IsLabelOf, IsLineOf, Appends}
 use Rattle.rl_lines.proofs.LineLemmas.{pushed}
 use Rattle.rl_reasons.specs.declared.flaws.Flaw.{Flaw}
 use Rattle.rl_sources.specs.declared.options.Options.{Options}
+use Rattle.rl_sources.specs.declared.options.Spelling.{Spelling}
 use Rattle.rl_sources.specs.declared.options.Spelling.TheVariants.{Value}
+use Rattle.rl_output.specs.declared.form.Form.TheVariants.{Github}
+use Rattle.rl_output.specs.Contexts.{first_line}
+use Rattle.rl_output.specs.Github.{annotation_end, message_text}
 use Rattle.rl_sources.specs.declared.options.Shown.{Shown}
 use Rattle.rl_sources.specs.declared.options.Shown.TheVariants.{All, Only, Bad, Hidden}
-use Rattle.rl_sources.specs.declared.place.Place.{Place}
-use Rattle.rl_sources.specs.declared.place.Place.TheVariants.{Bytes, Line, Both}
+use Rattle.rl_output.specs.declared.place.Place.{Place}
 use Rattle.rl_sources.specs.Options.{Picks}
 use Rattle.rl_lexer.specs.declared.lines.LineColumn.{LineColumn}
-use Rattle.rl_sources.specs.Json.{place_members}
-use Rattle.rl_sources.specs.Places.{line_front, place_text, IsPlaceIn}
+use Rattle.rl_sources.specs.Places.{IsPlaceIn}
+use Rattle.rl_output.proofs.Pieces.{ascii_pushed, back_utf8}
+use Rattle.rl_output.specs.Fronts.{front_of}
+use Rattle.rl_output.specs.declared.github.Level.TheVariants.{Notice}
 use Rattle.rl_sources.specs.Held.{Holds, IsHeldAt}
 use Rattle.rl_sources.specs.Scans.{IsPicked, IsPlacedLine, AreReasonLines, IsHeldLine, IsLineAt, IsLineEnd, IsLineIn, IsPickedLine, IsPrintedAs, IsShownLiteral}
 use Rattle.rl_sources.specs.Steps.{LooksForFlaws}
@@ -103,10 +108,10 @@ bare_printed text value old new is bare e =
 
 -- what stands before it, and the line
 pub line_at : (options : Options) (text : List ℕ) (place : Place) (old mid new : List ℕ)
-    → mid ≡ old ++ line_front options.form options.path place
+    → mid ≡ old ++ front_of Notice options.form options.path place
     → Appends (IsLineEnd options.form options.spelling text) mid new → Appends (IsLineAt options text place) old new
 line_at options text place old mid new begun (shown, is, e) =
-    let front = line_front options.form options.path place in
+    let front = front_of Notice options.form options.path place in
     (front ++ shown, (shown, is, refl), e ∙ ap (λ z. z ++ shown) begun ∙ append_assoc old front shown)
 
 -- the line, after its place
@@ -229,3 +234,18 @@ pub at_end : (old new : CursorState) → BeginsNoSource (chars old.rest) → new
 at_end old new none stays (inl ends) = ap (λ (s : CursorState). s.rest) (sym stays) ∙ ends
 at_end old new none stays (inr (kind, after, before)) = absurd
     (none kind after (subst (λ (s : CursorState). SourceBefore (chars s.rest) kind after) stays before))
+
+-- the annotation of a literal
+pub annotated : (spelling : Spelling) (text old printed new line : List ℕ)
+    → Appends (IsPrintedAs spelling text) (chars []) (chars printed) → line ≡ first_line (chars printed)
+    → new ≡ old ++ annotation_end (codes "literal") (message_text line (chars []))
+    → Appends (IsLineEnd Github spelling text) old new
+annotated spelling text old printed new line (words, is, e) up_to written =
+    let said : chars printed ≡ words = e ∙ ap (λ (z : List ℕ). z ++ words) chars-nil in
+    let nothing : message_text line (chars []) ≡ line = ap (message_text line) chars-nil in
+    let shown : List ℕ = annotation_end (codes "literal") (first_line words) in
+    (
+      shown,
+      (words, is, refl),
+      written ∙ ap (λ (z : List ℕ). old ++ annotation_end (codes "literal") z) (nothing ∙ up_to ∙ ap first_line said),
+    )
