@@ -95,9 +95,10 @@ colored_form has_colors Auto = cond has_colors written.Colored written.Plain
 colored_form has_colors Always = written.Colored
 colored_form has_colors Never = written.Plain
 
--- how lines are written by a later word; objects of JSON stay so
+-- how lines are written by a later word; objects of JSON and annotations stay so
 abbrev pub recolored : Form → Form → Form
 recolored written.Json later = written.Json
+recolored written.Github later = written.Github
 recolored written.Plain later = later
 recolored written.Colored later = later
 

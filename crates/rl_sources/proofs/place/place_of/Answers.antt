@@ -11,8 +11,8 @@ returns-then-options-clause-place c = (
   c.if-options.true,
   (
     chars c.args.rest.now,
-    c.at-then-options.result,
-    c.at-then-options.ensures.place.place,
+    c.at-line.result,
+    c.at-line.ensures.place.place,
     omega (
       arith,
       c.requires.lo,

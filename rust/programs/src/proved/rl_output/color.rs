@@ -1,8 +1,8 @@
-// Rendered from crates/rl_sources/src/color.rt by tools/render, which erases contracts: change that file, and render anew.
+// Rendered from crates/rl_output/src/color.rt by tools/render, which erases contracts: change that file, and render anew.
 //! Colours of a terminal.
 
 use crate::rattle_std::prelude::{String};
-use crate::rl_sources::options::Form;
+use crate::rl_output::form::Form;
 use crate::rattle_std::alloc::{AllocError, Allocator};
 
 /// What ends a colour.
@@ -53,7 +53,11 @@ pub fn push_painted<A: Allocator>(
 }
 
 /// Appends the word that the line of an error begins with.
-pub(crate) fn push_error_word<A: Allocator>(
+///
+/// # Errors
+///
+/// An allocation failure. A beginning may have been appended then.
+pub fn push_error_word<A: Allocator>(
     out: &mut String<A>,
     form: Form,
 ) -> Result<(), AllocError> {

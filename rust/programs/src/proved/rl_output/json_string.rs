@@ -1,4 +1,4 @@
-// Rendered from crates/rl_sources/src/json_string.rt by tools/render, which erases contracts: change that file, and render anew.
+// Rendered from crates/rl_output/src/json_string.rt by tools/render, which erases contracts: change that file, and render anew.
 //! Texts as strings of JSON.
 
 use crate::rattle_std::prelude::{String};
@@ -86,7 +86,11 @@ fn push_json_body<A: Allocator>(out: &mut String<A>, text: &str) -> Result<(), A
 
 /// Appends a text as a string of JSON: a quote, a backslash, LF, CR and a tab by a letter after a backslash, other control
 /// characters and what turns or hides text by their numbers, as `\u202e`, all else as it is.
-pub(crate) fn push_json_string<A: Allocator>(
+///
+/// # Errors
+///
+/// An allocation failure. A beginning may have been appended then.
+pub fn push_json_string<A: Allocator>(
     out: &mut String<A>,
     text: &str,
 ) -> Result<(), AllocError> {
