@@ -26,7 +26,7 @@ use Rattle.rl_sources.proofs.InFileLemmas.{file_cut, file_within}
 use Rattle.rl_sources.proofs.ReasonLemmas.{flaw_cut, has_place}
 use Rattle.rl_sources.specs.Places.{IsPlaceIn}
 use Rattle.rl_output.specs.Fronts.{line_front}
-use Rattle.rl_sources.specs.Scans.{AreAllFlawLines, AreFlawLines, AreReasonLines, IsFindingLine, IsLimitLine, IsTypeLine, finding_end}
+use Rattle.rl_sources.specs.Scans.{AreAllFlawLines, AreFlawLines, AreReasonLines, IsFindingLine, IsLimitLine, IsOwnFindingLine, IsTypeLine, finding_end}
 
 -- ---- what the cursor gives stands in the text
 
@@ -88,7 +88,7 @@ pub finding_line : (options : Options) (whole text : List ℕ) (lo : ℕ) (findi
     (piece old a new : List ℕ) → IsPlaceIn options whole (lo + finding.lo) (lo + finding.hi) place
     → IsPieceOf text finding piece → a ≡ old ++ line_front options.form options.path place
     → new ≡ a ++ finding_end options.form text finding.reason piece
-    → Appends (IsFindingLine options whole text lo finding) old new
+    → Appends (IsOwnFindingLine options whole text lo finding) old new
 finding_line options whole text lo finding place piece old a new at is begun ended =
     let front = line_front options.form options.path place in
     let end = finding_end options.form text finding.reason piece in

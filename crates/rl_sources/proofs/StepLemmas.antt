@@ -30,12 +30,12 @@ use Rattle.rl_sources.specs.declared.options.Shown.TheVariants.{All, Only, Bad, 
 use Rattle.rl_output.specs.declared.place.Place.{Place}
 use Rattle.rl_sources.specs.Options.{Picks}
 use Rattle.rl_lexer.specs.declared.lines.LineColumn.{LineColumn}
-use Rattle.rl_sources.specs.Places.{IsPlaceIn}
+use Rattle.rl_sources.specs.Places.{IsContextIn, IsPlaceIn, WithContext}
 use Rattle.rl_output.proofs.Pieces.{ascii_pushed, back_utf8}
 use Rattle.rl_output.specs.Fronts.{front_of}
 use Rattle.rl_output.specs.declared.github.Level.TheVariants.{Notice}
 use Rattle.rl_sources.specs.Held.{Holds, IsHeldAt}
-use Rattle.rl_sources.specs.Scans.{IsPicked, IsPlacedLine, AreReasonLines, IsHeldLine, IsLineAt, IsLineEnd, IsLineIn, IsPickedLine, IsPrintedAs, IsShownLiteral}
+use Rattle.rl_sources.specs.Scans.{IsPicked, IsPlacedLine, AreReasonLines, IsHeldLine, IsLineAt, IsLineEnd, IsLineIn, IsOwnLine, IsPickedLine, IsPrintedAs, IsShownLiteral}
 use Rattle.rl_sources.specs.Steps.{LooksForFlaws}
 use Rattle.rl_sources.specs.Findings.{FindsFlaw, FindsNoFlaw, HasFoundError, HasFoundType, IsBad, IsFoundIn, IsRight, IsWrong}
 use Rattle.rl_sources.specs.declared.finding.Wrong.{Wrong}
@@ -117,8 +117,15 @@ line_at options text place old mid new begun (shown, is, e) =
 -- the line, after its place
 pub placed : (options : Options) (whole text : List ℕ) (lo hi : ℕ) (place : Place) (old new : List ℕ)
     → IsPlaceIn options whole lo hi place → Appends (IsLineAt options text place) old new
-    → Appends (IsPlacedLine options whole text lo hi) old new
+    → Appends (IsOwnLine options whole text lo hi) old new
 placed options whole text lo hi place old new is_place (shown, is, e) = (shown, (place, is_place, is), e)
+
+-- and below it what is shown of the source
+pub in_context : (IsLine : List ℕ → Type 0) (options : Options) (whole : List ℕ) (lo hi : ℕ) (old mid new : List ℕ)
+    → Appends IsLine old mid → Appends (IsContextIn options whole lo hi) mid new
+    → Appends (WithContext IsLine options whole lo hi) old new
+in_context IsLine options whole lo hi old mid new (line, is, e) (context, below, f) =
+    (line ++ context, (line, context, is, below, refl), f ∙ ap (λ z. z ++ context) e ∙ append_assoc old line context)
 
 -- lines that say why
 pub explained : (options : Options) (whole text : List ℕ) (found : Option Found) (lo hi : ℕ) (old new : List ℕ)

@@ -1,7 +1,8 @@
 -- Places of a source, as they are printed.
-use Rattle.std.specs.Prelude.{◌≡◌, ℕ, ◌+◌, false, true, List}
+use Rattle.std.specs.Prelude.{◌≡◌, ◌⊎◌, ℕ, ◌+◌, ◌-◌, Bool, false, true, not, ◌&&◌, List, [], ◌++◌}
 use Rattle.rl_text.specs.Texts.{byte_len}
 use Rattle.rl_lexer.specs.declared.lines.LineColumn.{LineColumn}
+use Rattle.rl_output.specs.Contexts.{IsBeforeInLine, context_lines}
 use Rattle.rl_output.specs.Forms.{has_extents}
 use Rattle.rl_output.specs.Spots.{IsExtentOf, StandsAt}
 use Rattle.rl_output.specs.declared.place.Place.{Place}
@@ -23,3 +24,27 @@ IsPlaceIn options text lo hi (Bytes from to) =
 IsPlaceIn options text lo hi (Line at) =
     (has_extents options.form ≡ false) × (options.by_line ≡ true) × IsLineColumnAt text lo at
 IsPlaceIn options text lo hi (Whole extent) = (has_extents options.form ≡ true) × IsExtentOf text lo hi extent
+
+-- whether the line of the source where a place begins stands below each line
+abbrev pub has_context : Options → Bool
+has_context options = options.context && not (has_extents options.form)
+
+-- What is shown of the source for these bytes of it: the line where they begin, and carets below them.
+pub record IsContextOf (whole : List ℕ) (lo hi : ℕ) (shown : List ℕ) : Type 0 where
+  pub rest : List ℕ
+  pub before : List ℕ
+  pub begins : lo + byte_len rest ≡ byte_len whole
+  pub line : IsBeforeInLine whole rest before
+  pub shown_is : shown ≡ context_lines before rest (hi - lo)
+
+-- the same where that is wanted, else nothing
+abbrev pub IsContextIn : Options → List ℕ → ℕ → ℕ → List ℕ → Type 0
+IsContextIn options whole lo hi shown =
+    ((has_context options ≡ true) × IsContextOf whole lo hi shown)
+    ⊎ ((has_context options ≡ false) × (shown ≡ []))
+
+-- such a line of these bytes of the source, and below it what is shown of the source for them
+abbrev pub WithContext : (List ℕ → Type 0) → Options → List ℕ → ℕ → ℕ → List ℕ → Type 0
+WithContext IsLine options whole lo hi shown =
+    (line : List ℕ) × (context : List ℕ) × IsLine line × IsContextIn options whole lo hi context
+    × (shown ≡ line ++ context)

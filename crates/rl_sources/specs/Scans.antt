@@ -50,7 +50,7 @@ use Rattle.rl_sources.specs.Held.{Holds, IsHeldAt}
 use Rattle.rl_sources.specs.Hidden.{ShowsHidden}
 use Rattle.rl_sources.specs.Json.{IsJsonLiteral, finding_members, error_members}
 use Rattle.rl_sources.specs.Options.{Picks}
-use Rattle.rl_sources.specs.Places.{IsPlaceIn}
+use Rattle.rl_sources.specs.Places.{IsPlaceIn, WithContext}
 
 -- what is printed of a literal: the line of its text as a literal, or the text as it is written
 abbrev pub IsPrintedAs : Spelling → List ℕ → List ℕ → Type 0
@@ -74,9 +74,14 @@ IsLineAt options text place shown =
     × (shown ≡ front_of Notice options.form options.path place ++ words)
 
 -- the line of a literal, after its place in the whole source
+abbrev pub IsOwnLine : Options → List ℕ → List ℕ → ℕ → ℕ → List ℕ → Type 0
+IsOwnLine options whole text lo hi shown =
+    (place : Place) × IsPlaceIn options whole lo hi place × IsLineAt options text place shown
+
+-- the same, and below it what is shown of the source for the place
 abbrev pub IsPlacedLine : Options → List ℕ → List ℕ → ℕ → ℕ → List ℕ → Type 0
 IsPlacedLine options whole text lo hi shown =
-    (place : Place) × IsPlaceIn options whole lo hi place × IsLineAt options text place shown
+    WithContext (IsOwnLine options whole text lo hi) options whole lo hi shown
 
 -- what is wrong: a message and, where there is one, a piece as it is printed
 abbrev pub error_reason : List ℕ → List ℕ → List ℕ
@@ -101,11 +106,16 @@ error_end Json kind = error_members kind
 error_end Github kind = annotation_end (error_id kind) (lex_message kind)
 
 -- the line of a finding in a text that begins at this byte of the whole source: its place, what is wrong, and the piece
-abbrev pub IsFindingLine : Options → List ℕ → List ℕ → ℕ → Finding → List ℕ → Type 0
-IsFindingLine options whole text lo finding shown =
+abbrev pub IsOwnFindingLine : Options → List ℕ → List ℕ → ℕ → Finding → List ℕ → Type 0
+IsOwnFindingLine options whole text lo finding shown =
     (place : Place) × (piece : List ℕ) × IsPlaceIn options whole (lo + finding.lo) (lo + finding.hi) place
     × IsPieceOf text finding piece
     × (shown ≡ line_front options.form options.path place ++ finding_end options.form text finding.reason piece)
+
+-- the same, and below it what is shown of the source for the place
+abbrev pub IsFindingLine : Options → List ℕ → List ℕ → ℕ → Finding → List ℕ → Type 0
+IsFindingLine options whole text lo finding shown =
+    WithContext (IsOwnFindingLine options whole text lo finding) options whole (lo + finding.lo) (lo + finding.hi) shown
 
 -- the line of a flaw of a text as rustc reads it
 abbrev pub IsFlawLine : Options → List ℕ → List ℕ → ℕ → BadPiece → List ℕ → Type 0

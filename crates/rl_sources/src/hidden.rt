@@ -9,7 +9,7 @@ ghost use Rattle.rl_output.specs.Members.{string_member};
 ghost use Rattle.rl_sources.specs.Hidden.{IsHiddenLine, IsShownCharacter, ShowsHidden, character_words, direction_name as name_of, hidden_end, hides as is_hider, is_layout as layout};
 
 use crate::options::Options;
-use crate::place::place_of;
+use crate::place::{place_of, push_context_of};
 use rl_files::needs_escape;
 use rl_lexer::without_mark;
 use rl_output::{
@@ -136,7 +136,8 @@ fn push_hidden_line<'t, A: Allocator>(
     let hi = places.byte_of(after);
     let place = place_of(options, places, rest, lo, hi);
     push_front(out, Level::Error, options.form, options.path, &place)?;
-    push_hidden_end(alloc, out, options.form, c)
+    push_hidden_end(alloc, out, options.form, c)?;
+    push_context_of(out, options, places, rest, lo, hi)
 }
 
 /// Appends what is shown of the character that begins a rest of the source, and after which so much is left.

@@ -1,16 +1,18 @@
 //! Places of a source, as they are printed.
 
-ghost use Rattle.std.specs.Prelude.{◌≡◌, ◌+◌, ◌≤◌, length};
+ghost use Rattle.std.specs.Prelude.{◌≡◌, ◌+◌, ◌≤◌, OnOk, length, string_bytes};
 ghost use Rattle.std.specs.Str.{chars};
 ghost use Rattle.rl_text.specs.Texts.{byte_len};
 ghost use Rattle.rl_lexer.specs.Cursors.{IsCursorState};
+ghost use Rattle.rl_lines.specs.Lines.{Appends};
 ghost use Rattle.rl_sources.specs.Held.{IsCutAt};
-ghost use Rattle.rl_sources.specs.Places.{IsPlaceIn};
+ghost use Rattle.rl_sources.specs.Places.{IsContextIn, IsContextOf, IsPlaceIn, has_context};
 ghost use Rattle.rl_sources.specs.Steps.{BeginsRest};
 
 use crate::options::Options;
-use rl_output::{Place, Places, Spot, has_extents};
+use rl_output::{Place, Places, Spot, has_extents, push_context};
 use rl_tokens::{LineColumn, SourceToken};
+use std::alloc::{AllocError, Allocator};
 
 /// The place of the bytes from `lo` to `hi`, where the rest of the text begins at the first.
 #[inline(always)]
@@ -56,4 +58,78 @@ pub(crate) fn place_inside<'t>(
     let hi = token.lo + last;
     let inside = &rest[first..];
     place_of(options, places, inside, lo, hi)
+}
+
+/// Whether the line of the source where a place begins stands below each line.
+#[inline(always)]
+fn shows_context(options: &Options<'_>) -> bool
+    ensures { result ≡ has_context options.now }
+{
+    options.context && !has_extents(options.form)
+}
+
+/// Appends the line of the source where the bytes from `lo` to `hi` begin, and carets below them; the rest of the text begins at the
+/// first.
+#[inline(never)]
+fn push_context_at<'t, A: Allocator>(
+    out: &mut String<A>,
+    places: &mut Places<'t>,
+    rest: &'t str,
+    lo: usize,
+    hi: usize,
+) -> Result<(), AllocError>
+    requires text { IsCursorState places.old rest.now }
+    requires lo { lo + length rest.now ≡ length places.old }
+    ensures context { OnOk result (Appends (IsContextOf (chars places.old) lo hi)
+        (chars (string_bytes out.old)) (chars (string_bytes out.new))) }
+    ensures same { places.new ≡ places.old }
+{
+    let before = places.line_before(rest);
+    push_context(out, before, rest, hi.saturating_sub(lo))
+}
+
+/// Appends what stands below the line of these bytes, where that is wanted.
+#[inline(always)]
+pub(crate) fn push_context_of<'t, A: Allocator>(
+    out: &mut String<A>,
+    options: &Options<'_>,
+    places: &mut Places<'t>,
+    rest: &'t str,
+    lo: usize,
+    hi: usize,
+) -> Result<(), AllocError>
+    requires text { IsCursorState places.old rest.now }
+    requires lo { lo + length rest.now ≡ length places.old }
+    ensures context { OnOk result (Appends (IsContextIn options.now (chars places.old) lo hi)
+        (chars (string_bytes out.old)) (chars (string_bytes out.new))) }
+    ensures same { places.new ≡ places.old }
+{
+    if !shows_context(options) {
+        return Ok(());
+    }
+    push_context_at(out, places, rest, lo, hi)
+}
+
+/// Appends what stands below the line of bytes of a token's text, where that is wanted; the rest of the source begins with the token.
+pub(crate) fn push_context_inside<'t, A: Allocator>(
+    out: &mut String<A>,
+    options: &Options<'_>,
+    places: &mut Places<'t>,
+    token: SourceToken<'t>,
+    rest: &'t str,
+    first: usize,
+    last: usize,
+) -> Result<(), AllocError>
+    requires rest { BeginsRest token places.old rest.now }
+    requires cut { IsCutAt (chars token.text.now) first }
+    requires within { last ≤ byte_len (chars token.text.now) }
+    ensures context { OnOk result (Appends (IsContextIn options.now (chars places.old)
+        (token.entry.lo + first) (token.entry.lo + last))
+        (chars (string_bytes out.old)) (chars (string_bytes out.new))) }
+    ensures same { places.new ≡ places.old }
+{
+    let lo = token.lo + first;
+    let hi = token.lo + last;
+    let inside = &rest[first..];
+    push_context_of(out, options, places, inside, lo, hi)
 }
