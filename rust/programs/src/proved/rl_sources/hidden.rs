@@ -3,7 +3,7 @@
 
 use crate::rattle_std::prelude::{String, format};
 use crate::rl_sources::options::Options;
-use crate::rl_sources::place::place_of;
+use crate::rl_sources::place::{place_of, push_context_of};
 use crate::rl_files::needs_escape;
 use crate::rl_lexer::without_mark;
 use crate::rl_output::{
@@ -102,7 +102,8 @@ fn push_hidden_line<'t, A: Allocator>(
     let hi = places.byte_of(after);
     let place = place_of(options, places, rest, lo, hi);
     push_front(out, Level::Error, options.form, options.path, &place)?;
-    push_hidden_end(alloc, out, options.form, c)
+    push_hidden_end(alloc, out, options.form, c)?;
+    push_context_of(out, options, places, rest, lo, hi)
 }
 
 /// Appends what is shown of the character that begins a rest of the source, and after which so much is left.

@@ -6,7 +6,7 @@ use crate::rl_sources::finding::{Finding, Reason};
 use crate::rl_sources::json::{push_json_error, push_json_finding};
 use crate::rl_sources::literal::Literal;
 use crate::rl_sources::options::Options;
-use crate::rl_sources::place::place_inside;
+use crate::rl_sources::place::{place_inside, push_context_inside};
 use crate::rl_files::push_visible;
 use crate::rl_output::{
     Form, Level, Place, Places, id_of, push_annotation_end, push_error_word, push_front,
@@ -78,7 +78,7 @@ fn push_finding_end<A: Allocator>(
     }
 }
 
-/// Appends the line of a finding in a literal, at its place.
+/// Appends the line of a finding in a literal, at its place, and what stands below it.
 #[inline(never)]
 pub(crate) fn push_finding<'t, A: Allocator>(
     out: &mut String<A>,
@@ -91,7 +91,8 @@ pub(crate) fn push_finding<'t, A: Allocator>(
     let place = place_inside(options, places, token, literal.rest, finding.lo, finding.hi);
     let piece = piece_of(token.text, finding);
     push_front(out, Level::Error, options.form, options.path, &place)?;
-    push_finding_end(out, options.form, token.text, finding.reason, piece)
+    push_finding_end(out, options.form, token.text, finding.reason, piece)?;
+    push_context_inside(out, options, places, token, literal.rest, finding.lo, finding.hi)
 }
 
 /// Appends that a source is wrong, and what is.

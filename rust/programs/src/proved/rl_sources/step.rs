@@ -8,7 +8,7 @@ use crate::rl_sources::json::push_json_literal;
 use crate::rl_sources::judge::{reason_of, wrong_in};
 use crate::rl_sources::literal::{Literal, kind_of};
 use crate::rl_sources::options::{Options, Spelling};
-use crate::rl_sources::place::{place_inside, place_of};
+use crate::rl_sources::place::{place_inside, place_of, push_context_inside, push_context_of};
 use crate::rl_files::{make_visible, push_visible};
 use crate::rl_lines::{bare_value, label_of, push_bare, push_found};
 use crate::rl_output::{Form, Level, Place, Places, first_line, push_annotation_end, push_front};
@@ -112,7 +112,7 @@ fn push_line_at<A: Allocator + Copy>(
     push_line_end(alloc, out, options, literal)
 }
 
-/// Appends the line of a literal, after its place.
+/// Appends the line of a literal, after its place, and what stands below it.
 #[inline(always)]
 fn push_placed<'t, A: Allocator + Copy>(
     alloc: A,
@@ -123,10 +123,11 @@ fn push_placed<'t, A: Allocator + Copy>(
 ) -> Result<(), AllocError> {
     let token = literal.token;
     let place = place_of(options, places, literal.rest, token.lo, token.hi);
-    push_line_at(alloc, out, options, literal, place)
+    push_line_at(alloc, out, options, literal, place)?;
+    push_context_of(out, options, places, literal.rest, token.lo, token.hi)
 }
 
-/// Appends the line of a literal, after the place of these bytes of its text.
+/// Appends the line of a literal, after the place of these bytes of its text, and what stands below it.
 #[inline(never)]
 fn push_inside<'t, A: Allocator + Copy>(
     alloc: A,
@@ -138,7 +139,8 @@ fn push_inside<'t, A: Allocator + Copy>(
 ) -> Result<(), AllocError> {
     let token = *literal.token;
     let place = place_inside(options, places, token, literal.rest, range.0, range.1);
-    push_line_at(alloc, out, options, literal, place)
+    push_line_at(alloc, out, options, literal, place)?;
+    push_context_inside(out, options, places, token, literal.rest, range.0, range.1)
 }
 
 /// Appends the lines of a literal: its own, or where lines report what is wrong and something is, those that say so.
