@@ -12,7 +12,7 @@ use Rattle.rl_lines.proofs.LineLemmas.{pushed}
 use Rattle.rl_reports.specs.declared.command.Command.{Command}
 use Rattle.rl_reports.specs.declared.report.Report.{Report}
 use Rattle.rl_reports.specs.Reports.{in_report, IsTextReport, IsErrorReport, IsNotUtf8, IsReport}
-use Rattle.rl_sources.proofs.StepLemmas.{decimal_ascii, low_text}
+use Rattle.rl_output.proofs.Pieces.{decimal_ascii, low_text}
 
 -- what is appended to nothing
 pub from_nothing : (old new piece : List ℕ) → old ≡ [] → chars new ≡ chars old ++ piece → chars new ≡ piece

@@ -11,25 +11,24 @@ use Rattle.rl_files.specs.Visible.{visible}
 use Rattle.rl_files.specs.Walks.{Visited, FileAt, ErrorAt, path_error_message}
 use Rattle.rl_files.specs.declared.tree.PathError.{PathError}
 use Rattle.rl_files.specs.declared.tree.PathError.TheVariants.{NotUtf8, OutOfMemory}
-use Rattle.rl_lexer.specs.LexErrors.{lex_message}
 use Rattle.rl_lexer.specs.declared.lex_error.LexKind.{LexKind}
 use Rattle.rl_reports.specs.declared.command.Command.{Command}
 use Rattle.rl_reports.specs.declared.command.PlaceForm.{PlaceForm}
 use Rattle.rl_reports.specs.declared.command.PlaceForm.TheVariants as form
 use Rattle.rl_reports.specs.declared.command.Output.{Output}
 use Rattle.rl_reports.specs.declared.command.Output.TheVariants as output
-use Rattle.rl_sources.specs.declared.color.Paint.TheVariants as paint
-use Rattle.rl_sources.specs.declared.options.Form.{Form}
-use Rattle.rl_sources.specs.declared.options.Form.TheVariants.{Plain}
+use Rattle.rl_output.specs.declared.color.Paint.TheVariants as paint
+use Rattle.rl_output.specs.declared.form.Form.{Form}
+use Rattle.rl_output.specs.declared.form.Form.TheVariants.{Plain}
 use Rattle.rl_sources.specs.declared.options.Options.{Options}
 use Rattle.rl_sources.specs.declared.options.Shown.{Shown}
 use Rattle.rl_sources.specs.declared.options.Shown.TheVariants.{All, Only, Bad, Hidden}
-use Rattle.rl_sources.specs.declared.place.Place.{Place}
-use Rattle.rl_sources.specs.declared.place.Place.TheVariants.{Bytes, Line, Both}
+use Rattle.rl_output.specs.declared.place.Place.{Place}
+use Rattle.rl_output.specs.declared.place.Place.TheVariants.{Bytes, Line, Whole}
 use Rattle.rl_reports.specs.declared.report.Report.{Report}
-use Rattle.rl_sources.specs.Colors.{painted}
-use Rattle.rl_sources.specs.Json.{is_json}
-use Rattle.rl_sources.specs.Places.{line_front}
+use Rattle.rl_output.specs.Colors.{painted}
+use Rattle.rl_output.specs.Forms.{is_json}
+use Rattle.rl_output.specs.Fronts.{line_front}
 use Rattle.rl_sources.specs.Scans.{Scans, StopsAtError, error_end}
 
 -- the path of standard input
@@ -75,6 +74,7 @@ pub record IsOptionsFor (command : Command) (path : List ℕ) (options : Options
   pub matching : options.matching ≡ command.matching
   pub spelling : options.spelling ≡ command.spelling
   pub form : options.form ≡ command.form
+  pub context : options.context ≡ false
   pub by_line : options.by_line ≡ is_by_line command.places path
   pub rejects_strays : options.rejects_strays ≡ command.rejects_strays
   pub any_suffix : options.any_suffix ≡ command.any_suffix
@@ -96,7 +96,8 @@ error_form options = cond options.explains options.form Plain
 abbrev pub worded_place : Bool → Place → Place
 worded_place by_line (Bytes lo hi) = Bytes lo hi
 worded_place by_line (Line at) = Line at
-worded_place by_line (Both lo hi at) = cond by_line (Line at) (Bytes lo hi)
+worded_place by_line (Whole e) =
+    cond by_line (Line (record { line = e.start.line; column = e.start.column })) (Bytes e.lo e.hi)
 
 -- the place in that line, and the path before it, of which this is printed
 abbrev pub error_line_place : Options → Place → Place
@@ -110,7 +111,7 @@ abbrev pub error_text : Options → Option (Bor (List ℕ)) → Option (Place ×
 error_text options shown None = []
 error_text options shown (Some (place, kind)) =
     line_front (error_form options) (error_path options shown) (error_line_place options place)
-    ++ error_end (error_form options) (lex_message kind)
+    ++ error_end (error_form options) kind
 
 -- how many lines there are
 abbrev pub line_count : List ℕ → ℕ

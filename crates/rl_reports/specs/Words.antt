@@ -13,8 +13,8 @@ use Rattle.rl_reports.specs.declared.command.PlaceForm.TheVariants as form
 use Rattle.rl_reports.specs.declared.command.Output.{Output}
 use Rattle.rl_reports.specs.declared.command.Output.TheVariants as output
 use Rattle.rl_reports.specs.declared.command.Command.{Command}
-use Rattle.rl_sources.specs.declared.options.Form.{Form}
-use Rattle.rl_sources.specs.declared.options.Form.TheVariants as written
+use Rattle.rl_output.specs.declared.form.Form.{Form}
+use Rattle.rl_output.specs.declared.form.Form.TheVariants as written
 use Rattle.rl_sources.specs.declared.options.Shown.{Shown}
 use Rattle.rl_sources.specs.declared.options.Spelling.{Spelling}
 use Rattle.rl_sources.specs.declared.options.Spelling.TheVariants.{Value, Source}
@@ -95,9 +95,10 @@ colored_form has_colors Auto = cond has_colors written.Colored written.Plain
 colored_form has_colors Always = written.Colored
 colored_form has_colors Never = written.Plain
 
--- how lines are written by a later word; objects of JSON stay so
+-- how lines are written by a later word; objects of JSON and annotations stay so
 abbrev pub recolored : Form → Form → Form
 recolored written.Json later = written.Json
+recolored written.Github later = written.Github
 recolored written.Plain later = later
 recolored written.Colored later = later
 

@@ -270,12 +270,13 @@ pub(crate) fn form_when(has_colors: bool, when: When) -> Form
     }
 }
 
-/// How lines are written by a later word; objects of JSON stay so.
+/// How lines are written by a later word; objects of JSON and annotations stay so.
 pub(crate) fn recolored(form: Form, later: Form) -> Form
     ensures { result ≡ with_colors form later }
 {
     match form {
         Form::Json => Form::Json,
+        Form::Github => Form::Github,
         Form::Plain | Form::Colored => later,
     }
 }

@@ -5,8 +5,7 @@ ghost use Rattle.std.specs.Str.{chars, IsUtf8};
 ghost use Rattle.rl_files.specs.Visible.{visible};
 ghost use Rattle.rl_files.specs.Walks.{FileAt, visited};
 ghost use Rattle.rl_files.specs.declared.tree.PathError.{PathError};
-ghost use Rattle.rl_lexer.specs.LexErrors.{lex_message};
-ghost use Rattle.rl_sources.specs.Places.{line_front};
+ghost use Rattle.rl_output.specs.Fronts.{line_front};
 ghost use Rattle.rl_sources.specs.Scans.{error_end};
 ghost use Rattle.rl_reports.specs.Reports.{is_input as input, is_by_line as by_line, is_bad as bad, is_alarm as alarm, IsShownPath, IsPathIn, IsOptionsFor, IsScannedAs, error_form, error_path, error_line_place, worded_place as as_words, error_text, line_count, count_line, path_line, printed_of, in_report, IsTextReport, IsErrorReport, IsNotUtf8, IsReport};
 
@@ -15,7 +14,7 @@ use rl_files::{PathError, Tree, Visit, push_visible};
 use rl_sources::{
     Form, Options, Paint, Place, ScanError, Shown, is_json, push_painted, push_source_error, scan,
 };
-use rl_tokens::LexKind;
+use rl_tokens::{LexKind, LineColumn};
 use std::alloc::{AllocError, Allocator, Global};
 
 /// What is reported of what a walk visits.
@@ -110,6 +109,7 @@ fn options_for<'a>(command: Command<'a>, path: &'a str, shown: Option<&'a str>) 
         matching: command.matching,
         spelling: command.spelling,
         form: command.form,
+        context: false,
         by_line: is_by_line(command.places, path),
         rejects_strays: command.rejects_strays,
         any_suffix: command.any_suffix,
@@ -154,8 +154,11 @@ fn worded_place(by_line: bool, place: Place) -> Place
     ensures { result ≡ as_words by_line place }
 {
     match place {
-        Place::Both(_, _, at) if by_line => Place::Line(at),
-        Place::Both(lo, hi, _) => Place::Bytes(lo, hi),
+        Place::Whole(extent) if by_line => Place::Line(LineColumn {
+            line: extent.start.line,
+            column: extent.start.column,
+        }),
+        Place::Whole(extent) => Place::Bytes(extent.lo, extent.hi),
         _ => place,
     }
 }
@@ -197,7 +200,7 @@ fn error_line<A: Allocator + Copy>(
         Some((place, kind)) => {
             let path = error_path(options, shown);
             let place = error_line_place(options, place);
-            push_source_error(alloc, &mut line, error_form(options), path, place, kind)?;
+            push_source_error(&mut line, error_form(options), path, place, kind)?;
             Ok(line)
         }
     }

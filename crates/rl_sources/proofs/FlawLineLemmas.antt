@@ -17,14 +17,16 @@ use Rattle.rl_sources.specs.declared.finding.Reason.{Reason}
 use Rattle.rl_reading.specs.declared.found.Found.{Found}
 use Rattle.rl_sources.specs.declared.finding.Reason.TheVariants as reason
 use Rattle.rl_sources.specs.declared.options.Options.{Options}
-use Rattle.rl_sources.specs.declared.place.Place.{Place}
-use Rattle.rl_sources.specs.Findings.{bytes_before, FindsFlaw, IsFlawFinding, IsLimitFinding, IsPieceOf, IsShownPiece, IsWholeFinding, IsWrongBy}
+use Rattle.rl_output.specs.declared.place.Place.{Place}
+use Rattle.rl_sources.specs.Findings.{FindsFlaw, IsFlawFinding, IsLimitFinding, IsPieceOf, IsShownPiece, IsWholeFinding, IsWrongBy}
+use Rattle.rl_output.specs.Spots.{bytes_before}
 use Rattle.rl_sources.specs.Held.{IsCutAt}
 use Rattle.rl_sources.specs.InFile.{AreCuts, IsFlawsOver}
 use Rattle.rl_sources.proofs.InFileLemmas.{file_cut, file_within}
 use Rattle.rl_sources.proofs.ReasonLemmas.{flaw_cut, has_place}
-use Rattle.rl_sources.specs.Places.{IsPlaceIn, line_front}
-use Rattle.rl_sources.specs.Scans.{AreAllFlawLines, AreFlawLines, AreReasonLines, IsFindingLine, IsLimitLine, IsWholeLine, finding_end}
+use Rattle.rl_sources.specs.Places.{IsPlaceIn}
+use Rattle.rl_output.specs.Fronts.{line_front}
+use Rattle.rl_sources.specs.Scans.{AreAllFlawLines, AreFlawLines, AreReasonLines, IsFindingLine, IsLimitLine, IsOwnFindingLine, IsWholeLine, finding_end}
 
 -- ---- what the cursor gives stands in the text
 
@@ -86,7 +88,7 @@ pub finding_line : (options : Options) (whole text : List ℕ) (lo : ℕ) (findi
     (piece old a new : List ℕ) → IsPlaceIn options whole (lo + finding.lo) (lo + finding.hi) place
     → IsPieceOf text finding piece → a ≡ old ++ line_front options.form options.path place
     → new ≡ a ++ finding_end options.form text finding.reason piece
-    → Appends (IsFindingLine options whole text lo finding) old new
+    → Appends (IsOwnFindingLine options whole text lo finding) old new
 finding_line options whole text lo finding place piece old a new at is begun ended =
     let front = line_front options.form options.path place in
     let end = finding_end options.form text finding.reason piece in

@@ -6,12 +6,13 @@ use Rattle.rl_lexer.proofs.ErrorKinds.{char_len}
 use Rattle.rl_lines.specs.Lines.{Appends}
 use Rattle.rl_lines.proofs.LineLemmas.{pushed}
 use Rattle.rl_sources.specs.declared.options.Options.{Options}
-use Rattle.rl_sources.specs.declared.place.Place.{Place}
+use Rattle.rl_output.specs.declared.place.Place.{Place}
 use Rattle.rl_sources.specs.Hidden.{AreHiddenLines, IsHiddenLine, IsShownCharacter, character_words, hidden_end, hides, is_layout}
 use Rattle.rl_files.specs.Visible.{needs_escape}
-use Rattle.rl_sources.specs.Places.{line_front, IsPlaceIn}
-use Rattle.rl_sources.proofs.JsonLemmas.{two_pieces}
-use Rattle.rl_sources.specs.Json.{string_member}
+use Rattle.rl_sources.specs.Places.{IsContextIn, IsPlaceIn}
+use Rattle.rl_output.specs.Fronts.{line_front}
+use Rattle.rl_output.proofs.Pieces.{three_pieces}
+use Rattle.rl_output.specs.Members.{string_member}
 
 -- ASCII that prints hides nothing
 plain_shown : (c : ℕ) → 32 ≤ c → c ≤ 126 → needs_escape c ≡ false
@@ -58,11 +59,13 @@ shown_plain options whole after old c plain = ([], inr (plain, refl), sym (appen
 
 -- the line of a character
 pub hidden_line : (options : Options) (whole rest after : List ℕ) (c lo hi : ℕ) (place : Place)
-    (old mid new : List ℕ) → IsCursorState whole rest → IsCursorState whole after → chars rest ≡ c ∷ chars after
+    (old mid ended new : List ℕ) → IsCursorState whole rest → IsCursorState whole after → chars rest ≡ c ∷ chars after
     → lo + length rest ≡ length whole → hi + length after ≡ length whole
     → IsPlaceIn options (chars whole) lo hi place → mid ≡ old ++ line_front options.form options.path place
-    → new ≡ mid ++ hidden_end options.form c → Appends (IsHiddenLine options (chars whole) c (chars after)) old new
-hidden_line options whole rest after c lo hi place old mid new at_rest at_after split lo_is hi_is place_is front end =
+    → ended ≡ mid ++ hidden_end options.form c → Appends (IsContextIn options (chars whole) lo hi) ended new
+    → Appends (IsHiddenLine options (chars whole) c (chars after)) old new
+hidden_line options whole rest after c lo hi place old mid ended new at_rest at_after split lo_is hi_is place_is front end
+    (context, below, new_is) =
     let of_whole = char_len whole at_rest.is_text in
     let of_rest = char_len rest at_rest.following.is_text in
     let of_after = char_len after at_after.following.is_text in
@@ -78,15 +81,18 @@ hidden_line options whole rest after c lo hi place old mid new at_rest at_after 
       cut,
       ap byte_len split,
     ) in (
-      line_front options.form options.path place ++ hidden_end options.form c,
+      line_front options.form options.path place ++ (hidden_end options.form c ++ context),
       record {
         lo = lo;
         lo_is = omega (arith, lo_is, of_whole, of_rest, ap byte_len split);
         place = place;
         place_is = subst (λ (n : ℕ). IsPlaceIn options (chars whole) lo n place) ends place_is;
+        context = context;
+        context_is = subst (λ (n : ℕ). IsContextIn options (chars whole) lo n context) ends below;
         line_is = refl;
       },
-      two_pieces old mid new (line_front options.form options.path place) (hidden_end options.form c) front end,
+      three_pieces old mid ended new (line_front options.form options.path place) (hidden_end options.form c) context
+          front end new_is,
     )
 
 -- nothing is left
@@ -95,20 +101,3 @@ pub passes_all : (options : Options) (whole all rest lines : List ℕ) → Passe
 passes_all options whole all rest lines passes nil =
     subst (AreHiddenLines options whole all) (append-nil lines) (passes.goes_on []
     (subst (λ (r : List ℕ). AreHiddenLines options whole r []) (sym nil) refl))
-
--- the words of a character, and the line's end
-pub words_line : (old a new words : List ℕ) (c : ℕ) → IsUtf8 old → words ≡ character_words c → a ≡ old ++ words
-    → chars new ≡ chars a ++ codes "\n" → chars new ≡ chars old ++ (chars (character_words c) ++ codes "\n")
-words_line old a new words c utf8 words_are pushes ends =
-    ends ∙ ap (λ (z : List ℕ). z ++ codes "\n") (pushed old a words utf8 pushes
-    ∙ ap (λ (z : List ℕ). chars old ++ chars z) words_are)
-    ∙ append_assoc (chars old) (chars (character_words c)) (codes "\n")
-
--- the member of an object, and its end
-pub words_member : (old mid new words : List ℕ) (c : ℕ) → words ≡ character_words c
-    → mid ≡ old ++ string_member (codes "hidden") (chars words) → new ≡ mid ++ codes "}\n"
-    → new ≡ old ++ (string_member (codes "hidden") (chars (character_words c)) ++ codes "}\n")
-words_member old mid new words c words_are member ends =
-    ends ∙ ap (λ (z : List ℕ). z ++ codes "}\n") (member
-    ∙ ap (λ (z : List ℕ). old ++ string_member (codes "hidden") (chars z)) words_are)
-    ∙ append_assoc old (string_member (codes "hidden") (chars (character_words c))) (codes "}\n")

@@ -18,43 +18,12 @@ use Rattle.rl_lines.proofs.PrintLemmas.{truth_chars}
 use Rattle.rl_lines.specs.Lines.{Appends, kind_label}
 use Rattle.rl_lines.proofs.LineLemmas.{pushed}
 use Rattle.rl_sources.specs.Held.{AreContentsOf}
-use Rattle.rl_sources.specs.Json.{more_numbers, number_array, json_value, string_member, literal_members, IsJsonLiteral, IsJsonValueOf}
-use Rattle.rl_sources.specs.JsonStrings.{json_string}
-use Rattle.rl_sources.proofs.ReasonLemmas.{id_low, lex_low, reason_low}
-use Rattle.rl_sources.proofs.StepLemmas.{decimal_ascii, low_text}
-
--- ---- pieces
-
-pub ascii_chars : (cs : List ℕ) → list_all is_ascii cs ≡ true → chars cs ≡ cs
-ascii_chars cs h = chars-IsAscii cs (low_text cs h)
-
-pub ascii_pushed : (old new piece : List ℕ) → IsUtf8 old → IsAscii piece → new ≡ old ++ piece
-    → chars new ≡ chars old ++ piece
-ascii_pushed old new piece u ascii e = pushed old new piece u e ∙ ap (λ z. chars old ++ z) (chars-IsAscii piece ascii)
-
-pub two_pieces : (old a new p q : List ℕ) → a ≡ old ++ p → new ≡ a ++ q → new ≡ old ++ (p ++ q)
-two_pieces old a new p q e f = f ∙ ap (λ z. z ++ q) e ∙ append_assoc old p q
-
-pub three_pieces : (old a b new p q r : List ℕ) → a ≡ old ++ p → b ≡ a ++ q → new ≡ b ++ r
-    → new ≡ old ++ (p ++ (q ++ r))
-three_pieces old a b new p q r e f g = two_pieces old a new p (q ++ r) e (two_pieces a b new q r f g)
-
-pub four_parts : (old a b d new p q r s : List ℕ) → a ≡ old ++ p → b ≡ a ++ q → d ≡ b ++ r → new ≡ d ++ s
-    → new ≡ old ++ (p ++ (q ++ (r ++ s)))
-four_parts old a b d new p q r s e f g h =
-    two_pieces old a new p (q ++ (r ++ s)) e (three_pieces a b d new q r s f g h)
-
-pub five_parts : (old a b d f new p q r s t : List ℕ) → a ≡ old ++ p → b ≡ a ++ q → d ≡ b ++ r → f ≡ d ++ s
-    → new ≡ f ++ t → new ≡ old ++ (p ++ (q ++ (r ++ (s ++ t))))
-five_parts old a b d f new p q r s t e g h i j =
-    two_pieces old a new p (q ++ (r ++ (s ++ t))) e (four_parts a b d f new q r s t g h i j)
-
--- one of two
-pub chosen_on : (b : Bool) (x y old new : List ℕ) → b ≡ true → new ≡ old ++ x → new ≡ old ++ cond b x y
-chosen_on b x y old new is e = e ∙ ap (λ (t : Bool). old ++ cond t x y) (sym is)
-
-pub chosen_off : (b : Bool) (x y old new : List ℕ) → b ≡ false → new ≡ old ++ y → new ≡ old ++ cond b x y
-chosen_off b x y old new is e = e ∙ ap (λ (t : Bool). old ++ cond t x y) (sym is)
+use Rattle.rl_sources.specs.Json.{more_numbers, number_array, json_value, literal_members, IsJsonLiteral, IsJsonValueOf}
+use Rattle.rl_output.specs.Members.{string_member}
+use Rattle.rl_output.specs.JsonStrings.{json_string}
+use Rattle.rl_sources.proofs.ReasonLemmas.{error_id_low, id_low, lex_low, reason_low}
+use Rattle.rl_output.specs.ErrorIds.{error_id}
+use Rattle.rl_output.proofs.Pieces.{ascii_chars, ascii_pushed, decimal_ascii, five_parts, four_parts, three_pieces}
 
 -- ---- numbers
 
@@ -153,6 +122,9 @@ reason_words_are why new e = ap chars e ∙ ascii_chars (reason_message why) (re
 
 pub reason_id_is : (why : Reason) (new : List ℕ) → new ≡ reason_id why → chars new ≡ reason_id why
 reason_id_is why new e = ap chars e ∙ ascii_chars (reason_id why) (id_low why)
+
+pub error_id_is : (kind : LexKind) (new : List ℕ) → new ≡ error_id kind → chars new ≡ error_id kind
+error_id_is kind new e = ap chars e ∙ ascii_chars (error_id kind) (error_id_low kind)
 
 pub error_words_are : (kind : LexKind) (new : List ℕ) → new ≡ lex_message kind → chars new ≡ lex_message kind
 error_words_are kind new e = ap chars e ∙ ascii_chars (lex_message kind) (lex_low kind)

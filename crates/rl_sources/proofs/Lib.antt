@@ -7,8 +7,6 @@ pub mod SearchLemmas
 pub mod ReasonLemmas
 pub mod InFileLemmas
 pub mod FlawLineLemmas
-pub mod ColorLemmas
 pub mod HiddenLemmas
 pub mod WriteLemmas
-pub mod JsonStringLemmas
 pub mod JsonLemmas

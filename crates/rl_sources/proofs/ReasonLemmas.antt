@@ -1,8 +1,7 @@
 -- The place of a flaw in the source, and its line.
 use Rattle.rl_reading.proofs.Names.{IsTail, byte_len}
 use Rattle.rl_text.proofs.Common.{IsAscii, IsCharBoundary, IsUtf8, List, [], ap, append_assoc, arith, chars, chars-IsAscii, chars-nil, codes, drop, encode_utf8, encodes-append, encodes-chars, is_ascii, length, length-append, list_all, refl, subst, sym, suc, false, true, ℕ, ◌==◌, ◌++◌, ◌+◌, ◌∙◌, ◌∷◌, ◌≡◌, ◌≤◌, inl, inr, take, ◌-◌}
-use Rattle.std.specs.Prelude.{encode_utf8_all, take, ◌-◌}
-use Rattle.std.specs.List.{slice_range}
+use Rattle.std.specs.Prelude.{encode_utf8_all}
 use Rattle.std.proofs.Math.Seq.{drop-append_seam}
 use Rattle.std.proofs.lemmas.Str.{IsCharBoundary-from_drop, IsAscii-append}
 use Rattle.rl_lexer.specs.Cursors.{CursorState, IsCursorState}
@@ -23,44 +22,18 @@ use Rattle.std.proofs.lemmas.Bool.{false≢true}
 use Rattle.rl_files.specs.Visible.{visible}
 use Rattle.rl_lines.proofs.LineLemmas.{pushed}
 use Rattle.rl_file_reasons.specs.FileTexts.{ExplainsInFile}
+use Rattle.rl_output.specs.ErrorIds.{error_id}
 use Rattle.rl_sources.specs.Held.{IsCutAt}
-use Rattle.rl_sources.specs.Places.{HoldsPlaces}
 use Rattle.rl_types.specs.ErrorWords.{type_error_id, type_error_message}
 use Rattle.rl_types.specs.declared.type_errors.TypeError.{TypeError}
 use Rattle.rl_types.specs.declared.type_errors.TypeError.TheVariants.{QuotedSuffix, UnknownSuffix, FloatSuffix, BasedFloat as BasedFloatSuffix, OutOfRange}
 use Rattle.rl_sources.specs.declared.finding.Finding.{Finding}
 use Rattle.rl_sources.specs.declared.finding.Reason.{Reason}
 use Rattle.rl_sources.specs.declared.finding.Reason.TheVariants as reason
-use Rattle.rl_sources.specs.Findings.{bytes_before, FindsFlaw, IsPieceOf, IsSlice, reason_id, reason_message}
+use Rattle.rl_sources.specs.Findings.{FindsFlaw, IsPieceOf, IsSlice, reason_id, reason_message}
 use Rattle.rl_sources.specs.Scans.{error_reason}
 use Rattle.rl_sources.specs.Steps.{BeginsRest, HasPlace}
-use Rattle.rl_sources.proofs.StepLemmas.{back_utf8, low_text}
-
--- the text before a place
-pub taken_before : (text seen : List ℕ) (at : ℕ) (r : List ℕ) → seen ≡ text → IsUtf8 text → r ≡ slice_range text 0 at
-    → r ≡ bytes_before (chars seen) at
-taken_before text seen at r same u is =
-    let whole : at - 0 ≡ at = omega (arith) in
-    let bytes : encode_utf8_all (chars seen) ≡ text = ap (λ (z : List ℕ). encode_utf8_all (chars z)) same ∙ encodes-chars text u in
-    is ∙ ap (λ (n : ℕ). take n text) whole ∙ ap (λ (z : List ℕ). take at z) (sym bytes)
-
--- a rest that isn't longer stands after another
-tail_by : (x y a b : List ℕ) → x ++ a ≡ y ++ b → length b ≤ length a → (z : List ℕ) × (a ≡ z ++ b)
-tail_by [] y a b e le = (y, e)
-tail_by (c ∷ x) [] a b e le = absurd (omega (arith, ap length e, length-append x a))
-tail_by (c ∷ x) (d ∷ y) a b e le = tail_by x y a b (ap (drop 1) e) le
-
-pub later_tail : (text a b : List ℕ) → IsTail text a → IsTail text b → length b ≤ length a → IsTail a b
-later_tail text a b p q le =
-    let found = tail_by p.front q.front a b (sym p.text_is ∙ q.text_is) le in
-    record { front = found.0; text_is = found.1; is_text = q.is_text }
-
--- the cursor over lines isn't ahead of a rest that isn't longer
-pub places_on : (text rest next : List ℕ) (lines : CursorState) → HoldsPlaces text rest lines → IsCursorState text next
-    → length next ≤ length rest → IsTail lines.rest next
-places_on text rest next lines holds cursor le =
-    subst (λ (r : List ℕ). IsTail r next) (sym holds.rest_is) (later_tail text rest next holds.cursor.following
-    cursor.following le)
+use Rattle.rl_output.proofs.Pieces.{back_utf8, low_text}
 
 -- the first character is within the text
 first_within : (cs : List ℕ) → first_len cs ≤ byte_len cs
@@ -278,6 +251,18 @@ lex_low UnmatchedClose = refl
 lex_low UnclosedGroup = refl
 lex_low TooDeep = refl
 lex_low Memory = refl
+
+pub error_id_low : (kind : LexKind) → list_all is_ascii (error_id kind) ≡ true
+error_id_low DocComment = refl
+error_id_low UnclosedComment = refl
+error_id_low UnclosedQuote = refl
+error_id_low Lifetime = refl
+error_id_low RawIdentifier = refl
+error_id_low StrayCharacter = refl
+error_id_low UnmatchedClose = refl
+error_id_low UnclosedGroup = refl
+error_id_low TooDeep = refl
+error_id_low Memory = refl
 
 -- the line of a source's error
 pub source_error : (kind : LexKind) (word old a new : List ℕ) → IsUtf8 a → chars a ≡ chars old ++ word

@@ -1,6 +1,6 @@
 -- What is appended for one token.
 use Rattle.rl_reading.proofs.Names.{HasNoReading, HasReading, Kind}
-use Rattle.rl_text.proofs.Common.{Bool, IsAscii, IsUtf8, List, None, Option, Some, [], ap, append_assoc, arith, chars, chars-IsAscii, cond, false, inl, inr, lit<, nat_tests, refl, subst, suc, sym, true, zero, ℕ, ◌%◌, ◌++◌, ◌/◌, ◌<◌, ◌==◌, ◌&&◌, ◌∙◌, ◌∷◌, ◌≡◌, ◌⊎◌, IsCharBoundary, and_parts, codes, is_ascii, list_all, ltb-true, length, take, drop, ◌+◌, chars-append, chars_from_encodes, encodes-append, encodes-chars, length-append, take-append_seam}
+use Rattle.rl_text.proofs.Common.{Bool, IsAscii, IsUtf8, List, None, Option, Some, [], ap, append_assoc, arith, chars, chars-IsAscii, chars-nil, cond, false, inl, inr, lit<, nat_tests, refl, subst, suc, sym, true, zero, ℕ, ◌%◌, ◌++◌, ◌/◌, ◌<◌, ◌==◌, ◌&&◌, ◌∙◌, ◌∷◌, ◌≡◌, ◌⊎◌, IsCharBoundary, and_parts, codes, is_ascii, list_all, ltb-true, length, take, drop, ◌+◌, chars-append, chars_from_encodes, encodes-append, encodes-chars, length-append, take-append_seam}
 use Rattle.std.specs.Fmt.{digits, decimal, digits_onto, digit_glyph}
 use Rattle.std.proofs.lemmas.List.{append-nil}
 use Rattle.std.proofs.lemmas.Str.{IsAscii-append, IsUtf8-past_char, IsCharBoundary-from_drop}
@@ -20,19 +20,25 @@ use Rattle.rl_lines.specs.Lines.{label_of, IsLabelOf, IsLineOf, Appends}
 use Rattle.rl_lines.proofs.LineLemmas.{pushed}
 use Rattle.rl_reasons.specs.declared.flaws.Flaw.{Flaw}
 use Rattle.rl_sources.specs.declared.options.Options.{Options}
+use Rattle.rl_sources.specs.declared.options.Spelling.{Spelling}
 use Rattle.rl_sources.specs.declared.options.Spelling.TheVariants.{Value}
+use Rattle.rl_output.specs.declared.form.Form.TheVariants.{Github}
+use Rattle.rl_output.specs.Contexts.{first_line}
+use Rattle.rl_output.specs.Github.{annotation_end, message_text}
 use Rattle.rl_sources.specs.declared.options.Shown.{Shown}
 use Rattle.rl_sources.specs.declared.options.Shown.TheVariants.{All, Only, Bad, Hidden}
-use Rattle.rl_sources.specs.declared.place.Place.{Place}
-use Rattle.rl_sources.specs.declared.place.Place.TheVariants.{Bytes, Line, Both}
+use Rattle.rl_output.specs.declared.place.Place.{Place}
 use Rattle.rl_sources.specs.Options.{Picks}
 use Rattle.rl_lexer.specs.declared.lines.LineColumn.{LineColumn}
-use Rattle.rl_sources.specs.Json.{place_members}
-use Rattle.rl_sources.specs.Places.{line_front, place_text, IsPlaceIn}
+use Rattle.rl_sources.specs.Places.{IsContextIn, IsPlaceIn, WithContext}
+use Rattle.rl_output.proofs.Pieces.{ascii_pushed, back_utf8}
+use Rattle.rl_output.specs.Fronts.{front_of}
+use Rattle.rl_output.specs.declared.github.Level.TheVariants.{Notice}
 use Rattle.rl_sources.specs.Held.{Holds, IsHeldAt}
-use Rattle.rl_sources.specs.Scans.{IsPicked, IsPlacedLine, AreReasonLines, IsHeldLine, IsLineAt, IsLineEnd, IsLineIn, IsPickedLine, IsPrintedAs, IsShownLiteral}
+use Rattle.rl_sources.specs.Scans.{IsPicked, IsPlacedLine, AreReasonLines, IsHeldLine, IsLineAt, IsLineEnd, IsLineIn, IsOwnLine, IsPickedLine, IsPrintedAs, IsShownLiteral}
 use Rattle.rl_sources.specs.Steps.{LooksForFlaws}
-use Rattle.rl_sources.specs.Findings.{bytes_before, FindsFlaw, FindsNoFlaw, HasFoundError, HasFoundType, IsBad, IsFoundIn, IsRight, IsWrong}
+use Rattle.rl_sources.specs.Findings.{FindsFlaw, FindsNoFlaw, HasFoundError, HasFoundType, IsBad, IsFoundIn, IsRight, IsWrong}
+use Rattle.rl_output.specs.Spots.{bytes_before}
 use Rattle.rl_types.specs.Before.{may_negate}
 use Rattle.rl_types.specs.TypeErrors.{HasType, HasTypeError}
 use Rattle.rl_sources.specs.declared.finding.Wrong.{Wrong}
@@ -42,86 +48,6 @@ use Rattle.rl_types.proofs.Exclusions.{no_both}
 use Rattle.rl_reasons.specs.Limits.{IsFloatBySuffix}
 use Rattle.rl_file_reasons.proofs.FilePlaces.{signed_same}
 use Rattle.rl_reasons.proofs.LimitLemmas.{read_within}
-
--- ---- places are ASCII
-
-glyph_ascii : (d : ℕ) → d < 10 → digit_glyph false d < 128
-glyph_ascii d h = grind (arith, nat_tests)
-
-chosen_ascii : (b : Bool) (xs ys : List ℕ) → IsAscii xs → IsAscii ys → IsAscii (cond b xs ys)
-chosen_ascii true xs ys h k = h
-chosen_ascii false xs ys h k = k
-
-onto_ascii : (k n : ℕ) (acc : List ℕ) → IsAscii acc → IsAscii (digits_onto k 10 false n acc)
-onto_ascii zero n acc h = h
-onto_ascii (suc k) n acc h =
-    let now : List ℕ = digit_glyph false (n % 10) ∷ acc in
-    let is_now : IsAscii now = IsAscii-cons (digit_glyph false (n % 10)) acc (glyph_ascii (n % 10) (omega arith)) h in
-    chosen_ascii (n / 10 == 0) now (digits_onto k 10 false (n / 10) now) is_now (onto_ascii k (n / 10) now is_now)
-
-pub decimal_ascii : (n : ℕ) → IsAscii (decimal n)
-unfolding digits
-decimal_ascii n = onto_ascii 64 n [] IsAscii-nil
-
--- what ASCII passes
-pub low_text : (cs : List ℕ) → list_all is_ascii cs ≡ true → IsAscii cs
-low_text [] h = IsAscii-nil
-low_text (c ∷ cs) h =
-    let both = and_parts (is_ascii c) (list_all is_ascii cs) h in
-    IsAscii-cons c cs (ltb-true c 128 both.0) (low_text cs both.1)
-
-named_on : (name rest : List ℕ) (n : ℕ) → list_all is_ascii name ≡ true → IsAscii rest
-    → IsAscii (name ++ (decimal n ++ rest))
-named_on name rest n low ascii =
-    IsAscii-append name (decimal n ++ rest) (low_text name low)
-    (IsAscii-append (decimal n) rest (decimal_ascii n) ascii)
-
-members_ascii : (lo hi : ℕ) (at : LineColumn) → IsAscii (place_members lo hi at)
-members_ascii lo hi at =
-    let last : List ℕ = codes ",\"column\":" ++ decimal at.column in
-    let line : List ℕ = codes ",\"line\":" ++ (decimal at.line ++ last) in
-    let end : List ℕ = codes ",\"hi\":" ++ (decimal hi ++ line) in
-    named_on (codes "\"lo\":") end lo refl (named_on (codes ",\"hi\":") line hi refl
-    (named_on (codes ",\"line\":") last at.line refl (IsAscii-append (codes ",\"column\":") (decimal at.column)
-    (low_text (codes ",\"column\":") refl) (decimal_ascii at.column))))
-
-pub place_ascii : (place : Place) → IsAscii (place_text place)
-place_ascii (Bytes lo hi) =
-    IsAscii-append (decimal lo) (46 ∷ 46 ∷ decimal hi) (decimal_ascii lo)
-    (IsAscii-cons 46 (46 ∷ decimal hi) (lit< tt) (IsAscii-cons 46 (decimal hi) (lit< tt) (decimal_ascii hi)))
-place_ascii (Line at) =
-    IsAscii-append (decimal at.line) (58 ∷ decimal at.column) (decimal_ascii at.line)
-    (IsAscii-cons 58 (decimal at.column) (lit< tt) (decimal_ascii at.column))
-place_ascii (Both lo hi at) = members_ascii lo hi at
-
-pub spaced_ascii : (place : Place) → IsAscii (place_text place ++ 32 ∷ [])
-spaced_ascii place = IsAscii-append (place_text place) (32 ∷ []) (place_ascii place)
-    (IsAscii-cons 32 [] (lit< tt) IsAscii-nil)
-
--- what stands before a line
-pub front_bare : (place : Place) (old new : List ℕ) → IsUtf8 old → new ≡ old ++ (place_text place ++ 32 ∷ [])
-    → chars new ≡ chars old ++ (place_text place ++ 32 ∷ [])
-front_bare place old new utf8 written =
-    pushed old new (place_text place ++ 32 ∷ []) utf8 written
-    ∙ ap (λ z. chars old ++ z) (chars-IsAscii (place_text place ++ 32 ∷ []) (spaced_ascii place))
-
-pub front_in_file : (path : List ℕ) (place : Place) (old new : List ℕ) → IsUtf8 old → IsUtf8 path
-    → new ≡ old ++ (path ++ (58 ∷ (place_text place ++ 58 ∷ 32 ∷ [])))
-    → chars new ≡ chars old ++ (chars path ++ (58 ∷ (place_text place ++ 58 ∷ 32 ∷ [])))
-front_in_file path place old new utf8 is_path written =
-    let after : List ℕ = 58 ∷ (place_text place ++ 58 ∷ 32 ∷ []) in
-    let ascii : IsAscii after = IsAscii-cons 58 (place_text place ++ 58 ∷ 32 ∷ []) (lit< tt)
-    (IsAscii-append (place_text place) (58 ∷ 32 ∷ []) (place_ascii place)
-    (IsAscii-cons 58 (32 ∷ []) (lit< tt) (IsAscii-cons 32 [] (lit< tt) IsAscii-nil))) in
-    pushed old new (path ++ after) utf8 written
-    ∙ ap (λ z. chars old ++ z) (chars-append path after is_path
-    ∙ ap (λ z. chars path ++ z) (chars-IsAscii after ascii))
-
--- what is left after the front of a text is a text
-pub back_utf8 : (front back : List ℕ) → IsUtf8 (encode_utf8_all (front ++ back)) → IsUtf8 (encode_utf8_all back)
-back_utf8 [] back u = u
-back_utf8 (c ∷ cs) back u = back_utf8 cs back (IsUtf8-past_char (encode_utf8_all (c ∷ (cs ++ back)))
-    (encode_utf8_all (cs ++ back)) c u refl)
 
 -- The line that was appended begins where the text ended before.
 pub record EndsInLine (old now line : List ℕ) : Type 0 where
@@ -185,17 +111,24 @@ bare_printed text value old new is bare e =
 
 -- what stands before it, and the line
 pub line_at : (options : Options) (text : List ℕ) (place : Place) (old mid new : List ℕ)
-    → mid ≡ old ++ line_front options.form options.path place
+    → mid ≡ old ++ front_of Notice options.form options.path place
     → Appends (IsLineEnd options.form options.spelling text) mid new → Appends (IsLineAt options text place) old new
 line_at options text place old mid new begun (shown, is, e) =
-    let front = line_front options.form options.path place in
+    let front = front_of Notice options.form options.path place in
     (front ++ shown, (shown, is, refl), e ∙ ap (λ z. z ++ shown) begun ∙ append_assoc old front shown)
 
 -- the line, after its place
 pub placed : (options : Options) (whole text : List ℕ) (lo hi : ℕ) (place : Place) (old new : List ℕ)
     → IsPlaceIn options whole lo hi place → Appends (IsLineAt options text place) old new
-    → Appends (IsPlacedLine options whole text lo hi) old new
+    → Appends (IsOwnLine options whole text lo hi) old new
 placed options whole text lo hi place old new is_place (shown, is, e) = (shown, (place, is_place, is), e)
+
+-- and below it what is shown of the source
+pub in_context : (IsLine : List ℕ → Type 0) (options : Options) (whole : List ℕ) (lo hi : ℕ) (old mid new : List ℕ)
+    → Appends IsLine old mid → Appends (IsContextIn options whole lo hi) mid new
+    → Appends (WithContext IsLine options whole lo hi) old new
+in_context IsLine options whole lo hi old mid new (line, is, e) (context, below, f) =
+    (line ++ context, (line, context, is, below, refl), f ∙ ap (λ z. z ++ context) e ∙ append_assoc old line context)
 
 -- lines that say why
 pub explained : (options : Options) (whole text : List ℕ) (found : Option Found) (lo hi : ℕ) (old new : List ℕ)
@@ -331,3 +264,18 @@ pub at_end : (old new : CursorState) → BeginsNoSource (chars old.rest) → new
 at_end old new none stays (inl ends) = ap (λ (s : CursorState). s.rest) (sym stays) ∙ ends
 at_end old new none stays (inr (kind, after, before)) = absurd
     (none kind after (subst (λ (s : CursorState). SourceBefore (chars s.rest) kind after) stays before))
+
+-- the annotation of a literal
+pub annotated : (spelling : Spelling) (text old printed new line : List ℕ)
+    → Appends (IsPrintedAs spelling text) (chars []) (chars printed) → line ≡ first_line (chars printed)
+    → new ≡ old ++ annotation_end (codes "literal") (message_text line (chars []))
+    → Appends (IsLineEnd Github spelling text) old new
+annotated spelling text old printed new line (words, is, e) up_to written =
+    let said : chars printed ≡ words = e ∙ ap (λ (z : List ℕ). z ++ words) chars-nil in
+    let nothing : message_text line (chars []) ≡ line = ap (message_text line) chars-nil in
+    let shown : List ℕ = annotation_end (codes "literal") (first_line words) in
+    (
+      shown,
+      (words, is, refl),
+      written ∙ ap (λ (z : List ℕ). old ++ annotation_end (codes "literal") z) (nothing ∙ up_to ∙ ap first_line said),
+    )

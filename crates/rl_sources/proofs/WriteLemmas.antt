@@ -8,7 +8,7 @@ use Rattle.rl_program.specs.Streams.{AppendsBeginning}
 use Rattle.rl_program.specs.declared.fault.Fault.{Fault as RunFault}
 use Rattle.rl_program.specs.declared.fault.Fault.TheVariants.{Write}
 use Rattle.rl_sources.specs.declared.options.Options.{Options}
-use Rattle.rl_sources.specs.declared.place.Place.{Place}
+use Rattle.rl_output.specs.declared.place.Place.{Place}
 use Rattle.rl_sources.specs.declared.scan_error.ScanError.TheVariants.{Fault, Source}
 use Rattle.rl_sources.specs.declared.step.Step.{Step}
 use Rattle.rl_sources.specs.declared.step.Step.TheVariants.{More, End, Error}

@@ -48,10 +48,6 @@ pub record IsFoundIn (text : List ℕ) (found : Option Found) : Type 0 where
   pub none : IfNone found (HasNoReading (chars text))
   pub some : IfSome found (IsFound text)
 
--- the bytes of a text before one of them
-abbrev pub bytes_before : List ℕ → ℕ → List ℕ
-bytes_before text at = take at (encode_utf8_all text)
-
 -- Rust has no type for what was found behind these bytes, or has one. A text without a reading is a float by its suffix.
 abbrev pub HasFoundError : List ℕ → List ℕ → Option Found → TypeError → Type 0
 HasFoundError before text None error = ⊥

@@ -5,11 +5,14 @@ use Rattle.std.specs.Fmt.{digits, format_spec, padded_integral}
 use Rattle.rl_text.specs.Texts.{byte_len, begins_char}
 use Rattle.rl_files.specs.Visible.{needs_escape}
 use Rattle.rl_lexer.specs.Sources.{without_mark}
-use Rattle.rl_sources.specs.declared.options.Form.{Form}
+use Rattle.rl_output.specs.declared.form.Form.{Form}
+use Rattle.rl_output.specs.declared.form.Form.TheVariants.{Plain, Colored, Json, Github}
 use Rattle.rl_sources.specs.declared.options.Options.{Options}
-use Rattle.rl_sources.specs.declared.place.Place.{Place}
-use Rattle.rl_sources.specs.Json.{is_json, string_member}
-use Rattle.rl_sources.specs.Places.{line_front, IsPlaceIn}
+use Rattle.rl_output.specs.declared.place.Place.{Place}
+use Rattle.rl_output.specs.Fronts.{line_front}
+use Rattle.rl_output.specs.Github.{annotation_end}
+use Rattle.rl_output.specs.Members.{string_member}
+use Rattle.rl_sources.specs.Places.{IsContextIn, IsPlaceIn}
 
 -- a control character of the layout: a tab, an LF, a form feed, and a CR before an LF
 abbrev pub is_layout : ℕ → List ℕ → Bool
@@ -43,19 +46,22 @@ four_digits n = padded_integral (format_spec 32 0 4 4 (2 ^ 64 - 1)) false [] (di
 abbrev pub character_words : ℕ → List ℕ
 character_words c = codes "U+" ++ (four_digits c ++ direction_name c)
 
--- what stands after the place in its line: the words, or the member of its object
+-- what stands after the place in its line: the words, the member of its object, or the message of its annotation
 abbrev pub hidden_end : Form → ℕ → List ℕ
-hidden_end form c =
-    cond (is_json form) (string_member (codes "hidden") (chars (character_words c)) ++ codes "}\n")
-    (chars (character_words c) ++ codes "\n")
+hidden_end Plain c = chars (character_words c) ++ codes "\n"
+hidden_end Colored c = chars (character_words c) ++ codes "\n"
+hidden_end Json c = string_member (codes "hidden") (chars (character_words c)) ++ codes "}\n"
+hidden_end Github c = annotation_end (codes "hidden") (chars (character_words c))
 
--- The line of a character of the whole source, of which so much stands after it.
+-- The line of a character of the whole source, of which so much stands after it, and below it what is shown of the source for it.
 pub record IsHiddenLine (options : Options) (whole : List ℕ) (c : ℕ) (after line : List ℕ) : Type 0 where
   pub lo : ℕ
   pub lo_is : lo + byte_len (c ∷ after) ≡ byte_len whole
   pub place : Place
   pub place_is : IsPlaceIn options whole lo (lo + length (encode_utf8 c)) place
-  pub line_is : line ≡ line_front options.form options.path place ++ hidden_end options.form c
+  pub context : List ℕ
+  pub context_is : IsContextIn options whole lo (lo + length (encode_utf8 c)) context
+  pub line_is : line ≡ line_front options.form options.path place ++ (hidden_end options.form c ++ context)
 
 -- what is shown of a character of the whole source: where it turns or hides text its line, else nothing
 abbrev pub IsShownCharacter : Options → List ℕ → ℕ → List ℕ → List ℕ → Type 0

@@ -1,24 +1,17 @@
 -- What is printed of a source as JSON: an object a line. All are lists of characters.
-use Rattle.std.specs.Prelude.{◌≡◌, ◌⊎◌, ℕ, Bool, false, true, List, [], ◌∷◌, ◌++◌, codes, Option, Some, None}
-use denote.Ref.{Bor}
+use Rattle.std.specs.Prelude.{◌≡◌, ◌⊎◌, ℕ, List, [], ◌∷◌, ◌++◌, codes}
 use Rattle.std.specs.Fmt.{decimal}
 use Rattle.std.specs.List.{flat_map}
-use Rattle.std.specs.Str.{chars}
 use Rattle.rl_forms.specs.declared.kind.Kind.{Kind}
 use Rattle.rl_forms.specs.Reading.{Contents, Characters, Bytes, Digits, Truth, truth_text, Reads, HasContents, HasNoReading}
-use Rattle.rl_lexer.specs.declared.lines.LineColumn.{LineColumn}
+use Rattle.rl_lexer.specs.LexErrors.{lex_message}
+use Rattle.rl_lexer.specs.declared.lex_error.LexKind.{LexKind}
 use Rattle.rl_lines.specs.Lines.{kind_label}
-use Rattle.rl_sources.specs.declared.options.Form.{Form}
-use Rattle.rl_sources.specs.declared.options.Form.TheVariants.{Plain, Colored, Json}
 use Rattle.rl_sources.specs.Findings.{reason_id, reason_message}
 use Rattle.rl_sources.specs.declared.finding.Reason.{Reason}
-use Rattle.rl_sources.specs.JsonStrings.{json_string}
-
--- whether lines are objects
-abbrev pub is_json : Form → Bool
-is_json Plain = false
-is_json Colored = false
-is_json Json = true
+use Rattle.rl_output.specs.ErrorIds.{error_id}
+use Rattle.rl_output.specs.JsonStrings.{json_string}
+use Rattle.rl_output.specs.Members.{string_member}
 
 -- numbers in base ten, each after a comma
 abbrev pub more_numbers : List ℕ → List ℕ
@@ -29,17 +22,6 @@ abbrev pub number_array : List ℕ → List ℕ
 number_array [] = codes "[]"
 number_array (n ∷ ns) = codes "[" ++ (decimal n ++ (more_numbers ns ++ codes "]"))
 
--- where an object begins: the brace, and the path where there is one
-abbrev pub object_front : Option (Bor (List ℕ)) → List ℕ
-object_front None = codes "{"
-object_front (Some path) = codes "{\"path\":" ++ (json_string (chars path.now) ++ codes ",")
-
--- the members of a place: its bytes, and the line and column of the first
-abbrev pub place_members : ℕ → ℕ → LineColumn → List ℕ
-place_members lo hi at =
-    codes "\"lo\":" ++ (decimal lo ++ (codes ",\"hi\":" ++ (decimal hi
-    ++ (codes ",\"line\":" ++ (decimal at.line ++ (codes ",\"column\":" ++ decimal at.column))))))
-
 -- what a literal stands for: characters as a string, bytes as an array of their numbers, a number by its
 -- digits in base ten, as a string, a truth value by its word
 abbrev pub json_value : Contents → List ℕ
@@ -47,10 +29,6 @@ json_value (Characters cs) = json_string cs
 json_value (Bytes bs) = number_array bs
 json_value (Digits ds) = json_string ds
 json_value (Truth b) = truth_text b
-
--- a member after others, whose name has no escapes, and whose value is a string
-abbrev pub string_member : List ℕ → List ℕ → List ℕ
-string_member name text = codes ",\"" ++ (name ++ (codes "\":" ++ json_string text))
 
 -- the members of a literal, and the object's end: its kind, its text, its value, and its suffix
 abbrev pub literal_members : List ℕ → List ℕ → List ℕ → List ℕ → List ℕ
@@ -78,6 +56,7 @@ finding_members text reason piece =
     ++ (string_member (codes "error") (reason_message reason)
     ++ (string_member (codes "piece") piece ++ codes "}\n")))
 
--- the member of a source's error, and the object's end
-abbrev pub error_members : List ℕ → List ℕ
-error_members message = string_member (codes "error") message ++ codes "}\n"
+-- the members of a source's error, by a name that stays and in words, and the object's end
+abbrev pub error_members : LexKind → List ℕ
+error_members kind =
+    string_member (codes "id") (error_id kind) ++ (string_member (codes "error") (lex_message kind) ++ codes "}\n")

@@ -1,5 +1,4 @@
 pub mod Options
-pub mod Colors
 pub mod Hidden
 pub mod Places
 pub mod InFile
@@ -9,5 +8,4 @@ pub mod Steps
 pub mod ScanErrors
 pub mod Held
 pub mod Searches
-pub mod JsonStrings
 pub mod Json

@@ -2,7 +2,7 @@
 use Rattle.std.specs.Prelude.{ℕ, List, ◌++◌, codes}
 use Rattle.rl_lexer.specs.LexErrors.{lex_message}
 use Rattle.rl_program.specs.Faults.{error_line, fault_status}
-use Rattle.rl_sources.specs.Places.{place_text}
+use Rattle.rl_output.specs.Fronts.{place_text}
 use Rattle.rl_sources.specs.declared.scan_error.ScanError.{ScanError}
 use Rattle.rl_sources.specs.declared.scan_error.ScanError.TheVariants.{Fault, Source}
 

@@ -1,7 +1,7 @@
 -- What is shown of a source: a line for each of its literals, after its place, or where it is asked
 -- for one that says why it is bad; or a line for each character that turns or hides text. Texts and what is shown are lists of characters, what
 -- is written lists of bytes.
-use Rattle.std.specs.Prelude.{◌≡◌, ◌≢◌, ◌⊎◌, ◌↔◌, ℕ, ◌+◌, Bool, cond, List, [], ◌++◌, IsTrue, codes, encode_utf8_all, Option, Some, None}
+use Rattle.std.specs.Prelude.{◌≡◌, ◌≢◌, ◌⊎◌, ◌↔◌, ℕ, ◌+◌, Bool, List, [], ◌++◌, IsTrue, codes, encode_utf8_all, Option, Some, None}
 use denote.Ref.{Bor}
 use Rattle.std.specs.List.{All}
 use Rattle.std.specs.Io.KnownBytes.{Appends, Keeps}
@@ -21,51 +21,66 @@ use Rattle.rl_lines.specs.Lines.{IsLineOf, IsLabelOf, Joins}
 use Rattle.rl_files.specs.Visible.{visible, visible_lines}
 use Rattle.rl_program.specs.Streams.{AppendsBeginning}
 use Rattle.rl_program.specs.declared.fault.Fault.TheVariants.{Write, Memory}
-use Rattle.rl_sources.specs.declared.color.Paint.TheVariants as paint
-use Rattle.rl_sources.specs.declared.options.Form.{Form}
-use Rattle.rl_sources.specs.declared.options.Form.TheVariants.{Plain, Colored, Json}
+use Rattle.rl_lexer.specs.LexErrors.{lex_message}
+use Rattle.rl_output.specs.declared.color.Paint.TheVariants as paint
+use Rattle.rl_output.specs.declared.form.Form.{Form}
+use Rattle.rl_output.specs.declared.form.Form.TheVariants.{Plain, Colored, Json, Github}
+use Rattle.rl_output.specs.declared.github.Level.TheVariants.{Notice}
+use Rattle.rl_output.specs.declared.place.Place.{Place}
+use Rattle.rl_output.specs.Colors.{painted}
+use Rattle.rl_output.specs.Contexts.{first_line}
+use Rattle.rl_output.specs.ErrorIds.{error_id}
+use Rattle.rl_output.specs.Fronts.{front_of, line_front}
+use Rattle.rl_output.specs.Github.{annotation_end, message_text}
 use Rattle.rl_sources.specs.declared.options.Spelling.{Spelling}
 use Rattle.rl_sources.specs.declared.options.Spelling.TheVariants.{Value, Source}
 use Rattle.rl_sources.specs.declared.options.Options.{Options}
 use Rattle.rl_sources.specs.declared.options.Shown.{Shown}
 use Rattle.rl_sources.specs.declared.options.Shown.TheVariants as asked
-use Rattle.rl_sources.specs.declared.place.Place.{Place}
 use Rattle.rl_sources.specs.declared.scan_error.ScanError.{ScanError}
 use Rattle.rl_sources.specs.declared.scan_error.ScanError.TheVariants.{Fault, Source}
-use Rattle.rl_sources.specs.Colors.{painted}
-use Rattle.rl_sources.specs.Findings.{AreFlawsLeft, bytes_before, IsBad, IsFlawFinding, IsFoundIn, IsLimitFinding, IsPieceOf, IsRight, IsWholeFinding, IsWrongBy, reason_message}
+use Rattle.rl_output.specs.Spots.{bytes_before}
+use Rattle.rl_sources.specs.Findings.{AreFlawsLeft, IsBad, IsFlawFinding, IsFoundIn, IsLimitFinding, IsPieceOf, IsRight, IsWholeFinding, IsWrongBy, reason_id, reason_message}
 use Rattle.rl_sources.specs.declared.finding.Finding.{Finding}
 use Rattle.rl_sources.specs.declared.finding.Reason.{Reason}
 use Rattle.rl_reading.specs.declared.found.Found.{Found}
 use Rattle.std.specs.Str.{chars}
 use Rattle.rl_sources.specs.Held.{Holds, IsHeldAt}
 use Rattle.rl_sources.specs.Hidden.{ShowsHidden}
-use Rattle.rl_sources.specs.Json.{is_json, IsJsonLiteral, finding_members, error_members}
+use Rattle.rl_sources.specs.Json.{IsJsonLiteral, finding_members, error_members}
 use Rattle.rl_sources.specs.Options.{Picks}
-use Rattle.rl_sources.specs.Places.{line_front, IsPlaceIn}
+use Rattle.rl_sources.specs.Places.{IsPlaceIn, WithContext}
 
 -- what is printed of a literal: the line of its text as a literal, or the text as it is written
 abbrev pub IsPrintedAs : Spelling → List ℕ → List ℕ → Type 0
 IsPrintedAs Value text shown = (line : List ℕ) × IsLineOf text line × (shown ≡ visible_lines line)
 IsPrintedAs Source text shown = shown ≡ visible text ++ codes "\n"
 
--- what stands after the place in the line of a literal: what is printed of it, or the members of its
--- object
+-- what stands after the place in the line of a literal: what is printed of it, the members of its
+-- object, or the message of its annotation, which is what is printed of it
 abbrev pub IsLineEnd : Form → Spelling → List ℕ → List ℕ → Type 0
 IsLineEnd Plain spelling text shown = IsPrintedAs spelling text shown
 IsLineEnd Colored spelling text shown = IsPrintedAs spelling text shown
 IsLineEnd Json spelling text shown = IsJsonLiteral text shown
+IsLineEnd Github spelling text shown =
+    (printed : List ℕ) × IsPrintedAs spelling text printed
+    × (shown ≡ annotation_end (codes "literal") (first_line printed))
 
 -- the line of a literal, after this place
 abbrev pub IsLineAt : Options → List ℕ → Place → List ℕ → Type 0
 IsLineAt options text place shown =
     (words : List ℕ) × IsLineEnd options.form options.spelling text words
-    × (shown ≡ line_front options.form options.path place ++ words)
+    × (shown ≡ front_of Notice options.form options.path place ++ words)
 
 -- the line of a literal, after its place in the whole source
+abbrev pub IsOwnLine : Options → List ℕ → List ℕ → ℕ → ℕ → List ℕ → Type 0
+IsOwnLine options whole text lo hi shown =
+    (place : Place) × IsPlaceIn options whole lo hi place × IsLineAt options text place shown
+
+-- the same, and below it what is shown of the source for the place
 abbrev pub IsPlacedLine : Options → List ℕ → List ℕ → ℕ → ℕ → List ℕ → Type 0
 IsPlacedLine options whole text lo hi shown =
-    (place : Place) × IsPlaceIn options whole lo hi place × IsLineAt options text place shown
+    WithContext (IsOwnLine options whole text lo hi) options whole lo hi shown
 
 -- what is wrong: a message and, where there is one, a piece as it is printed
 abbrev pub error_reason : List ℕ → List ℕ → List ℕ
@@ -78,18 +93,28 @@ error_words form message piece = painted form paint.Error (codes "error") ++ err
 
 -- what stands after the place in the line of a finding, and in that of a source's error
 abbrev pub finding_end : Form → List ℕ → Reason → List ℕ → List ℕ
-finding_end form text reason piece =
-    cond (is_json form) (finding_members text reason piece) (error_words form (reason_message reason) piece)
+finding_end Plain text reason piece = error_words Plain (reason_message reason) piece
+finding_end Colored text reason piece = error_words Colored (reason_message reason) piece
+finding_end Json text reason piece = finding_members text reason piece
+finding_end Github text reason piece = annotation_end (reason_id reason) (message_text (reason_message reason) piece)
 
-abbrev pub error_end : Form → List ℕ → List ℕ
-error_end form message = cond (is_json form) (error_members message) (error_words form message [])
+abbrev pub error_end : Form → LexKind → List ℕ
+error_end Plain kind = error_words Plain (lex_message kind) []
+error_end Colored kind = error_words Colored (lex_message kind) []
+error_end Json kind = error_members kind
+error_end Github kind = annotation_end (error_id kind) (lex_message kind)
 
 -- the line of a finding in a text that begins at this byte of the whole source: its place, what is wrong, and the piece
-abbrev pub IsFindingLine : Options → List ℕ → List ℕ → ℕ → Finding → List ℕ → Type 0
-IsFindingLine options whole text lo finding shown =
+abbrev pub IsOwnFindingLine : Options → List ℕ → List ℕ → ℕ → Finding → List ℕ → Type 0
+IsOwnFindingLine options whole text lo finding shown =
     (place : Place) × (piece : List ℕ) × IsPlaceIn options whole (lo + finding.lo) (lo + finding.hi) place
     × IsPieceOf text finding piece
     × (shown ≡ line_front options.form options.path place ++ finding_end options.form text finding.reason piece)
+
+-- the same, and below it what is shown of the source for the place
+abbrev pub IsFindingLine : Options → List ℕ → List ℕ → ℕ → Finding → List ℕ → Type 0
+IsFindingLine options whole text lo finding shown =
+    WithContext (IsOwnFindingLine options whole text lo finding) options whole (lo + finding.lo) (lo + finding.hi) shown
 
 -- the line of a flaw of a text as rustc reads it
 abbrev pub IsFlawLine : Options → List ℕ → List ℕ → ℕ → BadPiece → List ℕ → Type 0

@@ -13,7 +13,8 @@ use Rattle.rl_sources.specs.declared.options.Shown.TheVariants.{Bad}
 use Rattle.rl_sources.specs.declared.step.Step.{Step}
 use Rattle.rl_sources.specs.declared.step.Step.TheVariants.{More, End, Error}
 use Rattle.rl_sources.specs.Places.{IsPlaceIn}
-use Rattle.rl_sources.specs.Findings.{bytes_before, IsFoundIn, IsRight, IsWrong}
+use Rattle.rl_sources.specs.Findings.{IsFoundIn, IsRight, IsWrong}
+use Rattle.rl_output.specs.Spots.{bytes_before}
 use Rattle.rl_sources.specs.Scans.{ShowsUpTo, IsErrorAt}
 
 -- flaws are looked for: the line of a bad literal says why it is bad, or bad ones are shown

@@ -1,16 +1,20 @@
 //! Characters of a source that turn or hide text, wherever they stand.
 
-ghost use Rattle.std.specs.Prelude.{◌≡◌, ◌+◌, ◌++◌, ◌∷◌, IfOk, OnOk, length, string_bytes};
+ghost use Rattle.std.specs.Prelude.{◌≡◌, ◌+◌, ◌++◌, ◌∷◌, IfOk, OnOk, codes, length, string_bytes};
 ghost use Rattle.std.specs.Str.{chars};
 ghost use Rattle.rl_lexer.specs.Cursors.{IsCursorState};
 ghost use Rattle.rl_lines.specs.Lines.{Appends};
+ghost use Rattle.rl_output.specs.Github.{annotation_end};
+ghost use Rattle.rl_output.specs.Members.{string_member};
 ghost use Rattle.rl_sources.specs.Hidden.{IsHiddenLine, IsShownCharacter, ShowsHidden, character_words, direction_name as name_of, hidden_end, hides as is_hider, is_layout as layout};
 
-use crate::json::{is_json, push_ascii, push_member};
-use crate::options::{Form, Options};
-use crate::place::{Places, place_of, push_front};
+use crate::options::Options;
+use crate::place::{place_of, push_context_of};
 use rl_files::needs_escape;
 use rl_lexer::without_mark;
+use rl_output::{
+    Form, Level, Places, push_annotation_end, push_ascii, push_front, push_member,
+};
 use rl_tokens::text::{begins_with, split_char};
 use std::alloc::{AllocError, Allocator};
 
@@ -63,6 +67,35 @@ fn words_of<A: Allocator>(alloc: A, c: char) -> Result<String<A>, AllocError>
     format!(in alloc; "U+{number:04X}{name}")
 }
 
+/// Appends the words of a character, and the line's end.
+fn push_hidden_words<A: Allocator>(out: &mut String<A>, words: &str) -> Result<(), AllocError>
+    ensures { OnOk result (chars (string_bytes out.new)
+        ≡ chars (string_bytes out.old) ++ (chars words.now ++ codes "\n")) }
+{
+    out.push_str(words)?;
+    push_ascii(out, "\n")
+}
+
+/// Appends the member of a character, and the object's end.
+fn push_hidden_member<A: Allocator>(out: &mut String<A>, words: &str) -> Result<(), AllocError>
+    ensures { OnOk result (chars (string_bytes out.new)
+        ≡ chars (string_bytes out.old) ++ (string_member (codes "hidden") (chars words.now) ++ codes "}\n")) }
+{
+    push_member(out, "hidden", words)?;
+    push_ascii(out, "}\n")
+}
+
+/// Appends what stands after the place in the annotation of a character.
+fn push_hidden_annotation<A: Allocator>(
+    out: &mut String<A>,
+    words: &str,
+) -> Result<(), AllocError>
+    ensures { OnOk result (chars (string_bytes out.new)
+        ≡ chars (string_bytes out.old) ++ annotation_end (codes "hidden") (chars words.now)) }
+{
+    push_annotation_end(out, "hidden", words, "")
+}
+
 /// Appends what stands after the place in the line of a character.
 fn push_hidden_end<A: Allocator>(
     alloc: A,
@@ -74,12 +107,11 @@ fn push_hidden_end<A: Allocator>(
         ≡ chars (string_bytes out.old) ++ hidden_end form c) }
 {
     let words = words_of(alloc, c)?;
-    if is_json(form) {
-        push_member(out, "hidden", words.as_str())?;
-        return push_ascii(out, "}\n");
+    match form {
+        Form::Json => push_hidden_member(out, words.as_str()),
+        Form::Github => push_hidden_annotation(out, words.as_str()),
+        Form::Plain | Form::Colored => push_hidden_words(out, words.as_str()),
     }
-    out.push_str(words.as_str())?;
-    push_ascii(out, "\n")
 }
 
 /// Appends the line of the character that begins a rest of the source, and after which so much is left.
@@ -103,8 +135,9 @@ fn push_hidden_line<'t, A: Allocator>(
     let lo = places.byte_of(rest);
     let hi = places.byte_of(after);
     let place = place_of(options, places, rest, lo, hi);
-    push_front(out, options.form, options.path, &place)?;
-    push_hidden_end(alloc, out, options.form, c)
+    push_front(out, Level::Error, options.form, options.path, &place)?;
+    push_hidden_end(alloc, out, options.form, c)?;
+    push_context_of(out, options, places, rest, lo, hi)
 }
 
 /// Appends what is shown of the character that begins a rest of the source, and after which so much is left.

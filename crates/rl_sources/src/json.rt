@@ -6,40 +6,20 @@ ghost use Rattle.std.specs.List.{list_all};
 ghost use Rattle.std.specs.Str.{chars};
 ghost use Rattle.rl_forms.specs.declared.kind.Kind.TheVariants.{Str, ByteStr, CStr, Byte, Char, Int, Float};
 ghost use Rattle.rl_forms.specs.Reading.{HasNoReading, truth_text};
-ghost use Rattle.rl_lexer.specs.LexErrors.{lex_message};
 ghost use Rattle.rl_lines.specs.Lines.{Appends};
 ghost use Rattle.rl_reading.specs.Founds.{IsFound};
-ghost use Rattle.rl_sources.specs.Json.{is_json as prints_json, more_numbers, number_array, object_front, string_member, IsJsonLiteral, IsJsonValueOf, finding_members, error_members};
-ghost use Rattle.rl_sources.specs.JsonStrings.{json_string};
+ghost use Rattle.rl_output.specs.Members.{string_member};
+ghost use Rattle.rl_sources.specs.Json.{more_numbers, number_array, IsJsonLiteral, IsJsonValueOf, finding_members, error_members};
 
 use crate::finding::Reason;
 use crate::held::{byte_contents, bytes_contents};
-use crate::json_string::push_json_string;
-use crate::options::Form;
 use rl_forms::Kind;
 use rl_fronts::{digits_of_found, str_of_body};
 use rl_lines::label_of;
+use rl_output::{id_of, push_ascii, push_json_string, push_member};
 use rl_reading::Found;
 use rl_tokens::LexKind;
 use std::alloc::{AllocError, Allocator};
-
-/// Whether lines are objects.
-#[inline(always)]
-pub fn is_json(form: Form) -> bool
-    ensures { result ≡ prints_json form }
-{
-    matches!(form, Form::Json)
-}
-
-/// Appends ASCII.
-pub(crate) fn push_ascii<A: Allocator>(out: &mut String<A>, piece: &str) -> Result<(), AllocError>
-    requires { list_all is_ascii piece.now ≡ true }
-    ensures { OnOk result
-        (chars (string_bytes out.new) ≡ chars (string_bytes out.old) ++ piece.now) }
-{
-    out.push_str(piece)?;
-    Ok(())
-}
 
 /// Appends numbers, each after a comma.
 fn push_more_numbers<A: Allocator>(out: &mut String<A>, numbers: &[u8]) -> Result<(), AllocError>
@@ -63,40 +43,6 @@ fn push_array<A: Allocator>(out: &mut String<A>, numbers: &[u8]) -> Result<(), A
     write!(out, "[{first}")?;
     push_more_numbers(out, others)?;
     push_ascii(out, "]")
-}
-
-/// Appends where an object begins.
-pub(crate) fn push_object_front<A: Allocator>(
-    out: &mut String<A>,
-    path: Option<&str>,
-) -> Result<(), AllocError>
-    ensures { OnOk result (chars (string_bytes out.new)
-        ≡ chars (string_bytes out.old) ++ object_front path.entry) }
-{
-    match path {
-        None => push_ascii(out, "{"),
-        Some(path) => {
-            push_ascii(out, "{\"path\":")?;
-            push_json_string(out, path)?;
-            push_ascii(out, ",")
-        }
-    }
-}
-
-/// Appends a member after others, whose value is a string.
-pub(crate) fn push_member<A: Allocator>(
-    out: &mut String<A>,
-    name: &str,
-    text: &str,
-) -> Result<(), AllocError>
-    requires { list_all is_ascii name.now ≡ true }
-    ensures { OnOk result (chars (string_bytes out.new)
-        ≡ chars (string_bytes out.old) ++ string_member name.now (chars text.now)) }
-{
-    push_ascii(out, ",\"")?;
-    push_ascii(out, name)?;
-    push_ascii(out, "\":")?;
-    push_json_string(out, text)
 }
 
 /// Appends the value of the string that was found in the text, which is copied only where it isn't what stands between
@@ -302,16 +248,15 @@ pub(crate) fn push_json_finding<A: Allocator>(
     push_ascii(out, "}\n")
 }
 
-/// Appends the member of a source's error, and the end of its object.
+/// Appends the members of a source's error, by a name that stays and in words, and the end of its object.
 pub(crate) fn push_json_error<A: Allocator>(
-    alloc: A,
     out: &mut String<A>,
     kind: LexKind,
 ) -> Result<(), AllocError>
     ensures { OnOk result (chars (string_bytes out.new)
-        ≡ chars (string_bytes out.old) ++ error_members (lex_message kind)) }
+        ≡ chars (string_bytes out.old) ++ error_members kind) }
 {
-    let words = format!(in alloc; "{kind}")?;
-    push_member(out, "error", words.as_str())?;
+    push_member(out, "id", id_of(kind))?;
+    push_member(out, "error", kind.words())?;
     push_ascii(out, "}\n")
 }

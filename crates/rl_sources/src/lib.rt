@@ -2,14 +2,12 @@
 //! hold a text; or what turns or hides text in them.
 #![tactic(auto)]
 
-mod color;
 mod finding;
 mod flaw_lines;
 mod held;
 mod hidden;
 mod in_file;
 mod json;
-mod json_string;
 mod judge;
 mod literal;
 mod options;
@@ -20,12 +18,9 @@ mod scanner;
 mod search;
 mod step;
 
-pub use crate::color::{Paint, push_painted};
-pub use crate::json::is_json;
-pub use crate::json_string::json_strings_stand;
-pub use crate::options::{Form, Matching, Options, Shown, Spelling, names};
-pub use crate::place::Place;
+pub use crate::options::{Matching, Options, Shown, Spelling, names};
 pub use crate::reason::push_source_error;
 pub use crate::scan_error::ScanError;
 pub use crate::scanner::scan;
+pub use rl_output::{Form, Paint, Place, is_json, push_painted};
 pub use rl_types::Edition;

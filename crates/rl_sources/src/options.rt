@@ -3,6 +3,7 @@
 ghost use Rattle.std.specs.Prelude.{◌↔◌, IsTrue};
 ghost use Rattle.rl_sources.specs.Options.{Names, Picks};
 
+use rl_output::Form;
 use rl_types::Edition;
 
 /// How a literal is printed.
@@ -12,17 +13,6 @@ pub enum Spelling {
     Value,
     /// As it is written in the source.
     Source,
-}
-
-/// How a line is written.
-#[derive(Clone, Copy)]
-pub enum Form {
-    /// As words after its place.
-    Plain,
-    /// As these, with colours for a terminal.
-    Colored,
-    /// As an object of JSON.
-    Json,
 }
 
 /// Which literals are shown.
@@ -62,6 +52,9 @@ pub struct Options<'a> {
     pub spelling: Spelling,
     /// How each line is written.
     pub form: Form,
+    /// Whether the line of the source where a place begins stands below each line, with carets under the place; not in the
+    /// forms `Json` and `Github`.
+    pub context: bool,
     /// Whether places are printed as lines and columns, and not as bytes.
     pub by_line: bool,
     /// Whether a stray character is an error, as it is in Rust.
@@ -78,7 +71,7 @@ pub struct Options<'a> {
 
 impl Default for Options<'_> {
     ghost use Rattle.std.specs.Prelude.{◌≡◌, None, false};
-    ghost use Rattle.rl_sources.specs.declared.options.Form.TheVariants.{Plain};
+    ghost use Rattle.rl_output.specs.declared.form.Form.TheVariants.{Plain};
     ghost use Rattle.rl_types.specs.declared.before.Edition.TheVariants.{E2021};
     ghost use Rattle.rl_sources.specs.declared.options.Shown.TheVariants.{All};
     ghost use Rattle.rl_sources.specs.declared.options.Spelling.TheVariants.{Value};
@@ -89,6 +82,7 @@ impl Default for Options<'_> {
       matching = record { ignores_case = false; whole_words = false };
       spelling = Value;
       form = Plain;
+      context = false;
       by_line = false;
       rejects_strays = false;
       explains = false;
@@ -108,6 +102,7 @@ impl Default for Options<'_> {
             },
             spelling: Spelling::Value,
             form: Form::Plain,
+            context: false,
             by_line: false,
             rejects_strays: false,
             explains: false,

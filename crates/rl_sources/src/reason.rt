@@ -1,23 +1,27 @@
 //! Why a literal of a source is bad.
 
-ghost use Rattle.std.specs.Prelude.{◌≡◌, ◌≤◌, ◌++◌, ◌↔◌, IsTrue, OnOk, string_bytes};
+ghost use Rattle.std.specs.Prelude.{◌≡◌, ◌≤◌, ◌++◌, ◌↔◌, [], IsTrue, OnOk, string_bytes};
 ghost use Rattle.std.specs.Str.{chars};
 ghost use Rattle.rl_text.specs.Texts.{byte_len};
 ghost use Rattle.rl_lexer.specs.LexErrors.{lex_message};
 ghost use Rattle.rl_lines.specs.Lines.{Appends};
-ghost use Rattle.rl_sources.specs.Findings.{IsPieceOf, IsSlice, reason_message};
+ghost use Rattle.rl_output.specs.ErrorIds.{error_id};
+ghost use Rattle.rl_output.specs.Fronts.{line_front};
+ghost use Rattle.rl_output.specs.Github.{annotation_end, message_text};
+ghost use Rattle.rl_sources.specs.Findings.{IsPieceOf, IsSlice, reason_id, reason_message};
 ghost use Rattle.rl_sources.specs.Held.{IsCutAt};
-ghost use Rattle.rl_sources.specs.Places.{line_front};
-ghost use Rattle.rl_sources.specs.Scans.{IsFindingLine, error_end, error_reason, finding_end};
+ghost use Rattle.rl_sources.specs.Scans.{IsFindingLine, error_end, error_reason, error_words, finding_end};
 ghost use Rattle.rl_sources.specs.Steps.{BeginsRest};
 
-use crate::color::push_error_word;
 use crate::finding::{Finding, Reason};
-use crate::json::{is_json, push_json_error, push_json_finding};
+use crate::json::{push_json_error, push_json_finding};
 use crate::literal::Literal;
-use crate::options::{Form, Options};
-use crate::place::{Place, Places, place_inside, push_front};
+use crate::options::Options;
+use crate::place::{place_inside, push_context_inside};
 use rl_files::push_visible;
+use rl_output::{
+    Form, Level, Place, Places, id_of, push_annotation_end, push_error_word, push_front,
+};
 use rl_tokens::LexKind;
 use std::alloc::{AllocError, Allocator};
 
@@ -57,6 +61,32 @@ fn push_reason<A: Allocator>(
     Ok(())
 }
 
+/// Appends that a literal is wrong, and what is.
+fn push_finding_words<A: Allocator>(
+    out: &mut String<A>,
+    form: Form,
+    reason: Reason,
+    piece: &str,
+) -> Result<(), AllocError>
+    ensures { OnOk result (chars (string_bytes out.new) ≡ chars (string_bytes out.old)
+        ++ error_words form (reason_message reason) (chars piece.now)) }
+{
+    push_error_word(out, form)?;
+    push_reason(out, reason, piece)
+}
+
+/// Appends what stands after the place in the annotation of a finding.
+fn push_finding_annotation<A: Allocator>(
+    out: &mut String<A>,
+    reason: Reason,
+    piece: &str,
+) -> Result<(), AllocError>
+    ensures { OnOk result (chars (string_bytes out.new) ≡ chars (string_bytes out.old)
+        ++ annotation_end (reason_id reason) (message_text (reason_message reason) (chars piece.now))) }
+{
+    push_annotation_end(out, reason.id(), reason.words(), piece)
+}
+
 /// Appends what stands after the place in the line of a finding.
 fn push_finding_end<A: Allocator>(
     out: &mut String<A>,
@@ -68,14 +98,14 @@ fn push_finding_end<A: Allocator>(
     ensures { OnOk result (chars (string_bytes out.new) ≡ chars (string_bytes out.old)
         ++ finding_end form (chars text.now) reason (chars piece.now)) }
 {
-    if is_json(form) {
-        return push_json_finding(out, text, reason, piece);
+    match form {
+        Form::Json => push_json_finding(out, text, reason, piece),
+        Form::Github => push_finding_annotation(out, reason, piece),
+        Form::Plain | Form::Colored => push_finding_words(out, form, reason, piece),
     }
-    push_error_word(out, form)?;
-    push_reason(out, reason, piece)
 }
 
-/// Appends the line of a finding in a literal, at its place.
+/// Appends the line of a finding in a literal, at its place, and what stands below it.
 #[inline(never)]
 pub(crate) fn push_finding<'t, A: Allocator>(
     out: &mut String<A>,
@@ -96,25 +126,49 @@ pub(crate) fn push_finding<'t, A: Allocator>(
     let token = *literal.token;
     let place = place_inside(options, places, token, literal.rest, finding.lo, finding.hi);
     let piece = piece_of(token.text, finding);
-    push_front(out, options.form, options.path, &place)?;
-    push_finding_end(out, options.form, token.text, finding.reason, piece)
+    push_front(out, Level::Error, options.form, options.path, &place)?;
+    push_finding_end(out, options.form, token.text, finding.reason, piece)?;
+    push_context_inside(out, options, places, token, literal.rest, finding.lo, finding.hi)
 }
 
-/// Appends what stands after the place in the line of a source's error.
-fn push_error_end<A: Allocator>(
-    alloc: A,
+/// Appends that a source is wrong, and what is.
+fn push_error_words<A: Allocator>(
     out: &mut String<A>,
     form: Form,
     kind: LexKind,
 ) -> Result<(), AllocError>
     ensures { OnOk result (chars (string_bytes out.new) ≡ chars (string_bytes out.old)
-        ++ error_end form (lex_message kind)) }
+        ++ error_words form (lex_message kind) []) }
 {
-    if is_json(form) {
-        return push_json_error(alloc, out, kind);
-    }
     push_error_word(out, form)?;
     writeln!(out, ": {kind}")
+}
+
+/// Appends what stands after the place in the annotation of a source's error.
+fn push_error_annotation<A: Allocator>(
+    out: &mut String<A>,
+    kind: LexKind,
+) -> Result<(), AllocError>
+    ensures { OnOk result (chars (string_bytes out.new) ≡ chars (string_bytes out.old)
+        ++ annotation_end (error_id kind) (lex_message kind)) }
+{
+    push_annotation_end(out, id_of(kind), kind.words(), "")
+}
+
+/// Appends what stands after the place in the line of a source's error.
+fn push_error_end<A: Allocator>(
+    out: &mut String<A>,
+    form: Form,
+    kind: LexKind,
+) -> Result<(), AllocError>
+    ensures { OnOk result (chars (string_bytes out.new) ≡ chars (string_bytes out.old)
+        ++ error_end form kind) }
+{
+    match form {
+        Form::Json => push_json_error(out, kind),
+        Form::Github => push_error_annotation(out, kind),
+        Form::Plain | Form::Colored => push_error_words(out, form, kind),
+    }
 }
 
 /// Appends the line of a source's error: the path where there is one, the place, and what is wrong.
@@ -123,7 +177,6 @@ fn push_error_end<A: Allocator>(
 ///
 /// An allocation failure. A beginning of the line may have been appended then.
 pub fn push_source_error<A: Allocator>(
-    alloc: A,
     out: &mut String<A>,
     form: Form,
     path: Option<&str>,
@@ -131,8 +184,8 @@ pub fn push_source_error<A: Allocator>(
     kind: LexKind,
 ) -> Result<(), AllocError>
     ensures { OnOk result (chars (string_bytes out.new) ≡ chars (string_bytes out.old)
-        ++ (line_front form path.entry place ++ error_end form (lex_message kind))) }
+        ++ (line_front form path.entry place ++ error_end form kind)) }
 {
-    push_front(out, form, path, &place)?;
-    push_error_end(alloc, out, form, kind)
+    push_front(out, Level::Error, form, path, &place)?;
+    push_error_end(out, form, kind)
 }

@@ -3,7 +3,7 @@
 ghost use Rattle.std.specs.Prelude.{Some};
 ghost use Rattle.rl_sources.specs.ScanErrors.{scan_error_line};
 
-use crate::place::Place;
+use rl_output::Place;
 use rl_program::{Fault, RunError};
 use rl_tokens::LexKind;
 use std::alloc::{Allocator, Global};

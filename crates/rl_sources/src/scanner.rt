@@ -6,9 +6,9 @@ ghost use Rattle.rl_sources.specs.Scans.{Scans, ScansHidden, ScansTokens, FailsH
 
 use crate::hidden::hidden_lines;
 use crate::options::{Options, Shown};
-use crate::place::Places;
 use crate::scan_error::ScanError;
 use crate::step::{Step, gather};
+use rl_output::Places;
 use rl_program::{Fault, write_whole};
 use rl_tokens::Sources;
 use std::alloc::Allocator;

@@ -9,6 +9,7 @@ ghost use Rattle.rl_files.specs.Visible.{visible};
 ghost use Rattle.rl_lines.specs.Lines.{Appends};
 ghost use Rattle.rl_sources.specs.Held.{IsCutAt};
 ghost use Rattle.rl_sources.specs.Scans.{IsErrorAt, IsHeldLine, IsLineAt, IsLineEnd, IsLineIn, IsPickedLine, IsPlacedLine, IsPrintedAs, IsShownLiteral};
+ghost use Rattle.rl_output.specs.declared.form.Form.TheVariants.{Github};
 ghost use Rattle.rl_sources.specs.declared.options.Spelling.TheVariants.{Value};
 ghost use Rattle.rl_sources.specs.Steps.{BeginsRest, EndsUnshown, IsAcceptedToken, IsCursorOver, IsLiteralOf, IsStepOf, StopsUnshown, TakesShown};
 ghost use Rattle.rl_sources.specs.Findings.{IsFoundIn};
@@ -18,10 +19,11 @@ use crate::held::held_at;
 use crate::json::push_json_literal;
 use crate::judge::{reason_of, wrong_in};
 use crate::literal::{Literal, kind_of};
-use crate::options::{Form, Options, Spelling};
-use crate::place::{Place, Places, place_inside, place_of, push_front};
+use crate::options::{Options, Spelling};
+use crate::place::{place_inside, place_of, push_context_inside, push_context_of};
 use rl_files::{make_visible, push_visible};
 use rl_lines::{bare_value, label_of, push_bare, push_found};
+use rl_output::{Form, Level, Place, Places, first_line, push_annotation_end, push_front};
 use rl_reading::{Found, find};
 use rl_tokens::{LexError, LexKind, SourceForm, SourceToken, Sources};
 use std::alloc::{AllocError, Allocator};
@@ -95,7 +97,25 @@ fn push_printed<A: Allocator + Copy>(
     }
 }
 
-/// Appends what stands after the place in the line of a literal: what is printed of it, or the members of its object.
+/// Appends what stands after the place in the annotation of a literal: what is printed of it.
+#[inline(never)]
+fn push_literal_annotation<A: Allocator + Copy>(
+    alloc: A,
+    out: &mut String<A>,
+    spelling: Spelling,
+    literal: &Literal<'_, '_>,
+) -> Result<(), AllocError>
+    requires { IsFoundIn literal.now.token.now.text.now literal.now.found.now }
+    ensures { OnOk result (Appends (IsLineEnd Github spelling (chars literal.now.token.now.text.now))
+        (chars (string_bytes out.old)) (chars (string_bytes out.new))) }
+{
+    let mut printed = String::new(alloc);
+    push_printed(alloc, &mut printed, spelling, literal)?;
+    push_annotation_end(out, "literal", first_line(printed.as_str()), "")
+}
+
+/// Appends what stands after the place in the line of a literal: what is printed of it, the members of its object,
+/// or the message of its annotation.
 #[inline(always)]
 fn push_line_end<A: Allocator + Copy>(
     alloc: A,
@@ -111,6 +131,7 @@ fn push_line_end<A: Allocator + Copy>(
     match options.form {
         Form::Plain | Form::Colored => push_printed(alloc, out, options.spelling, literal),
         Form::Json => push_json_literal(alloc, out, literal.token.text, *literal.found),
+        Form::Github => push_literal_annotation(alloc, out, options.spelling, literal),
     }
 }
 
@@ -127,11 +148,11 @@ fn push_line_at<A: Allocator + Copy>(
     ensures { OnOk result (Appends (IsLineAt options.now (chars literal.now.token.now.text.now) place)
         (chars (string_bytes out.old)) (chars (string_bytes out.new))) }
 {
-    push_front(out, options.form, options.path, &place)?;
+    push_front(out, Level::Notice, options.form, options.path, &place)?;
     push_line_end(alloc, out, options, literal)
 }
 
-/// Appends the line of a literal, after its place.
+/// Appends the line of a literal, after its place, and what stands below it.
 #[inline(always)]
 fn push_placed<'t, A: Allocator + Copy>(
     alloc: A,
@@ -149,10 +170,11 @@ fn push_placed<'t, A: Allocator + Copy>(
 {
     let token = literal.token;
     let place = place_of(options, places, literal.rest, token.lo, token.hi);
-    push_line_at(alloc, out, options, literal, place)
+    push_line_at(alloc, out, options, literal, place)?;
+    push_context_of(out, options, places, literal.rest, token.lo, token.hi)
 }
 
-/// Appends the line of a literal, after the place of these bytes of its text.
+/// Appends the line of a literal, after the place of these bytes of its text, and what stands below it.
 #[inline(never)]
 fn push_inside<'t, A: Allocator + Copy>(
     alloc: A,
@@ -173,7 +195,8 @@ fn push_inside<'t, A: Allocator + Copy>(
 {
     let token = *literal.token;
     let place = place_inside(options, places, token, literal.rest, range.0, range.1);
-    push_line_at(alloc, out, options, literal, place)
+    push_line_at(alloc, out, options, literal, place)?;
+    push_context_inside(out, options, places, token, literal.rest, range.0, range.1)
 }
 
 /// Appends the lines of a literal: its own, or where lines report what is wrong and something is, those that say so.

@@ -6,6 +6,7 @@ pub mod rl_files;
 pub mod rl_fronts;
 pub mod rl_grammar;
 pub mod rl_lines;
+pub mod rl_output;
 pub mod rl_program;
 pub mod rl_quoted;
 pub mod rl_reports;

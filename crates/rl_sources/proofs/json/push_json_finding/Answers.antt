@@ -1,7 +1,8 @@
 use Rattle.rl_text.proofs.Common.{chars, codes, on_ok_weaker, ◌≡◌}
 use Rattle.rl_sources.specs.Findings.{reason_id, reason_message}
-use Rattle.rl_sources.specs.Json.{string_member}
-use Rattle.rl_sources.proofs.JsonLemmas.{five_parts, reason_id_is, reason_words_are}
+use Rattle.rl_output.specs.Members.{string_member}
+use Rattle.rl_sources.proofs.JsonLemmas.{reason_id_is, reason_words_are}
+use Rattle.rl_output.proofs.Pieces.{five_parts}
 use Rattle.rl_sources.proofs.json.push_json_finding.Goals as goal
 
 pub returns : goal.returns

@@ -1,6 +1,6 @@
 use Rattle.rl_text.proofs.Common.{chars, codes, on_ok_weaker}
-use Rattle.rl_sources.specs.Json.{string_member}
-use Rattle.rl_sources.proofs.JsonLemmas.{two_pieces}
+use Rattle.rl_output.specs.Members.{string_member}
+use Rattle.rl_output.proofs.Pieces.{two_pieces}
 use Rattle.rl_sources.proofs.json.push_suffix.Goals as goal
 
 pub returns : goal.returns

@@ -1,6 +1,7 @@
 use Rattle.rl_text.proofs.Common.{IfSome, Option, chars, on_ok_weaker, subst}
 use Rattle.rl_sources.specs.declared.finding.Wrong.{Wrong}
-use Rattle.rl_sources.specs.Findings.{bytes_before, IsWrong}
+use Rattle.rl_sources.specs.Findings.{IsWrong}
+use Rattle.rl_output.specs.Spots.{bytes_before}
 use Rattle.rl_sources.proofs.StepLemmas.{explained, passes_unasked, unexplained}
 use Rattle.rl_sources.proofs.step.push_line_in.Goals as goal
 

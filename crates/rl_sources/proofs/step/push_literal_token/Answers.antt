@@ -1,6 +1,7 @@
 use Rattle.rl_text.proofs.Common.{chars, on_ok_weaker, refl, string_bytes}
 use Rattle.std.proofs.lemmas.Bool.{false≢true}
-use Rattle.rl_sources.specs.Findings.{bytes_before, IsFoundIn}
+use Rattle.rl_sources.specs.Findings.{IsFoundIn}
+use Rattle.rl_output.specs.Spots.{bytes_before}
 use Rattle.rl_sources.proofs.StepLemmas.{found_label, not_picked, picked_line, picks_found}
 use Rattle.rl_sources.proofs.ScanLemmas.{rest_boundary}
 use Rattle.rl_sources.proofs.step.push_literal_token.Goals as goal

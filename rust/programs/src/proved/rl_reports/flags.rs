@@ -225,10 +225,11 @@ pub(crate) fn form_when(has_colors: bool, when: When) -> Form {
     }
 }
 
-/// How lines are written by a later word; objects of JSON stay so.
+/// How lines are written by a later word; objects of JSON and annotations stay so.
 pub(crate) fn recolored(form: Form, later: Form) -> Form {
     match form {
         Form::Json => Form::Json,
+        Form::Github => Form::Github,
         Form::Plain | Form::Colored => later,
     }
 }

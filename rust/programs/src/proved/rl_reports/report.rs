@@ -7,7 +7,7 @@ use crate::rl_files::{PathError, Tree, Visit, push_visible};
 use crate::rl_sources::{
     Form, Options, Paint, Place, ScanError, Shown, is_json, push_painted, push_source_error, scan,
 };
-use crate::rl_tokens::LexKind;
+use crate::rl_tokens::{LexKind, LineColumn};
 use crate::rattle_std::alloc::{AllocError, Allocator, Global};
 
 /// What is reported of what a walk visits.
@@ -81,6 +81,7 @@ fn options_for<'a>(command: Command<'a>, path: &'a str, shown: Option<&'a str>) 
         matching: command.matching,
         spelling: command.spelling,
         form: command.form,
+        context: false,
         by_line: is_by_line(command.places, path),
         rejects_strays: command.rejects_strays,
         any_suffix: command.any_suffix,
@@ -119,8 +120,11 @@ fn error_form(options: Options<'_>) -> Form {
 /// A place by its bytes, or by its line and column.
 fn worded_place(by_line: bool, place: Place) -> Place {
     match place {
-        Place::Both(_, _, at) if by_line => Place::Line(at),
-        Place::Both(lo, hi, _) => Place::Bytes(lo, hi),
+        Place::Whole(extent) if by_line => Place::Line(LineColumn {
+            line: extent.start.line,
+            column: extent.start.column,
+        }),
+        Place::Whole(extent) => Place::Bytes(extent.lo, extent.hi),
         _ => place,
     }
 }
@@ -155,7 +159,7 @@ fn error_line<A: Allocator + Copy>(
         Some((place, kind)) => {
             let path = error_path(options, shown);
             let place = error_line_place(options, place);
-            push_source_error(alloc, &mut line, error_form(options), path, place, kind)?;
+            push_source_error(&mut line, error_form(options), path, place, kind)?;
             Ok(line)
         }
     }

@@ -6,9 +6,9 @@ use crate::rl_sources::finding::{Finding, Reason, Wrong};
 use crate::rl_sources::in_file::{ReadPlace, front_of, place_at, read_text};
 use crate::rl_sources::literal::Literal;
 use crate::rl_sources::options::Options;
-use crate::rl_sources::place::Places;
 use crate::rl_sources::reason::push_finding;
 use crate::rl_flaws::{BadPiece, Flaws, is_of_unit};
+use crate::rl_output::Places;
 use crate::rl_reasons::{Flaw, FlawKind};
 use crate::rattle_std::alloc::{AllocError, Allocator};
 

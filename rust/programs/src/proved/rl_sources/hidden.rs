@@ -2,11 +2,13 @@
 //! Characters of a source that turn or hide text, wherever they stand.
 
 use crate::rattle_std::prelude::{String, format};
-use crate::rl_sources::json::{is_json, push_ascii, push_member};
-use crate::rl_sources::options::{Form, Options};
-use crate::rl_sources::place::{Places, place_of, push_front};
+use crate::rl_sources::options::Options;
+use crate::rl_sources::place::{place_of, push_context_of};
 use crate::rl_files::needs_escape;
 use crate::rl_lexer::without_mark;
+use crate::rl_output::{
+    Form, Level, Places, push_annotation_end, push_ascii, push_front, push_member,
+};
 use crate::rl_tokens::text::{begins_with, split_char};
 use crate::rattle_std::alloc::{AllocError, Allocator};
 
@@ -50,6 +52,26 @@ fn words_of<A: Allocator>(alloc: A, c: char) -> Result<String<A>, AllocError> {
     format!(in alloc; "U+{number:04X}{name}")
 }
 
+/// Appends the words of a character, and the line's end.
+fn push_hidden_words<A: Allocator>(out: &mut String<A>, words: &str) -> Result<(), AllocError> {
+    out.push_str(words)?;
+    push_ascii(out, "\n")
+}
+
+/// Appends the member of a character, and the object's end.
+fn push_hidden_member<A: Allocator>(out: &mut String<A>, words: &str) -> Result<(), AllocError> {
+    push_member(out, "hidden", words)?;
+    push_ascii(out, "}\n")
+}
+
+/// Appends what stands after the place in the annotation of a character.
+fn push_hidden_annotation<A: Allocator>(
+    out: &mut String<A>,
+    words: &str,
+) -> Result<(), AllocError> {
+    push_annotation_end(out, "hidden", words, "")
+}
+
 /// Appends what stands after the place in the line of a character.
 fn push_hidden_end<A: Allocator>(
     alloc: A,
@@ -58,12 +80,11 @@ fn push_hidden_end<A: Allocator>(
     c: char,
 ) -> Result<(), AllocError> {
     let words = words_of(alloc, c)?;
-    if is_json(form) {
-        push_member(out, "hidden", words.as_str())?;
-        return push_ascii(out, "}\n");
+    match form {
+        Form::Json => push_hidden_member(out, words.as_str()),
+        Form::Github => push_hidden_annotation(out, words.as_str()),
+        Form::Plain | Form::Colored => push_hidden_words(out, words.as_str()),
     }
-    out.push_str(words.as_str())?;
-    push_ascii(out, "\n")
 }
 
 /// Appends the line of the character that begins a rest of the source, and after which so much is left.
@@ -80,8 +101,9 @@ fn push_hidden_line<'t, A: Allocator>(
     let lo = places.byte_of(rest);
     let hi = places.byte_of(after);
     let place = place_of(options, places, rest, lo, hi);
-    push_front(out, options.form, options.path, &place)?;
-    push_hidden_end(alloc, out, options.form, c)
+    push_front(out, Level::Error, options.form, options.path, &place)?;
+    push_hidden_end(alloc, out, options.form, c)?;
+    push_context_of(out, options, places, rest, lo, hi)
 }
 
 /// Appends what is shown of the character that begins a rest of the source, and after which so much is left.

@@ -1,29 +1,16 @@
 // Rendered from crates/rl_sources/src/json.rt by tools/render, which erases contracts: change that file, and render anew.
 //! What is printed of a source as JSON: an object a line.
 
-use crate::rattle_std::prelude::{String, format};
+use crate::rattle_std::prelude::{String};
 use crate::rl_sources::finding::Reason;
 use crate::rl_sources::held::{byte_contents, bytes_contents};
-use crate::rl_sources::json_string::push_json_string;
-use crate::rl_sources::options::Form;
 use crate::rl_forms::Kind;
 use crate::rl_fronts::{digits_of_found, str_of_body};
 use crate::rl_lines::label_of;
+use crate::rl_output::{id_of, push_ascii, push_json_string, push_member};
 use crate::rl_reading::Found;
 use crate::rl_tokens::LexKind;
 use crate::rattle_std::alloc::{AllocError, Allocator};
-
-/// Whether lines are objects.
-#[inline(always)]
-pub fn is_json(form: Form) -> bool {
-    matches!(form, Form::Json)
-}
-
-/// Appends ASCII.
-pub(crate) fn push_ascii<A: Allocator>(out: &mut String<A>, piece: &str) -> Result<(), AllocError> {
-    out.push_str(piece)?;
-    Ok(())
-}
 
 /// Appends numbers, each after a comma.
 fn push_more_numbers<A: Allocator>(out: &mut String<A>, numbers: &[u8]) -> Result<(), AllocError> {
@@ -41,33 +28,6 @@ fn push_array<A: Allocator>(out: &mut String<A>, numbers: &[u8]) -> Result<(), A
     write!(out, "[{first}")?;
     push_more_numbers(out, others)?;
     push_ascii(out, "]")
-}
-
-/// Appends where an object begins.
-pub(crate) fn push_object_front<A: Allocator>(
-    out: &mut String<A>,
-    path: Option<&str>,
-) -> Result<(), AllocError> {
-    match path {
-        None => push_ascii(out, "{"),
-        Some(path) => {
-            push_ascii(out, "{\"path\":")?;
-            push_json_string(out, path)?;
-            push_ascii(out, ",")
-        }
-    }
-}
-
-/// Appends a member after others, whose value is a string.
-pub(crate) fn push_member<A: Allocator>(
-    out: &mut String<A>,
-    name: &str,
-    text: &str,
-) -> Result<(), AllocError> {
-    push_ascii(out, ",\"")?;
-    push_ascii(out, name)?;
-    push_ascii(out, "\":")?;
-    push_json_string(out, text)
 }
 
 /// Appends the value of the string that was found in the text, which is copied only where it isn't what stands between
@@ -222,13 +182,12 @@ pub(crate) fn push_json_finding<A: Allocator>(
     push_ascii(out, "}\n")
 }
 
-/// Appends the member of a source's error, and the end of its object.
+/// Appends the members of a source's error, by a name that stays and in words, and the end of its object.
 pub(crate) fn push_json_error<A: Allocator>(
-    alloc: A,
     out: &mut String<A>,
     kind: LexKind,
 ) -> Result<(), AllocError> {
-    let words = format!(in alloc; "{kind}")?;
-    push_member(out, "error", words.as_str())?;
+    push_member(out, "id", id_of(kind))?;
+    push_member(out, "error", kind.words())?;
     push_ascii(out, "}\n")
 }

@@ -2,14 +2,12 @@
 //! The literals of whole Rust sources as lines, each after its place: all of them, those that are bad, or whose contents
 //! hold a text; or what turns or hides text in them.
 
-mod color;
 mod finding;
 mod flaw_lines;
 mod held;
 mod hidden;
 mod in_file;
 mod json;
-mod json_string;
 mod judge;
 mod literal;
 mod options;
@@ -20,12 +18,9 @@ mod scanner;
 mod search;
 mod step;
 
-pub use crate::rl_sources::color::{Paint, push_painted};
-pub use crate::rl_sources::json::is_json;
-pub use crate::rl_sources::json_string::json_strings_stand;
-pub use crate::rl_sources::options::{Form, Matching, Options, Shown, Spelling, names};
-pub use crate::rl_sources::place::Place;
+pub use crate::rl_sources::options::{Matching, Options, Shown, Spelling, names};
 pub use crate::rl_sources::reason::push_source_error;
 pub use crate::rl_sources::scan_error::ScanError;
 pub use crate::rl_sources::scanner::scan;
+pub use crate::rl_output::{Form, Paint, Place, is_json, push_painted};
 pub use crate::rl_types::Edition;

@@ -1,6 +1,7 @@
 // Rendered from crates/rl_sources/src/options.rt by tools/render, which erases contracts: change that file, and render anew.
 //! How a source is scanned.
 
+use crate::rl_output::Form;
 use crate::rl_types::Edition;
 
 /// How a literal is printed.
@@ -10,17 +11,6 @@ pub enum Spelling {
     Value,
     /// As it is written in the source.
     Source,
-}
-
-/// How a line is written.
-#[derive(Clone, Copy)]
-pub enum Form {
-    /// As words after its place.
-    Plain,
-    /// As these, with colours for a terminal.
-    Colored,
-    /// As an object of JSON.
-    Json,
 }
 
 /// Which literals are shown.
@@ -60,6 +50,9 @@ pub struct Options<'a> {
     pub spelling: Spelling,
     /// How each line is written.
     pub form: Form,
+    /// Whether the line of the source where a place begins stands below each line, with carets under the place; not in the
+    /// forms `Json` and `Github`.
+    pub context: bool,
     /// Whether places are printed as lines and columns, and not as bytes.
     pub by_line: bool,
     /// Whether a stray character is an error, as it is in Rust.
@@ -86,6 +79,7 @@ impl Default for Options<'_> {
             },
             spelling: Spelling::Value,
             form: Form::Plain,
+            context: false,
             by_line: false,
             rejects_strays: false,
             explains: false,

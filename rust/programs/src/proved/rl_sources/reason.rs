@@ -2,13 +2,15 @@
 //! Why a literal of a source is bad.
 
 use crate::rattle_std::prelude::{String};
-use crate::rl_sources::color::push_error_word;
 use crate::rl_sources::finding::{Finding, Reason};
-use crate::rl_sources::json::{is_json, push_json_error, push_json_finding};
+use crate::rl_sources::json::{push_json_error, push_json_finding};
 use crate::rl_sources::literal::Literal;
-use crate::rl_sources::options::{Form, Options};
-use crate::rl_sources::place::{Place, Places, place_inside, push_front};
+use crate::rl_sources::options::Options;
+use crate::rl_sources::place::{place_inside, push_context_inside};
 use crate::rl_files::push_visible;
+use crate::rl_output::{
+    Form, Level, Place, Places, id_of, push_annotation_end, push_error_word, push_front,
+};
 use crate::rl_tokens::LexKind;
 use crate::rattle_std::alloc::{AllocError, Allocator};
 
@@ -41,6 +43,26 @@ fn push_reason<A: Allocator>(
     Ok(())
 }
 
+/// Appends that a literal is wrong, and what is.
+fn push_finding_words<A: Allocator>(
+    out: &mut String<A>,
+    form: Form,
+    reason: Reason,
+    piece: &str,
+) -> Result<(), AllocError> {
+    push_error_word(out, form)?;
+    push_reason(out, reason, piece)
+}
+
+/// Appends what stands after the place in the annotation of a finding.
+fn push_finding_annotation<A: Allocator>(
+    out: &mut String<A>,
+    reason: Reason,
+    piece: &str,
+) -> Result<(), AllocError> {
+    push_annotation_end(out, reason.id(), reason.words(), piece)
+}
+
 /// Appends what stands after the place in the line of a finding.
 fn push_finding_end<A: Allocator>(
     out: &mut String<A>,
@@ -49,14 +71,14 @@ fn push_finding_end<A: Allocator>(
     reason: Reason,
     piece: &str,
 ) -> Result<(), AllocError> {
-    if is_json(form) {
-        return push_json_finding(out, text, reason, piece);
+    match form {
+        Form::Json => push_json_finding(out, text, reason, piece),
+        Form::Github => push_finding_annotation(out, reason, piece),
+        Form::Plain | Form::Colored => push_finding_words(out, form, reason, piece),
     }
-    push_error_word(out, form)?;
-    push_reason(out, reason, piece)
 }
 
-/// Appends the line of a finding in a literal, at its place.
+/// Appends the line of a finding in a literal, at its place, and what stands below it.
 #[inline(never)]
 pub(crate) fn push_finding<'t, A: Allocator>(
     out: &mut String<A>,
@@ -68,22 +90,40 @@ pub(crate) fn push_finding<'t, A: Allocator>(
     let token = *literal.token;
     let place = place_inside(options, places, token, literal.rest, finding.lo, finding.hi);
     let piece = piece_of(token.text, finding);
-    push_front(out, options.form, options.path, &place)?;
-    push_finding_end(out, options.form, token.text, finding.reason, piece)
+    push_front(out, Level::Error, options.form, options.path, &place)?;
+    push_finding_end(out, options.form, token.text, finding.reason, piece)?;
+    push_context_inside(out, options, places, token, literal.rest, finding.lo, finding.hi)
 }
 
-/// Appends what stands after the place in the line of a source's error.
-fn push_error_end<A: Allocator>(
-    alloc: A,
+/// Appends that a source is wrong, and what is.
+fn push_error_words<A: Allocator>(
     out: &mut String<A>,
     form: Form,
     kind: LexKind,
 ) -> Result<(), AllocError> {
-    if is_json(form) {
-        return push_json_error(alloc, out, kind);
-    }
     push_error_word(out, form)?;
     writeln!(out, ": {kind}")
+}
+
+/// Appends what stands after the place in the annotation of a source's error.
+fn push_error_annotation<A: Allocator>(
+    out: &mut String<A>,
+    kind: LexKind,
+) -> Result<(), AllocError> {
+    push_annotation_end(out, id_of(kind), kind.words(), "")
+}
+
+/// Appends what stands after the place in the line of a source's error.
+fn push_error_end<A: Allocator>(
+    out: &mut String<A>,
+    form: Form,
+    kind: LexKind,
+) -> Result<(), AllocError> {
+    match form {
+        Form::Json => push_json_error(out, kind),
+        Form::Github => push_error_annotation(out, kind),
+        Form::Plain | Form::Colored => push_error_words(out, form, kind),
+    }
 }
 
 /// Appends the line of a source's error: the path where there is one, the place, and what is wrong.
@@ -92,13 +132,12 @@ fn push_error_end<A: Allocator>(
 ///
 /// An allocation failure. A beginning of the line may have been appended then.
 pub fn push_source_error<A: Allocator>(
-    alloc: A,
     out: &mut String<A>,
     form: Form,
     path: Option<&str>,
     place: Place,
     kind: LexKind,
 ) -> Result<(), AllocError> {
-    push_front(out, form, path, &place)?;
-    push_error_end(alloc, out, form, kind)
+    push_front(out, Level::Error, form, path, &place)?;
+    push_error_end(out, form, kind)
 }

@@ -1,7 +1,7 @@
 // Rendered from crates/rl_sources/src/scan_error.rt by tools/render, which erases contracts: change that file, and render anew.
 //! Why a scan ends before the end of the source.
 
-use crate::rl_sources::place::Place;
+use crate::rl_output::Place;
 use crate::rl_program::{Fault, RunError};
 use crate::rl_tokens::LexKind;
 use crate::rattle_std::alloc::{Allocator, Global};

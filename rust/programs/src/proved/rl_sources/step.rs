@@ -7,10 +7,11 @@ use crate::rl_sources::held::held_at;
 use crate::rl_sources::json::push_json_literal;
 use crate::rl_sources::judge::{reason_of, wrong_in};
 use crate::rl_sources::literal::{Literal, kind_of};
-use crate::rl_sources::options::{Form, Options, Spelling};
-use crate::rl_sources::place::{Place, Places, place_inside, place_of, push_front};
+use crate::rl_sources::options::{Options, Spelling};
+use crate::rl_sources::place::{place_inside, place_of, push_context_inside, push_context_of};
 use crate::rl_files::{make_visible, push_visible};
 use crate::rl_lines::{bare_value, label_of, push_bare, push_found};
+use crate::rl_output::{Form, Level, Place, Places, first_line, push_annotation_end, push_front};
 use crate::rl_reading::{Found, find};
 use crate::rl_tokens::{LexError, LexKind, SourceForm, SourceToken, Sources};
 use crate::rattle_std::alloc::{AllocError, Allocator};
@@ -69,7 +70,21 @@ fn push_printed<A: Allocator + Copy>(
     }
 }
 
-/// Appends what stands after the place in the line of a literal: what is printed of it, or the members of its object.
+/// Appends what stands after the place in the annotation of a literal: what is printed of it.
+#[inline(never)]
+fn push_literal_annotation<A: Allocator + Copy>(
+    alloc: A,
+    out: &mut String<A>,
+    spelling: Spelling,
+    literal: &Literal<'_, '_>,
+) -> Result<(), AllocError> {
+    let mut printed = String::new(alloc);
+    push_printed(alloc, &mut printed, spelling, literal)?;
+    push_annotation_end(out, "literal", first_line(printed.as_str()), "")
+}
+
+/// Appends what stands after the place in the line of a literal: what is printed of it, the members of its object,
+/// or the message of its annotation.
 #[inline(always)]
 fn push_line_end<A: Allocator + Copy>(
     alloc: A,
@@ -80,6 +95,7 @@ fn push_line_end<A: Allocator + Copy>(
     match options.form {
         Form::Plain | Form::Colored => push_printed(alloc, out, options.spelling, literal),
         Form::Json => push_json_literal(alloc, out, literal.token.text, *literal.found),
+        Form::Github => push_literal_annotation(alloc, out, options.spelling, literal),
     }
 }
 
@@ -92,11 +108,11 @@ fn push_line_at<A: Allocator + Copy>(
     literal: &Literal<'_, '_>,
     place: Place,
 ) -> Result<(), AllocError> {
-    push_front(out, options.form, options.path, &place)?;
+    push_front(out, Level::Notice, options.form, options.path, &place)?;
     push_line_end(alloc, out, options, literal)
 }
 
-/// Appends the line of a literal, after its place.
+/// Appends the line of a literal, after its place, and what stands below it.
 #[inline(always)]
 fn push_placed<'t, A: Allocator + Copy>(
     alloc: A,
@@ -107,10 +123,11 @@ fn push_placed<'t, A: Allocator + Copy>(
 ) -> Result<(), AllocError> {
     let token = literal.token;
     let place = place_of(options, places, literal.rest, token.lo, token.hi);
-    push_line_at(alloc, out, options, literal, place)
+    push_line_at(alloc, out, options, literal, place)?;
+    push_context_of(out, options, places, literal.rest, token.lo, token.hi)
 }
 
-/// Appends the line of a literal, after the place of these bytes of its text.
+/// Appends the line of a literal, after the place of these bytes of its text, and what stands below it.
 #[inline(never)]
 fn push_inside<'t, A: Allocator + Copy>(
     alloc: A,
@@ -122,7 +139,8 @@ fn push_inside<'t, A: Allocator + Copy>(
 ) -> Result<(), AllocError> {
     let token = *literal.token;
     let place = place_inside(options, places, token, literal.rest, range.0, range.1);
-    push_line_at(alloc, out, options, literal, place)
+    push_line_at(alloc, out, options, literal, place)?;
+    push_context_inside(out, options, places, token, literal.rest, range.0, range.1)
 }
 
 /// Appends the lines of a literal: its own, or where lines report what is wrong and something is, those that say so.

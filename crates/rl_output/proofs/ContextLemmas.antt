@@ -1,0 +1,231 @@
+-- A line, and carets below it.
+use Rattle.rl_text.proofs.Common.{Bool, IsUtf8, List, [], ap, append-nil, append_assoc, append_cancel_right, arith, chars, chars-nil, chars_from_encodes, codes, cond, drop, encodes-append, encodes-chars, eqb-true, false, inl, inr, length-append, ne_eqb, subst, ◌+◌, ◌-◌, ◌⊎◌, ◌||◌, ◌≤◌, if◌then◌else◌, length, refl, rules, suc, sym, true, ℕ, ◌++◌, ◌==◌, ◌∙◌, ◌∷◌, ◌≡◌}
+use Rattle.std.specs.Prelude.{encode_utf8_all}
+use Rattle.std.proofs.lemmas.Bool.{false≢true}
+use Rattle.rl_files.specs.Visible.{visible, visible_char}
+use Rattle.rl_lexer.specs.Sources.{without_mark}
+use Rattle.rl_lexer.proofs.CutLemmas.{byte_len-append}
+use Rattle.rl_text.specs.Texts.{byte_len}
+use Rattle.std.proofs.Math.Seq.{drop-append_seam}
+use Rattle.std.proofs.lemmas.Str.{IsCharBoundary-at_seam}
+use Rattle.std.specs.Str.{IsCharBoundary}
+use Rattle.std.specs.Prelude.{encode_utf8}
+use Rattle.rl_output.specs.Spots.{StandsAt, first_spot, next_spot, spot_after}
+use Rattle.rl_output.specs.declared.spot.Spot.{Spot}
+use Rattle.rl_output.specs.Contexts.{IsBeforeInLine, has_end, carets, ends_line, first_line, line_char, line_text, marks_below}
+use Rattle.rl_output.proofs.Pieces.{back_utf8, four_parts, five_parts}
+
+-- Of a text's first line these characters were passed.
+pub record InLine (text rest : List ℕ) : Type 0 where
+  pub done : List ℕ
+  pub text_is : text ≡ done ++ rest
+  pub line_is : first_line text ≡ done ++ first_line rest
+
+pub line_begins : (text : List ℕ) → InLine text text
+line_begins text = record { done = []; text_is = refl; line_is = refl }
+
+goes_on : (c : ℕ) (cs : List ℕ) → ends_line c cs ≡ false → first_line (c ∷ cs) ≡ c ∷ first_line cs
+goes_on c cs more = ap (λ (b : Bool). cond b [] (c ∷ first_line cs)) more
+
+stops : (c : ℕ) (cs : List ℕ) → ends_line c cs ≡ true → first_line (c ∷ cs) ≡ []
+stops c cs end = ap (λ (b : Bool). cond b [] (c ∷ first_line cs)) end
+
+pub line_goes_on : (text rest after : List ℕ) (c : ℕ) → InLine text rest → rest ≡ c ∷ after → ends_line c after ≡ false
+    → InLine text after
+line_goes_on text rest after c is split more = record {
+  done = is.done ++ (c ∷ []);
+  text_is = is.text_is ∙ ap (λ (z : List ℕ). is.done ++ z) split ∙ sym (append_assoc is.done (c ∷ []) after);
+  line_is = is.line_is ∙ ap (λ (z : List ℕ). is.done ++ z) (ap first_line split ∙ goes_on c after more)
+      ∙ sym (append_assoc is.done (c ∷ []) (first_line after));
+}
+
+pub line_stops : (text rest after front : List ℕ) (c : ℕ) → InLine text rest → rest ≡ c ∷ after
+    → ends_line c after ≡ true → text ≡ front ++ rest → front ≡ first_line text
+line_stops text rest after front c is split end cut =
+    append_cancel_right front is.done rest (sym cut ∙ is.text_is)
+    ∙ sym (is.line_is ∙ ap (λ (z : List ℕ). is.done ++ z) (ap first_line split ∙ stops c after end)
+    ∙ append-nil is.done)
+
+pub line_is_all : (text rest : List ℕ) → InLine text rest → rest ≡ [] → text ≡ first_line text
+line_is_all text rest is none =
+    is.text_is ∙ ap (λ (z : List ℕ). is.done ++ z) none
+    ∙ sym (is.line_is ∙ ap (λ (z : List ℕ). is.done ++ first_line z) none)
+
+-- ---- a line as it is printed
+
+one_front : (c : ℕ) (rest front after : List ℕ) → rest ≡ c ∷ after → rest ≡ front ++ after → front ≡ c ∷ []
+one_front c rest front after split cut = append_cancel_right front (c ∷ []) after (sym cut ∙ split)
+
+pub char_shown : (c : ℕ) (rest front after old new : List ℕ) → (c ≡ 9 → ⊥) → rest ≡ c ∷ after
+    → rest ≡ front ++ after → new ≡ old ++ visible front → new ≡ old ++ line_char c
+char_shown c rest front after old new other split cut e =
+    e ∙ ap (λ (z : List ℕ). old ++ visible z) (one_front c rest front after split cut)
+    ∙ ap (λ (z : List ℕ). old ++ z) (append-nil (visible_char c))
+    ∙ ap (λ (b : Bool). old ++ cond b (c ∷ []) (visible_char c)) (sym (ne_eqb c 9 other))
+
+pub shown_more : (c : ℕ) (rest after first old new all : List ℕ) → old ++ line_text rest ≡ first ++ all
+    → rest ≡ c ∷ after → new ≡ old ++ line_char c → new ++ line_text after ≡ first ++ all
+shown_more c rest after first old new all is split e =
+    ap (λ (z : List ℕ). z ++ line_text after) e ∙ append_assoc old (line_char c) (line_text after)
+    ∙ ap (λ (z : List ℕ). old ++ line_text z) (sym split) ∙ is
+
+pub shown_all : (rest first new all : List ℕ) → new ++ line_text rest ≡ first ++ all → rest ≡ [] → new ≡ first ++ all
+shown_all rest first new all is none =
+    sym (append-nil new) ∙ ap (λ (z : List ℕ). new ++ line_text z) (sym none) ∙ is
+
+-- ---- carets
+
+pub no_caret : (text old new : List ℕ) → (length text == 0) ≡ true → new ≡ old ++ codes "^"
+    → new ≡ old ++ carets (chars text)
+no_caret [] old new none e = e ∙ ap (λ (z : List ℕ). old ++ carets z) (sym chars-nil)
+no_caret (b ∷ bs) old new none e = absurd (false≢true (sym (not_empty (length bs)) ∙ none))
+  where
+    not_empty : (n : ℕ) → (suc n == 0) ≡ false
+    not_empty n = search rules
+
+pub some_carets : (text old new : List ℕ) → (length text == 0) ≡ false → IsUtf8 text
+    → new ≡ old ++ marks_below 94 94 (chars text) → new ≡ old ++ carets (chars text)
+some_carets text old new some utf8 e = go (chars text) refl
+  where
+    go : (cs : List ℕ) → chars text ≡ cs → new ≡ old ++ carets (chars text)
+    go [] none =
+        let empty : text ≡ [] = sym (encodes-chars text utf8) ∙ ap encode_utf8_all none in
+        absurd (false≢true (sym some ∙ ap (λ (z : List ℕ). length z == 0) empty))
+    go (c ∷ cs) is = e ∙ ap (λ (z : List ℕ). old ++ marks_below 94 94 z) is
+        ∙ ap (λ (z : List ℕ). old ++ carets z) (sym is)
+
+-- all of it
+pub eight_parts : (o a b d e f g h new p q r s t u v w : List ℕ) → a ≡ o ++ p → b ≡ a ++ q → d ≡ b ++ r → e ≡ d ++ s
+    → f ≡ e ++ t → g ≡ f ++ u → h ≡ g ++ v → new ≡ h ++ w
+    → new ≡ o ++ (p ++ (q ++ (r ++ (s ++ (t ++ (u ++ (v ++ w)))))))
+eight_parts o a b d e f g h new p q r s t u v w i j k l m n x y =
+    four_parts o a b d new p q r (s ++ (t ++ (u ++ (v ++ w)))) i j k
+    (five_parts d e f g h new s t u v w l m n x y)
+
+-- ---- the line of a place
+
+-- Of a text so much is the last line, in which a place stands after it.
+record LastLine (text : List ℕ) (spot : Spot) : Type 0 where
+  lines : List ℕ
+  inside : List ℕ
+  text_is : text ≡ lines ++ inside
+  no_end : has_end inside ≡ false
+  begins : (lines ≡ []) ⊎ ((others : List ℕ) × (lines ≡ others ++ 10 ∷ []))
+  long : byte_len inside + 1 ≡ spot.byte_column
+
+not_either : (a b : Bool) → (a || b) ≡ false → (a ≡ false) × (b ≡ false)
+not_either false b h = (refl, h)
+not_either true b h = absurd (false≢true (sym h))
+
+neither : (a b : Bool) → a ≡ false → b ≡ false → (a || b) ≡ false
+neither a b h k = rw (h, k) refl
+
+no_end_more : (xs : List ℕ) (c : ℕ) → has_end xs ≡ false → (c == 10) ≡ false → has_end (xs ++ c ∷ []) ≡ false
+no_end_more [] c h k = neither (c == 10) false k refl
+no_end_more (x ∷ xs) c h k =
+    let parts = not_either (x == 10) (has_end xs) h in
+    neither (x == 10) (has_end (xs ++ c ∷ [])) parts.0 (no_end_more xs c parts.1 k)
+
+last_line : (p : Spot) (lines inside xs : List ℕ) → byte_len inside + 1 ≡ p.byte_column → has_end inside ≡ false
+    → (lines ≡ []) ⊎ ((others : List ℕ) × (lines ≡ others ++ 10 ∷ [])) → LastLine (lines ++ (inside ++ xs)) (spot_after p xs)
+last_line p lines inside [] long none begins = record {
+  lines = lines;
+  inside = inside;
+  text_is = ap (λ (z : List ℕ). lines ++ z) (append-nil inside);
+  no_end = none;
+  begins = begins;
+  long = long;
+}
+last_line p lines inside (c ∷ cs) long none begins =
+    go (λ q ls is l n b. last_line q ls is cs l n b) (c == 10) refl
+  where
+    after_end : Spot
+    after_end = record { line = p.line + 1; column = 1; byte_column = 1 }
+
+    more : Spot
+    more = record { line = p.line; column = p.column + 1; byte_column = p.byte_column + length (encode_utf8 c) }
+
+    next_is : (b : Bool) → (c == 10) ≡ b → next_spot p c ≡ (if b then after_end else more)
+    next_is b e = ap (λ (t : Bool). if t then after_end else more) e
+
+    Again : Type 0
+    Again = (q : Spot) (ls is : List ℕ) → byte_len is + 1 ≡ q.byte_column → has_end is ≡ false
+        → (ls ≡ []) ⊎ ((others : List ℕ) × (ls ≡ others ++ 10 ∷ [])) → LastLine (ls ++ (is ++ cs)) (spot_after q cs)
+
+    go : Again → (b : Bool) → (c == 10) ≡ b → LastLine (lines ++ (inside ++ (c ∷ cs))) (spot_after (next_spot p c) cs)
+    go again true e =
+        let whole : List ℕ = lines ++ (inside ++ (10 ∷ [])) in
+        let found : LastLine (whole ++ cs) (spot_after after_end cs) = again after_end whole [] refl refl
+        (inr (lines ++ inside, sym (append_assoc lines inside (10 ∷ [])))) in
+        let same : whole ++ cs ≡ lines ++ (inside ++ (c ∷ cs)) = append_assoc lines (inside ++ (10 ∷ [])) cs
+        ∙ ap (λ (z : List ℕ). lines ++ z) (append_assoc inside (10 ∷ []) cs
+        ∙ ap (λ (n : ℕ). inside ++ (n ∷ cs)) (sym (eqb-true c 10 e))) in
+        subst (λ (t : List ℕ). LastLine t (spot_after (next_spot p c) cs)) same
+        (subst (λ (q : Spot). LastLine (whole ++ cs) (spot_after q cs)) (sym (next_is true e)) found)
+    go again false e =
+        let longer : List ℕ = inside ++ (c ∷ []) in
+        let one : byte_len (c ∷ []) ≡ length (encode_utf8 c) = ap length (append-nil (encode_utf8 c)) in
+        let long_is : byte_len longer + 1 ≡ more.byte_column = omega (arith, long, one, byte_len-append inside (c ∷ [])) in
+        let found : LastLine (lines ++ (longer ++ cs)) (spot_after more cs) = again more lines longer long_is
+        (no_end_more inside c none e) begins in
+        let same : lines ++ (longer ++ cs) ≡ lines ++ (inside ++ (c ∷ cs)) = ap (λ (z : List ℕ). lines ++ z)
+        (append_assoc inside (c ∷ []) cs) in
+        subst (λ (t : List ℕ). LastLine t (spot_after (next_spot p c) cs)) same
+        (subst (λ (q : Spot). LastLine (lines ++ (longer ++ cs)) (spot_after q cs)) (sym (next_is false e)) found)
+
+-- a byte order mark, where a text begins with one
+mark_of : (text : List ℕ) → (mark : List ℕ) × (text ≡ mark ++ without_mark text)
+mark_of [] = ([], refl)
+mark_of (c ∷ cs) = go (c == 0xfeff)
+  where
+    go : (b : Bool) → (mark : List ℕ) × (c ∷ cs ≡ mark ++ (if b then cs else c ∷ cs))
+    go true = (c ∷ [], refl)
+    go false = ([], refl)
+
+-- Where the line of a place begins in what stands before the place.
+pub record LineCut (text rest front : List ℕ) (at : ℕ) : Type 0 where
+  pub boundary : IsCharBoundary front at
+  pub line : (before : List ℕ) → before ≡ drop at front → IsBeforeInLine (chars text) (chars rest) (chars before)
+  pub within : at ≤ length front
+
+pub line_cut : (text rest front : List ℕ) (spot : Spot) → IsUtf8 front → StandsAt (chars text) (chars rest) spot
+    → chars text ≡ chars front ++ chars rest → LineCut text rest front (length front + 1 - spot.byte_column)
+line_cut text rest front spot utf8 stands cut =
+    let same : stands.front ≡ chars front = append_cancel_right stands.front (chars front) (chars rest)
+    (sym stands.text_is ∙ cut) in
+    let place : spot ≡ spot_after first_spot (without_mark (chars front)) = stands.spot_is
+    ∙ ap (λ (z : List ℕ). spot_after first_spot (without_mark z)) same in
+    let found : LastLine (without_mark (chars front)) (spot_after first_spot (without_mark (chars front))) =
+    last_line first_spot [] [] (without_mark (chars front)) refl refl (inl refl) in
+    let mark = mark_of (chars front) in
+    let pre : List ℕ = mark.0 ++ found.lines in
+    let inside : List ℕ = found.inside in
+    let whole : chars front ≡ pre ++ inside = mark.1 ∙ ap (λ (z : List ℕ). mark.0 ++ z) found.text_is
+    ∙ sym (append_assoc mark.0 found.lines inside) in
+    let bytes : front ≡ encode_utf8_all pre ++ encode_utf8_all inside = sym (encodes-chars front utf8)
+    ∙ ap encode_utf8_all whole ∙ encodes-append pre inside in
+    let is_text : IsUtf8 (encode_utf8_all inside) = back_utf8 pre inside
+    (subst IsUtf8 (sym (encodes-chars front utf8) ∙ ap encode_utf8_all whole) utf8) in
+    let long : byte_len inside + 1 ≡ spot.byte_column = found.long ∙ ap (λ (q : Spot). q.byte_column) (sym place) in
+    let all : length front ≡ byte_len pre + byte_len inside = ap length bytes
+    ∙ length-append (encode_utf8_all pre) (encode_utf8_all inside) in
+    let at : byte_len pre ≡ length front + 1 - spot.byte_column = omega (arith, long, all) in
+    let dropped : drop (length front + 1 - spot.byte_column) front ≡ encode_utf8_all inside =
+    ap (λ (n : ℕ). drop n front) (sym at) ∙ ap (drop (byte_len pre)) bytes
+    ∙ drop-append_seam (encode_utf8_all pre) (encode_utf8_all inside) in
+    record {
+      boundary = subst (IsCharBoundary front) at
+          (IsCharBoundary-at_seam front (encode_utf8_all pre) (encode_utf8_all inside) bytes is_text);
+      line = λ before is. record {
+        front = chars front;
+        text_is = cut;
+        lines = found.lines;
+        front_is = found.text_is ∙ ap (λ (z : List ℕ). found.lines ++ z)
+            (chars_from_encodes inside before (subst IsUtf8 (sym (is ∙ dropped)) is_text) (sym (is ∙ dropped)));
+        inside = subst (λ (z : List ℕ). has_end z ≡ false)
+            (chars_from_encodes inside before (subst IsUtf8 (sym (is ∙ dropped)) is_text) (sym (is ∙ dropped)))
+            found.no_end;
+        begins = found.begins;
+      };
+      within = omega (arith, all, at);
+    }

@@ -1,0 +1,7 @@
+pub mod Pieces
+pub mod SpotLemmas
+pub mod PlaceLemmas
+pub mod ColorLemmas
+pub mod JsonStringLemmas
+pub mod GithubLemmas
+pub mod ContextLemmas

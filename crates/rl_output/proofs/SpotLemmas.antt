@@ -1,0 +1,150 @@
+-- Lines and columns of places in a text.
+use Rattle.rl_text.proofs.Common.{◌≡◌, ℕ, ◌+◌, ◌-◌, ◌<◌, ◌≤◌, ◌==◌, Bool, true, false, cond, drop, List, [], ◌∷◌, ◌++◌, length, refl, sym, ap, ◌∙◌, arith, append-nil, append_assoc, append_cancel_right, encode_utf8, encodes-chars, length-append, eqb, eqb-true, eq-eqb, chars, if◌then◌else◌, IsUtf8, nat_tests}
+use Rattle.std.specs.Prelude.{encode_utf8_all, take}
+use Rattle.std.specs.List.{slice_range}
+use Rattle.std.proofs.lemmas.Bool.{false≢true}
+use Rattle.std.proofs.lemmas.Str.{length-le-encodes}
+use Rattle.rl_text.specs.Texts.{IsTail, byte_len}
+use Rattle.rl_lexer.specs.Sources.{without_mark}
+use Rattle.rl_text.proofs.TailLemmas.{tail_step}
+use Rattle.rl_lexer.proofs.CutLemmas.{byte_len-append}
+use Rattle.rl_lexer.proofs.ErrorKinds.{char_len}
+use Rattle.rl_output.specs.Spots.{bytes_before, covered, next_spot, spot_after, first_spot, IsSpotOf}
+use Rattle.rl_output.specs.declared.spot.Spot.{Spot}
+
+-- the text before a place
+pub taken_before : (text seen : List ℕ) (at : ℕ) (r : List ℕ) → seen ≡ text → IsUtf8 text → r ≡ slice_range text 0 at
+    → r ≡ bytes_before (chars seen) at
+taken_before text seen at r same u is =
+    let whole : at - 0 ≡ at = omega (arith) in
+    let bytes : encode_utf8_all (chars seen) ≡ text = ap (λ (z : List ℕ). encode_utf8_all (chars z)) same ∙ encodes-chars text u in
+    is ∙ ap (λ (n : ℕ). take n text) whole ∙ ap (λ (z : List ℕ). take at z) (sym bytes)
+
+spot_after-append : (p : Spot) (xs ys : List ℕ) → spot_after p (xs ++ ys) ≡ spot_after (spot_after p xs) ys
+spot_after-append p [] ys = refl
+spot_after-append p (x ∷ xs) ys = spot_after-append (next_spot p x) xs ys
+
+-- nothing stands before the whole text
+no_front : (text rest front : List ℕ) → IsUtf8 text → IsUtf8 rest → chars text ≡ front ++ chars rest
+    → length rest ≡ length text → front ≡ []
+no_front text rest [] u v e same = refl
+no_front text rest (c ∷ cs) u v e same =
+    absurd (omega (
+      arith,
+      char_len text u,
+      char_len rest v,
+      ap byte_len e,
+      byte_len-append (c ∷ cs) (chars rest),
+      length-le-encodes (c ∷ cs),
+    ))
+
+whole_rest : (text rest front : List ℕ) → IsUtf8 text → IsUtf8 rest → chars text ≡ front ++ chars rest → front ≡ []
+    → length rest ≡ length text
+whole_rest text rest front u v e none =
+    let same : chars text ≡ chars rest = e ∙ ap (λ (z : List ℕ). z ++ chars rest) none in
+    omega (arith, char_len text u, char_len rest v, ap byte_len same)
+
+-- what has columns of a front and of what follows it
+columns_more : (front more : List ℕ) (is_whole : Bool) → (is_whole ≡ true → front ≡ []) → (front ≡ [] → is_whole ≡ true)
+    → without_mark (front ++ more) ≡ without_mark front ++ cond is_whole (without_mark more) more
+columns_more [] more true none whole = refl
+columns_more [] more false none whole = absurd (false≢true (whole refl))
+columns_more (c ∷ cs) more true none whole = let e = none refl in absurd cc
+columns_more (c ∷ cs) more false none whole = go (c == 0xfeff)
+  where
+    go : (b : Bool) → (if b then cs ++ more else c ∷ cs ++ more) ≡ (if b then cs else c ∷ cs) ++ more
+    go true = refl
+    go false = refl
+
+-- the place of a rest of what was left
+pub spot_of_rest : (text rest after passed counted : List ℕ) (at new : Spot) → IsSpotOf text rest at
+    → IsTail rest after → rest ≡ passed ++ after → chars rest ≡ chars passed ++ chars after
+    → chars counted ≡ cond (eqb (length rest) (length text)) (without_mark (chars passed)) (chars passed)
+    → length counted ≤ length passed → new ≡ spot_after at (chars counted)
+    → new.line ≤ at.line + length counted → new.column ≤ at.column + length counted
+    → new.byte_column ≤ at.byte_column + length counted → IsSpotOf text after new
+spot_of_rest text rest after passed counted at new is in_rest cut same counted_is no_more new_is line column bytes =
+    let before = is.place in
+    let whole = is.cursor.is_text in
+    let rest_utf8 = is.cursor.following.is_text in
+    let long : length passed + length after ≡ length rest = omega (arith, ap length cut, length-append passed after) in
+    let columns : without_mark (before.front ++ chars passed) ≡ without_mark before.front ++ chars counted =
+    columns_more before.front (chars passed) (eqb (length rest) (length text))
+    (λ t. no_front text rest before.front whole rest_utf8 before.text_is (eqb-true _ _ t))
+    (λ n. eq-eqb _ _ (whole_rest text rest before.front whole rest_utf8 before.text_is n))
+    ∙ ap (λ (z : List ℕ). without_mark before.front ++ z) (sym counted_is)
+    in
+    record {
+      cursor = record { is_text = is.cursor.is_text; following = tail_step text rest after is.cursor.following in_rest };
+      place = record {
+        front = before.front ++ chars passed;
+        text_is = before.text_is ∙ ap (λ z. before.front ++ z) same
+            ∙ sym (append_assoc before.front (chars passed) (chars after));
+        spot_is = new_is ∙ ap (λ p. spot_after p (chars counted)) before.spot_is
+            ∙ sym (spot_after-append first_spot (without_mark before.front) (chars counted))
+            ∙ ap (λ (z : List ℕ). spot_after first_spot z) (sym columns);
+      };
+      line_fits = omega (arith, is.line_fits, line, long, no_more);
+      column_fits = omega (arith, is.column_fits, column, long, no_more);
+      bytes_fit = omega (arith, is.bytes_fit, bytes, long, no_more);
+    }
+
+-- ---- the rests of a text
+
+-- a rest that isn't longer stands after another
+tail_by : (x y a b : List ℕ) → x ++ a ≡ y ++ b → length b ≤ length a → (z : List ℕ) × (a ≡ z ++ b)
+tail_by [] y a b e le = (y, e)
+tail_by (c ∷ x) [] a b e le = absurd (omega (arith, ap length e, length-append x a))
+tail_by (c ∷ x) (d ∷ y) a b e le = tail_by x y a b (ap (drop 1) e) le
+
+pub later_tail : (text a b : List ℕ) → IsTail text a → IsTail text b → length b ≤ length a → IsTail a b
+later_tail text a b p q le =
+    let found = tail_by p.front q.front a b (sym p.text_is ∙ q.text_is) le in
+    record { front = found.0; text_is = found.1; is_text = q.is_text }
+
+-- ---- the characters that bytes belong to
+
+-- Of the characters that the text's first bytes belong to these were passed, and those are left that so many bytes of the rest
+-- belong to.
+pub record Passed (bytes : ℕ) (text : List ℕ) (left : ℕ) (rest : List ℕ) : Type 0 where
+  pub done : List ℕ
+  pub text_is : text ≡ done ++ rest
+  pub covered_is : covered bytes text ≡ done ++ covered left rest
+
+pub none_passed : (bytes : ℕ) (text : List ℕ) → Passed bytes text bytes text
+none_passed bytes text = record { done = []; text_is = refl; covered_is = refl }
+
+not_zero : (n : ℕ) → 0 < n → (n == 0) ≡ false
+not_zero n some = grind (arith, nat_tests, some)
+
+covered_more : (left c : ℕ) (cs : List ℕ) → 0 < left
+    → covered left (c ∷ cs) ≡ c ∷ covered (left - length (encode_utf8 c)) cs
+covered_more left c cs some =
+    ap (λ (b : Bool). cond b [] (c ∷ covered (left - length (encode_utf8 c)) cs)) (not_zero left some)
+
+pub one_passed : (bytes : ℕ) (text : List ℕ) (left c : ℕ) (rest after : List ℕ) → Passed bytes text left rest
+    → 0 < left → rest ≡ c ∷ after → Passed bytes text (left - length (encode_utf8 c)) after
+one_passed bytes text left c rest after is some split = record {
+  done = is.done ++ (c ∷ []);
+  text_is = is.text_is ∙ ap (λ (z : List ℕ). is.done ++ z) split ∙ sym (append_assoc is.done (c ∷ []) after);
+  covered_is = is.covered_is
+      ∙ ap (λ (z : List ℕ). is.done ++ z) (ap (covered left) split ∙ covered_more left c after some)
+      ∙ sym (append_assoc is.done (c ∷ []) (covered (left - length (encode_utf8 c)) after));
+}
+
+covered_none : (cs : List ℕ) → covered 0 cs ≡ []
+covered_none [] = refl
+covered_none (c ∷ cs) = refl
+
+pub all_passed : (bytes : ℕ) (text : List ℕ) (left : ℕ) (rest front : List ℕ) → Passed bytes text left rest
+    → left ≡ 0 → text ≡ front ++ rest → front ≡ covered bytes text
+all_passed bytes text left rest front is none cut =
+    append_cancel_right front is.done rest (sym cut ∙ is.text_is)
+    ∙ sym (is.covered_is ∙ ap (λ (z : List ℕ). is.done ++ z) (ap (λ (n : ℕ). covered n rest) none ∙ covered_none rest)
+    ∙ append-nil is.done)
+
+pub text_passed : (bytes : ℕ) (text : List ℕ) (left : ℕ) (rest : List ℕ) → Passed bytes text left rest → rest ≡ []
+    → text ≡ covered bytes text
+text_passed bytes text left rest is none =
+    is.text_is ∙ ap (λ (z : List ℕ). is.done ++ z) none
+    ∙ sym (is.covered_is ∙ ap (λ (z : List ℕ). is.done ++ covered left z) none)

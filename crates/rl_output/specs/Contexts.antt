@@ -1,0 +1,59 @@
+-- The line of a source where a place stands, and carets below it. All are lists of characters.
+use Rattle.std.specs.Prelude.{◌≡◌, ◌⊎◌, ℕ, ◌==◌, Bool, false, ◌||◌, ◌&&◌, cond, List, [], ◌∷◌, ◌++◌, codes, if◌then◌else◌}
+use Prim.Native.Char.{code}
+use Rattle.std.specs.List.{flat_map, list_any}
+use Rattle.rl_text.specs.Texts.{begins_char}
+use Rattle.rl_files.specs.Visible.{visible_char}
+use Rattle.rl_lexer.specs.Sources.{without_mark}
+use Rattle.rl_output.specs.Spots.{covered}
+
+-- the character, which stands before this, ends a line: an LF, or a CR before one
+abbrev pub ends_line : ℕ → List ℕ → Bool
+ends_line c after = (c == code "\n") || ((c == code "\r") && begins_char (code "\n") after)
+
+-- a text up to the end of its first line
+abbrev pub first_line : List ℕ → List ℕ
+first_line [] = []
+first_line (c ∷ cs) = if ends_line c cs then [] else c ∷ first_line cs
+
+-- some character is an LF
+abbrev pub has_end : List ℕ → Bool
+has_end text = list_any (λ c. c == code "\n") text
+
+-- A rest of a text begins in a line of which so much stands before it: what comes after the last LF, a byte order mark at the
+-- text's front aside.
+pub record IsBeforeInLine (text rest before : List ℕ) : Type 0 where
+  pub front : List ℕ
+  pub text_is : text ≡ front ++ rest
+  pub lines : List ℕ
+  pub front_is : without_mark front ≡ lines ++ before
+  pub inside : has_end before ≡ false
+  pub begins : (lines ≡ []) ⊎ ((others : List ℕ) × (lines ≡ others ++ code "\n" ∷ []))
+
+-- a character of a line as it is printed: a tab stays
+abbrev pub line_char : ℕ → List ℕ
+line_char c = cond (c == code "\t") (c ∷ []) (visible_char c)
+
+abbrev pub line_text : List ℕ → List ℕ
+line_text text = flat_map line_char text
+
+-- what stands below it: this mark for each character that is printed, and this one for a tab
+abbrev pub mark_below : ℕ → ℕ → ℕ → List ℕ
+mark_below mark tab c = cond (c == code "\t") (tab ∷ []) (flat_map (λ _. mark ∷ []) (visible_char c))
+
+abbrev pub marks_below : ℕ → ℕ → List ℕ → List ℕ
+marks_below mark tab text = flat_map (mark_below mark tab) text
+
+-- a caret for each character of the text, one where there is none
+abbrev pub carets : List ℕ → List ℕ
+carets [] = codes "^"
+carets (c ∷ cs) = marks_below (code "^") (code "^") (c ∷ cs)
+
+-- What is shown of a place: the line where it begins, four columns in, and below it carets under the place, up to the end of that line.
+-- `before` stands in that line before the place, `rest` begins with it, and so many bytes of that are in it. A tab before it is one in
+-- the line of carets too.
+abbrev pub context_lines : List ℕ → List ℕ → ℕ → List ℕ
+context_lines before rest bytes =
+    codes "    " ++ (line_text before ++ (line_text (first_line rest) ++ (codes "\n"
+    ++ (codes "    " ++ (marks_below (code " ") (code "\t") before
+    ++ (carets (first_line (covered bytes rest)) ++ codes "\n"))))))

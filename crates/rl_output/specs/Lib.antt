@@ -1,0 +1,9 @@
+pub mod Forms
+pub mod Colors
+pub mod Spots
+pub mod JsonStrings
+pub mod Members
+pub mod Github
+pub mod Fronts
+pub mod ErrorIds
+pub mod Contexts

@@ -1,0 +1,77 @@
+//! Colours of a terminal.
+
+ghost use Rattle.std.specs.Prelude.{◌≡◌, ◌++◌, codes, OnOk, string_bytes};
+ghost use Rattle.std.specs.Str.{chars};
+ghost use Rattle.rl_output.specs.Colors.{has_colors as is_colored, paint_start, painted};
+ghost use Rattle.rl_output.specs.declared.color.Paint.TheVariants.{Error};
+
+use crate::form::Form;
+use std::alloc::{AllocError, Allocator};
+
+/// What ends a colour.
+pub(crate) const PAINT_END: &str = "\x1b[0m";
+
+/// What of a line has a colour.
+#[derive(Clone, Copy)]
+pub enum Paint {
+    /// Its path: magenta.
+    Path,
+    /// Its place: green.
+    Place,
+    /// The word `error`: bold red.
+    Error,
+}
+
+/// What begins a colour.
+pub(crate) fn start_of(paint: Paint) -> &'static str
+    ensures { result.now ≡ paint_start paint }
+{
+    match paint {
+        Paint::Path => "\x1b[35m",
+        Paint::Place => "\x1b[32m",
+        Paint::Error => "\x1b[1;31m",
+    }
+}
+
+/// Whether lines have colours.
+#[inline(always)]
+pub(crate) fn has_colors(form: Form) -> bool
+    ensures { result ≡ is_colored form }
+{
+    matches!(form, Form::Colored)
+}
+
+/// Appends a text, in a colour where lines have colours.
+///
+/// # Errors
+///
+/// An allocation failure. A beginning may have been appended then.
+pub fn push_painted<A: Allocator>(
+    out: &mut String<A>,
+    form: Form,
+    paint: Paint,
+    text: &str,
+) -> Result<(), AllocError>
+    ensures { OnOk result (string_bytes out.new ≡ string_bytes out.old ++ painted form paint text.now) }
+{
+    if has_colors(form) {
+        return write!(out, "{}{text}{PAINT_END}", start_of(paint));
+    }
+    out.push_str(text)?;
+    Ok(())
+}
+
+/// Appends the word that the line of an error begins with.
+///
+/// # Errors
+///
+/// An allocation failure. A beginning may have been appended then.
+pub fn push_error_word<A: Allocator>(
+    out: &mut String<A>,
+    form: Form,
+) -> Result<(), AllocError>
+    ensures { OnOk result (chars (string_bytes out.new)
+        ≡ chars (string_bytes out.old) ++ painted form Error (codes "error")) }
+{
+    push_painted(out, form, Paint::Error, "error")
+}

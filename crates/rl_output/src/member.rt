@@ -1,0 +1,62 @@
+//! Members of objects of JSON.
+
+ghost use Rattle.std.specs.Prelude.{◌≡◌, ◌++◌, true, OnOk, string_bytes};
+ghost use Rattle.std.specs.Char.{is_ascii};
+ghost use Rattle.std.specs.List.{list_all};
+ghost use Rattle.std.specs.Str.{chars};
+ghost use Rattle.rl_output.specs.Members.{object_front, string_member};
+
+use crate::json_string::push_json_string;
+use std::alloc::{AllocError, Allocator};
+
+/// Appends ASCII.
+///
+/// # Errors
+///
+/// An allocation failure.
+pub fn push_ascii<A: Allocator>(out: &mut String<A>, piece: &str) -> Result<(), AllocError>
+    requires { list_all is_ascii piece.now ≡ true }
+    ensures { OnOk result
+        (chars (string_bytes out.new) ≡ chars (string_bytes out.old) ++ piece.now) }
+{
+    out.push_str(piece)?;
+    Ok(())
+}
+
+/// Appends where an object begins.
+pub(crate) fn push_object_front<A: Allocator>(
+    out: &mut String<A>,
+    path: Option<&str>,
+) -> Result<(), AllocError>
+    ensures { OnOk result (chars (string_bytes out.new)
+        ≡ chars (string_bytes out.old) ++ object_front path.entry) }
+{
+    match path {
+        None => push_ascii(out, "{"),
+        Some(path) => {
+            push_ascii(out, "{\"path\":")?;
+            push_json_string(out, path)?;
+            push_ascii(out, ",")
+        }
+    }
+}
+
+/// Appends a member after others, whose value is a string.
+///
+/// # Errors
+///
+/// An allocation failure. A beginning may have been appended then.
+pub fn push_member<A: Allocator>(
+    out: &mut String<A>,
+    name: &str,
+    text: &str,
+) -> Result<(), AllocError>
+    requires { list_all is_ascii name.now ≡ true }
+    ensures { OnOk result (chars (string_bytes out.new)
+        ≡ chars (string_bytes out.old) ++ string_member name.now (chars text.now)) }
+{
+    push_ascii(out, ",\"")?;
+    push_ascii(out, name)?;
+    push_ascii(out, "\":")?;
+    push_json_string(out, text)
+}

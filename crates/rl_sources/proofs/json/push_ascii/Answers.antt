@@ -1,8 +1,0 @@
-use Rattle.rl_text.proofs.Common.{IsUtf8-string_bytes}
-use Rattle.rl_sources.proofs.JsonLemmas.{ascii_pushed}
-use Rattle.rl_sources.proofs.StepLemmas.{low_text}
-use Rattle.rl_sources.proofs.json.push_ascii.Goals as goal
-
-pub returns : goal.returns
-returns g c = ascii_pushed _ _ c.args.piece.now (IsUtf8-string_bytes c.args.out.now)
-    (low_text c.args.piece.now c.requires) c.in_ok-push_str.ensures.bytes

@@ -1,0 +1,126 @@
+// Rendered from crates/rl_output/src/context.rt by tools/render, which erases contracts: change that file, and render anew.
+//! The line of a source where a place stands, and carets below it.
+
+use crate::rattle_std::prelude::{String};
+use crate::rl_output::member::push_ascii;
+use crate::rl_output::spot::front_covered;
+use crate::rl_files::{needs_escape, push_visible};
+use crate::rl_text::text::{before, begins_with, split_char};
+use crate::rattle_std::alloc::{AllocError, Allocator};
+
+/// How far the line stands in.
+const MARGIN: &str = "    ";
+
+/// Whether a character, which stands before this, ends a line.
+fn ends_line(c: char, after: &str) -> bool {
+    c == '\n' || c == '\r' && begins_with(after, '\n')
+}
+
+/// The text up to the end of its first line: an LF, or CR LF.
+pub fn first_line(text: &str) -> &str {
+    let mut rest = text;
+    while let Some((c, after)) = split_char(rest) {
+        if ends_line(c, after) {
+            return before(text, rest);
+        }
+        rest = after;
+    }
+    text
+}
+
+/// Appends the first character of a rest of a line, after which so much is left, as it is printed: a tab stays.
+fn push_line_char<A: Allocator>(
+    out: &mut String<A>,
+    rest: &str,
+    c: char,
+    after: &str,
+) -> Result<(), AllocError> {
+    if c == '\t' {
+        return push_ascii(out, "\t");
+    }
+    push_visible(out, before(rest, after))
+}
+
+/// Appends a part of a line as it is printed: a tab stays.
+fn push_line<A: Allocator>(out: &mut String<A>, text: &str) -> Result<(), AllocError> {
+    let mut rest = text;
+    while let Some((c, after)) = split_char(rest) {
+        push_line_char(out, rest, c, after)?;
+        rest = after;
+    }
+    Ok(())
+}
+
+/// Appends a mark for each character of an escape.
+fn push_escape_marks<A: Allocator>(
+    out: &mut String<A>,
+    c: char,
+    mark: char,
+) -> Result<(), AllocError> {
+    for _ in c.escape_default() {
+        out.push(mark)?;
+    }
+    Ok(())
+}
+
+/// Appends what stands below a character: a mark for each that is printed of it, and for a tab its own.
+fn push_mark<A: Allocator>(
+    out: &mut String<A>,
+    c: char,
+    mark: char,
+    tab: char,
+) -> Result<(), AllocError> {
+    if c == '\t' {
+        out.push(tab)?;
+        return Ok(());
+    }
+    if needs_escape(c) {
+        return push_escape_marks(out, c, mark);
+    }
+    out.push(mark)?;
+    Ok(())
+}
+
+/// Appends what stands below a part of a line.
+fn push_marks<A: Allocator>(
+    out: &mut String<A>,
+    text: &str,
+    mark: char,
+    tab: char,
+) -> Result<(), AllocError> {
+    for c in text.chars() {
+        push_mark(out, c, mark, tab)?;
+    }
+    Ok(())
+}
+
+/// Appends the carets under a part of a line: one where it is empty.
+fn push_carets<A: Allocator>(out: &mut String<A>, text: &str) -> Result<(), AllocError> {
+    if text.is_empty() {
+        return push_ascii(out, "^");
+    }
+    push_marks(out, text, '^', '^')
+}
+
+/// Appends the line where a place begins, and below it carets under the place, up to the end of that line. `before` stands in that line
+/// before the place, `rest` begins with it, and so many bytes of that are in it. A tab before the place is one in the line of carets
+/// too.
+///
+/// # Errors
+///
+/// An allocation failure. A beginning may have been appended then.
+pub fn push_context<A: Allocator>(
+    out: &mut String<A>,
+    before: &str,
+    rest: &str,
+    bytes: usize,
+) -> Result<(), AllocError> {
+    push_ascii(out, MARGIN)?;
+    push_line(out, before)?;
+    push_line(out, first_line(rest))?;
+    push_ascii(out, "\n")?;
+    push_ascii(out, MARGIN)?;
+    push_marks(out, before, ' ', '\t')?;
+    push_carets(out, first_line(front_covered(rest, bytes)))?;
+    push_ascii(out, "\n")
+}

@@ -1,0 +1,20 @@
+// Rendered from crates/rl_output/src/error_id.rt by tools/render, which erases contracts: change that file, and render anew.
+//! Names of the errors of a source.
+
+use crate::rl_lexer::LexKind;
+
+/// What is wrong with a source, by a name that stays.
+pub fn id_of(kind: LexKind) -> &'static str {
+    match kind {
+        LexKind::DocComment => "doc-comment",
+        LexKind::UnclosedComment => "unclosed-comment",
+        LexKind::UnclosedQuote => "unclosed-quote",
+        LexKind::Lifetime => "lifetime",
+        LexKind::RawIdentifier => "raw-identifier",
+        LexKind::StrayCharacter => "stray-character",
+        LexKind::UnmatchedClose => "unmatched-close",
+        LexKind::UnclosedGroup => "unclosed-group",
+        LexKind::TooDeep => "too-deep",
+        LexKind::Memory => "out-of-memory",
+    }
+}
