@@ -11,7 +11,8 @@ from pathlib import Path
 LIST = Path(__file__).resolve().parent / "inlining.txt"
 ENTRY = re.compile(r"(\S+) (\w+): (\S.*)")
 
-# How many lines the body of a small function has at most: docs/PERFORMANCE.md compares others.
+# How many lines the body of a small function has at most. Where nothing is optimized, four take 0.85 of the code and up to 1.12 times
+# the instructions of eight, none 0.75 and up to 1.33 times; all functions inlined take 3.25 times the code, and no fewer instructions.
 SMALL = 8
 
 ALWAYS = re.compile(r"^( *)#\[inline\(always\)\]\n", re.M)

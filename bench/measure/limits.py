@@ -11,7 +11,7 @@ ROOM = 1.02
 
 
 def write(taken, rows, sizes):
-    """Writes the limits anew, and prints each that rises above the lowest that it was: docs/PERFORMANCE.md has a table of these."""
+    """Writes the limits anew, and prints each that is above the lowest that it was: docs/PERFORMANCE.md says how many these are."""
     taken = {**taken, **{name: [size] for name, size in sizes.items()}}
     ours, was = {(row.corpus, row.work) for row in rows if row.whose == 'ours'} | set(sizes), read_all()
     with open(PATH, 'w') as file:
@@ -22,7 +22,7 @@ def write(taken, rows, sizes):
                 lowest = min(limit, was.get(name, (limit, limit))[1])
                 file.write('%s\t%s\t%.3f\t%.3f\n' % (*name, limit, lowest))
                 if limit > lowest:
-                    print('| %s | `%s` | %.3f | %.3f |' % (*name, lowest, limit))
+                    print('%s, %s: %.3f, the lowest was %.3f' % (*name, limit, lowest))
     return 0
 
 

@@ -113,16 +113,8 @@ pub mod rendered {
     };
 }
 
-#[cfg_attr(
-    not(all(
-        feature = "sources",
-        feature = "settings",
-        feature = "flaws",
-        feature = "writers",
-        feature = "style"
-    )),
-    allow(unused_imports)
-)]
+// Without a feature some of them are called by nothing.
+#[allow(unused_imports)]
 use proved::{
     rl_file_reasons, rl_flaws, rl_forms, rl_leading, rl_lexer, rl_parts, rl_reading, rl_reasons,
     rl_recovery, rl_settings, rl_strict, rl_style, rl_text, rl_types, rl_writing,

@@ -9,7 +9,7 @@ import sys
 import textwrap
 
 from .items import (
-    TOP, code_files, core, definition_files, libraries, pages, paths, public_items, read, signature_end)
+    TOP, code_files, core, definition_files, libraries, pages, paths, prose_pages, public_items, read, signature_end)
 from .pieces import EXAMPLE, VALUE, Source, blanked, whole_items
 
 # The Rust of a page.
@@ -163,7 +163,7 @@ def check_paths(tell):
     sources = {os.path.basename(it) for it in [*code_files(), *definition_files()]}
     folder = r'(?:docs|tools|crates|bench|\.ci|rl_\w+|rust_literals)'
     bare_path = re.compile(rf'(?<![\w/.-])({folder}/[\w./-]*[\w/])')
-    for page in pages():
+    for page in prose_pages():
         text = read(page)
         for target in re.findall(r'\]\(([^)#]+)(?:#[^)]*)?\)', text):
             if '://' not in target and not is_there(target, page):
@@ -181,7 +181,7 @@ def check_words(tell):
     known = set()
     for path in [*code_files(), *definition_files(), 'crates.txt', *paths('rust/src/**/*.rs', 'include/*.h')]:
         known.update(re.findall(r'\w+', read(path)))
-    for page in pages():
+    for page in prose_pages():
         if page in OF_OTHERS:
             continue
         prose = re.sub(r'```.*?```', '', read(page), flags=re.S)
@@ -229,7 +229,7 @@ def placed_names(prose):
 def check_owners(tell):
     """What a page says is of a crate is of that one, where it is of any."""
     own = {it.split('/')[1]: owned_by(it.split('/')[1]) for it in paths('crates/*/src')}
-    for page in pages():
+    for page in prose_pages():
         prose = re.sub(r'\s+', ' ', re.sub(r'```.*?```', '', read(page), flags=re.S))
         for name, crate in placed_names(prose):
             is_file = name.endswith(('.antt', '.rt'))
@@ -257,7 +257,7 @@ RIGHT = re.compile(r'page faults|REFUSALS|behind a pointer|system lends memory',
 
 def check_terms(tell):
     """No page and no comment of these crates has a word that the field has another for."""
-    for path in pages() + paths(*(f'crates/{it}/src/**/*.rt' for it in TERMS_IN)):
+    for path in prose_pages() + paths(*(f'crates/{it}/src/**/*.rt' for it in TERMS_IN)):
         is_page, is_code = path.endswith('.md'), False
         for number, line in enumerate(read(path).split('\n'), 1):
             comment = line if is_page else line.partition('//')[2] if line.strip().startswith('//') else ''
@@ -270,16 +270,14 @@ def check_terms(tell):
 
 
 def check_limits(tell):
-    """Each limit of speed that is above the lowest that it was stands on a page."""
-    shown = read('docs/PERFORMANCE.md')
-    for line in read('bench/limits').split('\n'):
-        if line and not line.startswith('# '):
-            corpus, work, limit, lowest = line.split('\t')
-            row = f'| {corpus} | `{work}` | {lowest} | {limit} |'
-            if float(lowest) > float(limit):
-                tell(f'bench/limits: {corpus}, {work}: the lowest limit is above the limit')
-            if float(lowest) < float(limit) and row not in shown:
-                tell(f'docs/PERFORMANCE.md: no row {row}')
+    """The page of speed says how many limits are above the lowest that they were."""
+    limits = [line.split('\t') for line in read('bench/limits').split('\n') if line and not line.startswith('# ')]
+    for corpus, work, limit, lowest in limits:
+        if float(lowest) > float(limit):
+            tell(f'bench/limits: {corpus}, {work}: the lowest limit is above the limit')
+    above = sum(float(lowest) < float(limit) for _, _, limit, lowest in limits)
+    if f'{above} of the {len(limits)} limits are above' not in read('docs/PERFORMANCE.md'):
+        tell(f'docs/PERFORMANCE.md: {above} of the {len(limits)} limits are above the lowest that they were')
 
 
 def check_diagrams(tell):

@@ -36,6 +36,11 @@ def pages():
     return paths('README.md', 'docs/*.md', 'crates/*/*.md')
 
 
+def prose_pages():
+    """The pages, and those whose code Cargo compiles, or that show none."""
+    return [*pages(), 'CONTRIBUTING.md', 'rust/README.md']
+
+
 class Item:
     def __init__(self, kind, name, docs, head, line):
         self.kind, self.name, self.docs, self.head, self.line = kind, name, docs, head, line

@@ -1,0 +1,2 @@
+let a = "x\u{202e}";
+let b = b"\q";
