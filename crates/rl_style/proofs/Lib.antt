@@ -26,3 +26,4 @@ pub mod QuotedLexemes
 pub mod Lexings
 pub mod Restyled
 pub mod RestyledCuts
+pub mod EditedCuts
