@@ -12,7 +12,7 @@ use Rattle.rl_style.specs.declared.style.Case.TheVariants.{Lower, Upper}
 use Rattle.rl_style.specs.declared.style.Style.{Style}
 use Rattle.rl_style.specs.Cases.{cased, is_padding, lower_case, upper_case}
 use Rattle.rl_style.specs.Mirrors.{fewest_text, zero_closed}
-use Rattle.rl_style.specs.Rewriting.{bare_digit, cased_digit, code_digits, fewest_digits}
+use Rattle.rl_style.specs.Rewriting.{bare_digit, cased_digit, styled_digits, fewest_digits}
 use Rattle.rl_style.proofs.CaseLemmas.{cased_more, cased_past, twice_cased}
 
 abbrev pub hex_of : ℕ × ℕ → Bool
@@ -161,7 +161,7 @@ fewest_twice (d ∷ e ∷ ds) = go (d.0 == 48) refl (fewest_twice (e ∷ ds))
     go false z more = ap (λ b. cond b (fewest_digits (map bare_digit (e ∷ ds))) (map bare_digit all)) z
         ∙ bare_twice (d ∷ e ∷ ds)
 
-pub code_twice : (style : Style) (ds : List (ℕ × ℕ)) → code_digits style (code_digits style ds) ≡ code_digits style ds
+pub code_twice : (style : Style) (ds : List (ℕ × ℕ)) → styled_digits style (styled_digits style ds) ≡ styled_digits style ds
 code_twice style ds = go style.code_digits
   where
     to : List (ℕ × ℕ) → List (ℕ × ℕ)

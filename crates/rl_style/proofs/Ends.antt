@@ -20,21 +20,21 @@ pub not_r : (h : ℕ) → (h == 114) ≡ false → h ≡ 114 → ⊥
 not_r h other e = let q : (h == 114) ≡ true = ap (λ z. z == 114) e in let k : true ≡ false = sym q
     ∙ other in absurd (cc)
 
-pub quoted_front : (p : LiteralPrefix) (a b : List BodyPart) (x after : List ℕ)
-    → SameFront (lexeme_text (QuotedLexeme p a x) ++ after) (lexeme_text (QuotedLexeme p b x) ++ after)
-quoted_front NoPrefix a b x after = alike [] 34 (body_text a ++ 34 ∷ x ++ after) (body_text b ++ 34 ∷ x ++ after) refl
+pub quoted_front : (p : LiteralPrefix) (a b : List BodyPart) (x y z : List ℕ)
+    → SameFront (lexeme_text (QuotedLexeme p a x) ++ y) (lexeme_text (QuotedLexeme p b x) ++ z)
+quoted_front NoPrefix a b x y z = alike [] 34 (body_text a ++ 34 ∷ x ++ y) (body_text b ++ 34 ∷ x ++ z) refl
     (not_r 34 refl)
-quoted_front BytePrefix a b x after = alike (98 ∷ []) 34 (body_text a ++ 34 ∷ x ++ after)
-    (body_text b ++ 34 ∷ x ++ after) refl (not_r 34 refl)
-quoted_front CPrefix a b x after = alike (99 ∷ []) 34 (body_text a ++ 34 ∷ x ++ after) (body_text b ++ 34 ∷ x ++ after)
-    refl (not_r 34 refl)
+quoted_front BytePrefix a b x y z = alike (98 ∷ []) 34 (body_text a ++ 34 ∷ x ++ y) (body_text b ++ 34 ∷ x ++ z) refl
+    (not_r 34 refl)
+quoted_front CPrefix a b x y z = alike (99 ∷ []) 34 (body_text a ++ 34 ∷ x ++ y) (body_text b ++ 34 ∷ x ++ z) refl
+    (not_r 34 refl)
 
-pub character_front : (k : Bool) (a b : CharacterBody) (x after : List ℕ)
-    → SameFront (lexeme_text (CharacterLexeme k a x) ++ after) (lexeme_text (CharacterLexeme k b x) ++ after)
-character_front false a b x after = alike [] 39 (character_body_text a ++ 39 ∷ x ++ after)
-    (character_body_text b ++ 39 ∷ x ++ after) refl (not_r 39 refl)
-character_front true a b x after = alike (98 ∷ []) 39 (character_body_text a ++ 39 ∷ x ++ after)
-    (character_body_text b ++ 39 ∷ x ++ after) refl (not_r 39 refl)
+pub character_front : (k : Bool) (a b : CharacterBody) (x y z : List ℕ)
+    → SameFront (lexeme_text (CharacterLexeme k a x) ++ y) (lexeme_text (CharacterLexeme k b x) ++ z)
+character_front false a b x y z = alike [] 39 (character_body_text a ++ 39 ∷ x ++ y)
+    (character_body_text b ++ 39 ∷ x ++ z) refl (not_r 39 refl)
+character_front true a b x y z = alike (98 ∷ []) 39 (character_body_text a ++ 39 ∷ x ++ y)
+    (character_body_text b ++ 39 ∷ x ++ z) refl (not_r 39 refl)
 
 -- what stands after the first quote of a string
 abbrev pub quoted_rest : List BodyPart → List ℕ → List ℕ → List ℕ
@@ -46,14 +46,14 @@ raw_rest n body x after = (((replicate n 35 ++ (34 ∷ body)) ++ (34 ∷ replica
 raw_opens : (n : ℕ) (body x after : List ℕ) → BeginsHashedQuote (raw_rest n body x after)
 raw_opens n body x after = record { hashes = n; rest = body ++ (34 ∷ (replicate n 35 ++ (x ++ after))); text_is = raw_text n body x after }
 
-pub raw_front : (p : LiteralPrefix) (n m : ℕ) (a b x after : List ℕ)
-    → SameFront (lexeme_text (RawLexeme p n a x) ++ after) (lexeme_text (RawLexeme p m b x) ++ after)
-raw_front NoPrefix n m a b x after = raw_alike [] (raw_rest n a x after) (raw_rest m b x after) (raw_opens n a x after)
-    (raw_opens m b x after)
-raw_front BytePrefix n m a b x after = raw_alike (98 ∷ []) (raw_rest n a x after) (raw_rest m b x after)
-    (raw_opens n a x after) (raw_opens m b x after)
-raw_front CPrefix n m a b x after = raw_alike (99 ∷ []) (raw_rest n a x after) (raw_rest m b x after)
-    (raw_opens n a x after) (raw_opens m b x after)
+pub raw_front : (p : LiteralPrefix) (n m : ℕ) (a b x y z : List ℕ)
+    → SameFront (lexeme_text (RawLexeme p n a x) ++ y) (lexeme_text (RawLexeme p m b x) ++ z)
+raw_front NoPrefix n m a b x y z = raw_alike [] (raw_rest n a x y) (raw_rest m b x z) (raw_opens n a x y)
+    (raw_opens m b x z)
+raw_front BytePrefix n m a b x y z = raw_alike (98 ∷ []) (raw_rest n a x y) (raw_rest m b x z) (raw_opens n a x y)
+    (raw_opens m b x z)
+raw_front CPrefix n m a b x y z = raw_alike (99 ∷ []) (raw_rest n a x y) (raw_rest m b x z) (raw_opens n a x y)
+    (raw_opens m b x z)
 
 based_front : (letter : ℕ) (a b after : List ℕ)
     → SameFront (lexeme_text (BasedLexeme letter a) ++ after) (lexeme_text (BasedLexeme letter b) ++ after)
@@ -102,13 +102,13 @@ keeps_its_ends l m after (inl s) is =
     s.new_is (
       (s.is_body, (as_named l (QuotedLexeme s.prefix s.parts s.suffix) after s.old_is is).1),
       quoted_front s.prefix s.parts
-          s.new_parts s.suffix after,
+          s.new_parts s.suffix after after,
     )
 keeps_its_ends l m after (inr (inl s)) is =
     named l m (RawLexeme s.prefix s.hashes s.body s.suffix) (RawLexeme s.prefix s.new_hashes s.new_body s.suffix) after
     s.old_is s.new_is (
       (s.is_body, (as_named l (RawLexeme s.prefix s.hashes s.body s.suffix) after s.old_is is).1),
-      raw_front s.prefix s.hashes s.new_hashes s.body s.new_body s.suffix after,
+      raw_front s.prefix s.hashes s.new_hashes s.body s.new_body s.suffix after after,
     )
 keeps_its_ends l m after (inr (inr (inl s))) is =
     named l m (CharacterLexeme s.is_byte s.inside s.suffix) (CharacterLexeme s.is_byte s.new_inside s.suffix) after
@@ -116,7 +116,7 @@ keeps_its_ends l m after (inr (inr (inl s))) is =
     s.new_is (
       (s.is_body, (as_named l (CharacterLexeme s.is_byte s.inside s.suffix) after s.old_is is).1),
       character_front
-          s.is_byte s.inside s.new_inside s.suffix after,
+          s.is_byte s.inside s.new_inside s.suffix after after,
     )
 keeps_its_ends l m after (inr (inr (inr (inl s)))) is =
     named l m (BasedLexeme s.letter s.digits) (BasedLexeme s.letter s.new_digits) after s.old_is s.new_is (

@@ -27,3 +27,4 @@ pub mod Lexings
 pub mod Restyled
 pub mod RestyledCuts
 mod RestylableLemmas
+pub mod EditedCuts

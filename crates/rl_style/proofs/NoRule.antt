@@ -8,7 +8,7 @@ use Rattle.rl_forms.proofs.StrictQuoted.{between}
 use Rattle.rl_writing.specs.RawStrings.{raw_text}
 use Rattle.rl_style.specs.declared.style.Style.{Style}
 use Rattle.rl_style.specs.Cases.{cased, drops_underscores, exponent_letter, kept_digits, number_character, significant}
-use Rattle.rl_style.specs.Rewriting.{HasHashes, HasNoRule, Rewrites, RewritesCooked, RewritesFloat, RewritesInt, RewritesRaw, cased_digit, code_digits, fewest_digits, is_named, is_visible, letter_of, respelled, restyled, visible_unit}
+use Rattle.rl_style.specs.Rewriting.{HasHashes, HasNoRule, Rewrites, RewritesCooked, RewritesFloat, RewritesInt, RewritesRaw, cased_digit, styled_digits, fewest_digits, has_letter, is_visible, letter_of, respelled, restyled, visible_unit}
 use Rattle.rl_text.specs.Texts.{first_passes}
 use Rattle.rl_lexer.specs.Lexemes.{is_base_letter}
 use Rattle.rl_style.proofs.CaseLemmas.{none_right}
@@ -78,8 +78,8 @@ escape_kept : (style : Style) (k : Kind) (n : ℕ) (escape : StrictUnit) → Has
     → respelled style k n escape ≡ escape
 escape_kept style k n escape r =
     ap (λ b. cond (b && is_visible n) (visible_unit k n)
-    (cond (style.named_escapes && is_named n) (PlainEscape (letter_of n)) escape)) r.ascii_escapes
-    ∙ ap (λ b. cond (b && is_named n) (PlainEscape (letter_of n)) escape) r.named_escapes
+    (cond (style.named_escapes && has_letter n) (PlainEscape (letter_of n)) escape)) r.ascii_escapes
+    ∙ ap (λ b. cond (b && has_letter n) (PlainEscape (letter_of n)) escape) r.named_escapes
 
 unit_kept : (style : Style) (k : Kind) (u : StrictUnit) → HasNoRule style → restyled style k u ≡ u
 unit_kept style k (QuoteEscape c) n = ap (λ b. cond (b && not (c == closer k)) (Itself c) (QuoteEscape c))
@@ -93,7 +93,7 @@ unit_kept style k (ByteEscape high low) n =
     (ByteEscape (cased style.escape_digits high) (cased style.escape_digits low)) n
     ∙ ap (λ z. ByteEscape (cased z high) (cased z low)) n.escape_digits
 unit_kept style k (UnicodeEscape digits) n =
-    escape_kept style k (spaced_value digits) (UnicodeEscape (code_digits style digits)) n
+    escape_kept style k (spaced_value digits) (UnicodeEscape (styled_digits style digits)) n
     ∙ ap (λ b. UnicodeEscape (map (cased_digit style.escape_digits) (cond b (fewest_digits digits) digits)))
     n.code_digits
     ∙ ap (λ z. UnicodeEscape (map (cased_digit z) digits)) n.escape_digits ∙ ap UnicodeEscape (codes_kept digits)

@@ -179,7 +179,7 @@ pub alike_more : (s a b : List ℕ) → Alike a b → Alike (s ++ a) (s ++ b)
 alike_more s a b (inl e) = inl (ap (λ z. s ++ z) e)
 alike_more s a b (inr f) = inr (front_more s a b f)
 
-alike_stays : (w : SourceLexeme) (a b : List ℕ) → Alike a b → IsProper w a → IsProper w b
+pub alike_stays : (w : SourceLexeme) (a b : List ℕ) → Alike a b → IsProper w a → IsProper w b
 alike_stays w a b (inl e) is = subst (λ (z : List ℕ). IsProper w z) e is
 alike_stays w a b (inr f) is = stays_around w a b f is
 

@@ -23,7 +23,7 @@ use Rattle.rl_style.proofs.SameUnits as units
 -- Where the old text is a token, the new one is; and both begin so that no token in front can tell.
 pub record Replaces (t u y : List ℕ) : Type 0 where
   pub goes : (f : LexemeForm) → lexeme_at (t ++ y) ≡ Some (f, y) → lexeme_at (u ++ y) ≡ Some (f, y)
-  pub front : SameFront (t ++ y) (u ++ y)
+  pub front : (z : List ℕ) → SameFront (t ++ y) (u ++ z)
 
 -- ---- quoted literals
 
@@ -37,9 +37,9 @@ strings_replace k t u x y v w f a b =
     let new = ap (λ z. lexeme_at (z ++ y)) q.text_is ∙ quoted_goes f.before q.parts x y q.is_body in
     record {
       goes = λ g h. new ∙ sym old ∙ h;
-      front = subst (λ z. SameFront (z ++ y) (u ++ y)) (sym p.text_is)
-          (subst (λ z. SameFront (lexeme_text (QuotedLexeme f.before p.parts x) ++ y) (z ++ y)) (sym q.text_is)
-          (quoted_front f.before p.parts q.parts x y));
+      front = λ z. subst (λ s. SameFront (s ++ y) (u ++ z)) (sym p.text_is)
+          (subst (λ s. SameFront (lexeme_text (QuotedLexeme f.before p.parts x) ++ y) (s ++ z)) (sym q.text_is)
+          (quoted_front f.before p.parts q.parts x y z));
     }
 
 singles_replace : (k : Kind) (t u x y : List ℕ) (v w : Contents) → SingleKind k → StrictCooked t k v x
@@ -51,9 +51,9 @@ singles_replace k t u x y v w f a b =
     let new = ap (λ z. lexeme_at (z ++ y)) q.text_is ∙ character_goes f.is_byte q.inside x y q.is_body in
     record {
       goes = λ g h. new ∙ sym old ∙ h;
-      front = subst (λ z. SameFront (z ++ y) (u ++ y)) (sym p.text_is)
-          (subst (λ z. SameFront (lexeme_text (CharacterLexeme f.is_byte p.inside x) ++ y) (z ++ y)) (sym q.text_is)
-          (character_front f.is_byte p.inside q.inside x y));
+      front = λ z. subst (λ s. SameFront (s ++ y) (u ++ z)) (sym p.text_is)
+          (subst (λ s. SameFront (lexeme_text (CharacterLexeme f.is_byte p.inside x) ++ y) (s ++ z)) (sym q.text_is)
+          (character_front f.is_byte p.inside q.inside x y z));
     }
 
 pub cooked_replace : (k : Kind) (t u x y : List ℕ) (v w : Contents) → StrictCooked t k v x → StrictCooked u k w x
@@ -78,9 +78,9 @@ raws_replace p k t u x y v w a b e g =
     b.first_close) in
     record {
       goes = λ f h. new ∙ sym old ∙ h;
-      front = subst (λ z. SameFront (z ++ y) (u ++ y)) (sym e)
-          (subst (λ z. SameFront (lexeme_text (RawLexeme p a.hashes a.inside x) ++ y) (z ++ y)) (sym g)
-          (raw_front p a.hashes b.hashes a.inside b.inside x y));
+      front = λ z. subst (λ s. SameFront (s ++ y) (u ++ z)) (sym e)
+          (subst (λ s. SameFront (lexeme_text (RawLexeme p a.hashes a.inside x) ++ y) (s ++ z)) (sym g)
+          (raw_front p a.hashes b.hashes a.inside b.inside x y z));
     }
 
 raw_replace : (k : Kind) (t u x y : List ℕ) (v w : Contents) → StrictRaw t k v x → StrictRaw u k w x → Replaces t u y
@@ -96,19 +96,19 @@ raw_replace BoolKind t u x y v w a b = absurd a.allowed
 -- ---- numbers
 
 -- both begin with a digit
-digits_front : (t u y : List ℕ) (c d : ℕ) (m n : List ℕ) → t ≡ c ∷ m → u ≡ d ∷ n → is_ascii_digit c ≡ true
-    → is_ascii_digit d ≡ true → SameFront (t ++ y) (u ++ y)
-digits_front t u y c d m n e g a b = record {
+digits_front : (t u y z : List ℕ) (c d : ℕ) (m n : List ℕ) → t ≡ c ∷ m → u ≡ d ∷ n → is_ascii_digit c ≡ true
+    → is_ascii_digit d ≡ true → SameFront (t ++ y) (u ++ z)
+digits_front t u y z c d m n e g a b = record {
   front = [];
   head = c;
   new_head = d;
   old_rest = m ++ y;
-  new_rest = n ++ y;
+  new_rest = n ++ z;
   is_head = ap (λ z. is_among (codes "\"'rbc") c || z) a ∙ or_true (is_among (codes "\"'rbc") c);
   same_head = inr (a, b);
   raw = λ r. absurd (let k : true ≡ false = sym a ∙ ap is_ascii_digit r in cc);
-  old_is = ap (λ z. z ++ y) e;
-  new_is = ap (λ z. z ++ y) g;
+  old_is = ap (λ s. s ++ y) e;
+  new_is = ap (λ s. s ++ z) g;
 }
   where
     or_true : (b : Bool) → (b || true) ≡ true
@@ -120,7 +120,7 @@ decimals_replace : (t u y : List ℕ) (s : DecimalForm t) (r : DecimalForm u)
     → (after_decimal (s.more ++ y) ≡ y → after_decimal (r.more ++ y) ≡ y) → Replaces t u y
 decimals_replace t u y s r same = record {
   goes = λ f h. let p = decimal_ends t y f s h in decimal_goes u y f r p.0 (same p.1);
-  front = digits_front t u y s.digit r.digit s.more r.more s.text_is r.text_is s.is_digit r.is_digit;
+  front = λ z. digits_front t u y z s.digit r.digit s.more r.more s.text_is r.text_is s.is_digit r.is_digit;
 }
 
 -- digits, and what follows them
@@ -187,7 +187,7 @@ based_replace t u x y p q a b =
     let new = ap (λ z. lexeme_at (z ++ y)) b.text_is ∙ based_goes b.letter b.digits y b.is_letter b.each in
     record {
       goes = λ f h. new ∙ sym old ∙ h;
-      front = digits_front t u y 48 48 (a.letter ∷ a.digits) (b.letter ∷ b.digits) a.text_is b.text_is refl refl;
+      front = λ z. digits_front t u y z 48 48 (a.letter ∷ a.digits) (b.letter ∷ b.digits) a.text_is b.text_is refl refl;
     }
 
 pub integers_replace : (t u x y : List ℕ) (v w : Contents) (a : StrictInt t v x) (b : StrictInt u w x)

@@ -9,23 +9,30 @@ use Rattle.rl_style.specs.Around.{SameFront}
 use Rattle.rl_style.specs.Recut.{IsSound, placed_literal}
 use Rattle.rl_style.specs.Restyled.{KeepsTheRestyledCut, KeepsTheRestyledSource}
 use Rattle.rl_style.specs.Rewriting.{Rewrites}
-use Rattle.rl_style.proofs.Recut.{Follows, Recut, literal_is, literal_rest, recut}
+use Rattle.rl_style.proofs.Recut.{Alike, Recut, alike_more, literal_is, literal_rest, recut}
 use Rattle.rl_style.proofs.Restyled.{RewritesForm, replaces, word_or_form}
 use Rattle.rl_style.proofs.WholeSource.{source_recut}
 
 -- the token that was written, where the old one stood
-record NewToken (old : Lexeme) (u rest : List ℕ) : Type 0 where
-  new : Lexeme
-  text_is : lexeme_text new ≡ u
-  same_form : form_of new ≡ form_of old
-  follows : Follows old new rest
+pub record NewToken (old : Lexeme) (u rest : List ℕ) : Type 0 where
+  pub new : Lexeme
+  pub text_is : lexeme_text new ≡ u
+  pub same_form : form_of new ≡ form_of old
+  pub is_new : IsLexeme new rest
+  pub alike : (z : List ℕ) → Alike rest z → Alike (lexeme_text old ++ rest) (lexeme_text new ++ z)
 
-new_token : (style : Style) (old : Lexeme) (u rest : List ℕ) → IsLexeme old rest → Rewrites style (lexeme_text old) u
+pub new_token : (style : Style) (old : Lexeme) (u rest : List ℕ) → IsLexeme old rest → Rewrites style (lexeme_text old) u
     → NewToken old u rest
 new_token style old u rest is w = go (word_or_form style (lexeme_text old) u w)
   where
     go : (u ≡ lexeme_text old) ⊎ RewritesForm style (lexeme_text old) u → NewToken old u rest
-    go (inl e) = record { new = old; text_is = sym e; same_form = refl; follows = (is, inl refl) }
+    go (inl e) = record {
+      new = old;
+      text_is = sym e;
+      same_form = refl;
+      is_new = is;
+      alike = λ z a. alike_more (lexeme_text old) rest z a;
+    }
     go (inr f) =
         let made = replaces style (lexeme_text old) u rest f in
         let b = form_before (u ++ rest) (form_of old, rest) (made.goes (form_of old) (lexeme_at-past old rest is)) in
@@ -34,10 +41,8 @@ new_token style old u rest is w = go (word_or_form style (lexeme_text old) u w)
           new = b.lexeme;
           text_is = sym text;
           same_form = b.form_is;
-          follows = (
-            b.is_lexeme,
-            inr (subst (λ z. SameFront (lexeme_text old ++ rest) (z ++ rest)) text made.front),
-          );
+          is_new = b.is_lexeme;
+          alike = λ z a. inr (subst (λ s. SameFront (lexeme_text old ++ rest) (s ++ z)) text (made.front z));
         }
 
 -- the cut with it
@@ -58,7 +63,8 @@ new_cut style at t before after old u place r cut sound w =
       new = token.new;
       text_is = token.text_is;
       same_form = token.same_form;
-      cut = recut at t before after old token.new place r cut sound token.follows;
+      cut = recut at t before after old token.new place r cut sound
+          (token.is_new, token.alike (literal_rest at t before after old place r cut) (inl refl));
     }
 
 pub keeps_the_restyled_cut : KeepsTheRestyledCut

@@ -11,7 +11,7 @@ use Rattle.rl_style.specs.declared.style.Case.TheVariants.{Lower, Upper}
 use Rattle.rl_style.specs.declared.style.Style.{Style}
 use Rattle.rl_style.specs.Cases.{cased, lower_case, upper_case}
 use Rattle.rl_style.specs.Rewriting.{SameLiteral, RewritesCooked, cased_digit, restyled}
-use Rattle.rl_style.specs.Rewriting.{code_digits, fewest_digits, is_named, is_visible, letter_of, respelled, visible_unit}
+use Rattle.rl_style.specs.Rewriting.{styled_digits, fewest_digits, has_letter, is_visible, letter_of, respelled, visible_unit}
 use Rattle.rl_style.proofs.CodeDigits.{code_twice, fewest_unicode, fewest_value}
 use Rattle.rl_style.proofs.CaseLemmas.{none_right, cased_past, cased_value, spelled_cased, twice_cased}
 
@@ -85,7 +85,7 @@ kept_unicode style ds h = go style.code_digits
     go true = fewest_unicode ds h
     go false = h
 
-pub code_value : (style : Style) (ds : List (ℕ × ℕ)) → spaced_value (code_digits style ds) ≡ spaced_value ds
+pub code_value : (style : Style) (ds : List (ℕ × ℕ)) → spaced_value (styled_digits style ds) ≡ spaced_value ds
 code_value style ds = code_cased style.escape_digits (kept_digits style ds) ∙ kept_value style ds
 
 -- ---- one unit
@@ -156,16 +156,16 @@ byte_allowed case CStr high low h =
 byte_allowed case kind high low h = absurd (cc)
 
 code_unicode : (style : Style) (ds : List (ℕ × ℕ)) → is_unicode_escape ds ≡ true
-    → is_unicode_escape (code_digits style ds) ≡ true
+    → is_unicode_escape (styled_digits style ds) ≡ true
 code_unicode style ds h = unicode_cased style.escape_digits (kept_digits style ds) ∙ kept_unicode style ds h
 
 code_allowed : (style : Style) (k : Kind) (ds : List (ℕ × ℕ)) → is_strict_unit k (UnicodeEscape ds) ≡ true
-    → is_strict_unit k (UnicodeEscape (code_digits style ds)) ≡ true
+    → is_strict_unit k (UnicodeEscape (styled_digits style ds)) ≡ true
 code_allowed style Str ds h = code_unicode style ds h
 code_allowed style Char ds h = code_unicode style ds h
 code_allowed style CStr ds h =
     let p = and_parts (is_unicode_escape ds) (not (spaced_value ds == 0)) h in
-    and_from (is_unicode_escape (code_digits style ds)) (not (spaced_value (code_digits style ds) == 0))
+    and_from (is_unicode_escape (styled_digits style ds)) (not (spaced_value (styled_digits style ds) == 0))
     (code_unicode style ds p.0) (ap (λ n. not (n == 0)) (code_value style ds) ∙ p.1)
 code_allowed style kind ds h = absurd (cc)
 
@@ -176,15 +176,15 @@ abbrev chosen : Bool → Bool → Kind → ℕ → StrictUnit → StrictUnit
 chosen a b k n escape = cond a (visible_unit k n) (cond b (PlainEscape (letter_of n)) escape)
 
 pub respelled_any : (P : StrictUnit → Type 0) (style : Style) (k : Kind) (n : ℕ) (escape : StrictUnit)
-    → (is_visible n ≡ true → P (visible_unit k n)) → (is_named n ≡ true → P (PlainEscape (letter_of n))) → P escape
+    → (is_visible n ≡ true → P (visible_unit k n)) → (has_letter n ≡ true → P (PlainEscape (letter_of n))) → P escape
     → P (respelled style k n escape)
 respelled_any P style k n escape visible named other =
-    go (style.ascii_escapes && is_visible n) (style.named_escapes && is_named n) refl refl
+    go (style.ascii_escapes && is_visible n) (style.named_escapes && has_letter n) refl refl
   where
-    go : (a b : Bool) → (style.ascii_escapes && is_visible n) ≡ a → (style.named_escapes && is_named n) ≡ b
+    go : (a b : Bool) → (style.ascii_escapes && is_visible n) ≡ a → (style.named_escapes && has_letter n) ≡ b
         → P (chosen a b k n escape)
     go true b e f = visible (and_parts style.ascii_escapes (is_visible n) e).1
-    go false true e f = named (and_parts style.named_escapes (is_named n) f).1
+    go false true e f = named (and_parts style.named_escapes (has_letter n) f).1
     go false false e f = other
 
 pub visible_any : (P : StrictUnit → Type 0) (k : Kind) (n : ℕ) → ((n == closer k) ≡ true → P (QuoteEscape n))
@@ -200,7 +200,7 @@ visible_any P k n quote backslash other = go (n == closer k) (n == 92) refl refl
 pub visible_low : (n : ℕ) → is_visible n ≡ true → n < 128
 visible_low n h = grind (arith, nat_tests)
 
-pub named_low : (n : ℕ) → is_named n ≡ true → n < 128
+pub named_low : (n : ℕ) → has_letter n ≡ true → n < 128
 named_low n h = grind (arith, nat_tests)
 
 follows : (a b : Bool) → a ≡ true → (not a || b) ≡ true → b ≡ true
@@ -232,7 +232,7 @@ visible_allowed Char us n q v = visible_test (λ n. is_strict_unit Char (visible
 visible_allowed kind us n q v = absurd q
 
 -- LF, CR and TAB one by one
-named_any : (P : ℕ → Type 0) (n : ℕ) → is_named n ≡ true → P 10 → P 13 → P 9 → P n
+named_any : (P : ℕ → Type 0) (n : ℕ) → has_letter n ≡ true → P 10 → P 13 → P 9 → P n
 named_any P n h a b c =
     elim (or_cases (n == 10 || n == 13) (n == 9) h) [
       | inl e ↦ elim (or_cases (n == 10) (n == 13) e) [
@@ -242,7 +242,7 @@ named_any P n h a b c =
       | inr e ↦ subst P (sym (eqb-true n 9 e)) c
     ]
 
-named_allowed : (k : Kind) (us : List StrictUnit) (n : ℕ) → HasUnits k us → is_named n ≡ true
+named_allowed : (k : Kind) (us : List StrictUnit) (n : ℕ) → HasUnits k us → has_letter n ≡ true
     → is_strict_unit k (PlainEscape (letter_of n)) ≡ true
 named_allowed Str us n q h = named_any (λ n. is_strict_unit Str (PlainEscape (letter_of n)) ≡ true) n h refl refl refl
 named_allowed ByteStr us n q h = named_any (λ n. is_strict_unit ByteStr (PlainEscape (letter_of n)) ≡ true) n h refl refl
@@ -295,7 +295,7 @@ visible_contents k n v =
     (λ e. ap (plain_value_in plain_escapes) (eqb-true n 92 e) ∙ ap (λ z. z ∷ []) (sym (eqb-true n 92 e)))
     (held_low k n (visible_low n v))
 
-named_contents : (n : ℕ) → is_named n ≡ true → plain_value_in plain_escapes (letter_of n) ≡ n ∷ []
+named_contents : (n : ℕ) → has_letter n ≡ true → plain_value_in plain_escapes (letter_of n) ≡ n ∷ []
 named_contents n h = named_any (λ n. plain_value_in plain_escapes (letter_of n) ≡ n ∷ []) n h refl refl refl
 
 respelled_contents : (style : Style) (k : Kind) (n : ℕ) (escape : StrictUnit) (v : List ℕ) → (n < 128 → n ∷ [] ≡ v)
@@ -320,7 +320,7 @@ unit_allowed style k us (ByteEscape high low) q h = respelled_allowed style k us
     (ByteEscape (cased style.escape_digits high) (cased style.escape_digits low)) q
     (byte_allowed style.escape_digits k high low h)
 unit_allowed style k us (UnicodeEscape digits) q h = respelled_allowed style k us (spaced_value digits)
-    (UnicodeEscape (code_digits style digits)) q (code_allowed style k digits h)
+    (UnicodeEscape (styled_digits style digits)) q (code_allowed style k digits h)
 unit_allowed style k us (LineBreak blanks) q h = h
 
 pub all_allowed : (style : Style) (k : Kind) (vs us : List StrictUnit) → HasUnits k vs
@@ -370,7 +370,7 @@ front_stays style k (ByteEscape high low ∷ us) h n = respelled_front style k (
     (ByteEscape (cased style.escape_digits high) (cased style.escape_digits low))
     (flat_map strict_text (map (restyled style k) us)) refl
 front_stays style k (UnicodeEscape digits ∷ us) h n = respelled_front style k (spaced_value digits)
-    (UnicodeEscape (code_digits style digits)) (flat_map strict_text (map (restyled style k) us))
+    (UnicodeEscape (styled_digits style digits)) (flat_map strict_text (map (restyled style k) us))
     refl
 front_stays style k (LineBreak blanks ∷ us) h n = refl
 
@@ -398,7 +398,7 @@ blanks_stay style k (u ∷ us) h b = go u (and_parts (is_strict_unit k u) (list_
         (ByteEscape (cased style.escape_digits high) (cased style.escape_digits low)) (map (restyled style k) us)
         (ih p b) (ih p b)
     go (UnicodeEscape digits) p b ih = respelled_ends style k (spaced_value digits)
-        (UnicodeEscape (code_digits style digits)) (map (restyled style k) us) (ih p b) (ih p b)
+        (UnicodeEscape (styled_digits style digits)) (map (restyled style k) us) (ih p b) (ih p b)
     go (LineBreak blanks) p b ih = (front_stays style k us p b.0, ih p b.1)
 
 -- ---- contents
@@ -439,7 +439,7 @@ unit_contents style k (ByteEscape high low) h = respelled_contents style k (plac
     [])
     (λ low. refl) (ap (λ n. n ∷ []) (two_cased style.escape_digits high low))
 unit_contents style k (UnicodeEscape digits) h = respelled_contents style k (spaced_value digits)
-    (UnicodeEscape (code_digits style digits)) (strict_content_of k (spaced_value digits ∷ []))
+    (UnicodeEscape (styled_digits style digits)) (strict_content_of k (spaced_value digits ∷ []))
     (λ low. sym (held_low k (spaced_value digits) low)) (ap (λ n. strict_content_of k (n ∷ []))
     (code_value style digits))
 unit_contents style k (LineBreak blanks) h = refl
@@ -500,19 +500,19 @@ twice_quote false style k c e = ap (λ z. quote_unit z c) (sym e)
 -- an escape by number that is written anew again
 twice_respelled : (style : Style) (k : Kind) (n : ℕ) (escape : StrictUnit) → restyled style k escape
     ≡ respelled style k n escape → restyled style k (respelled style k n escape) ≡ respelled style k n escape
-twice_respelled style k n escape h = go (style.ascii_escapes && is_visible n) (style.named_escapes && is_named n) refl
+twice_respelled style k n escape h = go (style.ascii_escapes && is_visible n) (style.named_escapes && has_letter n) refl
     refl
   where
     quote : (n == closer k) ≡ true → restyled style k (QuoteEscape n) ≡ QuoteEscape n
     quote e = ap (λ b. quote_unit (style.quote_escapes && not b) n) e
         ∙ ap (λ b. quote_unit b n) (none_right style.quote_escapes)
 
-    go : (a b : Bool) → (style.ascii_escapes && is_visible n) ≡ a → (style.named_escapes && is_named n) ≡ b
+    go : (a b : Bool) → (style.ascii_escapes && is_visible n) ≡ a → (style.named_escapes && has_letter n) ≡ b
         → restyled style k (chosen a b k n escape) ≡ chosen a b k n escape
     go true b e f = visible_any (λ u. restyled style k u ≡ u) k n quote (λ e. refl) refl
     go false true e f = refl
     go false false e f = h
-        ∙ ap (λ a. chosen a (style.named_escapes && is_named n) k n escape) e
+        ∙ ap (λ a. chosen a (style.named_escapes && has_letter n) k n escape) e
         ∙ ap (λ b. chosen false b k n escape) f
 
 twice_unit : (style : Style) (k : Kind) (u : StrictUnit) → restyled style k (restyled style k u) ≡ restyled style k u
@@ -538,9 +538,9 @@ twice_unit style k (ByteEscape high low) =
     ∙ ap (λ z. respelled style k n (ByteEscape z (cased case l))) (twice_cased case high)
     ∙ ap (λ z. respelled style k n (ByteEscape h z)) (twice_cased case low))
 twice_unit style k (UnicodeEscape digits) =
-    let new : List (ℕ × ℕ) = code_digits style digits in
+    let new : List (ℕ × ℕ) = styled_digits style digits in
     twice_respelled style k (spaced_value digits) (UnicodeEscape new)
-    (ap (λ m. respelled style k m (UnicodeEscape (code_digits style new))) (code_value style digits)
+    (ap (λ m. respelled style k m (UnicodeEscape (styled_digits style new))) (code_value style digits)
     ∙ ap (λ z. respelled style k (spaced_value digits) (UnicodeEscape z)) (code_twice style digits))
 twice_unit style k (LineBreak blanks) = refl
 

@@ -19,7 +19,7 @@ use Rattle.rl_text.specs.Classes.{after_run}
 use Rattle.rl_text.specs.Texts.{begins}
 use Rattle.rl_forms.specs.Spelling.{without_underscores}
 use Rattle.rl_writing.proofs.AsciiLemmas.{encoded_low, low_chars}
-use Rattle.rl_style.specs.Rewriting.{cased_digit, code_digits, fewest_digits, is_named, is_visible, letter_of, respelled, restyled, visible_unit}
+use Rattle.rl_style.specs.Rewriting.{cased_digit, styled_digits, fewest_digits, has_letter, is_visible, letter_of, respelled, restyled, visible_unit}
 use Rattle.rl_style.specs.Mirrors.{AreUnits, ascii_in, digits_text, fewest_text, number_text, zero_closed, restyled_escape, restyled_text, visible_text}
 use Rattle.std.proofs.Math.Utf8.{scalars}
 use Rattle.rl_style.proofs.CodeDigits.{fewest_is, hex_of, unicode_hex}
@@ -126,12 +126,12 @@ number_is : (style : Style) (k : Kind) (n m : ℕ) (text : List ℕ) (escape : S
 number_is style k n m text escape of same =
     elim (cases_lt n 128) [
       | inl low ↦ ap (λ z. number_text style k z text) (of.low low)
-          ∙ spelled_so (style.ascii_escapes && is_visible n) (style.named_escapes && is_named n) k n
+          ∙ spelled_so (style.ascii_escapes && is_visible n) (style.named_escapes && has_letter n) k n
           (digits_text style text) escape same
       | inr high ↦
           let none : is_visible n ≡ false = false_unless (is_visible n)
           (λ v. let l = visible_low n v in absurd (omega (arith, l, high))) in
-          let unnamed : is_named n ≡ false = false_unless (is_named n)
+          let unnamed : has_letter n ≡ false = false_unless (has_letter n)
           (λ v. let l = named_low n v in absurd (omega (arith, l, high))) in
           let all : List ℕ = digits_text style text in
           ap (λ z. number_text style k z text) (of.high high)
@@ -139,9 +139,9 @@ number_is style k n m text escape of same =
           (none_right style.ascii_escapes)
           ∙ ap (λ b. cond b (92 ∷ letter_of 128 ∷ []) all) (none_right style.named_escapes) ∙ same
           ∙ ap strict_text (sym (ap (λ b. cond (style.ascii_escapes && b) (visible_unit k n)
-          (cond (style.named_escapes && is_named n) (PlainEscape (letter_of n)) escape)) none
+          (cond (style.named_escapes && has_letter n) (PlainEscape (letter_of n)) escape)) none
           ∙ ap (λ b. cond b (visible_unit k n)
-          (cond (style.named_escapes && is_named n) (PlainEscape (letter_of n)) escape)) (none_right style.ascii_escapes)
+          (cond (style.named_escapes && has_letter n) (PlainEscape (letter_of n)) escape)) (none_right style.ascii_escapes)
           ∙ ap (λ b. cond (style.named_escapes && b) (PlainEscape (letter_of n)) escape) unnamed
           ∙ ap (λ b. cond b (PlainEscape (letter_of n)) escape) (none_right style.named_escapes)))
     ]
@@ -205,7 +205,7 @@ closed_text case ds =
     ∙ ap (λ z. flat_map spaced_digit (map (cased_digit case) ds) ++ z) (brace case)
 
 code_text : (style : Style) (ds : List (ℕ × ℕ)) → list_all hex_of ds ≡ true
-    → digits_text style (strict_text (UnicodeEscape ds)) ≡ strict_text (UnicodeEscape (code_digits style ds))
+    → digits_text style (strict_text (UnicodeEscape ds)) ≡ strict_text (UnicodeEscape (styled_digits style ds))
 code_text style ds h = go style.code_digits
   where
     inside : List ℕ
@@ -260,7 +260,7 @@ unit_restyled style k (ByteEscape high low) h =
 unit_restyled style k (UnicodeEscape digits) h =
     let n : ℕ = spaced_value digits in
     number_is style k n (ascii_in (strict_content_of k (n ∷ []))) (strict_text (UnicodeEscape digits))
-    (UnicodeEscape (code_digits style digits)) (held_of k n) (code_text style digits (hexes k digits h))
+    (UnicodeEscape (styled_digits style digits)) (held_of k n) (code_text style digits (hexes k digits h))
 unit_restyled style k (LineBreak blanks) h = refl
 
 -- ---- the bytes that are put
@@ -593,7 +593,7 @@ number_scalars style k n cs small h =
     chosen_scalars (style.ascii_escapes && is_visible n) _ _
     (chosen_scalars (n == closer k || n == 92) (92 ∷ n ∷ []) (n ∷ []) (and_from (scalar n) true one refl)
     (and_from (scalar n) true one refl))
-    (chosen_scalars (style.named_escapes && is_named n) (92 ∷ letter_of n ∷ []) _
+    (chosen_scalars (style.named_escapes && has_letter n) (92 ∷ letter_of n ∷ []) _
     (and_from (scalar (letter_of n)) true letter refl) (digits_scalars style cs h))
   where
     scalar_low : (n : ℕ) → n ≤ 128 → scalar n ≡ true

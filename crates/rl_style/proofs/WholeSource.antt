@@ -1,8 +1,8 @@
 -- A source whose first line is no interpreter's, in which one literal is written anew, is cut as before everywhere else.
-use Rattle.rl_text.proofs.Common.{◌≡◌, ℕ, ◌+◌, inl, inr, Bool, true, false, not, ◌||◌, ◌==◌, and_parts, both_ways, cond, List, [], ◌∷◌, ◌++◌, refl, sym, ◌∙◌, ap, arith, codes, append_assoc}
+use Rattle.rl_text.proofs.Common.{◌≡◌, ℕ, ◌+◌, inl, inr, Bool, true, false, not, ◌||◌, ◌==◌, and_parts, both_ways, cond, List, [], ◌∷◌, ◌++◌, refl, sym, ◌∙◌, ap, subst, arith, codes, append_assoc}
 use Rattle.rl_text.specs.Texts.{first_passes, begins, begins_char, byte_len, is_white}
 use Rattle.rl_lexer.specs.Lexemes.{Lexeme, lexeme_text}
-use Rattle.rl_lexer.specs.Sources.{CutSource, IsCutUpTo, without_mark, IsScriptLine, IsWithoutLine}
+use Rattle.rl_lexer.specs.Sources.{CutSource, IsCutUpTo, without_mark, IsScriptLine, IsWithoutLine, IsWithoutPreamble}
 use Rattle.rl_lexer.specs.Skipping.{Skipped}
 use Rattle.rl_lexer.proofs.Pieces.{is_equal, skipped_none}
 use Rattle.rl_lexer.proofs.CutLemmas.{byte_len-append}
@@ -72,37 +72,55 @@ body_is : (t body : List ℕ) → is_code t ≡ true → IsWithoutLine t body �
 body_is t body h (inl is) = absurd (no_script t body h is)
 body_is t body h (inr is) = is.0
 
+-- what stands in front of the body, before whatever no token in front tells from it
+pub record Preamble (t body : List ℕ) (at : ℕ) : Type 0 where
+  pub mark : List ℕ
+  pub text_is : t ≡ mark ++ body
+  pub at_is : at ≡ byte_len mark
+  pub goes : (u : List ℕ) → Alike body u → IsWithoutPreamble (mark ++ u) u
+
+pub preamble : (t : List ℕ) (cuts : List CutSource) (r : List ℕ) → begins_with_code t ≡ true → (cut : IsCutUpTo t cuts r)
+    → Preamble t cut.body cut.at
+preamble t cuts r code cut =
+    let whole : cut.body ≡ without_mark t = body_is (without_mark t) cut.body code cut.front in
+    let k : Marked t = marked t in
+    let text_is : t ≡ k.mark ++ cut.body = k.text_is ∙ ap (λ z. k.mark ++ z) (sym whole) in
+    let long : byte_len t ≡ byte_len k.mark + byte_len cut.body = ap byte_len text_is
+    ∙ byte_len-append k.mark cut.body in
+    record {
+      mark = k.mark;
+      text_is = text_is;
+      at_is = omega (arith, cut.place, long);
+      goes = λ u a.
+          let bare : without_mark (k.mark ++ u) ≡ u = k.goes u (ap (first_passes is_mark) (sym whole)
+          ∙ mark_agrees cut.body u a) in
+          let free : begins_with_code (k.mark ++ u) ≡ true = ap is_code bare ∙ sym (code_agrees cut.body u a)
+          ∙ ap is_code whole ∙ code in
+          inr (sym bare, λ s is. no_script (without_mark (k.mark ++ u)) s free is);
+    }
+
 pub source_recut : (t : List ℕ) (before after : List CutSource) (old new : Lexeme) (place : ℕ) (r : List ℕ)
     → begins_with_code t ≡ true → (cut : IsCutUpTo t (before ++ (placed_literal old place ∷ after)) r)
     → Recut cut.at cut.body before after old new place r → IsRecutSource t before after old new place r
 source_recut t before after old new place r code cut m =
-    let whole : cut.body ≡ without_mark t = body_is (without_mark t) cut.body code cut.front in
+    let p : Preamble t cut.body cut.at = preamble t (before ++ (placed_literal old place ∷ after)) r code cut in
     let was : List ℕ = m.front ++ (lexeme_text old ++ m.rest) in
     let body : List ℕ = m.front ++ (lexeme_text new ++ m.rest) in
-    let same : Alike was body = alike_more m.front (lexeme_text old ++ m.rest) (lexeme_text new ++ m.rest)
-    m.same_front in
-    let was_is : without_mark t ≡ was = sym whole ∙ m.text_is in
-    let k : Marked t = marked t in
-    let mark_len : byte_len t ≡ byte_len k.mark + byte_len (without_mark t) = ap byte_len k.text_is
-    ∙ byte_len-append k.mark (without_mark t) in
-    let at_is : cut.at ≡ byte_len k.mark = omega (arith, cut.place, mark_len, ap byte_len whole) in
-    let text : List ℕ = (k.mark ++ m.front) ++ (lexeme_text new ++ m.rest) in
-    let text_is : text ≡ k.mark ++ body = append_assoc k.mark m.front (lexeme_text new ++ m.rest) in
-    let bare : without_mark text ≡ body = ap without_mark text_is ∙ k.goes body (ap (first_passes is_mark) was_is
-    ∙ mark_agrees was body same) in
-    let free : begins_with_code text ≡ true = ap is_code bare ∙ sym (code_agrees was body same)
-    ∙ sym (ap is_code was_is) ∙ code in
+    let same : Alike cut.body body = subst (λ z. Alike z body) (sym m.text_is) (alike_more m.front
+    (lexeme_text old ++ m.rest) (lexeme_text new ++ m.rest) m.same_front) in
+    let text : List ℕ = (p.mark ++ m.front) ++ (lexeme_text new ++ m.rest) in
+    let text_is : text ≡ p.mark ++ body = append_assoc p.mark m.front (lexeme_text new ++ m.rest) in
     record {
-      front = k.mark ++ m.front;
+      front = p.mark ++ m.front;
       rest = m.rest;
-      text_is = k.text_is ∙ ap (λ z. k.mark ++ z) was_is ∙ sym (append_assoc k.mark m.front
+      text_is = p.text_is ∙ ap (λ z. p.mark ++ z) m.text_is ∙ sym (append_assoc p.mark m.front
           (lexeme_text old ++ m.rest));
-      place_is = omega (arith, at_is, m.place_is, byte_len-append k.mark m.front);
+      place_is = omega (arith, p.at_is, m.place_is, byte_len-append p.mark m.front);
       cuts = record {
         at = cut.at;
         body = body;
-        front = inr (sym bare, λ s is. no_script (without_mark text) s free is);
-        place = omega (arith, at_is, ap byte_len text_is, byte_len-append k.mark body);
+        front = subst (λ z. IsWithoutPreamble z body) (sym text_is) (p.goes body same);
+        place = omega (arith, p.at_is, ap byte_len text_is, byte_len-append p.mark body);
         are_cuts = m.cuts;
       };
     }

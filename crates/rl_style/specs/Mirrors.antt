@@ -12,7 +12,7 @@ use Rattle.rl_reading.specs.declared.quoted_forms.QuotedForm.{QuotedForm}
 use Rattle.rl_reading.specs.Mirrors.OpenerAt.{found_opener, opener_at}
 use Rattle.rl_style.specs.declared.style.Style.{Style}
 use Rattle.rl_style.specs.Cases.{cased, is_padding}
-use Rattle.rl_style.specs.Rewriting.{is_named, is_visible, letter_of}
+use Rattle.rl_style.specs.Rewriting.{has_letter, is_visible, letter_of}
 
 -- one or none
 abbrev pub one_or_none : Option ℕ → List ℕ
@@ -79,7 +79,7 @@ digits_text style text =
 abbrev pub number_text : Style → Kind → ℕ → List ℕ → List ℕ
 number_text style kind n text =
     if style.ascii_escapes && is_visible n then visible_text kind n
-    else (if style.named_escapes && is_named n then code "\\" ∷ letter_of n ∷ []
+    else (if style.named_escapes && has_letter n then code "\\" ∷ letter_of n ∷ []
     else digits_text style text)
 
 -- an escape that stands for this, by what follows its backslash

@@ -71,8 +71,8 @@ fewest_digits [] = []
 fewest_digits (d ∷ []) = bare_digit d ∷ []
 fewest_digits (d ∷ e ∷ ds) = if d.0 == code "0" then fewest_digits (e ∷ ds) else map bare_digit (d ∷ e ∷ ds)
 
-abbrev pub code_digits : Style → List (ℕ × ℕ) → List (ℕ × ℕ)
-code_digits style digits =
+abbrev pub styled_digits : Style → List (ℕ × ℕ) → List (ℕ × ℕ)
+styled_digits style digits =
     map (cased_digit style.escape_digits) (if style.code_digits then fewest_digits digits else digits)
 
 -- visible characters of ASCII, from `!` to `~`. A space is none of them: a line break before it would drop it.
@@ -84,8 +84,8 @@ abbrev pub visible_unit : Kind → ℕ → StrictUnit
 visible_unit kind c = if c == closer kind then QuoteEscape c else (if c == code "\\" then PlainEscape c else Itself c)
 
 -- LF, CR and TAB, and the letters of their escapes
-abbrev pub is_named : ℕ → Bool
-is_named c = c == code "\n" || c == code "\r" || c == code "\t"
+abbrev pub has_letter : ℕ → Bool
+has_letter c = c == code "\n" || c == code "\r" || c == code "\t"
 
 abbrev pub letter_of : ℕ → ℕ
 letter_of c = if c == code "\n" then code "n" else (if c == code "\r" then code "r" else code "t")
@@ -94,7 +94,7 @@ letter_of c = if c == code "\n" then code "n" else (if c == code "\r" then code 
 abbrev pub respelled : Style → Kind → ℕ → StrictUnit → StrictUnit
 respelled style kind c escape =
     if style.ascii_escapes && is_visible c then visible_unit kind c
-    else (if style.named_escapes && is_named c then PlainEscape (letter_of c) else escape)
+    else (if style.named_escapes && has_letter c then PlainEscape (letter_of c) else escape)
 
 -- what a unit becomes: a quote that doesn't close the literal stands for itself, and so does a visible character that
 -- is spelled by its number; other escapes by number have their digits in one case
@@ -108,7 +108,7 @@ restyled style kind (ByteEscape high low) =
     respelled style kind (place_value 16 (high ∷ low ∷ []))
     (ByteEscape (cased style.escape_digits high) (cased style.escape_digits low))
 restyled style kind (UnicodeEscape digits) =
-    respelled style kind (spaced_value digits) (UnicodeEscape (code_digits style digits))
+    respelled style kind (spaced_value digits) (UnicodeEscape (styled_digits style digits))
 restyled style kind unit = unit
 
 -- The old text is a literal with escapes; in the new one each unit is what the style makes of it.

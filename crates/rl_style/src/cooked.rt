@@ -8,7 +8,7 @@ ghost use Rattle.rl_forms.specs.Strict.{StrictUnit, strict_text};
 ghost use Rattle.rl_forms.specs.Written.{closer};
 ghost use Rattle.rl_reading.specs.Mirrors.UnitAt.{piece_value};
 ghost use Rattle.rl_style.specs.Mirrors.{AreUnits, CookedParts, ascii_in, number_text, restyled_text, visible_text};
-ghost use Rattle.rl_style.specs.Rewriting.{RewritesCooked, is_named, is_visible, letter_of, restyled};
+ghost use Rattle.rl_style.specs.Rewriting.{RewritesCooked, has_letter, is_visible, letter_of, restyled};
 
 use crate::codes::put_digits;
 use crate::style::Style;
@@ -67,8 +67,8 @@ fn is_visible(style: Style, byte: u8) -> bool
 }
 
 /// Whether the character has a letter where an escape by number spells it.
-fn is_named(style: Style, byte: u8) -> bool
-    ensures { result ≡ (style.named_escapes && is_named byte) }
+fn has_letter(style: Style, byte: u8) -> bool
+    ensures { result ≡ (style.named_escapes && has_letter byte) }
 {
     style.named_escapes && matches!(byte, b'\n' | b'\r' | b'\t')
 }
@@ -124,7 +124,7 @@ fn put_number(out: &mut [u8], at: usize, kind: Kind, style: Style, unit: &str, b
     if is_visible(style, byte) {
         return put_visible(out, at, kind, byte);
     }
-    if is_named(style, byte) {
+    if has_letter(style, byte) {
         return put_pair(out, at, letter_of(byte));
     }
     put_digits(out, at, style, unit)

@@ -4,7 +4,7 @@ ghost use Rattle.std.specs.Prelude.{List, ℕ, ◌≡◌};
 ghost use Rattle.rl_style.specs.declared.style.Style.{Style};
 ghost use Rattle.rl_style.specs.Around.{StaysAround, StaysBeforeQuote, KeepsItsEnds};
 ghost use Rattle.rl_style.specs.Recut.{KeepsTheCut, KeepsTheCutUnraw, KeepsTheSource};
-ghost use Rattle.rl_style.specs.Restyled.{KeepsTheRestyledCut, KeepsTheRestyledSource};
+ghost use Rattle.rl_style.specs.Restyled.{KeepsTheEditedCut, KeepsTheEditedSource, KeepsTheRestyledCut, KeepsTheRestyledSource};
 ghost use Rattle.rl_style.specs.Rewriting.{HasNoRule, SameLiteral, Rewrites};
 
 /// A literal that is written anew is the same literal: its kind, its contents and its suffix are what they were.
@@ -60,6 +60,17 @@ pub fn the_restyled_cut_is_kept()
 /// attribute's `#![`.
 pub fn the_restyled_source_is_kept()
     ensures { KeepsTheRestyledSource }
+{}
+
+/// A text in which any literals are written anew in a style is cut into as many tokens as before, of the same kinds: each is the old
+/// one, or what was written in its place.
+pub fn the_edited_cut_is_kept()
+    ensures { KeepsTheEditedCut }
+{}
+
+/// The same of a source that begins without `#!` or with an attribute's `#![`.
+pub fn the_edited_source_is_kept()
+    ensures { KeepsTheEditedSource }
 {}
 
 /// A token in front of a raw string stays one before a string with escapes, where the text between them ends with neither a hash nor

@@ -44,7 +44,7 @@ fn is_visible(style: Style, byte: u8) -> bool {
 }
 
 /// Whether the character has a letter where an escape by number spells it.
-fn is_named(style: Style, byte: u8) -> bool {
+fn has_letter(style: Style, byte: u8) -> bool {
     style.named_escapes && matches!(byte, b'\n' | b'\r' | b'\t')
 }
 
@@ -76,7 +76,7 @@ fn put_number(out: &mut [u8], at: usize, kind: Kind, style: Style, unit: &str, b
     if is_visible(style, byte) {
         return put_visible(out, at, kind, byte);
     }
-    if is_named(style, byte) {
+    if has_letter(style, byte) {
         return put_pair(out, at, letter_of(byte));
     }
     put_digits(out, at, style, unit)

@@ -1,0 +1,189 @@
+-- A source in which any literals are written anew in a style is cut as before.
+use Rattle.rl_text.proofs.Common.{◌≡◌, ℕ, ◌+◌, inl, List, [], ◌∷◌, ◌++◌, length, Option, Some, None, refl, sym, ◌∙◌, ap, subst, arith, append_assoc, encode_utf8, encode_utf8_all, AllByRecursion, len_utf8_bounds, length-encode}
+use Rattle.std.proofs.Common.{length-append}
+use Rattle.rl_text.specs.Texts.{byte_len}
+use Rattle.rl_forms.proofs.OneQuoted.{same_tail}
+use Rattle.rl_lexer.specs.Lexemes.{IsLexeme, lexeme_text}
+use Rattle.rl_lexer.specs.Skipping.{Skipped}
+use Rattle.rl_lexer.specs.Sources.{CutSource, IsCutUpTo, IsProper, IsSource, IsWithoutPreamble, PlainKind, PlainToken, SourceLexeme, SourcesUpTo, source_end, source_kind, source_text}
+use Rattle.rl_lexer.proofs.CutLemmas.{byte_len-append}
+use Rattle.rl_lexer.proofs.SourceFronts.{proper_source}
+use Rattle.rl_style.specs.declared.style.Style.{Style}
+use Rattle.rl_style.specs.Recut.{IsSound, IsSoundToken}
+use Rattle.rl_style.specs.Restyled.{AreInStyle, AreTokensOf, IsEdited, IsEditedSource, IsInStyle, IsTokenOf, KeepsTheEditedCut, KeepsTheEditedSource, edited_text}
+use Rattle.rl_style.proofs.Recut.{Alike, alike_more, alike_stays, place_of, skips_to, sound_proper, token_full, token_piece}
+use Rattle.rl_style.proofs.RestyledCuts.{NewToken, new_token}
+use Rattle.rl_style.proofs.WholeSource.{Preamble, preamble}
+
+-- ---- one place of a text
+
+-- a character takes some bytes
+some_bytes : (c : ℕ) (cs : List ℕ) → byte_len (c ∷ cs) ≡ 0 → ⊥
+some_bytes c cs e =
+    let whole : length (encode_utf8 c ++ encode_utf8_all cs) ≡ 0 = e in
+    let long = length-append (encode_utf8 c) (encode_utf8_all cs) in
+    absurd (omega (arith, whole, long, length-encode c, len_utf8_bounds c))
+
+same_place : (g h u v : List ℕ) → g ++ u ≡ h ++ v → byte_len g ≡ byte_len h → (g ≡ h) × (u ≡ v)
+same_place [] [] u v e n = (refl, e)
+same_place [] (d ∷ h) u v e n = absurd (some_bytes d h (sym n))
+same_place (c ∷ g) [] u v e n = absurd (some_bytes c g n)
+same_place (c ∷ g) (d ∷ h) u v e n =
+    let first : c ≡ d = cc in
+    let rest : g ++ u ≡ h ++ v = cc in
+    let count = byte_len-append (c ∷ []) g in
+    let other = byte_len-append (d ∷ []) h in
+    let one : byte_len (c ∷ []) ≡ byte_len (d ∷ []) = ap (λ z. byte_len (z ∷ [])) first in
+    let same = same_place g h u v rest (omega (arith, n, count, other, one)) in
+    (ap (λ z. z ∷ g) first ∙ ap (λ z. d ∷ z) same.0, same.1)
+
+-- ---- one token after another
+
+-- the new cut, and that no token in front tells the texts apart
+record Made (at : ℕ) (old new : List ℕ) (cuts : List CutSource) (edits : List (Option (List ℕ))) (r : List ℕ) : Type
+    0 where
+  tokens : List CutSource
+  are_tokens : AreTokensOf edits cuts tokens
+  are_cuts : SourcesUpTo at new tokens r
+  alike : Alike old new
+
+-- the token that stands in the place of the old one
+record Put (e : Option (List ℕ)) (token : SourceLexeme) (after new_after : List ℕ) : Type 0 where
+  new : SourceLexeme
+  is_token : IsTokenOf e token new
+  text_is : source_text new ≡ edited_text e token
+  proper : IsProper new new_after
+  alike : Alike (source_text token ++ after) (source_text new ++ new_after)
+
+put : (style : Style) (e : Option (List ℕ)) (token : SourceLexeme) (after new_after : List ℕ) → IsSoundToken token
+    → IsSource token after → IsInStyle style token e → Alike after new_after → Put e token after new_after
+put style None token after new_after sound is in_style a = record {
+  new = token;
+  is_token = refl;
+  text_is = refl;
+  proper = alike_stays token after new_after a (sound_proper token after sound is);
+  alike = alike_more (source_text token) after new_after a;
+}
+put style (Some written) token after new_after sound is (l, token_is, w) a =
+    let old_is : IsLexeme l after = sound_proper (PlainToken l) after tt
+    (subst (λ (z : SourceLexeme). IsSource z after) token_is is) in
+    let n : NewToken l written after = new_token style l written after old_is w in
+    record {
+      new = PlainToken n.new;
+      is_token = (n.text_is, ap PlainKind n.same_form ∙ ap source_kind (sym token_is));
+      text_is = n.text_is;
+      proper = alike_stays (PlainToken n.new) after new_after a n.is_new;
+      alike = subst (λ (z : SourceLexeme). Alike (source_text z ++ after) (lexeme_text n.new ++ new_after)) (sym token_is)
+          (n.alike new_after a);
+    }
+
+one_more : (e : Option (List ℕ)) (es : List (Option (List ℕ))) (at : ℕ) (w : CutSource) (ws : List CutSource)
+    (front old new after new_after r : List ℕ) → old ≡ front ++ (source_text w.token ++ after)
+    → new ≡ front ++ (edited_text e w.token ++ new_after)
+    → (p : Put e w.token after new_after)
+    → Skipped (front ++ (source_text p.new ++ new_after)) (source_text p.new ++ new_after)
+    → Made (at + byte_len front + byte_len (source_text p.new)) after new_after ws es r
+    → Made at old new (w ∷ ws) (e ∷ es) r
+one_more e es at w ws front old new after new_after r old_is new_is p skipped more =
+    let s : List ℕ = source_text p.new in
+    let text : new ≡ front ++ (s ++ new_after) = new_is ∙ ap (λ z. front ++ (z ++ new_after)) (sym p.text_is) in
+    let here : ℕ = at + byte_len front in
+    let there : here + byte_len (s ++ new_after) ≡ at + byte_len (front ++ (s ++ new_after)) = omega (
+      arith,
+      byte_len-append front (s ++ new_after),
+    ) in
+    record {
+      tokens = record { token = p.new; at = here } ∷ more.tokens;
+      are_tokens = (p.is_token, more.are_tokens);
+      are_cuts = subst (λ (z : List ℕ). SourcesUpTo at z (record { token = p.new; at = here } ∷ more.tokens) r) (sym text)
+          (new_after, skipped, proper_source p.new new_after p.proper, there, more.are_cuts);
+      alike = subst (λ (z : List ℕ). Alike z new) (sym old_is) (subst (λ (z : List ℕ). Alike
+          (front ++ (source_text w.token ++ after)) z) (sym text)
+          (alike_more front (source_text w.token ++ after) (s ++ new_after) p.alike));
+    }
+
+made : (style : Style) (at start : ℕ) (old : List ℕ) (cuts : List CutSource) (edits : List (Option (List ℕ)))
+    (new r : List ℕ) → SourcesUpTo at old cuts r → AllByRecursion IsSound cuts → IsEdited at old cuts edits new
+    → AreInStyle style cuts edits → Made start old new cuts edits r
+made style at start old [] [] new r cut sound edited styled = record {
+  tokens = [];
+  are_tokens = tt;
+  are_cuts = subst (λ (z : List ℕ). Skipped z r) (sym edited) cut;
+  alike = inl (sym edited);
+}
+made style at start old [] (e ∷ es) new r cut sound edited styled = absurd edited
+made style at start old (w ∷ ws) [] new r cut sound edited styled = absurd edited
+made style at start old (w ∷ ws) (e ∷ es) new r (after, skipped, is, place, more) (first, sound)
+    (gap, tail, new_after, old_is, at_is, new_is, edited) (one, styled) =
+    let s : List ℕ = source_text w.token in
+    let (front, text_is, to) = skips_to old (s ++ after) (token_full w.token after first) skipped in
+    let here : w.at ≡ at + byte_len front = place_of at w.at old front (s ++ after) text_is place in
+    let same = same_place gap front (s ++ tail) (s ++ after) (sym old_is ∙ text_is) (omega (arith, here, at_is)) in
+    let tail_is : tail ≡ after = same_tail s tail after same.1 in
+    let rest : IsEdited (source_end w) after ws es new_after = subst
+    (λ (z : List ℕ). IsEdited (source_end w) z ws es new_after) tail_is edited in
+    let written : List ℕ = edited_text e w.token in
+    let m : Made (start + byte_len front + byte_len written) after new_after ws es r = made style (source_end w)
+    (start + byte_len front + byte_len written) after ws es new_after r more sound rest styled in
+    let p : Put e w.token after new_after = put style e w.token after new_after first is one m.alike in
+    let new_text : new ≡ front ++ (written ++ new_after) = new_is ∙ ap (λ z. z ++ (written ++ new_after)) same.0 in
+    one_more e es start w ws front old new after new_after r text_is new_text p
+    (to (source_text p.new ++ new_after) (token_piece p.new new_after p.proper))
+    (subst (λ (z : List ℕ). Made (start + byte_len front + byte_len z) after new_after ws es r) (sym p.text_is) m)
+
+pub keeps_the_edited_cut : KeepsTheEditedCut
+keeps_the_edited_cut style at old cuts edits new r cut sound edited styled =
+    let m : Made at old new cuts edits r = made style at at old cuts edits new r cut sound edited styled in
+    record { tokens = m.tokens; are_tokens = m.are_tokens; are_cuts = m.are_cuts }
+
+-- ---- a whole source
+
+source_more : (style : Style) (old : List ℕ) (w : CutSource) (ws : List CutSource) (e : Option (List ℕ))
+    (es : List (Option (List ℕ))) (new r : List ℕ) → (cut : IsCutUpTo old (w ∷ ws) r)
+    → Preamble old cut.body cut.at → AllByRecursion IsSound (w ∷ ws) → IsEdited 0 old (w ∷ ws) (e ∷ es) new
+    → AreInStyle style (w ∷ ws) (e ∷ es) → SourcesUpTo cut.at cut.body (w ∷ ws) r
+    → IsEditedSource new (w ∷ ws) (e ∷ es) r
+source_more style old w ws e es new r cut p (first, sound) (gap, tail, new_after, old_is, at_is, new_is, edited) styled
+    (after, skipped, is, place, more) =
+    let s : List ℕ = source_text w.token in
+    let (front, body_is, to) = skips_to cut.body (s ++ after) (token_full w.token after first) skipped in
+    let here : w.at ≡ cut.at + byte_len front = place_of cut.at w.at cut.body front (s ++ after) body_is place in
+    let whole : old ≡ (p.mark ++ front) ++ (s ++ after) = p.text_is ∙ ap (λ z. p.mark ++ z) body_is
+    ∙ sym (append_assoc p.mark front (s ++ after)) in
+    let same = same_place gap (p.mark ++ front) (s ++ tail) (s ++ after) (sym old_is ∙ whole) (omega (
+      arith,
+      here,
+      at_is,
+      p.at_is,
+      byte_len-append p.mark front,
+    )) in
+    let tail_is : tail ≡ after = same_tail s tail after same.1 in
+    let end : List ℕ = edited_text e w.token ++ new_after in
+    let body : List ℕ = front ++ end in
+    let rest : IsEdited (source_end w) after ws es new_after = subst
+    (λ (z : List ℕ). IsEdited (source_end w) z ws es new_after) tail_is edited in
+    let m : Made cut.at cut.body body (w ∷ ws) (e ∷ es) r = made style cut.at cut.at cut.body (w ∷ ws) (e ∷ es) body r
+    (after, skipped, is, place, more) (first, sound) (front, after, new_after, body_is, here, refl, rest) styled in
+    let text : new ≡ p.mark ++ body = new_is ∙ ap (λ z. z ++ end) same.0 ∙ append_assoc p.mark front end in
+    record {
+      tokens = m.tokens;
+      are_tokens = m.are_tokens;
+      are_cuts = record {
+        at = cut.at;
+        body = body;
+        front = subst (λ (z : List ℕ). IsWithoutPreamble z body) (sym text) (p.goes body m.alike);
+        place = omega (arith, p.at_is, ap byte_len text, byte_len-append p.mark body);
+        are_cuts = m.are_cuts;
+      };
+    }
+
+pub keeps_the_edited_source : KeepsTheEditedSource
+keeps_the_edited_source style old [] [] new r code cut sound edited styled = record {
+  tokens = [];
+  are_tokens = tt;
+  are_cuts = subst (λ (z : List ℕ). IsCutUpTo z [] r) (sym edited) cut;
+}
+keeps_the_edited_source style old [] (e ∷ es) new r code cut sound edited styled = absurd edited
+keeps_the_edited_source style old (w ∷ ws) [] new r code cut sound edited styled = absurd edited
+keeps_the_edited_source style old (w ∷ ws) (e ∷ es) new r code cut sound edited styled =
+    source_more style old w ws e es new r cut (preamble old (w ∷ ws) r code cut) sound edited styled cut.are_cuts
