@@ -5,14 +5,14 @@ use Rattle.rl_lexer.specs.Sources.{BeginsNoSource, TakesSource}
 use Rattle.rl_lexer.specs.declared.sources.SourceToken.{SourceToken}
 use Rattle.rl_style.specs.declared.restylable.Dots.{Dots}
 use Rattle.rl_style.specs.declared.restylable.Restylable.{Restylable}
-use Rattle.rl_style.specs.Restylable.{GivesLiteral, GivesNone, Here, Behind, Passes, Stops, IsLiteralToken, RestylableState, dots_after, is_field, passed}
+use Rattle.rl_style.specs.Restylable.{GivesLiteral, GivesNone, Here, Behind, Passes, Stops, IsLiteralOfSource, RestylableState, dots_after, is_field, passed}
 
 abbrev pub state : CursorState → Dots → ℕ → RestylableState
 state tokens dots end = record { tokens = tokens; dots = dots; end = end }
 
 -- a literal comes next, where the tokens so far were passed
 pub literal_here : (was start s : RestylableState) (l : Restylable) (tokens : CursorState) (dots : Dots) → start ≡ was
-    → dots ≡ dots_after s.dots s.end l.token → TakesSource s.tokens l.token tokens → IsLiteralToken l.token
+    → dots ≡ dots_after s.dots s.end l.token → TakesSource s.tokens l.token tokens → IsLiteralOfSource l.token
     → l.is_field ≡ is_field s.dots l.token
     → ((it : Restylable) (new : RestylableState) → GivesLiteral s it new → GivesLiteral start it new)
     → GivesLiteral was l (state tokens dots l.token.hi)
@@ -31,13 +31,13 @@ none_here was start s tokens same none stays on =
 
 -- a token that is none comes first
 pub literal_behind : (s : RestylableState) (token : SourceToken) (tokens : CursorState) (dots : Dots)
-    → dots ≡ dots_after s.dots s.end token → TakesSource s.tokens token tokens → (IsLiteralToken token → ⊥)
+    → dots ≡ dots_after s.dots s.end token → TakesSource s.tokens token tokens → (IsLiteralOfSource token → ⊥)
     → (it : Restylable) (new : RestylableState) → GivesLiteral (state tokens dots token.hi) it new → GivesLiteral s it new
 literal_behind s token tokens dots e takes no_literal it new g =
     Behind takes no_literal (subst (λ (d : Dots). GivesLiteral (state tokens d token.hi) it new) e g)
 
 pub none_behind : (s : RestylableState) (token : SourceToken) (tokens : CursorState) (dots : Dots)
-    → dots ≡ dots_after s.dots s.end token → TakesSource s.tokens token tokens → (IsLiteralToken token → ⊥)
+    → dots ≡ dots_after s.dots s.end token → TakesSource s.tokens token tokens → (IsLiteralOfSource token → ⊥)
     → (new : RestylableState) → GivesNone (state tokens dots token.hi) new → GivesNone s new
 none_behind s token tokens dots e takes no_literal new g =
     Passes takes no_literal (subst (λ (d : Dots). GivesNone (state tokens d token.hi) new) e g)

@@ -49,19 +49,19 @@ abbrev pub passed : RestylableState → SourceToken → CursorState → Restylab
 passed s token tokens = record { tokens = tokens; dots = dots_after s.dots s.end token; end = token.hi }
 
 -- the token is a literal
-abbrev pub IsLiteralToken : SourceToken → Type 0
-IsLiteralToken token = IsLiteralText (source_view token.form) (chars token.text.now)
+abbrev pub IsLiteralOfSource : SourceToken → Type 0
+IsLiteralOfSource token = IsLiteralText (source_view token.form) (chars token.text.now)
 
 -- The next literal, after tokens that are none.
 pub data GivesLiteral : RestylableState → Restylable → RestylableState → Type 0 where
   Here : {s : RestylableState} → {l : Restylable} → {tokens : CursorState} → TakesSource s.tokens l.token tokens
-      → IsLiteralToken l.token → l.is_field ≡ is_field s.dots l.token → GivesLiteral s l (passed s l.token tokens)
+      → IsLiteralOfSource l.token → l.is_field ≡ is_field s.dots l.token → GivesLiteral s l (passed s l.token tokens)
   Behind : {s end : RestylableState} → {l : Restylable} → {token : SourceToken} → {tokens : CursorState}
-      → TakesSource s.tokens token tokens → (IsLiteralToken token → ⊥) → GivesLiteral (passed s token tokens) l end
+      → TakesSource s.tokens token tokens → (IsLiteralOfSource token → ⊥) → GivesLiteral (passed s token tokens) l end
       → GivesLiteral s l end
 
 -- No literal is left before the end or the first error.
 pub data GivesNone : RestylableState → RestylableState → Type 0 where
   Stops : {s : RestylableState} → BeginsNoSource (chars s.tokens.rest) → GivesNone s s
   Passes : {s end : RestylableState} → {token : SourceToken} → {tokens : CursorState} → TakesSource s.tokens token tokens
-      → (IsLiteralToken token → ⊥) → GivesNone (passed s token tokens) end → GivesNone s end
+      → (IsLiteralOfSource token → ⊥) → GivesNone (passed s token tokens) end → GivesNone s end

@@ -9,7 +9,7 @@ ghost use Rattle.rl_style.specs.declared.restylable.Dots.TheVariants as dots;
 use rl_lexer::{Form, LexError, SourceForm, SourceToken, Sources};
 use std::marker::Model;
 
-/// How many dots end the tokens so far, one right behind the other.
+/// How many dots end the tokens so far, one right after the other.
 #[derive(Clone, Copy)]
 pub(crate) enum Dots {
     No,

@@ -66,14 +66,14 @@ begins_name [] = false
 begins_name (b ∷ bytes) = not (is_ascii_digit b)
 
 -- a quote, a hash or a character past ASCII comes first
-abbrev pub goes_on : List ℕ → Bool
-goes_on [] = false
-goes_on (b ∷ back) = (b == 34) || (b == 39) || (b == 35) || nat_le 128 b
+abbrev pub may_go_on : List ℕ → Bool
+may_go_on [] = false
+may_go_on (b ∷ back) = (b == 34) || (b == 39) || (b == 35) || nat_le 128 b
 
 -- a word ends here that is no number and no part of a literal, a lifetime or a raw identifier
 abbrev pub is_after_word : List ℕ → Bool
 is_after_word bytes =
-    begins_name (drop (length (without Word bytes)) bytes) && not (goes_on (reverse (without Word bytes)))
+    begins_name (drop (length (without Word bytes)) bytes) && not (may_go_on (reverse (without Word bytes)))
 
 -- hashes end here, and in front of them no quote, whose raw string they would close
 abbrev pub is_after_hashes : List ℕ → List ℕ → Bool

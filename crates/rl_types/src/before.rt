@@ -7,9 +7,13 @@ ghost use Rattle.rl_types.specs.Before.{has_part, holds_comment, is_after_hashes
 /// An edition of Rust.
 #[derive(Clone, Copy, PartialEq, Eq, Debug)]
 pub enum Edition {
+    /// 2015.
     E2015,
+    /// 2018.
     E2018,
+    /// 2021.
     E2021,
+    /// 2024.
     E2024,
 }
 

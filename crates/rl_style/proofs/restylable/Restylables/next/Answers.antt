@@ -1,5 +1,5 @@
 use Rattle.rl_text.proofs.Common.{both_ways}
-use Rattle.rl_style.specs.Restylable.{IsLiteralToken}
+use Rattle.rl_style.specs.Restylable.{IsLiteralOfSource}
 use Rattle.rl_style.proofs.RestylableLemmas.{literal_behind, literal_here, none_behind, none_here, state}
 use Rattle.rl_style.proofs.restylable.Restylables.next.Goals as goal
 
@@ -14,7 +14,7 @@ returns-then-is_literal-clause-found c =
 pub loop-token-preserved : goal.loop-token-preserved
 loop-token-preserved c =
     let now = c.loop-token.self-inside in
-    let no_literal : IsLiteralToken c.in-Some.token → ⊥ = λ is. both_ways _ c.if-is_literal.false (c.is_literal.ensures.1 is) in
+    let no_literal : IsLiteralOfSource c.in-Some.token → ⊥ = λ is. both_ways _ c.if-is_literal.false (c.is_literal.ensures.1 is) in
     record {
       literal = λ it new g. c.loop-token.invariant.literal it new (literal_behind (state now.tokens now.dots now.end)
           c.in-Some.token c.next.new.self c.dots_after-self-inside.result c.dots_after-self-inside.ensures
