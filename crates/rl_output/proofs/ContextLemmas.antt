@@ -10,7 +10,7 @@ use Rattle.std.proofs.Math.Seq.{drop-append_seam}
 use Rattle.std.proofs.lemmas.Str.{IsCharBoundary-at_seam}
 use Rattle.std.specs.Str.{IsCharBoundary}
 use Rattle.std.specs.Prelude.{encode_utf8}
-use Rattle.rl_output.specs.Spots.{IsSpotAt, first_spot, next_spot, spot_after}
+use Rattle.rl_output.specs.Spots.{StandsAt, first_spot, next_spot, spot_after}
 use Rattle.rl_output.specs.declared.spot.Spot.{Spot}
 use Rattle.rl_output.specs.Contexts.{IsBeforeInLine, has_end, carets, ends_line, first_line, line_char, line_text, marks_below}
 use Rattle.rl_output.proofs.Pieces.{back_utf8, four_parts, five_parts}
@@ -188,7 +188,7 @@ pub record LineCut (text rest front : List ℕ) (at : ℕ) : Type 0 where
   pub line : (before : List ℕ) → before ≡ drop at front → IsBeforeInLine (chars text) (chars rest) (chars before)
   pub within : at ≤ length front
 
-pub line_cut : (text rest front : List ℕ) (spot : Spot) → IsUtf8 front → IsSpotAt (chars text) (chars rest) spot
+pub line_cut : (text rest front : List ℕ) (spot : Spot) → IsUtf8 front → StandsAt (chars text) (chars rest) spot
     → chars text ≡ chars front ++ chars rest → LineCut text rest front (length front + 1 - spot.byte_column)
 line_cut text rest front spot utf8 stands cut =
     let same : stands.front ≡ chars front = append_cancel_right stands.front (chars front) (chars rest)

@@ -29,7 +29,7 @@ first_spot = record { line = 1; column = 1; byte_column = 1 }
 
 -- The rest of a text begins at this place: the one after what stands before it. A byte order mark at the text's front has no
 -- column, and no byte.
-pub record IsSpotAt (text rest : List ℕ) (spot : Spot) : Type 0 where
+pub record StandsAt (text rest : List ℕ) (spot : Spot) : Type 0 where
   pub front : List ℕ
   pub text_is : text ≡ front ++ rest
   pub spot_is : spot ≡ spot_after first_spot (without_mark front)
@@ -45,14 +45,14 @@ pub record IsExtentOf (text : List ℕ) (lo hi : ℕ) (extent : Extent) : Type 0
   pub hi_is : extent.hi ≡ hi
   pub rest : List ℕ
   pub begins : lo + byte_len rest ≡ byte_len text
-  pub start : IsSpotAt text rest extent.start
+  pub start : StandsAt text rest extent.start
   pub end : extent.end ≡ spot_after extent.start (covered (hi - lo) rest)
 
 -- A cursor that stands where a rest begins, at its place. No line and no column is larger than there are bytes before it, and
 -- one.
 pub record IsSpotOf (text rest : List ℕ) (spot : Spot) : Type 0 where
   pub cursor : IsCursorState text rest
-  pub place : IsSpotAt (chars text) (chars rest) spot
+  pub place : StandsAt (chars text) (chars rest) spot
   pub line_fits : spot.line + length rest ≤ length text + 1
   pub column_fits : spot.column + length rest ≤ length text + 1
   pub bytes_fit : spot.byte_column + length rest ≤ length text + 1

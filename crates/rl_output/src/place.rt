@@ -2,7 +2,7 @@
 
 ghost use Rattle.std.specs.Prelude.{◌≡◌, ◌++◌, Some, codes, OnOk, string_bytes};
 ghost use Rattle.std.specs.Str.{chars};
-ghost use Rattle.rl_output.specs.Fronts.{annotation_front, annotation_place, level_front, worded_front, place_text};
+ghost use Rattle.rl_output.specs.Fronts.{annotation_front, annotation_place, front_of, worded_front, place_text};
 ghost use Rattle.rl_output.specs.Members.{extent_members, object_front};
 ghost use Rattle.rl_output.specs.declared.form.Form.TheVariants.{Colored};
 
@@ -169,7 +169,7 @@ pub fn push_front<A: Allocator>(
     place: &Place,
 ) -> Result<(), AllocError>
     ensures { OnOk result (chars (string_bytes out.new)
-        ≡ chars (string_bytes out.old) ++ level_front level form path.entry place.now) }
+        ≡ chars (string_bytes out.old) ++ front_of level form path.entry place.now) }
 {
     match form {
         Form::Json => push_json_front(out, path, place),

@@ -3,7 +3,7 @@
 
 use crate::rl_lexer::{Form, LexError, SourceForm, SourceToken, Sources};
 
-/// How many dots end the tokens so far, one right behind the other.
+/// How many dots end the tokens so far, one right after the other.
 #[derive(Clone, Copy)]
 pub(crate) enum Dots {
     No,

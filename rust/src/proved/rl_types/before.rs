@@ -4,9 +4,13 @@
 /// An edition of Rust.
 #[derive(Clone, Copy, PartialEq, Eq, Debug)]
 pub enum Edition {
+    /// 2015.
     E2015,
+    /// 2018.
     E2018,
+    /// 2021.
     E2021,
+    /// 2024.
     E2024,
 }
 
