@@ -1,5 +1,5 @@
 -- Lines and columns of places in a text.
-use Rattle.rl_text.proofs.Common.{◌≡◌, ℕ, zero, suc, ◌+◌, ◌-◌, ◌<◌, ◌≤◌, ◌==◌, Bool, true, false, cond, drop, List, [], ◌∷◌, ◌++◌, length, refl, sym, ap, ◌∙◌, arith, append-nil, append_assoc, append_cancel_right, encode_utf8, length-append, eqb, eqb-true, eq-eqb, chars, if◌then◌else◌, IsUtf8, nat_tests}
+use Rattle.rl_text.proofs.Common.{◌≡◌, ℕ, ◌+◌, ◌-◌, ◌<◌, ◌≤◌, ◌==◌, Bool, true, false, cond, drop, List, [], ◌∷◌, ◌++◌, length, refl, sym, ap, ◌∙◌, arith, append-nil, append_assoc, append_cancel_right, encode_utf8, length-append, eqb, eqb-true, eq-eqb, chars, if◌then◌else◌, IsUtf8, nat_tests}
 use Rattle.std.proofs.lemmas.Bool.{false≢true}
 use Rattle.std.proofs.lemmas.Str.{length-le-encodes}
 use Rattle.rl_text.specs.Texts.{IsTail, byte_len}
@@ -94,7 +94,8 @@ later_tail text a b p q le =
 
 -- ---- the characters that bytes belong to
 
--- Of the characters that the text's first bytes belong to these were passed, and those are left that so many bytes of the rest
+-- Of the characters that the text's first bytes belong to these were passed, and those are left that so many bytes of
+-- the rest
 -- belong to.
 pub record Passed (bytes : ℕ) (text : List ℕ) (left : ℕ) (rest : List ℕ) : Type 0 where
   pub done : List ℕ

@@ -32,7 +32,7 @@ use Rattle.rl_sources.specs.Options.{Picks}
 use Rattle.rl_lexer.specs.declared.lines.LineColumn.{LineColumn}
 use Rattle.rl_sources.specs.Places.{IsContextIn, IsPlaceIn, WithContext}
 use Rattle.rl_output.proofs.Pieces.{ascii_pushed, back_utf8}
-use Rattle.rl_output.specs.Fronts.{front_of}
+use Rattle.rl_output.specs.Fronts.{leveled_front}
 use Rattle.rl_output.specs.declared.github.Level.TheVariants.{Notice}
 use Rattle.rl_sources.specs.Held.{Holds, IsHeldAt}
 use Rattle.rl_sources.specs.Scans.{IsPicked, IsPlacedLine, AreReasonLines, IsHeldLine, IsLineAt, IsLineEnd, IsLineIn, IsOwnLine, IsPickedLine, IsPrintedAs, IsShownLiteral}
@@ -108,10 +108,10 @@ bare_printed text value old new is bare e =
 
 -- what stands before it, and the line
 pub line_at : (options : Options) (text : List ℕ) (place : Place) (old mid new : List ℕ)
-    → mid ≡ old ++ front_of Notice options.form options.path place
+    → mid ≡ old ++ leveled_front Notice options.form options.path place
     → Appends (IsLineEnd options.form options.spelling text) mid new → Appends (IsLineAt options text place) old new
 line_at options text place old mid new begun (shown, is, e) =
-    let front = front_of Notice options.form options.path place in
+    let front = leveled_front Notice options.form options.path place in
     (front ++ shown, (shown, is, refl), e ∙ ap (λ z. z ++ shown) begun ∙ append_assoc old front shown)
 
 -- the line, after its place
@@ -144,7 +144,8 @@ unexplained options whole text found lo hi old new read passes (shown, is, e) =
 
 -- where lines say what is wrong, a literal without anything passes
 pub passes_unasked : (options : Options) (text : List ℕ) (found : Option Found) (bad : Option Wrong)
-    → IfNone bad (LooksForFlaws options → IsRight options.any_suffix text found) → (IsTrue options.explains → bad ≡ None)
+    → IfNone bad (LooksForFlaws options → IsRight options.any_suffix text found)
+    → (IsTrue options.explains → bad ≡ None)
     → IsTrue options.explains → IsRight options.any_suffix text found
 passes_unasked options text found (Some f) none asked is = absurd (none-some f (sym (asked is)))
 passes_unasked options text found None none asked is = none (inl is)
@@ -172,7 +173,8 @@ not_bad any text found (wrong.Type error) right is = elim right.1 [
 ]
 
 -- what was looked for says whether a literal is picked
-pub picks_found : (options : Options) (text : List ℕ) (found : Option Found) (label : List ℕ) (bad : Option Wrong) (r b : Bool)
+pub picks_found : (options : Options) (text : List ℕ) (found : Option Found) (label : List ℕ) (bad : Option Wrong)
+    (r b : Bool)
     → r ≡ is_some bad → IfSome bad (IsWrong options.any_suffix text found)
     → IfNone bad (LooksForFlaws options → IsRight options.any_suffix text found)
     → IsTrue b ↔ Picks options.shown label (IsTrue r) → IsTrue b ↔ IsPicked options text found label
@@ -229,7 +231,8 @@ picked_line options whole text found label lo hi old new is_label read picked (s
     (shown, (label, text, found, is_label, refl, read, inl (picked, is)), e)
 
 -- nothing of a text that isn't picked
-pub not_picked : (options : Options) (whole text : List ℕ) (found : Option Found) (label : List ℕ) (lo hi : ℕ) (old : List ℕ)
+pub not_picked : (options : Options) (whole text : List ℕ) (found : Option Found) (label : List ℕ) (lo hi : ℕ)
+    (old : List ℕ)
     → IsLabelOf (chars text) label → IsFoundIn text found → (IsPicked options text found label → ⊥)
     → Appends (IsShownLiteral options whole (chars text) lo hi) old old
 not_picked options whole text found label lo hi old is_label read none =
@@ -250,8 +253,7 @@ pub annotated : (spelling : Spelling) (text old printed new line : List ℕ)
 annotated spelling text old printed new line (words, is, e) up_to written =
     let said : chars printed ≡ words = e ∙ ap (λ (z : List ℕ). z ++ words) chars-nil in
     let nothing : message_text line (chars []) ≡ line = ap (message_text line) chars-nil in
-    let shown : List ℕ = annotation_end (codes "literal") (first_line words) in
-    (
+    let shown : List ℕ = annotation_end (codes "literal") (first_line words) in (
       shown,
       (words, is, refl),
       written ∙ ap (λ (z : List ℕ). old ++ annotation_end (codes "literal") z) (nothing ∙ up_to ∙ ap first_line said),

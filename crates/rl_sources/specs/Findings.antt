@@ -44,7 +44,8 @@ pub record IsFoundIn (text : List ℕ) (found : Option Found) : Type 0 where
   pub none : IfNone found (HasNoReading (chars text))
   pub some : IfSome found (IsFound text)
 
--- Rust has no type for what was found, or has one; a minus may stand before it. A text without a reading is a float by its suffix.
+-- Rust has no type for what was found, or has one; a minus may stand before it. A text without a reading is a float by
+-- its suffix.
 abbrev pub HasFoundError : List ℕ → Option Found → TypeError → Type 0
 HasFoundError text None error = ⊥
 HasFoundError text (Some found) error =
@@ -80,7 +81,8 @@ IsPieceOf text finding piece =
     × (encode_utf8_all piece ≡ take (finding.to - finding.from) (drop finding.from (encode_utf8_all text))))
     ⊎ ((IsSlice (encode_utf8_all text) finding.from finding.to → ⊥) × (piece ≡ []))
 
--- the piece of a flaw, by its places in the text as rustc reads it: a bad escape or character; of any other flaw the whole literal
+-- the piece of a flaw, by its places in the text as rustc reads it: a bad escape or character; of any other flaw the
+-- whole literal
 abbrev pub IsShownPiece : Bool → List ℕ → BadPiece → Finding → Type 0
 IsShownPiece true text read finding =
     IsPlaceInFile text read.flaw.from finding.from × IsPlaceInFile text read.end finding.to

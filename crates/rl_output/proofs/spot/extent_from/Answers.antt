@@ -1,4 +1,4 @@
-use Rattle.rl_text.proofs.Common.{ap, arith, chars, refl, sym, ◌∙◌, ◌-◌, ℕ}
+use Rattle.rl_text.proofs.Common.{ap, arith, chars, refl, ◌∙◌, ℕ}
 use Rattle.rl_lexer.proofs.ErrorKinds.{char_len}
 use Rattle.rl_output.specs.Spots.{covered, spot_after}
 use Rattle.rl_output.proofs.spot.extent_from.Goals as goal
