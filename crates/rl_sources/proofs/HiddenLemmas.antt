@@ -1,18 +1,16 @@
 -- The lines of what turns or hides text.
-use Rattle.rl_text.proofs.Common.{Bool, IsUtf8, List, [], ap, append-nil, append_assoc, arith, chars, chars-nil, codes, encode_utf8, encode_utf8_all, false, inl, inr, length, length-append, nat_tests, not, refl, subst, sym, true, ℕ, ◌&&◌, ◌++◌, ◌+◌, ◌∙◌, ◌∷◌, ◌≡◌, ◌≤◌}
+use Rattle.rl_text.proofs.Common.{Bool, List, [], ap, append-nil, append_assoc, arith, chars, chars-nil, encode_utf8, encode_utf8_all, false, inl, inr, length, length-append, nat_tests, not, refl, subst, sym, true, ℕ, ◌&&◌, ◌++◌, ◌+◌, ◌∙◌, ◌∷◌, ◌≡◌, ◌≤◌}
 use Rattle.rl_text.specs.Texts.{byte_len}
 use Rattle.rl_lexer.specs.Cursors.{IsCursorState}
 use Rattle.rl_lexer.proofs.ErrorKinds.{char_len}
 use Rattle.rl_lines.specs.Lines.{Appends}
-use Rattle.rl_lines.proofs.LineLemmas.{pushed}
 use Rattle.rl_sources.specs.declared.options.Options.{Options}
 use Rattle.rl_output.specs.declared.place.Place.{Place}
-use Rattle.rl_sources.specs.Hidden.{AreHiddenLines, IsHiddenLine, IsShownCharacter, character_words, hidden_end, hides, is_layout}
+use Rattle.rl_sources.specs.Hidden.{AreHiddenLines, IsHiddenLine, IsShownCharacter, hidden_end, hides, is_layout}
 use Rattle.rl_files.specs.Visible.{needs_escape}
 use Rattle.rl_sources.specs.Places.{IsContextIn, IsPlaceIn}
 use Rattle.rl_output.specs.Fronts.{line_front}
 use Rattle.rl_output.proofs.Pieces.{three_pieces}
-use Rattle.rl_output.specs.Members.{string_member}
 
 -- ASCII that prints hides nothing
 plain_shown : (c : ℕ) → 32 ≤ c → c ≤ 126 → needs_escape c ≡ false

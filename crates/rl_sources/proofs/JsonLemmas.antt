@@ -1,5 +1,5 @@
 -- Objects of JSON, piece by piece.
-use Rattle.rl_text.proofs.Common.{◌≡◌, ◌⊎◌, ℕ, List, [], ◌∷◌, ◌++◌, refl, sym, ap, subst, ◌∙◌, inl, inr, Bool, cond, false, true, lit<, append_assoc, append-nil, IsAscii, IsUtf8, chars, chars-IsAscii, chars_from_encodes, codes, encode_utf8, list_all, is_ascii}
+use Rattle.rl_text.proofs.Common.{◌≡◌, ◌⊎◌, ℕ, List, [], ◌∷◌, ◌++◌, refl, sym, ap, subst, ◌∙◌, inl, inr, lit<, append_assoc, append-nil, IsAscii, IsUtf8, chars, chars_from_encodes, codes, encode_utf8}
 use Rattle.std.specs.Fmt.{decimal}
 use Rattle.std.proofs.lemmas.Grind.{flat_map-append}
 use Rattle.std.proofs.lemmas.Str.{IsAscii-append}
@@ -16,7 +16,6 @@ use Rattle.rl_forms.proofs.OneReading.{one_reading}
 use Rattle.rl_reading.specs.NumberShapes.{AreDigits}
 use Rattle.rl_lines.proofs.PrintLemmas.{truth_chars}
 use Rattle.rl_lines.specs.Lines.{Appends, kind_label}
-use Rattle.rl_lines.proofs.LineLemmas.{pushed}
 use Rattle.rl_sources.specs.Held.{AreContentsOf}
 use Rattle.rl_sources.specs.Json.{more_numbers, number_array, json_value, literal_members, IsJsonLiteral, IsJsonValueOf}
 use Rattle.rl_output.specs.Members.{string_member}

@@ -4,7 +4,7 @@ use Rattle.rl_text.proofs.Common.{IsAscii, IsCharBoundary, IsUtf8, List, [], ap,
 use Rattle.std.specs.Prelude.{encode_utf8_all}
 use Rattle.std.proofs.Math.Seq.{drop-append_seam}
 use Rattle.std.proofs.lemmas.Str.{IsCharBoundary-from_drop, IsAscii-append}
-use Rattle.rl_lexer.specs.Cursors.{CursorState, IsCursorState}
+use Rattle.rl_lexer.specs.Cursors.{IsCursorState}
 use Rattle.rl_lexer.specs.declared.sources.SourceToken.{SourceToken}
 use Rattle.rl_text.proofs.TailLemmas.{tail_step}
 use Rattle.rl_lexer.proofs.CutLemmas.{byte_len-append}

@@ -1,10 +1,8 @@
 -- What is appended for one token.
 use Rattle.rl_reading.proofs.Names.{HasNoReading, HasReading, Kind}
-use Rattle.rl_text.proofs.Common.{Bool, IsAscii, IsUtf8, List, None, Option, Some, [], ap, append_assoc, arith, chars, chars-IsAscii, chars-nil, cond, false, inl, inr, lit<, nat_tests, refl, subst, suc, sym, true, zero, ℕ, ◌%◌, ◌++◌, ◌/◌, ◌<◌, ◌==◌, ◌&&◌, ◌∙◌, ◌∷◌, ◌≡◌, ◌⊎◌, IsCharBoundary, and_parts, codes, is_ascii, list_all, ltb-true, length, take, drop, ◌+◌, chars-append, chars_from_encodes, encodes-append, encodes-chars, length-append, take-append_seam}
-use Rattle.std.specs.Fmt.{digits, decimal, digits_onto, digit_glyph}
+use Rattle.rl_text.proofs.Common.{Bool, IsUtf8, List, None, Option, Some, [], ap, append_assoc, arith, chars, chars-nil, inl, inr, nat_tests, refl, subst, sym, true, ℕ, ◌++◌, ◌&&◌, ◌∙◌, ◌∷◌, ◌≡◌, ◌⊎◌, IsCharBoundary, and_parts, codes, list_all, length, take, drop, ◌+◌, chars_from_encodes, encodes-append, encodes-chars, length-append, take-append_seam}
 use Rattle.std.proofs.lemmas.List.{append-nil}
-use Rattle.std.proofs.lemmas.Str.{IsAscii-append, IsUtf8-past_char, IsCharBoundary-from_drop}
-use Rattle.std.proofs.lemmas.Str.Ascii.{IsAscii-nil, IsAscii-cons}
+use Rattle.std.proofs.lemmas.Str.{IsCharBoundary-from_drop}
 use Rattle.std.specs.Prelude.{◌↔◌, IfNone, IfSome, MatchOption, IsTrue, is_some, encode_utf8_all}
 use Rattle.std.proofs.lemmas.Bool.{false≢true}
 use Rattle.std.proofs.lemmas.Option.{none-some}
@@ -17,7 +15,6 @@ use Rattle.rl_reading.specs.declared.found.Found.{Found}
 use Rattle.rl_reading.specs.Founds.{IsFound, suffix_in}
 use Rattle.rl_lines.specs.Bare.{IsBareString, is_bare, bare_line}
 use Rattle.rl_lines.specs.Lines.{label_of, IsLabelOf, IsLineOf, Appends}
-use Rattle.rl_lines.proofs.LineLemmas.{pushed}
 use Rattle.rl_reasons.specs.declared.flaws.Flaw.{Flaw}
 use Rattle.rl_sources.specs.declared.options.Options.{Options}
 use Rattle.rl_sources.specs.declared.options.Spelling.{Spelling}
@@ -29,9 +26,8 @@ use Rattle.rl_sources.specs.declared.options.Shown.{Shown}
 use Rattle.rl_sources.specs.declared.options.Shown.TheVariants.{All, Only, Bad, Hidden}
 use Rattle.rl_output.specs.declared.place.Place.{Place}
 use Rattle.rl_sources.specs.Options.{Picks}
-use Rattle.rl_lexer.specs.declared.lines.LineColumn.{LineColumn}
 use Rattle.rl_sources.specs.Places.{IsContextIn, IsPlaceIn, WithContext}
-use Rattle.rl_output.proofs.Pieces.{ascii_pushed, back_utf8}
+use Rattle.rl_output.proofs.Pieces.{back_utf8}
 use Rattle.rl_output.specs.Fronts.{leveled_front}
 use Rattle.rl_output.specs.declared.github.Level.TheVariants.{Notice}
 use Rattle.rl_sources.specs.Held.{Holds, IsHeldAt}

@@ -1,5 +1,5 @@
-use Rattle.rl_text.proofs.Common.{chars, is_ascii, list_all, on_ok_weaker, subst, sym, true, ◌≡◌, List, ℕ}
-use Rattle.rl_sources.specs.Findings.{reason_id, reason_message}
+use Rattle.rl_text.proofs.Common.{chars, is_ascii, list_all, subst, sym, true, ◌≡◌, List, ℕ}
+use Rattle.rl_sources.specs.Findings.{reason_message}
 use Rattle.rl_sources.proofs.ReasonLemmas.{id_low}
 use Rattle.rl_sources.proofs.JsonLemmas.{reason_words_are}
 use Rattle.rl_sources.proofs.reason.push_finding_annotation.Goals as goal
