@@ -10,7 +10,7 @@ use Rattle.std.proofs.Math.Seq.{drop-append_seam}
 use Rattle.std.proofs.lemmas.Str.{IsCharBoundary-at_seam}
 use Rattle.std.specs.Str.{IsCharBoundary}
 use Rattle.std.specs.Prelude.{encode_utf8}
-use Rattle.rl_output.specs.Spots.{StandsAt, first_spot, next_spot, spot_after}
+use Rattle.rl_output.specs.Spots.{IsSpotAt, first_spot, next_spot, spot_after}
 use Rattle.rl_output.specs.declared.spot.Spot.{Spot}
 use Rattle.rl_output.specs.Contexts.{IsBeforeInLine, has_end, carets, ends_line, first_line, line_char, line_text, marks_below}
 use Rattle.rl_output.proofs.Pieces.{back_utf8, four_parts, five_parts}
@@ -127,7 +127,8 @@ no_end_more (x ∷ xs) c h k =
     neither (x == 10) (has_end (xs ++ c ∷ [])) parts.0 (no_end_more xs c parts.1 k)
 
 last_line : (p : Spot) (lines inside xs : List ℕ) → byte_len inside + 1 ≡ p.byte_column → has_end inside ≡ false
-    → (lines ≡ []) ⊎ ((others : List ℕ) × (lines ≡ others ++ 10 ∷ [])) → LastLine (lines ++ (inside ++ xs)) (spot_after p xs)
+    → (lines ≡ []) ⊎ ((others : List ℕ) × (lines ≡ others ++ 10 ∷ []))
+    → LastLine (lines ++ (inside ++ xs)) (spot_after p xs)
 last_line p lines inside [] long none begins = record {
   lines = lines;
   inside = inside;
@@ -165,7 +166,8 @@ last_line p lines inside (c ∷ cs) long none begins =
     go again false e =
         let longer : List ℕ = inside ++ (c ∷ []) in
         let one : byte_len (c ∷ []) ≡ length (encode_utf8 c) = ap length (append-nil (encode_utf8 c)) in
-        let long_is : byte_len longer + 1 ≡ more.byte_column = omega (arith, long, one, byte_len-append inside (c ∷ [])) in
+        let long_is : byte_len longer + 1 ≡ more.byte_column = omega (arith, long, one, byte_len-append inside (c ∷ []))
+        in
         let found : LastLine (lines ++ (longer ++ cs)) (spot_after more cs) = again more lines longer long_is
         (no_end_more inside c none e) begins in
         let same : lines ++ (longer ++ cs) ≡ lines ++ (inside ++ (c ∷ cs)) = ap (λ (z : List ℕ). lines ++ z)
@@ -188,7 +190,7 @@ pub record LineCut (text rest front : List ℕ) (at : ℕ) : Type 0 where
   pub line : (before : List ℕ) → before ≡ drop at front → IsBeforeInLine (chars text) (chars rest) (chars before)
   pub within : at ≤ length front
 
-pub line_cut : (text rest front : List ℕ) (spot : Spot) → IsUtf8 front → StandsAt (chars text) (chars rest) spot
+pub line_cut : (text rest front : List ℕ) (spot : Spot) → IsUtf8 front → IsSpotAt (chars text) (chars rest) spot
     → chars text ≡ chars front ++ chars rest → LineCut text rest front (length front + 1 - spot.byte_column)
 line_cut text rest front spot utf8 stands cut =
     let same : stands.front ≡ chars front = append_cancel_right stands.front (chars front) (chars rest)

@@ -104,7 +104,8 @@ later_tail text a b p q le =
 
 -- ---- the characters that bytes belong to
 
--- Of the characters that the text's first bytes belong to these were passed, and those are left that so many bytes of the rest
+-- Of the characters that the text's first bytes belong to these were passed, and those are left that so many bytes of
+-- the rest
 -- belong to.
 pub record Passed (bytes : ℕ) (text : List ℕ) (left : ℕ) (rest : List ℕ) : Type 0 where
   pub done : List ℕ

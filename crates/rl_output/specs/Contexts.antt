@@ -20,7 +20,8 @@ first_line (c ∷ cs) = if ends_line c cs then [] else c ∷ first_line cs
 abbrev pub has_end : List ℕ → Bool
 has_end text = list_any (λ c. c == code "\n") text
 
--- A rest of a text begins in a line of which so much stands before it: what comes after the last LF, a byte order mark at the
+-- A rest of a text begins in a line of which so much stands before it: what comes after the last LF, a byte order mark
+-- at the
 -- text's front aside.
 pub record IsBeforeInLine (text rest before : List ℕ) : Type 0 where
   pub front : List ℕ
@@ -49,8 +50,10 @@ abbrev pub carets : List ℕ → List ℕ
 carets [] = codes "^"
 carets (c ∷ cs) = marks_below (code "^") (code "^") (c ∷ cs)
 
--- What is shown of a place: the line where it begins, four columns in, and below it carets under the place, up to the end of that line.
--- `before` stands in that line before the place, `rest` begins with it, and so many bytes of that are in it. A tab before it is one in
+-- What is shown of a place: the line where it begins, four columns in, and below it carets under the place, up to the
+-- end of that line.
+-- `before` stands in that line before the place, `rest` begins with it, and so many bytes of that are in it. A tab
+-- before it is one in
 -- the line of carets too.
 abbrev pub context_lines : List ℕ → List ℕ → ℕ → List ℕ
 context_lines before rest bytes =

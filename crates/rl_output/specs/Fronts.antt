@@ -40,12 +40,12 @@ annotation_front level path place =
     codes "::" ++ (level_word level ++ (codes " " ++ (annotation_path path ++ annotation_place place)))
 
 -- what stands before a line, whose annotation is this: of an object and of an annotation all up to the place
-abbrev pub front_of : Level → Form → Option (Bor (List ℕ)) → Place → List ℕ
-front_of level Plain path place = worded_front Plain path place
-front_of level Colored path place = worded_front Colored path place
-front_of level Json path place = object_front path ++ place_text place
-front_of level Github path place = annotation_front level path place
+abbrev pub leveled_front : Level → Form → Option (Bor (List ℕ)) → Place → List ℕ
+leveled_front level Plain path place = worded_front Plain path place
+leveled_front level Colored path place = worded_front Colored path place
+leveled_front level Json path place = object_front path ++ place_text place
+leveled_front level Github path place = annotation_front level path place
 
 -- the same of what is wrong
 abbrev pub line_front : Form → Option (Bor (List ℕ)) → Place → List ℕ
-line_front form path place = front_of Error form path place
+line_front form path place = leveled_front Error form path place

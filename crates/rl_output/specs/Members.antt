@@ -11,7 +11,8 @@ abbrev pub object_front : Option (Bor (List ℕ)) → List ℕ
 object_front None = codes "{"
 object_front (Some path) = codes "{\"path\":" ++ (json_string (chars path.now) ++ codes ",")
 
--- the members of a place: its bytes, and the lines and columns where they begin and end, these in characters and in bytes
+-- the members of a place: its bytes, and the lines and columns where they begin and end, these in characters and in
+-- bytes
 abbrev pub extent_members : Extent → List ℕ
 extent_members e =
     codes "\"lo\":" ++ (decimal e.lo ++ (codes ",\"hi\":" ++ (decimal e.hi

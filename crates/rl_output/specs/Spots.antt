@@ -5,6 +5,7 @@ use Rattle.std.specs.Str.{chars}
 use Rattle.rl_text.specs.Texts.{byte_len}
 use Rattle.rl_lexer.specs.Cursors.{IsCursorState}
 use Rattle.rl_lexer.specs.Sources.{without_mark}
+use Rattle.rl_output.specs.declared.spot.Count.{Count}
 use Rattle.rl_output.specs.declared.spot.Extent.{Extent}
 use Rattle.rl_output.specs.declared.spot.Spot.{Spot}
 
@@ -27,9 +28,10 @@ spot_after p (c ∷ cs) = spot_after (next_spot p c) cs
 abbrev pub first_spot : Spot
 first_spot = record { line = 1; column = 1; byte_column = 1 }
 
--- The rest of a text begins at this place: the one after what stands before it. A byte order mark at the text's front has no
+-- The rest of a text begins at this place: the one after what stands before it. A byte order mark at the text's front
+-- has no
 -- column, and no byte.
-pub record StandsAt (text rest : List ℕ) (spot : Spot) : Type 0 where
+pub record IsSpotAt (text rest : List ℕ) (spot : Spot) : Type 0 where
   pub front : List ℕ
   pub text_is : text ≡ front ++ rest
   pub spot_is : spot ≡ spot_after first_spot (without_mark front)
@@ -39,20 +41,32 @@ abbrev pub covered : ℕ → List ℕ → List ℕ
 covered bytes [] = []
 covered bytes (c ∷ cs) = if bytes == 0 then [] else c ∷ covered (bytes - length (encode_utf8 c)) cs
 
--- The bytes of a text from `lo` to `hi`: the place where they begin, and the place after the characters that they belong to.
+-- The bytes of a text from `lo` to `hi`: the place where they begin, and the place after the characters that they
+-- belong to.
 pub record IsExtentOf (text : List ℕ) (lo hi : ℕ) (extent : Extent) : Type 0 where
   pub lo_is : extent.lo ≡ lo
   pub hi_is : extent.hi ≡ hi
   pub rest : List ℕ
   pub begins : lo + byte_len rest ≡ byte_len text
-  pub start : StandsAt text rest extent.start
+  pub start : IsSpotAt text rest extent.start
   pub end : extent.end ≡ spot_after extent.start (covered (hi - lo) rest)
 
--- A cursor that stands where a rest begins, at its place. No line and no column is larger than there are bytes before it, and
+-- A cursor that stands where a rest begins, at its place. No line and no column is larger than there are bytes before
+-- it, and
 -- one.
 pub record IsSpotOf (text rest : List ℕ) (spot : Spot) : Type 0 where
   pub cursor : IsCursorState text rest
-  pub place : StandsAt (chars text) (chars rest) spot
+  pub place : IsSpotAt (chars text) (chars rest) spot
   pub line_fits : spot.line + length rest ≤ length text + 1
   pub column_fits : spot.column + length rest ≤ length text + 1
   pub bytes_fit : spot.byte_column + length rest ≤ length text + 1
+
+-- How it is counted: with a character more, after which so many bytes are left.
+abbrev pub next_count : Count → ℕ → ℕ → Count
+next_count at c left =
+    if c == code "\n" then (record { line = at.line + 1; column = 1; base = 1; from = left })
+    else (record { line = at.line; column = at.column + 1; base = at.base; from = at.from })
+
+-- the place where so many bytes are left
+abbrev pub counted_spot : Count → ℕ → Spot
+counted_spot at left = record { line = at.line; column = at.column; byte_column = at.base + (at.from - left) }

@@ -66,10 +66,7 @@ pub fn push_painted<A: Allocator>(
 /// # Errors
 ///
 /// An allocation failure. A beginning may have been appended then.
-pub fn push_error_word<A: Allocator>(
-    out: &mut String<A>,
-    form: Form,
-) -> Result<(), AllocError>
+pub fn push_error_word<A: Allocator>(out: &mut String<A>, form: Form) -> Result<(), AllocError>
     ensures { OnOk result (chars (string_bytes out.new)
         ≡ chars (string_bytes out.old) ++ painted form Error (codes "error")) }
 {

@@ -127,10 +127,7 @@ fn push_json_body<A: Allocator>(out: &mut String<A>, text: &str) -> Result<(), A
 /// # Errors
 ///
 /// An allocation failure. A beginning may have been appended then.
-pub fn push_json_string<A: Allocator>(
-    out: &mut String<A>,
-    text: &str,
-) -> Result<(), AllocError>
+pub fn push_json_string<A: Allocator>(out: &mut String<A>, text: &str) -> Result<(), AllocError>
     ensures { OnOk result (chars (string_bytes out.new)
         ≡ chars (string_bytes out.old) ++ json_string (chars text.now)) }
 {

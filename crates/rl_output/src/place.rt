@@ -2,7 +2,7 @@
 
 ghost use Rattle.std.specs.Prelude.{◌≡◌, ◌++◌, Some, codes, OnOk, string_bytes};
 ghost use Rattle.std.specs.Str.{chars};
-ghost use Rattle.rl_output.specs.Fronts.{annotation_front, annotation_place, front_of, worded_front, place_text};
+ghost use Rattle.rl_output.specs.Fronts.{annotation_front, annotation_place, leveled_front, worded_front, place_text};
 ghost use Rattle.rl_output.specs.Members.{extent_members, object_front};
 ghost use Rattle.rl_output.specs.declared.form.Form.TheVariants.{Colored};
 
@@ -120,10 +120,7 @@ fn push_json_front<A: Allocator>(
 }
 
 /// Appends the place of an annotation: of a place in words its line and column alone.
-fn push_annotation_place<A: Allocator>(
-    out: &mut String<A>,
-    place: &Place,
-) -> Result<(), AllocError>
+fn push_annotation_place<A: Allocator>(out: &mut String<A>, place: &Place) -> Result<(), AllocError>
     ensures { OnOk result (string_bytes out.new ≡ string_bytes out.old ++ annotation_place place.now) }
 {
     match place {
@@ -169,7 +166,7 @@ pub fn push_front<A: Allocator>(
     place: &Place,
 ) -> Result<(), AllocError>
     ensures { OnOk result (chars (string_bytes out.new)
-        ≡ chars (string_bytes out.old) ++ front_of level form path.entry place.now) }
+        ≡ chars (string_bytes out.old) ++ leveled_front level form path.entry place.now) }
 {
     match form {
         Form::Json => push_json_front(out, path, place),
@@ -203,4 +200,3 @@ impl fmt::Display for Place {
         }
     }
 }
-

@@ -1,12 +1,12 @@
 //! Lines and columns of places in a text, a column in characters and in bytes.
 
-ghost use Rattle.std.specs.Prelude.{◌≡◌, ◌≤◌, ◌<◌, ◌+◌, ◌^◌, cond, drop, length, encode_utf8};
+ghost use Rattle.std.specs.Prelude.{◌≡◌, ◌≤◌, ◌<◌, ◌+◌, ◌^◌, cond, drop, length};
 ghost use Rattle.std.specs.Str.{chars, IsCharBoundary};
 ghost use Rattle.rl_lexer.specs.Cursors.{IsCursorState};
 ghost use Rattle.rl_lexer.specs.Sources.{without_mark as unmarked};
 ghost use Rattle.rl_text.specs.Texts.{IsTail};
 ghost use Rattle.rl_output.specs.Contexts.{IsBeforeInLine};
-ghost use Rattle.rl_output.specs.Spots.{bytes_before, next_spot, spot_after, covered, IsExtentOf, IsSpotOf};
+ghost use Rattle.rl_output.specs.Spots.{bytes_before, next_spot, spot_after, next_count, covered, IsExtentOf, IsSpotOf};
 
 use rl_lexer::without_mark;
 use rl_text::text::{before, split_char};
@@ -44,29 +44,40 @@ const FIRST: Spot = Spot {
     byte_column: 1,
 };
 
-/// The place after a character that stands at a place.
+/// What is counted from a place on: the line, the column in characters, and the column in bytes where so many bytes are left of what is
+/// gone over.
+#[derive(Clone, Copy)]
+struct Count {
+    line: usize,
+    column: usize,
+    base: usize,
+    from: usize,
+}
+
+/// What is counted with a character more, after which so many bytes are left.
 #[inline(always)]
-fn next_spot(spot: Spot, c: char) -> Spot
-    requires line { spot.line + 1 < 2 ^ 64 }
-    requires column { spot.column + 1 < 2 ^ 64 }
-    requires bytes { spot.byte_column + length (encode_utf8 c) < 2 ^ 64 }
-    ensures { result ≡ next_spot spot c }
+fn next_count(at: Count, c: char, left: usize) -> Count
+    requires line { at.line + 1 < 2 ^ 64 }
+    requires column { at.column + 1 < 2 ^ 64 }
+    ensures { result ≡ next_count at c left }
 {
     if c == '\n' {
-        return Spot {
-            line: spot.line + 1,
+        return Count {
+            line: at.line + 1,
             column: 1,
-            byte_column: 1,
+            base: 1,
+            from: left,
         };
     }
-    Spot {
-        line: spot.line,
-        column: spot.column + 1,
-        byte_column: spot.byte_column + c.len_utf8(),
+    Count {
+        line: at.line,
+        column: at.column + 1,
+        base: at.base,
+        from: at.from,
     }
 }
 
-/// The place after a text that begins at a place.
+/// The place after a text that begins at a place. Bytes are counted from line to line.
 fn spot_after(spot: Spot, text: &str) -> Spot
     requires line { spot.line + length text.now < 2 ^ 64 }
     requires column { spot.column + length text.now < 2 ^ 64 }
@@ -76,13 +87,22 @@ fn spot_after(spot: Spot, text: &str) -> Spot
     ensures column { result.column ≤ spot.column + length text.now }
     ensures bytes { result.byte_column ≤ spot.byte_column + length text.now }
 {
-    let mut at = spot;
+    let mut at = Count {
+        line: spot.line,
+        column: spot.column,
+        base: spot.byte_column,
+        from: text.len(),
+    };
     let mut rest = text;
     while let Some((c, after)) = split_char(rest) {
-        at = next_spot(at, c);
+        at = next_count(at, c, after.len());
         rest = after;
     }
-    at
+    Spot {
+        line: at.line,
+        column: at.column,
+        byte_column: at.base + at.from,
+    }
 }
 
 /// What has columns of a text that is passed: at the front of the whole, not a byte order mark.

@@ -30,7 +30,8 @@ use Rattle.rl_sources.specs.Scans.{AreAllFlawLines, AreFlawLines, AreReasonLines
 
 -- ---- what the cursor gives stands in the text
 
-cut_left : (text : List ℕ) (s : FlawsState) (at : ℕ) → IsFlawsOver text s → IsPlaceInLeft s at → IsCutAt (lf_text text) at
+cut_left : (text : List ℕ) (s : FlawsState) (at : ℕ) → IsFlawsOver text s → IsPlaceInLeft s at
+    → IsCutAt (lf_text text) at
 cut_left text s at over p =
     let whole : lf_text text ≡ (over.front ++ p.front) ++ p.back = over.text_is ∙ ap (λ z. over.front ++ z) p.text_is
     ∙ sym (append_assoc over.front p.front p.back) in
@@ -73,7 +74,8 @@ piece_found text bad finding lo hi from end unit why a b d e p q r s = record {
 }
 
 pub whole_found : (text : List ℕ) (bad : BadPiece) (finding : Finding) (lo hi : ℕ) → is_of_unit bad.flaw.kind ≡ false
-    → finding.reason ≡ reason.Flaw bad.flaw.kind → lo ≡ bad.flaw.lo → hi ≡ bad.flaw.hi → IsPlaceInFile text lo finding.lo
+    → finding.reason ≡ reason.Flaw bad.flaw.kind → lo ≡ bad.flaw.lo → hi ≡ bad.flaw.hi
+    → IsPlaceInFile text lo finding.lo
     → IsPlaceInFile text hi finding.hi → finding.from ≡ 0 → finding.to ≡ byte_len text → IsFlawFinding text bad finding
 whole_found text bad finding lo hi unit why a b p q from to = record {
   reason_is = why;
@@ -95,7 +97,8 @@ finding_line options whole text lo finding place piece old a new at is begun end
     (front ++ end, (place, piece, at, is, refl), ended ∙ ap (λ z. z ++ end) begun ∙ append_assoc old front end)
 
 -- what is shown so far of what the cursor gives: with the lines of what is left it is the lines of all
-pub record GoesOn (options : Options) (whole text : List ℕ) (lo : ℕ) (start now : FlawsState) (old new : List ℕ) : Type 0 where
+pub record GoesOn (options : Options) (whole text : List ℕ) (lo : ℕ) (start now : FlawsState) (old new : List ℕ) : Type
+    0 where
   pub piece : List ℕ
   pub new_is : new ≡ old ++ piece
   pub goes_on : (rest : List ℕ) → AreFlawLines options whole text lo now rest
@@ -107,7 +110,8 @@ begins_on options whole text lo start old =
     record { piece = []; new_is = sym (append-nil old); goes_on = λ rest are. are }
 
 pub goes_further : (options : Options) (whole text : List ℕ) (lo : ℕ) (start now next : FlawsState) (bad : BadPiece)
-    (finding : Finding) (old mid new : List ℕ) → GoesOn options whole text lo start now old mid → GivesFlaw now (Some bad) next
+    (finding : Finding) (old mid new : List ℕ) → GoesOn options whole text lo start now old mid
+    → GivesFlaw now (Some bad) next
     → IsFlawFinding text bad finding → Appends (IsFindingLine options whole text lo finding) mid new
     → GoesOn options whole text lo start next old new
 goes_further options whole text lo start now next bad finding old mid new g gives is (line, shows, e) = record {
@@ -146,17 +150,21 @@ explains_no_limit : (text : List ℕ) (flaw : Flaw) → ExplainsStrictly text fl
 explains_no_limit text flaw e large = not_large text e.place.stops.front e.piece e.place.rest e.place.stops.text_is
     (subst (λ k. IsStrictFlawOf k text e.piece e.place.rest) large e.kind)
 
-pub limit_lines : (options : Options) (whole text : List ℕ) (lo : ℕ) (flaw : Flaw) (finding : Finding) (old new : List ℕ)
+pub limit_lines : (options : Options) (whole text : List ℕ) (lo : ℕ) (flaw : Flaw) (finding : Finding)
+    (old new : List ℕ)
     → FindsFlaw text flaw → flaw.kind ≡ TooLarge → IsLimitFinding text flaw finding
-    → Appends (IsFindingLine options whole text lo finding) old new → Appends (IsLimitLine options whole text lo) old new
+    → Appends (IsFindingLine options whole text lo finding) old new
+    → Appends (IsLimitLine options whole text lo) old new
 limit_lines options whole text lo flaw finding old new (inl e) large is (line, shows, f) =
     absurd (explains_no_limit (lf_text text) e.read e.explains (sym e.kind ∙ large))
 limit_lines options whole text lo flaw finding old new (inr (token, limit)) large is (line, shows, f) =
     (line, (token, (flaw, finding, limit, is, shows)), f)
 
-pub flaw_lines : (options : Options) (whole text read : List ℕ) (lo : ℕ) (flaw : Flaw) (start : FlawsState) (old new : List ℕ)
+pub flaw_lines : (options : Options) (whole text read : List ℕ) (lo : ℕ) (flaw : Flaw) (start : FlawsState)
+    (old new : List ℕ)
     → FindsFlaw text flaw → (flaw.kind ≡ TooLarge → ⊥) → IsUtf8 read → chars read ≡ lf_text text → AreFlawsOf read start
-    → Appends (AreFlawLines options whole text lo start) old new → Appends (AreAllFlawLines options whole text lo) old new
+    → Appends (AreFlawLines options whole text lo start) old new
+    → Appends (AreAllFlawLines options whole text lo) old new
 flaw_lines options whole text read lo flaw start old new (inr (token, limit)) other u is are (line, shows, f) =
     absurd (other limit.1.kind_is)
 flaw_lines options whole text read lo flaw start old new (inl e) other u is are (line, shows, f) =
@@ -199,11 +207,14 @@ pub finding_within : (text : List ℕ) (bad : BadPiece) (finding : Finding) → 
     → finding.hi ≤ byte_len text
 finding_within text bad finding is = file_within text bad.flaw.hi finding.hi is.hi
 
-pub limit_cut : (text : List ℕ) (flaw : Flaw) (finding : Finding) → FindsFlaw text flaw → IsLimitFinding text flaw finding
+pub limit_cut : (text : List ℕ) (flaw : Flaw) (finding : Finding) → FindsFlaw text flaw
+    → IsLimitFinding text flaw finding
     → IsCutAt text finding.lo
-limit_cut text flaw finding finds is = subst (IsCutAt text) (sym is.lo_is) (flaw_cut text flaw (has_place text flaw finds))
+limit_cut text flaw finding finds is = subst (IsCutAt text) (sym is.lo_is)
+    (flaw_cut text flaw (has_place text flaw finds))
 
-pub limit_within : (text : List ℕ) (flaw : Flaw) (finding : Finding) → FindsFlaw text flaw → IsLimitFinding text flaw finding
+pub limit_within : (text : List ℕ) (flaw : Flaw) (finding : Finding) → FindsFlaw text flaw
+    → IsLimitFinding text flaw finding
     → finding.hi ≤ byte_len text
 limit_within text flaw finding finds is = omega (arith, is.hi_is, (has_place text flaw finds).within)
 

@@ -62,7 +62,8 @@ pub hidden_line : (options : Options) (whole rest after : List ℕ) (c lo hi : �
     → IsPlaceIn options (chars whole) lo hi place → mid ≡ old ++ line_front options.form options.path place
     → ended ≡ mid ++ hidden_end options.form c → Appends (IsContextIn options (chars whole) lo hi) ended new
     → Appends (IsHiddenLine options (chars whole) c (chars after)) old new
-hidden_line options whole rest after c lo hi place old mid ended new at_rest at_after split lo_is hi_is place_is front end
+hidden_line options whole rest after c lo hi place old mid ended new at_rest at_after split lo_is hi_is place_is front
+    end
     (context, below, new_is) =
     let of_whole = char_len whole at_rest.is_text in
     let of_rest = char_len rest at_rest.following.is_text in

@@ -328,7 +328,8 @@ source_shown text old b new u shown ended =
 
 -- ---- the piece
 
-pub piece_is : (text piece : List ℕ) (finding : Finding) → IsUtf8 text → IsUtf8 piece → IsSlice text finding.from finding.to
+pub piece_is : (text piece : List ℕ) (finding : Finding) → IsUtf8 text → IsUtf8 piece
+    → IsSlice text finding.from finding.to
     → piece ≡ take (finding.to - finding.from) (drop finding.from text) → IsPieceOf (chars text) finding (chars piece)
 piece_is text piece finding u v slice is =
     let same = encodes-chars text u in
@@ -340,4 +341,7 @@ piece_is text piece finding u v slice is =
 pub no_piece : (text : List ℕ) (finding : Finding) → IsUtf8 text → (IsSlice text finding.from finding.to → ⊥)
     → IsPieceOf (chars text) finding (chars [])
 no_piece text finding u none =
-    inr (λ slice. none (subst (λ (t : List ℕ). IsSlice t finding.from finding.to) (encodes-chars text u) slice), chars-nil)
+    inr (
+      λ slice. none (subst (λ (t : List ℕ). IsSlice t finding.from finding.to) (encodes-chars text u) slice),
+      chars-nil,
+    )

@@ -28,7 +28,7 @@ use Rattle.rl_output.specs.declared.place.Place.{Place}
 use Rattle.rl_sources.specs.Options.{Picks}
 use Rattle.rl_sources.specs.Places.{IsContextIn, IsPlaceIn, WithContext}
 use Rattle.rl_output.proofs.Pieces.{back_utf8}
-use Rattle.rl_output.specs.Fronts.{front_of}
+use Rattle.rl_output.specs.Fronts.{leveled_front}
 use Rattle.rl_output.specs.declared.github.Level.TheVariants.{Notice}
 use Rattle.rl_sources.specs.Held.{Holds, IsHeldAt}
 use Rattle.rl_sources.specs.Scans.{IsPicked, IsPlacedLine, AreReasonLines, IsHeldLine, IsLineAt, IsLineEnd, IsLineIn, IsOwnLine, IsPickedLine, IsPrintedAs, IsShownLiteral}
@@ -107,10 +107,10 @@ bare_printed text value old new is bare e =
 
 -- what stands before it, and the line
 pub line_at : (options : Options) (text : List ℕ) (place : Place) (old mid new : List ℕ)
-    → mid ≡ old ++ front_of Notice options.form options.path place
+    → mid ≡ old ++ leveled_front Notice options.form options.path place
     → Appends (IsLineEnd options.form options.spelling text) mid new → Appends (IsLineAt options text place) old new
 line_at options text place old mid new begun (shown, is, e) =
-    let front = front_of Notice options.form options.path place in
+    let front = leveled_front Notice options.form options.path place in
     (front ++ shown, (shown, is, refl), e ∙ ap (λ z. z ++ shown) begun ∙ append_assoc old front shown)
 
 -- the line, after its place
@@ -269,8 +269,7 @@ pub annotated : (spelling : Spelling) (text old printed new line : List ℕ)
 annotated spelling text old printed new line (words, is, e) up_to written =
     let said : chars printed ≡ words = e ∙ ap (λ (z : List ℕ). z ++ words) chars-nil in
     let nothing : message_text line (chars []) ≡ line = ap (message_text line) chars-nil in
-    let shown : List ℕ = annotation_end (codes "literal") (first_line words) in
-    (
+    let shown : List ℕ = annotation_end (codes "literal") (first_line words) in (
       shown,
       (words, is, refl),
       written ∙ ap (λ (z : List ℕ). old ++ annotation_end (codes "literal") z) (nothing ∙ up_to ∙ ap first_line said),

@@ -96,7 +96,8 @@ IsPieceOf text finding piece =
     × (encode_utf8_all piece ≡ take (finding.to - finding.from) (drop finding.from (encode_utf8_all text))))
     ⊎ ((IsSlice (encode_utf8_all text) finding.from finding.to → ⊥) × (piece ≡ []))
 
--- the piece of a flaw, by its places in the text as rustc reads it: a bad escape or character; of any other flaw the whole literal
+-- the piece of a flaw, by its places in the text as rustc reads it: a bad escape or character; of any other flaw the
+-- whole literal
 abbrev pub IsShownPiece : Bool → List ℕ → BadPiece → Finding → Type 0
 IsShownPiece true text read finding =
     IsPlaceInFile text read.flaw.from finding.from × IsPlaceInFile text read.end finding.to

@@ -53,7 +53,8 @@ hidden_end Colored c = chars (character_words c) ++ codes "\n"
 hidden_end Json c = string_member (codes "hidden") (chars (character_words c)) ++ codes "}\n"
 hidden_end Github c = annotation_end (codes "hidden") (chars (character_words c))
 
--- The line of a character of the whole source, of which so much stands after it, and below it what is shown of the source for it.
+-- The line of a character of the whole source, of which so much stands after it, and below it what is shown of the
+-- source for it.
 pub record IsHiddenLine (options : Options) (whole : List ℕ) (c : ℕ) (after line : List ℕ) : Type 0 where
   pub lo : ℕ
   pub lo_is : lo + byte_len (c ∷ after) ≡ byte_len whole

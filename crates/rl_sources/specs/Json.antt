@@ -48,7 +48,8 @@ abbrev pub IsJsonValueOf : Kind → List ℕ → List ℕ → Type 0
 IsJsonValueOf kind text value =
     (contents : Contents) × HasContents kind text contents × (value ≡ json_value contents)
 
--- the members of a finding, and the object's end: the literal's text, what is wrong, by a name that stays and in words, and the
+-- the members of a finding, and the object's end: the literal's text, what is wrong, by a name that stays and in words,
+-- and the
 -- piece that is shown, which is empty where there is none
 abbrev pub finding_members : List ℕ → Reason → List ℕ → List ℕ
 finding_members text reason piece =

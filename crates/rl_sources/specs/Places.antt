@@ -4,7 +4,7 @@ use Rattle.rl_text.specs.Texts.{byte_len}
 use Rattle.rl_lexer.specs.declared.lines.LineColumn.{LineColumn}
 use Rattle.rl_output.specs.Contexts.{IsBeforeInLine, context_lines}
 use Rattle.rl_output.specs.Forms.{has_extents}
-use Rattle.rl_output.specs.Spots.{IsExtentOf, StandsAt}
+use Rattle.rl_output.specs.Spots.{IsExtentOf, IsSpotAt}
 use Rattle.rl_output.specs.declared.place.Place.{Place}
 use Rattle.rl_output.specs.declared.place.Place.TheVariants.{Bytes, Line, Whole}
 use Rattle.rl_output.specs.declared.spot.Spot.{Spot}
@@ -13,7 +13,7 @@ use Rattle.rl_sources.specs.declared.options.Options.{Options}
 -- the line and column of this byte of a text
 abbrev pub IsLineColumnAt : List ℕ → ℕ → LineColumn → Type 0
 IsLineColumnAt text lo at =
-    (rest : List ℕ) × (spot : Spot) × StandsAt text rest spot × (lo + byte_len rest ≡ byte_len text)
+    (rest : List ℕ) × (spot : Spot) × IsSpotAt text rest spot × (lo + byte_len rest ≡ byte_len text)
     × (at.line ≡ spot.line) × (at.column ≡ spot.column)
 
 -- the place of these bytes of a text, as it is printed: by its bytes, or by the line and column where it

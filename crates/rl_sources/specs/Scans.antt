@@ -1,5 +1,6 @@
 -- What is shown of a source: a line for each of its literals, after its place, or where it is asked
--- for one that says why it is bad; or a line for each character that turns or hides text. Texts and what is shown are lists of characters, what
+-- for one that says why it is bad; or a line for each character that turns or hides text. Texts and what is shown are
+-- lists of characters, what
 -- is written lists of bytes.
 use Rattle.std.specs.Prelude.{◌≡◌, ◌≢◌, ◌⊎◌, ◌↔◌, ℕ, ◌+◌, Bool, List, [], ◌++◌, IsTrue, codes, encode_utf8_all, Option, Some, None}
 use denote.Ref.{Bor}
@@ -30,7 +31,7 @@ use Rattle.rl_output.specs.declared.place.Place.{Place}
 use Rattle.rl_output.specs.Colors.{painted}
 use Rattle.rl_output.specs.Contexts.{first_line}
 use Rattle.rl_output.specs.ErrorIds.{error_id}
-use Rattle.rl_output.specs.Fronts.{front_of, line_front}
+use Rattle.rl_output.specs.Fronts.{leveled_front, line_front}
 use Rattle.rl_output.specs.Github.{annotation_end, message_text}
 use Rattle.rl_sources.specs.declared.options.Spelling.{Spelling}
 use Rattle.rl_sources.specs.declared.options.Spelling.TheVariants.{Value, Source}
@@ -70,7 +71,7 @@ IsLineEnd Github spelling text shown =
 abbrev pub IsLineAt : Options → List ℕ → Place → List ℕ → Type 0
 IsLineAt options text place shown =
     (words : List ℕ) × IsLineEnd options.form options.spelling text words
-    × (shown ≡ front_of Notice options.form options.path place ++ words)
+    × (shown ≡ leveled_front Notice options.form options.path place ++ words)
 
 -- the line of a literal, after its place in the whole source
 abbrev pub IsOwnLine : Options → List ℕ → List ℕ → ℕ → ℕ → List ℕ → Type 0
@@ -152,7 +153,8 @@ AreReasonLines options whole text found lo shown =
     AreAllFlawLines options whole (chars text) lo shown ⊎ IsLimitLine options whole (chars text) lo shown
     ⊎ IsWholeLine options whole text found lo shown
 
--- the lines of a literal, its text in bytes, of what was found: where it is asked for, and it is bad, those that say why; else its
+-- the lines of a literal, its text in bytes, of what was found: where it is asked for, and it is bad, those that say
+-- why; else its
 -- line as a literal
 abbrev pub IsLineOfFound : Options → List ℕ → List ℕ → Option Found → ℕ → ℕ → List ℕ → Type 0
 IsLineOfFound options whole text found lo hi shown =

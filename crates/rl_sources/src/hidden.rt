@@ -12,9 +12,7 @@ use crate::options::Options;
 use crate::place::{place_of, push_context_of};
 use rl_files::needs_escape;
 use rl_lexer::without_mark;
-use rl_output::{
-    Form, Level, Places, push_annotation_end, push_ascii, push_front, push_member,
-};
+use rl_output::{Form, Level, Places, push_annotation_end, push_ascii, push_front, push_member};
 use rl_tokens::text::{begins_with, split_char};
 use std::alloc::{AllocError, Allocator};
 
@@ -86,10 +84,7 @@ fn push_hidden_member<A: Allocator>(out: &mut String<A>, words: &str) -> Result<
 }
 
 /// Appends what stands after the place in the annotation of a character.
-fn push_hidden_annotation<A: Allocator>(
-    out: &mut String<A>,
-    words: &str,
-) -> Result<(), AllocError>
+fn push_hidden_annotation<A: Allocator>(out: &mut String<A>, words: &str) -> Result<(), AllocError>
     ensures { OnOk result (chars (string_bytes out.new)
         ≡ chars (string_bytes out.old) ++ annotation_end (codes "hidden") (chars words.now)) }
 {

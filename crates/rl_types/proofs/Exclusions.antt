@@ -21,10 +21,12 @@ named_by : ℕ → Option NumberType
 named_by n =
     if n == number_of (number_name U8) then Some U8 else (if n == number_of (number_name U16) then Some U16
     else (if n == number_of (number_name U32) then Some U32 else (if n == number_of (number_name U64) then Some U64
-    else (if n == number_of (number_name U128) then Some U128 else (if n == number_of (number_name Usize) then Some Usize
+    else (if n == number_of (number_name U128) then Some U128 else
+    (if n == number_of (number_name Usize) then Some Usize
     else (if n == number_of (number_name I8) then Some I8 else (if n == number_of (number_name I16) then Some I16
     else (if n == number_of (number_name I32) then Some I32 else (if n == number_of (number_name I64) then Some I64
-    else (if n == number_of (number_name I128) then Some I128 else (if n == number_of (number_name Isize) then Some Isize
+    else (if n == number_of (number_name I128) then Some I128 else
+    (if n == number_of (number_name Isize) then Some Isize
     else (if n == number_of (number_name F32) then Some F32 else (if n == number_of (number_name F64) then Some F64
     else None)))))))))))))
 
@@ -95,7 +97,8 @@ none_some o g a b = let e : None ≡ Some g = sym a ∙ b in absurd (cc)
 same_greatest : (o : Option ℕ) (g h : ℕ) → o ≡ Some g → o ≡ Some h → g ≡ h
 same_greatest o g h a b = let e : Some g ≡ Some h = sym a ∙ b in (cc)
 
-number_kind : (t : NumberType) (k : Kind) (text : List ℕ) (m : ℕ) (n : Bool) → IsOfType t k text m n → (k ≡ Int) ⊎ (k ≡ Float)
+number_kind : (t : NumberType) (k : Kind) (text : List ℕ) (m : ℕ) (n : Bool) → IsOfType t k text m n → (k ≡ Int)
+    ⊎ (k ≡ Float)
 number_kind t k text m n (inl o) = inl o.0
 number_kind t k text m n (inr (inl o)) = inl o.0
 number_kind t k text m n (inr (inr o)) = inr o.0
@@ -124,7 +127,8 @@ range_is_out t u k text m g n same i is out (inr (inl o)) =
     none_some (greatest_of u n) g o.1 (sym (ap (λ z. greatest_of z n) same) ∙ is)
 range_is_out t u k text m g n same i is out (inr (inr o)) = int_not_float k i o.0
 
-pub no_both : (error : TypeError) (k : Kind) (text : List ℕ) (m : ℕ) (n : Bool) (s : List ℕ) → HasTypeError error k text m n s
+pub no_both : (error : TypeError) (k : Kind) (text : List ℕ) (m : ℕ) (n : Bool) (s : List ℕ)
+    → HasTypeError error k text m n s
     → HasType k text m n s → ⊥
 no_both QuotedSuffix k text m n s (q, some) (inl none) = some none
 no_both QuotedSuffix k text m n s (q, some) (inr (inl b)) = no_quoted k q (inl b)

@@ -4,7 +4,8 @@ use Rattle.rl_reading.proofs.Names.{Kind, Float}
 use Rattle.rl_types.specs.TypeErrors.{HasType}
 use Rattle.rl_types.specs.declared.type_errors.TypeError.{TypeError}
 
-pub same_typed : (k l : Kind) (text : List ℕ) (magnitude : ℕ) (negated : Bool) (a b : List ℕ) (o : Option TypeError) → k ≡ l
+pub same_typed : (k l : Kind) (text : List ℕ) (magnitude : ℕ) (negated : Bool) (a b : List ℕ) (o : Option TypeError) → k
+    ≡ l
     → a ≡ b → IfNone o (HasType k text magnitude negated a) → IfNone o (HasType l text magnitude negated b)
 same_typed k l text magnitude negated a b o e f h =
     subst (λ z. IfNone o (HasType l text magnitude negated z)) f

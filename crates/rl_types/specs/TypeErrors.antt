@@ -1,4 +1,5 @@
--- What Rust's types don't allow of a literal. `text` is the literal as it is written, a list of characters, `suffix` its suffix, in
+-- What Rust's types don't allow of a literal. `text` is the literal as it is written, a list of characters, `suffix`
+-- its suffix, in
 -- bytes, `magnitude` what the digits of an integer spell, and `negated` says that a minus may stand before it.
 use Rattle.std.specs.Prelude.{◌≡◌, ◌≢◌, ◌⊎◌, ℕ, ◌==◌, ◌<◌, ◌≤◌, Bool, List, [], Some, None, IsFalse, IsTrue}
 use Prim.Native.Char.{code}
@@ -43,7 +44,8 @@ IsOfType t kind text magnitude negated =
     ⊎ ((kind ≡ Int) × (greatest_of t negated ≡ None) × IsFalse (begins_base text))
     ⊎ ((kind ≡ Float) × (greatest_of t negated ≡ None))
 
--- Rust has a type for the literal: it has no suffix, or is a number of the type that its suffix names. A truth value has none.
+-- Rust has a type for the literal: it has no suffix, or is a number of the type that its suffix names. A truth value
+-- has none.
 abbrev pub HasType : Kind → List ℕ → ℕ → Bool → List ℕ → Type 0
 HasType kind text magnitude negated suffix =
     (suffix ≡ []) ⊎ (kind ≡ BoolKind)

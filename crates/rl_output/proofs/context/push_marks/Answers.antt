@@ -8,7 +8,8 @@ use Rattle.rl_output.specs.Contexts.{mark_below, marks_below}
 use Rattle.rl_output.proofs.context.push_marks.Goals as goal
 
 pub loop-c-preserved : goal.loop-c-preserved
-loop-c-preserved g c = written_more (mark_below c.args.mark c.args.tab) (string_bytes c.args.out.now) _ _ c.loop-c.yielded
+loop-c-preserved g c = written_more (mark_below c.args.mark c.args.tab) (string_bytes c.args.out.now) _ _
+    c.loop-c.yielded
     c.in-Some.c c.loop-c.invariant c.in_ok-push_mark.ensures
 
 pub returns : goal.returns

@@ -19,5 +19,9 @@ loop-left-preserved c = record {
 pub returns-clause-covered : goal.returns-clause-covered
 returns-clause-covered c = all_passed c.args.bytes (chars c.args.text.now) c.loop-left.left (chars c.loop-left.rest.now)
     (chars c.before-2.result.now) c.loop-left.invariant.passed
-    (let none : c.loop-left.left ≡ 0 = omega (arith, (let le : c.loop-left.left ≤ 0 = grind (arith, nat_tests, c.loop-left-test.false) in le)) in none)
+    (let none : c.loop-left.left ≡ 0 = omega (
+      arith,
+      (let le : c.loop-left.left ≤ 0 = grind
+          (arith, nat_tests, c.loop-left-test.false) in le),
+    ) in none)
     c.before-2.ensures.chars

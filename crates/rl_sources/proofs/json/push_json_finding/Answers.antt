@@ -8,9 +8,11 @@ use Rattle.rl_sources.proofs.json.push_json_finding.Goals as goal
 pub returns : goal.returns
 returns g c =
     let named : chars c.id.result.now ≡ reason_id c.args.reason = reason_id_is c.args.reason _ c.id.ensures in
-    let says : chars c.words.result.now ≡ reason_message c.args.reason = reason_words_are c.args.reason _ c.words.ensures in
+    let says : chars c.words.result.now ≡ reason_message c.args.reason = reason_words_are c.args.reason _
+    c.words.ensures in
     on_ok_weaker c.push_ascii.result (λ last. five_parts _ _ _ _ _ _
     (string_member (codes "text") (chars c.args.text.now)) (string_member (codes "id") (reason_id c.args.reason))
-    (string_member (codes "error") (reason_message c.args.reason)) (string_member (codes "piece") (chars c.args.piece.now))
+    (string_member (codes "error") (reason_message c.args.reason))
+    (string_member (codes "piece") (chars c.args.piece.now))
     (codes "}\n") c.in_ok-push_member.ensures (rw named at c.in_ok-push_member-2.ensures)
     (rw says at c.in_ok-push_member-3.ensures) c.in_ok-push_member-4.ensures last) c.push_ascii.ensures

@@ -19,6 +19,6 @@ returns-clause-context g c = on_ok_weaker c.push_context.result (λ written. (
     shown_is = refl;
   },
   written
-  ∙ ap (λ (n : ℕ). chars (string_bytes c.args.out.now)
-  ++ context_lines (chars c.line_before-before.result.now) (chars c.args.rest.now) n) c.saturating_sub.ensures,
+      ∙ ap (λ (n : ℕ). chars (string_bytes c.args.out.now)
+      ++ context_lines (chars c.line_before-before.result.now) (chars c.args.rest.now) n) c.saturating_sub.ensures,
 )) c.push_context.ensures

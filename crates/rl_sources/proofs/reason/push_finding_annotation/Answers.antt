@@ -10,5 +10,6 @@ push_annotation_end-requires g c = subst (λ (z : List ℕ). list_all is_ascii z
 
 pub returns : goal.returns
 returns g c =
-    let says : chars c.words.result.now ≡ reason_message c.args.reason = reason_words_are c.args.reason _ c.words.ensures in
+    let says : chars c.words.result.now ≡ reason_message c.args.reason = reason_words_are c.args.reason _
+    c.words.ensures in
     rw (says, c.id.ensures) at c.push_annotation_end.ensures

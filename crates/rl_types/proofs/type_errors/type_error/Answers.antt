@@ -7,11 +7,13 @@ use Rattle.rl_types.proofs.type_errors.type_error.Goals as goal
 
 pub returns-in-Int-clause-none : goal.returns-in-Int-clause-none
 returns-in-Int-clause-none c = same_typed Int c.args.found.now.kind (chars c.args.text.now) c.args.found.now.magnitude
-    c.args.negated c.suffix_in-suffix.result.now (suffix_in c.args.text.now c.args.found.now.body) c.integer_error.result
+    c.args.negated c.suffix_in-suffix.result.now (suffix_in c.args.text.now c.args.found.now.body)
+    c.integer_error.result
     (sym c.in-Int.is) c.suffix_in-suffix.ensures.suffix c.integer_error.ensures.none
 
 pub returns-in-Float-clause-none : goal.returns-in-Float-clause-none
-returns-in-Float-clause-none c = same_typed Float c.args.found.now.kind (chars c.args.text.now) c.args.found.now.magnitude
+returns-in-Float-clause-none c = same_typed Float c.args.found.now.kind (chars c.args.text.now)
+    c.args.found.now.magnitude
     c.args.negated c.suffix_in-suffix.result.now (suffix_in c.args.text.now c.args.found.now.body) c.float_error.result
     (sym c.in-Float.is) c.suffix_in-suffix.ensures.suffix
     (float_typed (chars c.args.text.now) c.args.found.now.magnitude c.args.negated c.suffix_in-suffix.result.now

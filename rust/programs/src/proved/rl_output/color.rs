@@ -57,9 +57,6 @@ pub fn push_painted<A: Allocator>(
 /// # Errors
 ///
 /// An allocation failure. A beginning may have been appended then.
-pub fn push_error_word<A: Allocator>(
-    out: &mut String<A>,
-    form: Form,
-) -> Result<(), AllocError> {
+pub fn push_error_word<A: Allocator>(out: &mut String<A>, form: Form) -> Result<(), AllocError> {
     push_painted(out, form, Paint::Error, "error")
 }

@@ -90,10 +90,7 @@ fn push_json_body<A: Allocator>(out: &mut String<A>, text: &str) -> Result<(), A
 /// # Errors
 ///
 /// An allocation failure. A beginning may have been appended then.
-pub fn push_json_string<A: Allocator>(
-    out: &mut String<A>,
-    text: &str,
-) -> Result<(), AllocError> {
+pub fn push_json_string<A: Allocator>(out: &mut String<A>, text: &str) -> Result<(), AllocError> {
     out.push_str("\"")?;
     push_json_body(out, text)?;
     out.push_str("\"")?;

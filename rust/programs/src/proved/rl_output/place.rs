@@ -98,10 +98,7 @@ fn push_json_front<A: Allocator>(
 }
 
 /// Appends the place of an annotation: of a place in words its line and column alone.
-fn push_annotation_place<A: Allocator>(
-    out: &mut String<A>,
-    place: &Place,
-) -> Result<(), AllocError> {
+fn push_annotation_place<A: Allocator>(out: &mut String<A>, place: &Place) -> Result<(), AllocError> {
     match place {
         Place::Bytes(_, _) => Ok(()),
         Place::Line(LineColumn { line, column }) => write!(out, "line={line},col={column},"),

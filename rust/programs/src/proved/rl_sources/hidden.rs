@@ -6,9 +6,7 @@ use crate::rl_sources::options::Options;
 use crate::rl_sources::place::{place_of, push_context_of};
 use crate::rl_files::needs_escape;
 use crate::rl_lexer::without_mark;
-use crate::rl_output::{
-    Form, Level, Places, push_annotation_end, push_ascii, push_front, push_member,
-};
+use crate::rl_output::{Form, Level, Places, push_annotation_end, push_ascii, push_front, push_member};
 use crate::rl_tokens::text::{begins_with, split_char};
 use crate::rattle_std::alloc::{AllocError, Allocator};
 
@@ -65,10 +63,7 @@ fn push_hidden_member<A: Allocator>(out: &mut String<A>, words: &str) -> Result<
 }
 
 /// Appends what stands after the place in the annotation of a character.
-fn push_hidden_annotation<A: Allocator>(
-    out: &mut String<A>,
-    words: &str,
-) -> Result<(), AllocError> {
+fn push_hidden_annotation<A: Allocator>(out: &mut String<A>, words: &str) -> Result<(), AllocError> {
     push_annotation_end(out, "hidden", words, "")
 }
 

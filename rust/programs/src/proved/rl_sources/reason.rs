@@ -92,7 +92,15 @@ pub(crate) fn push_finding<'t, A: Allocator>(
     let piece = piece_of(token.text, finding);
     push_front(out, Level::Error, options.form, options.path, &place)?;
     push_finding_end(out, options.form, token.text, finding.reason, piece)?;
-    push_context_inside(out, options, places, token, literal.rest, finding.lo, finding.hi)
+    push_context_inside(
+        out,
+        options,
+        places,
+        token,
+        literal.rest,
+        finding.lo,
+        finding.hi,
+    )
 }
 
 /// Appends that a source is wrong, and what is.
@@ -106,10 +114,7 @@ fn push_error_words<A: Allocator>(
 }
 
 /// Appends what stands after the place in the annotation of a source's error.
-fn push_error_annotation<A: Allocator>(
-    out: &mut String<A>,
-    kind: LexKind,
-) -> Result<(), AllocError> {
+fn push_error_annotation<A: Allocator>(out: &mut String<A>, kind: LexKind) -> Result<(), AllocError> {
     push_annotation_end(out, id_of(kind), kind.words(), "")
 }
 
