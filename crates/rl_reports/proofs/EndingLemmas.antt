@@ -1,6 +1,7 @@
 -- How a call ends.
-use Rattle.rl_text.proofs.Common.{Bool, List, None, Option, Some, [], refl, subst, sym, ℕ, ◌≡◌}
+use Rattle.rl_text.proofs.Common.{Bool, Bor, List, None, Option, Some, [], ap, inl, inr, length, length-map, not, refl, string_bytes, sym, ℕ, ◌==◌, ◌≡◌}
 use Rattle.std.specs.Prelude.{IfSome, String}
+use Rattle.rl_files.specs.Trees.{string_texts}
 use Rattle.std.specs.Io.KnownBytes.{Keeps}
 use Rattle.std.proofs.KnownBytes.{Appends-nil}
 use Rattle.rl_files.specs.Trees.{World}
@@ -14,12 +15,12 @@ use Rattle.rl_reports.specs.declared.command.Command.{Command}
 use Rattle.rl_reports.specs.declared.command.Console.{Console}
 use Rattle.rl_reports.specs.declared.words.WordError.{WordError}
 use Rattle.rl_reports.specs.declared.ending.CallError.{CallError}
-use Rattle.rl_reports.specs.declared.ending.CallError.TheVariants.{NoArguments, Word, Walk, Write}
+use Rattle.rl_reports.specs.declared.ending.CallError.TheVariants.{NoArguments, Word, Walk, List as NoList, NoFile, Write}
 use Rattle.rl_reports.specs.Reports.{nothing}
 use Rattle.rl_reports.specs.Runs.{Streams, WritesFront}
 use Rattle.rl_files.specs.declared.walk.WalkError.{WalkError}
-use Rattle.rl_reports.specs.Words.{Wishes, wishes_of}
-use Rattle.rl_reports.specs.Endings.{paths_read, AskForWishes, EndsText, EndsWish, EndsAsked, EndsAsScan}
+use Rattle.rl_reports.specs.Words.{Named, Wishes, wishes_of}
+use Rattle.rl_reports.specs.Endings.{AskForWishes, EndsText, EndsWish, EndsAsked, EndsAsScan, EndsFrom, EndsPaths, IsCommandFor, IsSelecting}
 
 -- what wasn't written to is kept
 pub keeps_same : (a : Option (List ℕ)) → Keeps a a
@@ -46,25 +47,48 @@ front_none command (Some w) spots o e =
     let more = some_visits command.selection w spots in
     ([], more.0, nothing, more.1, refl, ((0, Appends-nil o), (0, Appends-nil e)))
 
-pub ends_unstarted : (B : Type 0) (command : Command) (wishes : Wishes) (is_terminal : Bool) (holds : Option World)
-    (o e : Option (List ℕ)) (error : WalkError) → wishes.wish ≡ Scan → wishes_of command wishes.paths ≡ wishes
-    → EndsAsked {B = B} wishes is_terminal holds (record { out_old = o; out_new = o; err_old = e; err_new = e })
+pub paths_unstarted : (B : Type 0) (command : Command) (holds : Option World) (paths : List (List ℕ))
+    (o e : Option (List ℕ)) (error : WalkError)
+    → EndsPaths {B = B} command holds paths (record { out_old = o; out_new = o; err_old = e; err_new = e })
     (Failed (Walk error))
-ends_unstarted B command wishes is_terminal holds o e error is same = subst
-    (λ (x : Wish). EndsWish {B = B} x wishes is_terminal holds
-    (record { out_old = o; out_new = o; err_old = e; err_new = e }) (Failed (Walk error))) (sym is)
-    (command, same, front_none command holds (given_spots (paths_read is_terminal wishes.paths)) o e)
+paths_unstarted B command holds paths o e error = front_none command holds (given_spots paths) o e
+
+-- there are paths or none
+pub has_paths : {A : Type 0} (items : List (String A)) → not (length items == 0) ≡ not (length (string_texts items) == 0)
+has_paths items = ap (λ (n : ℕ). not (n == 0)) (sym (length-map items (λ (s : String _). string_bytes s)))
+
+-- a command that selects is the one that is asked for
+pub command_for : (command selecting : Command) (named : Named)
+    → IsSelecting command named.extensions named.excludes selecting
+    → IsCommandFor (wishes_of command named) selecting
+command_for command selecting named is = record {
+  asked = is.same named;
+  extensions = is.extensions;
+  excludes = is.excludes;
+}
 
 -- what is asked for ends so
 no_arguments : (B : Type 0) (wish : Wish) (wishes : Wishes) (is_terminal : Bool) (holds : Option World)
     (streams : Streams) → EndsWish {B = B} wish wishes is_terminal holds streams (Failed NoArguments) → ⊥
-no_arguments B Scan wishes is_terminal holds streams (command, is, never) = never
+no_arguments B Scan wishes is_terminal holds streams (command, is, ends) = go command.files_from ends
+  where
+    go : (from : Option (Bor (List ℕ)))
+        → EndsFrom {B = B} from command is_terminal holds wishes.paths streams (Failed NoArguments) → ⊥
+    go None never = never
+    go (Some file) (inl (nothing, why, read, never)) = never
+    go (Some file) (inr (all, are, never)) = never
 no_arguments B Help wishes is_terminal holds streams (text, (never, begun), kept) = never
 no_arguments B Version wishes is_terminal holds streams (text, (never, begun), kept) = never
 
 no_word : {B : Type 0} (error : WordError B) (wish : Wish) (wishes : Wishes) (is_terminal : Bool) (holds : Option World)
     (streams : Streams) → EndsWish {B = B} wish wishes is_terminal holds streams (Failed (Word error)) → ⊥
-no_word error Scan wishes is_terminal holds streams (command, is, never) = never
+no_word {B} error Scan wishes is_terminal holds streams (command, is, ends) = go command.files_from ends
+  where
+    go : (from : Option (Bor (List ℕ)))
+        → EndsFrom {B = B} from command is_terminal holds wishes.paths streams (Failed (Word error)) → ⊥
+    go None never = never
+    go (Some file) (inl (nothing, why, read, never)) = never
+    go (Some file) (inr (all, are, never)) = never
 no_word error Help wishes is_terminal holds streams (text, (never, begun), kept) = never
 no_word error Version wishes is_terminal holds streams (text, (never, begun), kept) = never
 
@@ -81,4 +105,6 @@ call_asked {A} {B} args console holds streams (Failed NoArguments) wishes asks e
 call_asked args console holds streams (Failed (Word error)) wishes asks ends = absurd
     (no_word error wishes.wish wishes console.input_is_terminal holds streams ends)
 call_asked args console holds streams (Failed (Walk error)) wishes asks ends = (wishes, asks, ends)
+call_asked args console holds streams (Failed (NoList file why)) wishes asks ends = (wishes, asks, ends)
+call_asked args console holds streams (Failed NoFile) wishes asks ends = (wishes, asks, ends)
 call_asked args console holds streams (Failed Write) wishes asks ends = (wishes, asks, ends)
