@@ -14,18 +14,20 @@ use Rattle.rl_commands.specs.Runs.{Prints, IsErrorOf}
 abbrev pub usage_line : List ℕ
 usage_line = codes "usage: rl_tool text|read|attr"
 
--- the arguments are a program's own name and the word that asks how it is used
-abbrev pub AskForHelp : {A : Type 0} → List (String A) → Type 0
-AskForHelp [] = ⊥
-AskForHelp (program ∷ []) = ⊥
-AskForHelp (program ∷ word ∷ []) = string_bytes word ≡ codes "--help"
-AskForHelp (program ∷ word ∷ other ∷ others) = ⊥
+-- the arguments are a program's own name and the word that asks how it is used, or which version it is
+abbrev pub AskForText : {A : Type 0} → List (String A) → Type 0
+AskForText [] = ⊥
+AskForText (program ∷ []) = ⊥
+AskForText (program ∷ word ∷ []) =
+    (string_bytes word ≡ codes "--help") ⊎ (string_bytes word ≡ codes "-h")
+    ⊎ (string_bytes word ≡ codes "--version") ⊎ (string_bytes word ≡ codes "-V")
+AskForText (program ∷ word ∷ other ∷ others) = ⊥
 
--- How a call ends that asks so: with how the program is used, of which a beginning was written where a write failed.
-abbrev pub EndsHelp : {B : Type 0} → Option (List ℕ) → Option (List ℕ) → Ending (Fault B) → Type 0
-EndsHelp old new Done = (text : List ℕ) × Appends old new text
-EndsHelp old new (Failed Write) = (text : List ℕ) × AppendsBeginning old new text
-EndsHelp old new _ = ⊥
+-- How a call ends that asks so: with the text, of which a beginning was written where a write failed.
+abbrev pub EndsText : {B : Type 0} → Option (List ℕ) → Option (List ℕ) → Ending (Fault B) → Type 0
+EndsText old new Done = (text : List ℕ) × Appends old new text
+EndsText old new (Failed Write) = (text : List ℕ) × AppendsBeginning old new text
+EndsText old new _ = ⊥
 
 -- How a call ends that asks for a command: with what that does; or, where the arguments ask for none, with how the
 -- program is used, and nothing is written.
@@ -45,5 +47,5 @@ EndsCommand args input old new (Failed fault) =
 abbrev pub EndsAs : {A B : Type 0} → List (String A) → Option (List ℕ) → Option (List ℕ)
     → Option (List ℕ) → Ending (Fault B) → Type 0
 EndsAs args input old new ending =
-    (AskForHelp args × EndsHelp old new ending)
-    ⊎ ((AskForHelp args → ⊥) × EndsCommand args input old new ending)
+    (AskForText args × EndsText old new ending)
+    ⊎ ((AskForText args → ⊥) × EndsCommand args input old new ending)

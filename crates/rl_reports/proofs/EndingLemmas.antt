@@ -1,5 +1,5 @@
 -- How a call ends.
-use Rattle.rl_text.proofs.Common.{Bool, Bor, List, None, Option, Some, [], ap, inl, inr, length, length-map, not, refl, string_bytes, sym, ℕ, ◌==◌, ◌≡◌}
+use Rattle.rl_text.proofs.Common.{Bool, Bor, List, None, Option, Some, [], ap, inl, inr, length, length-map, not, refl, string_bytes, subst, sym, ℕ, ◌==◌, ◌≡◌}
 use Rattle.std.specs.Prelude.{IfSome, String}
 use Rattle.rl_files.specs.Trees.{string_texts}
 use Rattle.std.specs.Io.KnownBytes.{Keeps}
@@ -19,8 +19,8 @@ use Rattle.rl_reports.specs.declared.ending.CallError.TheVariants.{NoArguments, 
 use Rattle.rl_reports.specs.Reports.{nothing}
 use Rattle.rl_reports.specs.Runs.{Streams, WritesFront}
 use Rattle.rl_files.specs.declared.walk.WalkError.{WalkError}
-use Rattle.rl_reports.specs.Words.{Named, Wishes, wishes_of}
-use Rattle.rl_reports.specs.Endings.{AskForWishes, EndsText, EndsWish, EndsAsked, EndsAsScan, EndsFrom, EndsPaths, IsCommandFor, IsSelecting}
+use Rattle.rl_reports.specs.Words.{Wishes, wishes_of}
+use Rattle.rl_reports.specs.Endings.{AskForWishes, EndsText, EndsWish, EndsAsked, EndsAsScan, EndsFrom, EndsPaths, EndsScan, IsCommandFor, IsSelecting}
 
 -- what wasn't written to is kept
 pub keeps_same : (a : Option (List ℕ)) → Keeps a a
@@ -47,25 +47,26 @@ front_none command (Some w) spots o e =
     let more = some_visits command.selection w spots in
     ([], more.0, nothing, more.1, refl, ((0, Appends-nil o), (0, Appends-nil e)))
 
-pub paths_unstarted : (B : Type 0) (command : Command) (holds : Option World) (paths : List (List ℕ))
-    (o e : Option (List ℕ)) (error : WalkError)
-    → EndsPaths {B = B} command holds paths (record { out_old = o; out_new = o; err_old = e; err_new = e })
-    (Failed (Walk error))
-paths_unstarted B command holds paths o e error = front_none command holds (given_spots paths) o e
-
--- there are paths or none
-pub has_paths : {A : Type 0} (items : List (String A)) → not (length items == 0) ≡ not (length (string_texts items) == 0)
-has_paths items = ap (λ (n : ℕ). not (n == 0)) (sym (length-map items (λ (s : String _). string_bytes s)))
-
 -- a command that selects is the one that is asked for
-pub command_for : (command selecting : Command) (named : Named)
-    → IsSelecting command named.extensions named.excludes selecting
-    → IsCommandFor (wishes_of command named) selecting
-command_for command selecting named is = record {
-  asked = is.same named;
-  extensions = is.extensions;
-  excludes = is.excludes;
+pub command_for : (command selecting : Command) (extensions excludes paths : List (List ℕ))
+    → IsSelecting command extensions excludes selecting
+    → IsCommandFor (wishes_of command extensions excludes paths) selecting
+command_for command selecting extensions excludes paths is = record {
+  asked = is.same extensions excludes paths;
+  extensions_are = is.extensions_are;
+  excludes_are = is.excludes_are;
 }
+
+pub scan_ends : {B : Type 0} (command selecting : Command) (extensions excludes paths : List (List ℕ))
+    (from : Option (Bor (List ℕ))) (is_terminal : Bool) (holds : Option World) (streams : Streams)
+    (ending : Ending (CallError B)) → IsSelecting command extensions excludes selecting → selecting.files_from ≡ from
+    → EndsFrom from selecting is_terminal holds paths streams ending
+    → EndsScan (wishes_of command extensions excludes paths) is_terminal holds streams ending
+scan_ends command selecting extensions excludes paths from is_terminal holds streams ending is from_is ends = (
+  selecting,
+  command_for command selecting extensions excludes paths is,
+  subst (λ (o : Option (Bor (List ℕ))). EndsFrom o selecting is_terminal holds paths streams ending) (sym from_is) ends,
+)
 
 -- what is asked for ends so
 no_arguments : (B : Type 0) (wish : Wish) (wishes : Wishes) (is_terminal : Bool) (holds : Option World)
@@ -75,7 +76,7 @@ no_arguments B Scan wishes is_terminal holds streams (command, is, ends) = go co
     go : (from : Option (Bor (List ℕ)))
         → EndsFrom {B = B} from command is_terminal holds wishes.paths streams (Failed NoArguments) → ⊥
     go None never = never
-    go (Some file) (inl (nothing, why, read, never)) = never
+    go (Some file) (inl (nothing, (why, read, never))) = never
     go (Some file) (inr (all, are, never)) = never
 no_arguments B Help wishes is_terminal holds streams (text, (never, begun), kept) = never
 no_arguments B Version wishes is_terminal holds streams (text, (never, begun), kept) = never
@@ -87,7 +88,7 @@ no_word {B} error Scan wishes is_terminal holds streams (command, is, ends) = go
     go : (from : Option (Bor (List ℕ)))
         → EndsFrom {B = B} from command is_terminal holds wishes.paths streams (Failed (Word error)) → ⊥
     go None never = never
-    go (Some file) (inl (nothing, why, read, never)) = never
+    go (Some file) (inl (nothing, (why, read, never))) = never
     go (Some file) (inr (all, are, never)) = never
 no_word error Help wishes is_terminal holds streams (text, (never, begun), kept) = never
 no_word error Version wishes is_terminal holds streams (text, (never, begun), kept) = never

@@ -10,7 +10,7 @@ use Rattle.rl_reports.specs.declared.flags.Operand.TheVariants as takes
 use Rattle.rl_reports.specs.declared.flags.Next.{Next}
 use Rattle.rl_reports.specs.declared.flags.Next.TheVariants as next
 use Rattle.rl_reports.specs.declared.words.WordError.{WordError}
-use Rattle.rl_reports.specs.Words.{Wishes, AreLetters, AreRejectedLetters, IsAdded, IsLetter, IsRejectedFlag, IsRejectedJoined, IsTaken, LastLetter, LaterLetter, Letter, LetterAndText, MayStand, NamesLetter, NoLetters, RejectedLetter, RejectedText, UnknownLetter, next_after, taken_by}
+use Rattle.rl_reports.specs.Words.{Wishes, AreLetters, AreRejectedLetters, IsAdded, IsLetter, IsRejectedFlag, IsRejectedJoined, IsTaken, LastLetter, LaterLetter, Letter, LetterAndText, MayStand, NamesLetter, NoLetters, RejectedLetter, RejectedText, StrangeLetter, next_after, taken_by}
 
 -- letters are of ASCII
 letter_low : (flag : Flag) (c : ℕ) → IsLetter flag c → c < 128
@@ -208,7 +208,7 @@ pub letter_unknown : (A : Type 0) (has_colors : Bool) (word : List ℕ) (old : W
     → AreRejectedLetters has_colors word error old letters
 letter_unknown A hc word old letters now then rest after c error split none left names =
     let begun = still_open A hc word old letters now then rest after c split left in
-    begun.rejected error (UnknownLetter c after split none names)
+    begun.rejected error (StrangeLetter c after split none names)
 
 -- none is left
 pub letters_end : (A : Type 0) (has_colors : Bool) (word : List ℕ) (old : Wishes) (letters : List ℕ) (now : Wishes)

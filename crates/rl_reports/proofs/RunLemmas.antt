@@ -1,5 +1,5 @@
 -- Steps of a run.
-use Rattle.rl_text.proofs.Common.{Bool, List, None, Option, Some, [], ap, append-nil, append_assoc, arith, false, inl, inr, length, not, refl, subst, suc, sym, take, take_all, true, ℕ, ◌++◌, ◌==◌, ◌||◌, ◌∙◌, ◌∷◌, ◌≡◌, ◌+◌}
+use Rattle.rl_text.proofs.Common.{Bool, List, None, Option, Some, [], ap, append-nil, append_assoc, arith, cond, false, inl, inr, length, not, refl, subst, suc, sym, take, take_all, true, ℕ, ◌++◌, ◌==◌, ◌||◌, ◌∙◌, ◌∷◌, ◌≡◌, ◌+◌}
 use Rattle.std.proofs.Common.{rules}
 use Rattle.std.proofs.Math.Seq.{take-append-add}
 use Rattle.std.specs.Prelude.{IfSome}
@@ -23,6 +23,32 @@ pub record Ran (command : Command) (w : World) (old new : List Spot) (streams : 
   pub reports : AreReports command w visits printed
   pub written : IsWritten command streams printed tally
   pub visited : tally.visited ≡ not (length visits == 0)
+
+told_nothing : (command : Command) → told command [] ≡ []
+told_nothing command = go command.tells_errors
+  where
+    go : (t : Bool) → cond {A = List ℕ} t [] [] ≡ []
+    go true = refl
+    go false = refl
+
+-- nothing was written yet
+pub ran_start : (command : Command) (holds : Option World) (spots : List Spot) (o e : Option (List ℕ))
+    → IfSome holds (λ w. Ran command w spots spots (record { out_old = o; out_new = o; err_old = e; err_new = e })
+    (record { visited = false; found = false; failed = false }))
+ran_start command None spots o e = tt
+ran_start command (Some w) spots o e = record {
+  visits = [];
+  printed = nothing;
+  goes = λ more m. m;
+  reports = refl;
+  written = record {
+    on_out = Appends-nil o;
+    on_err = subst (λ (z : List ℕ). Appends e e z) (sym (told_nothing command)) (Appends-nil e);
+    found = refl;
+    failed = refl;
+  };
+  visited = refl;
+}
 
 -- a list with an element isn't empty
 not_empty : (n : ℕ) → not (suc n == 0) ≡ true

@@ -23,7 +23,7 @@ use Rattle.rl_reports.specs.declared.ending.CallError.TheVariants.{NoArguments, 
 use Rattle.rl_reports.specs.Listed.{AreWithListed}
 use Rattle.rl_reports.specs.Reports.{IsReadError}
 use Rattle.rl_reports.specs.Runs.{Streams, WritesWalk, WritesFront, asked_status}
-use Rattle.rl_reports.specs.Words.{Named, Wishes, wishes_of, Asks, AreRejected, word_message}
+use Rattle.rl_reports.specs.Words.{Wishes, wishes_of, Asks, AreRejected, word_message}
 
 -- the line of an error
 abbrev pub call_error_line : {A : Type 0} → CallError A → List ℕ
@@ -134,16 +134,16 @@ extensions_read (extension ∷ extensions) = extension ∷ extensions
 
 -- The command selects so, and is the same else.
 pub record IsSelecting (command : Command) (extensions excludes : List (List ℕ)) (selecting : Command) : Type 0 where
-  pub same : (named : Named) → wishes_of selecting named ≡ wishes_of command named
-  pub extensions : texts selecting.selection.extensions.now ≡ extensions_read extensions
-  pub excludes : texts selecting.selection.excludes.now ≡ excludes
+  pub same : (some others paths : List (List ℕ))
+      → wishes_of selecting some others paths ≡ wishes_of command some others paths
+  pub extensions_are : texts selecting.selection.extensions.now ≡ extensions_read extensions
+  pub excludes_are : texts selecting.selection.excludes.now ≡ excludes
 
 -- The command does what is asked for.
 pub record IsCommandFor (wishes : Wishes) (command : Command) : Type 0 where
-  pub asked : wishes_of command
-      (record { extensions = wishes.extensions; excludes = wishes.excludes; paths = wishes.paths }) ≡ wishes
-  pub extensions : texts command.selection.extensions.now ≡ extensions_read wishes.extensions
-  pub excludes : texts command.selection.excludes.now ≡ wishes.excludes
+  pub asked : wishes_of command wishes.extensions wishes.excludes wishes.paths ≡ wishes
+  pub extensions_are : texts command.selection.extensions.now ≡ extensions_read wishes.extensions
+  pub excludes_are : texts command.selection.excludes.now ≡ wishes.excludes
 
 -- how a call ends that scans: as the run over the paths
 abbrev pub EndsScan : {B : Type 0} → Wishes → Bool → Option World → Streams → Ending (CallError B) → Type 0

@@ -170,16 +170,6 @@ pub record Wishes : Type 0 where
   pub excludes : List (List ℕ)
   pub paths : List (List ℕ)
 
--- what may be named more than once
-pub record Named : Type 0 where
-  pub extensions : List (List ℕ)
-  pub excludes : List (List ℕ)
-  pub paths : List (List ℕ)
-
--- nothing is
-abbrev pub nothing_named : Named
-nothing_named = record { extensions = []; excludes = []; paths = [] }
-
 -- what is asked for where nothing is said
 abbrev pub first_wishes : Bool → Wishes
 first_wishes has_colors = record {
@@ -203,8 +193,8 @@ first_wishes has_colors = record {
 }
 
 -- what the code holds
-abbrev pub wishes_of : Command → Named → Wishes
-wishes_of command named = record {
+abbrev pub wishes_of : Command → List (List ℕ) → List (List ℕ) → List (List ℕ) → Wishes
+wishes_of command extensions excludes paths = record {
   wish = command.wish;
   wanted = wanted_of command.shown;
   finds = sought_of command.finds;
@@ -219,20 +209,14 @@ wishes_of command named = record {
   all_directories = command.selection.all;
   files_from = sought_of command.files_from;
   tells_errors = command.tells_errors;
-  extensions = named.extensions;
-  excludes = named.excludes;
-  paths = named.paths;
-}
-
-abbrev pub named_in : {A : Type 0} → Asked A → Named
-named_in asked = record {
-  extensions = texts asked.extensions.items;
-  excludes = texts asked.excludes.items;
-  paths = string_texts asked.paths.items;
+  extensions = extensions;
+  excludes = excludes;
+  paths = paths;
 }
 
 abbrev pub wishes_in : {A : Type 0} → Asked A → Wishes
-wishes_in asked = wishes_of asked.command (named_in asked)
+wishes_in asked = wishes_of asked.command (texts asked.extensions.items) (texts asked.excludes.items)
+    (string_texts asked.paths.items)
 
 -- only one option may say which literals are wanted
 abbrev pub IsAllowed : Flag → Wishes → Type 0
@@ -456,7 +440,7 @@ IsUnknownOption word error =
 -- asked for, or takes no such text.
 pub data AreRejectedLetters {A : Type 0} (has_colors : Bool) (word : List ℕ) (error : WordError A)
     : Wishes → List ℕ → Type 0 where
-  UnknownLetter : {old : Wishes} {letters : List ℕ} (c : ℕ) (more : List ℕ) → letters ≡ encode_utf8 c ++ more
+  StrangeLetter : {old : Wishes} {letters : List ℕ} (c : ℕ) (more : List ℕ) → letters ≡ encode_utf8 c ++ more
       → ((flag : Flag) → IsLetter flag c → ⊥) → NamesLetter c word error
       → AreRejectedLetters has_colors word error old letters
   RejectedLetter : {old : Wishes} {more : List ℕ} (flag : Flag) (c : ℕ) → IsLetter flag c

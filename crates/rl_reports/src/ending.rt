@@ -3,7 +3,7 @@
 ghost use Rattle.std.specs.Prelude.{◌≡◌, OnOk};
 ghost use Rattle.rl_files.specs.Globs.{texts};
 ghost use Rattle.rl_files.specs.Trees.{string_texts};
-ghost use Rattle.rl_reports.specs.Endings.{finds_no_file, paths_read, EndsAsScan, EndsAsked, EndsListed, EndsPaths, EndsRun, EndsScan, EndsText, EndsWithoutMemory, IsListError, IsSelecting, IsUnwritten};
+ghost use Rattle.rl_reports.specs.Endings.{extensions_read, finds_no_file, paths_read, EndsAsScan, EndsAsked, EndsListed, EndsPaths, EndsRun, EndsScan, EndsText, EndsWithoutMemory, IsListError, IsSelecting, IsUnwritten};
 ghost use Rattle.rl_reports.specs.Runs.{asked_status};
 ghost use Rattle.rl_reports.specs.Words.{wishes_in};
 
@@ -12,7 +12,7 @@ use crate::listed::push_listed;
 use crate::report::visible_text;
 use crate::runs::{RunStop, Tally, run};
 use crate::words::{Asked, WordError, asked_by};
-use rl_files::{PathError, Tree, Walk, WalkError};
+use rl_files::{PathError, Selection, Tree, Walk, WalkError};
 use rl_program::{Ending, RunError, WriteError, write_bytes};
 use std::alloc::{AllocError, Allocator, Global};
 use std::fmt;
@@ -36,15 +36,21 @@ What is printed: every literal; or one of --bad, --hidden, --only; or --find
                        wherever they stand
       --only KIND,..   literals of these kinds: Str ByteStr CStr Byte Char Int
                        Float Bool Verbatim, in any case
-  -e, --find TEXT      strings, characters and bytes that hold TEXT, however it
-                       is written, at its first place; goes with --only
+  -e, --find TEXT      strings, characters and bytes, no numbers, that hold
+                       TEXT, however it is written, at its first place; goes
+                       with --only
   -i, --ignore-case    of --find: small and large letters of ASCII are the same
   -w, --word           of --find: TEXT as whole words
       --no-stray       a character that begins no token is an error
 
 Which files are read:
       --all            hidden directories and `target` too
-      --extension EXT  *.EXT in place of *.rs
+      --extension EXT  *.EXT in place of *.rs; may be said more than once
+      --exclude GLOB   not what GLOB matches below a PATH, by the rules of
+                       gitignore; may be said more than once
+      --files-from FILE
+                       also what FILE names: a path in each line, or NUL after
+                       each; `-` is standard input
 
 How it is printed:
       --bytes          places as LO..HI, in bytes, as those of standard input
@@ -57,6 +63,7 @@ How it is printed:
   -l, --files-with-matches
                        the path of each file that has lines
   -q, --quiet          nothing
+      --no-messages    no line for a file that can't be read to its end
       --               what follows is a PATH
   -h, --help           this
   -V, --version        the version
@@ -70,13 +77,13 @@ Lines:
 Status:
   0  all was read
   1  --bad or --hidden found something, or --find nothing
-  2  wrong arguments, or a file that can't be read to its end: it has a line on
-     standard error, and the others are still read
+  2  wrong arguments, no file to read, or one that can't be read to its end: it
+     has a line on standard error, and the others are still read
 
 Examples:
   rl_scan --bad src
   rl_scan -wie todo src tests
-  git ls-files -z '*.rs' | xargs -0 rl_scan --hidden --
+  git ls-files -z '*.rs' | rl_scan --hidden --files-from -
 ";
 
 /// Which version it is.
@@ -244,11 +251,11 @@ fn scan_named<A: Allocator + Copy, T: Tree, W: Write, E: Write>(
 ) -> Ending<CallError<A>>
     ensures { EndsPaths command.entry (T.holds tree.now)
         (paths_read is_terminal (string_texts paths.old.items)) (record {
-      out_old = W.contents out.old;
-      out_new = W.contents out.new;
-      err_old = E.contents err.old;
-      err_new = E.contents err.new;
-    }) result }
+          out_old = W.contents out.old;
+          out_new = W.contents out.new;
+          err_old = E.contents err.old;
+          err_new = E.contents err.new;
+        }) result }
 {
     match add_usual(alloc, is_terminal, paths) {
         Ok(()) => scan_paths(alloc, command, tree, paths, out, err),
@@ -257,11 +264,7 @@ fn scan_named<A: Allocator + Copy, T: Tree, W: Write, E: Write>(
 }
 
 /// How a call ends where the file can't be read that names paths.
-fn list_error<A: Allocator + Copy>(
-    alloc: A,
-    file: &str,
-    why: PathError,
-) -> Ending<CallError<A>>
+fn list_error<A: Allocator + Copy>(alloc: A, file: &str, why: PathError) -> Ending<CallError<A>>
     ensures { IsListError file.now why result }
 {
     match visible_text(alloc, file) {
@@ -296,6 +299,17 @@ fn scan_listed<A: Allocator + Copy, T: Tree, W: Write, E: Write>(
 /// What the names of files end with, where nothing is said.
 const USUAL: &[&str] = &["rs"];
 
+/// What names end with: `rs`, where nothing is said.
+fn usual_unless<'a>(extensions: &'a [&'a str]) -> &'a [&'a str]
+    ensures { texts result.now ≡ extensions_read (texts extensions.now) }
+{
+    if extensions.is_empty() {
+        USUAL
+    } else {
+        extensions
+    }
+}
+
 /// The command with what it selects.
 fn selecting<'a>(
     command: Command<'a>,
@@ -305,12 +319,11 @@ fn selecting<'a>(
     ensures { IsSelecting command.entry (texts extensions.now) (texts excludes.now) result }
 {
     let mut selecting = command;
-    selecting.selection.extensions = if extensions.is_empty() {
-        USUAL
-    } else {
-        extensions
+    selecting.selection = Selection {
+        all: command.selection.all,
+        extensions: usual_unless(extensions),
+        excludes,
     };
-    selecting.selection.excludes = excludes;
     selecting
 }
 

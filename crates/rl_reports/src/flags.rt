@@ -4,7 +4,7 @@ ghost use Rattle.std.specs.Prelude.{◌≡◌, ◌≢◌, ◌++◌, ℕ, List, I
 ghost use Rattle.rl_reports.specs.declared.flags.Flag.{Flag};
 ghost use Rattle.rl_reports.specs.declared.flags.Operand.{Operand};
 ghost use Rattle.rl_reports.specs.declared.flags.When.{When};
-ghost use Rattle.rl_reports.specs.Words.{Named, IsLetter, IsOptionWord, joined_word, taken_by as flag_before, color_word, wishes_of, IsAllowed, GoesWithFind, MayStand, IsRejectedFlag, with_flag as flagged, next_after as follows, colored_form, recolored as with_colors};
+ghost use Rattle.rl_reports.specs.Words.{IsLetter, IsOptionWord, joined_word, taken_by as flag_before, color_word, wishes_of, IsAllowed, GoesWithFind, MayStand, IsRejectedFlag, with_flag as flagged, next_after as follows, colored_form, recolored as with_colors};
 
 use crate::command::{Command, Output, PlaceForm, Wish};
 use crate::words::WordError;
@@ -181,11 +181,11 @@ pub(crate) fn taken_by(operand: Operand) -> Flag
 
 /// The command with an option more; `None` where another option says already which literals are printed.
 fn with_flag(command: Command<'_>, flag: Flag) -> Option<Command<'_>>
-    ensures some { IfSome result (λ next. (named : Named)
-        → IsAllowed flag (wishes_of command.entry named)
-        × (wishes_of next named ≡ flagged flag (wishes_of command.entry named))) }
-    ensures none { IfNone result ((named : Named)
-        → IsAllowed flag (wishes_of command.entry named) → ⊥) }
+    ensures some { IfSome result (λ next. (extensions excludes paths : List (List ℕ))
+        → IsAllowed flag (wishes_of command.entry extensions excludes paths)
+        × (wishes_of next extensions excludes paths ≡ flagged flag (wishes_of command.entry extensions excludes paths))) }
+    ensures none { IfNone result ((extensions excludes paths : List (List ℕ))
+        → IsAllowed flag (wishes_of command.entry extensions excludes paths) → ⊥) }
 {
     let mut next = command;
     match (flag, command.shown) {
@@ -218,8 +218,8 @@ fn with_flag(command: Command<'_>, flag: Flag) -> Option<Command<'_>>
 /// wanted.
 fn goes_with_find(command: Command<'_>, flag: Flag) -> bool
     ensures { MatchBool result
-        ((named : Named) → GoesWithFind flag (wishes_of command.entry named))
-        ((named : Named) → GoesWithFind flag (wishes_of command.entry named) → ⊥) }
+        ((extensions excludes paths : List (List ℕ)) → GoesWithFind flag (wishes_of command.entry extensions excludes paths))
+        ((extensions excludes paths : List (List ℕ)) → GoesWithFind flag (wishes_of command.entry extensions excludes paths) → ⊥) }
 {
     match (flag, command.finds, command.shown) {
         (Flag::Bad | Flag::Hidden | Flag::Find, Some(_), _) => false,
@@ -237,12 +237,12 @@ pub(crate) fn add_flag<A: Allocator>(
     command: Command<'_>,
     flag: Flag,
 ) -> Result<Command<'_>, WordError<A>>
-    ensures allowed { IfOk result (λ next. (named : Named)
-        → MayStand flag (wishes_of command.entry named)) }
-    ensures wishes { IfOk result (λ next. (named : Named)
-        → wishes_of next named ≡ flagged flag (wishes_of command.entry named)) }
-    ensures rejected { IfErr result (λ error. (named : Named)
-        → IsRejectedFlag flag (wishes_of command.entry named) error) }
+    ensures allowed { IfOk result (λ next. (extensions excludes paths : List (List ℕ))
+        → MayStand flag (wishes_of command.entry extensions excludes paths)) }
+    ensures wishes { IfOk result (λ next. (extensions excludes paths : List (List ℕ))
+        → wishes_of next extensions excludes paths ≡ flagged flag (wishes_of command.entry extensions excludes paths)) }
+    ensures rejected { IfErr result (λ error. (extensions excludes paths : List (List ℕ))
+        → IsRejectedFlag flag (wishes_of command.entry extensions excludes paths) error) }
 {
     let Some(next) = with_flag(command, flag) else {
         return Err(WordError::TwoChoices);

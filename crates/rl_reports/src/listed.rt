@@ -1,7 +1,7 @@
 //! Paths that a file names.
 
-ghost use Rattle.std.specs.Prelude.{◌≡◌, ◌++◌, ◌<◌, OnOk, IfErr, IfSome};
-ghost use Rattle.std.specs.List.{flat_map, slice_split};
+ghost use Rattle.std.specs.Prelude.{◌≡◌, ◌==◌, ◌++◌, ◌<◌, OnOk, IfErr, IfSome};
+ghost use Rattle.std.specs.List.{flat_map, list_any, slice_split};
 ghost use Rattle.rl_files.specs.Trees.{string_texts};
 ghost use Rattle.rl_reports.specs.Listed.{AreWithListed, listed, listed_name, separator_of};
 ghost use Rattle.rl_reports.specs.Reports.{IsReadError};
@@ -9,16 +9,22 @@ ghost use Rattle.rl_reports.specs.Reports.{IsReadError};
 use rl_files::{PathError, Tree};
 use std::alloc::{AllocError, Allocator};
 
+/// Whether there is a NUL.
+fn has_nul(list: &[u8]) -> bool
+    ensures { result ≡ list_any (λ b. b == 0) list.now }
+{
+    list.iter().any(|byte| *byte == 0)
+}
+
 /// What ends a name: NUL, where there is one in the list, else LF.
 fn separator(list: &str) -> char
     ensures code { result ≡ separator_of list.now }
     ensures low { result < 128 }
 {
-    if list.as_bytes().iter().any(|byte| *byte == 0) {
-        '\0'
-    } else {
-        '\n'
+    if has_nul(list.as_bytes()) {
+        return '\0';
     }
+    '\n'
 }
 
 /// Appends a name, if it isn't empty.

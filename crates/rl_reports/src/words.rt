@@ -6,7 +6,7 @@ ghost use Rattle.rl_reports.specs.declared.flags.Next.TheVariants as next;
 ghost use Rattle.rl_reports.specs.declared.flags.Operand.{Operand};
 ghost use Rattle.rl_reports.specs.declared.flags.Operand.TheVariants as takes;
 ghost use Rattle.rl_reports.specs.declared.words.WordError.TheVariants.{Memory};
-ghost use Rattle.rl_reports.specs.Words.{nothing_named, IsKindWord, AreKindWords, IsUnknownKind, is_path_word, taken_by as flag_before, next_after as follows, NamesLetter, NamesUnknown, AreLetters, AreRejectedLetters, first_wishes, wishes_of, wishes_in, MayStand, with_kinds, with_path, with_text, with_pattern, with_list, IsWithoutDot, IsAdded, IsTaken, IsStep, Asks, IsRejectedFlag, IsRejectedText, IsRejectedJoined, IsRejectedWord, IsMissing, AreRejected};
+ghost use Rattle.rl_reports.specs.Words.{IsKindWord, AreKindWords, IsUnknownKind, is_path_word, taken_by as flag_before, next_after as follows, NamesLetter, NamesUnknown, AreLetters, AreRejectedLetters, first_wishes, wishes_of, wishes_in, MayStand, with_kinds, with_path, with_text, with_pattern, with_list, IsWithoutDot, IsAdded, IsTaken, IsStep, Asks, IsRejectedFlag, IsRejectedText, IsRejectedJoined, IsRejectedWord, IsMissing, AreRejected};
 
 use crate::command::{Command, Output, PlaceForm, Wish};
 use crate::flags::{
@@ -452,7 +452,7 @@ impl<'a, A: Allocator + Copy> Asked<'a, A> {
 
 /// What is asked for where nothing is said.
 fn first_command<'a>(has_colors: bool) -> Command<'a>
-    ensures { wishes_of result nothing_named ≡ first_wishes has_colors }
+    ensures { wishes_of result [] [] [] ≡ first_wishes has_colors }
 {
     Command {
         wish: Wish::Scan,

@@ -1,6 +1,9 @@
 use Rattle.rl_files.specs.Walks.{visited}
-use Rattle.rl_reports.proofs.RunLemmas.{ran_front, ran_more, ran_some}
+use Rattle.rl_reports.proofs.RunLemmas.{ran_front, ran_more, ran_some, ran_start}
 use Rattle.rl_reports.proofs.runs.run.Goals as goal
+
+pub loop-init : goal.loop-init
+loop-init g c = ran_start c.args.command (g.T.Tree.holds c.args.tree.now) c.args.walk.now _ _
 
 pub loop-preserved : goal.loop-preserved
 loop-preserved g c = ran_more c.args.command (g.T.Tree.holds c.args.tree.now) c.args.walk.now c.loop.walk
