@@ -1,7 +1,8 @@
 //! A call of the program, and how it ends.
 
-ghost use Rattle.std.specs.Prelude.{MatchOption};
-ghost use Rattle.rl_commands.specs.Endings.{AskForText, EndsAs, EndsText};
+ghost use Rattle.std.specs.Prelude.{◌≡◌};
+ghost use Rattle.std.specs.Option.{is_some};
+ghost use Rattle.rl_commands.specs.Endings.{asks_for_text, is_text_word, EndsAs, EndsText};
 
 use crate::command::Command;
 use crate::run::run;
@@ -39,16 +40,25 @@ Examples:
 /// Which version it is.
 const VERSION: &str = "rl_tool 0.2.0\n";
 
-/// The text that the arguments ask for: how the program is used, or its version.
+/// The text that a word asks for: how the program is used, or its version.
+fn text_of_word(word: &str) -> Option<&'static str>
+    ensures { is_some result ≡ is_text_word word.now }
+{
+    if word == "--help" || word == "-h" {
+        return Some(HELP);
+    }
+    if word == "--version" || word == "-V" {
+        return Some(VERSION);
+    }
+    None
+}
+
+/// The text that the arguments ask for.
 fn text_asked<A: Allocator>(args: &[String<A>]) -> Option<&'static str>
-    ensures { MatchOption result (AskForText args.now → ⊥) (λ text. AskForText args.now) }
+    ensures { is_some result ≡ asks_for_text args.now }
 {
     match args {
-        [_, word] => match word.as_str() {
-            "--help" | "-h" => Some(HELP),
-            "--version" | "-V" => Some(VERSION),
-            _ => None,
-        },
+        [_, word] => text_of_word(word.as_str()),
         _ => None,
     }
 }
