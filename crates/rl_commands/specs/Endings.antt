@@ -1,5 +1,6 @@
 -- How a call of the program ends.
-use Rattle.std.specs.Prelude.{◌≡◌, ◌⊎◌, ℕ, List, [], ◌∷◌, codes, String, string_bytes, Option, IfSome}
+use Rattle.std.specs.Prelude.{◌≡◌, ◌⊎◌, ℕ, Bool, true, false, ◌||◌, List, [], ◌∷◌, codes, String, string_bytes, Option, IfSome}
+use Rattle.std.specs.Str.{bytes_eq}
 use Rattle.std.specs.Io.KnownBytes.{Appends, Keeps}
 use Rattle.rl_program.specs.Streams.{AppendsBeginning}
 use Rattle.rl_program.specs.declared.fault.Fault.TheVariants.{Write}
@@ -14,18 +15,24 @@ use Rattle.rl_commands.specs.Runs.{Prints, IsErrorOf}
 abbrev pub usage_line : List ℕ
 usage_line = codes "usage: rl_tool text|read|attr"
 
--- the arguments are a program's own name and the word that asks how it is used
-abbrev pub AskForHelp : {A : Type 0} → List (String A) → Type 0
-AskForHelp [] = ⊥
-AskForHelp (program ∷ []) = ⊥
-AskForHelp (program ∷ word ∷ []) = string_bytes word ≡ codes "--help"
-AskForHelp (program ∷ word ∷ other ∷ others) = ⊥
+-- the word asks how the program is used, or which version it is
+abbrev pub is_text_word : List ℕ → Bool
+is_text_word word =
+    bytes_eq word (codes "--help") || bytes_eq word (codes "-h") || bytes_eq word (codes "--version")
+    || bytes_eq word (codes "-V")
 
--- How a call ends that asks so: with how the program is used, of which a beginning was written where a write failed.
-abbrev pub EndsHelp : {B : Type 0} → Option (List ℕ) → Option (List ℕ) → Ending (Fault B) → Type 0
-EndsHelp old new Done = (text : List ℕ) × Appends old new text
-EndsHelp old new (Failed Write) = (text : List ℕ) × AppendsBeginning old new text
-EndsHelp old new _ = ⊥
+-- the arguments are a program's own name and such a word
+abbrev pub asks_for_text : {A : Type 0} → List (String A) → Bool
+asks_for_text [] = false
+asks_for_text (program ∷ []) = false
+asks_for_text (program ∷ word ∷ []) = is_text_word (string_bytes word)
+asks_for_text (program ∷ word ∷ other ∷ others) = false
+
+-- How a call ends that asks so: with the text, of which a beginning was written where a write failed.
+abbrev pub EndsText : {B : Type 0} → Option (List ℕ) → Option (List ℕ) → Ending (Fault B) → Type 0
+EndsText old new Done = (text : List ℕ) × Appends old new text
+EndsText old new (Failed Write) = (text : List ℕ) × AppendsBeginning old new text
+EndsText old new _ = ⊥
 
 -- How a call ends that asks for a command: with what that does; or, where the arguments ask for none, with how the
 -- program is used, and nothing is written.
@@ -45,5 +52,5 @@ EndsCommand args input old new (Failed fault) =
 abbrev pub EndsAs : {A B : Type 0} → List (String A) → Option (List ℕ) → Option (List ℕ)
     → Option (List ℕ) → Ending (Fault B) → Type 0
 EndsAs args input old new ending =
-    (AskForHelp args × EndsHelp old new ending)
-    ⊎ ((AskForHelp args → ⊥) × EndsCommand args input old new ending)
+    ((asks_for_text args ≡ true) × EndsText old new ending)
+    ⊎ ((asks_for_text args ≡ false) × EndsCommand args input old new ending)

@@ -1,3 +1,5 @@
 pub mod HostLemmas
 pub mod WalkLemmas
 pub mod VisibleLemmas
+pub mod GlobLemmas
+pub mod PartLemmas

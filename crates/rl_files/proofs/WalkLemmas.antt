@@ -11,7 +11,7 @@ use Rattle.rl_files.specs.Trees.{World, string_texts}
 use Rattle.rl_files.specs.declared.walk.Selection.{Selection}
 use Rattle.rl_files.specs.declared.tree.PathError.{PathError}
 use Rattle.rl_files.specs.declared.tree.PathError.TheVariants.{NotADirectory, OutOfMemory, NameNotUtf8}
-use Rattle.rl_files.specs.Walks.{Spot, AtDirectory, AtFile, AtBadName, Visited, FileAt, ErrorAt, Visits, VisitsNothing, VisitsFile, VisitsBadName, EntersDirectory, MissesDirectory, IsGivenFile, WalksOn, VisitsFirst, VisitsNone, EntersInOrder, spots_in}
+use Rattle.rl_files.specs.Walks.{Spot, AtDirectory, AtFile, AtBadName, Visited, FileAt, ErrorAt, Visits, VisitsNothing, VisitsFile, VisitsBadName, EntersDirectory, MissesDirectory, IsGivenFile, WalksOn, VisitsFirst, VisitsNone, EntersInOrder, base_of, spots_in}
 
 -- texts in order are lists of bytes in order
 pub texts_sorted : {A : Type 0} (xs : List (String A)) → IsSorted string_cmp xs
@@ -25,11 +25,11 @@ texts_sorted {A} (x ∷ xs) h k d low high =
     rw (second, first) (h k x low short)
 
 -- names that were sorted and gone to
-pub enters : {A : Type 0} (selection : Selection) (directory : List ℕ) (names sorted : List (String A)) (old new : List Spot)
+pub enters : {A : Type 0} (selection : Selection) (from : ℕ) (directory : List ℕ) (names sorted : List (String A)) (old new : List Spot)
     → IsPermutation names sorted → IsSorted string_cmp sorted → new
-    ≡ spots_in selection directory (string_texts sorted)
-    ++ old → EntersInOrder selection directory (string_texts names) old new
-enters {A} selection directory names sorted old new same inorder is = (
+    ≡ spots_in selection from directory (string_texts sorted)
+    ++ old → EntersInOrder selection from directory (string_texts names) old new
+enters {A} selection from directory names sorted old new same inorder is = (
   string_texts sorted,
   (
     IsPermutation-map (λ (s : String A). string_bytes s) names sorted same,
@@ -59,7 +59,7 @@ go_bad_name selection (Some w) old mid rest path on is = λ visited m. on (Error
     (subst (λ (z : List Spot). Visits selection w z (ErrorAt path NameNotUtf8 ∷ visited)) (sym is) (VisitsBadName m))
 
 -- a directory is first, and can't be gone into
-pub go_missing : (selection : Selection) (holds : Option World) (old mid rest : List Spot) (given : Bool) (path : List ℕ) (why : PathError)
+pub go_missing : (selection : Selection) (holds : Option World) (old mid rest : List Spot) (given : Option ℕ) (path : List ℕ) (why : PathError)
     → WalksOn selection holds old mid → mid ≡ AtDirectory given path ∷ rest → (why ≡ OutOfMemory)
     ⊎ IfSome holds (λ w. w.names path ≡ Err why) → VisitsFirst selection holds old (ErrorAt path why) rest
 go_missing selection None old mid rest given path why on is found = tt
@@ -67,19 +67,19 @@ go_missing selection (Some w) old mid rest given path why on is found = λ visit
     (subst (λ (z : List Spot). Visits selection w z (ErrorAt path why ∷ visited)) (sym is) (MissesDirectory why found m))
 
 -- what an argument names is first, and is no directory
-pub go_given : (selection : Selection) (holds : Option World) (old mid rest : List Spot) (given : Bool) (path : List ℕ) → WalksOn selection holds old mid
-    → mid ≡ AtDirectory given path ∷ rest → given ≡ true → (NotADirectory ≡ OutOfMemory)
+pub go_given : (selection : Selection) (holds : Option World) (old mid rest : List Spot) (given : Option ℕ) (path : List ℕ) → WalksOn selection holds old mid
+    → mid ≡ AtDirectory given path ∷ rest → given ≡ None → (NotADirectory ≡ OutOfMemory)
     ⊎ IfSome holds (λ w. w.names path ≡ Err NotADirectory) → VisitsFirst selection holds old (FileAt path) rest
 go_given selection holds old mid rest given path on is given_is (inl bad) = cc
 go_given selection None old mid rest given path on is given_is (inr found) = tt
 go_given selection (Some w) old mid rest given path on is given_is (inr found) = λ visited m. on (FileAt path ∷ visited)
     (subst (λ (z : List Spot). Visits selection w z (FileAt path ∷ visited))
-    (sym (is ∙ ap (λ (b : Bool). AtDirectory b path ∷ rest) given_is)) (IsGivenFile found m))
+    (sym (is ∙ ap (λ (b : Option ℕ). AtDirectory b path ∷ rest) given_is)) (IsGivenFile found m))
 
 -- a directory is first, and is gone into
-pub go_enter : (selection : Selection) (holds : Option World) (old mid rest new : List Spot) (given : Bool) (path : List ℕ)
+pub go_enter : (selection : Selection) (holds : Option World) (old mid rest new : List Spot) (given : Option ℕ) (path : List ℕ)
     (names : List (List ℕ)) → WalksOn selection holds old mid → mid ≡ AtDirectory given path ∷ rest
-    → IfSome holds (λ w. w.names path ≡ Ok names) → EntersInOrder selection path names rest new → WalksOn selection holds old new
+    → IfSome holds (λ w. w.names path ≡ Ok names) → EntersInOrder selection (base_of given path) path names rest new → WalksOn selection holds old new
 go_enter selection None old mid rest new given path names on is found enters = tt
 go_enter selection (Some w) old mid rest new given path names on is found (sorted, order, new_is) = λ visited m. on visited
     (subst (λ (z : List Spot). Visits selection w z visited) (sym is) (EntersDirectory names sorted found order

@@ -2,3 +2,5 @@ pub mod Trees
 pub mod Walks
 pub mod MemoryTrees
 pub mod Visible
+pub mod Globs
+pub mod GlobStops

@@ -1,5 +1,5 @@
 -- A walk of a tree: which files are visited, and in which order.
-use Rattle.std.specs.Prelude.{◌≡◌, ◌⊎◌, ℕ, ◌==◌, Bool, true, false, cond, not, ◌&&◌, ◌||◌, ◌-◌, List, [], ◌∷◌, ◌++◌, map, take, length, codes, string_bytes, Option, IfSome}
+use Rattle.std.specs.Prelude.{◌≡◌, ◌⊎◌, ℕ, ◌==◌, Bool, true, false, cond, not, ◌&&◌, ◌||◌, ◌+◌, ◌-◌, List, [], ◌∷◌, ◌++◌, map, take, drop, length, codes, string_bytes, Option, Some, None, IfSome}
 use Rattle.std.specs.Fmt.{decimal}
 use Rattle.std.specs.List.{starts_with, ends_with, flat_map, list_any}
 use Rattle.std.specs.Str.{bytes_eq}
@@ -16,6 +16,7 @@ use Rattle.rl_files.specs.declared.walk.Pending.TheVariants.{Directory, File, Ba
 use Rattle.rl_files.specs.declared.walk.Selection.{Selection}
 use Rattle.rl_files.specs.declared.walk.Visit.{Visit}
 use Rattle.rl_files.specs.declared.walk.Visit.TheVariants as visit
+use Rattle.rl_files.specs.Globs.{is_excluded, texts}
 use Rattle.rl_files.specs.Trees.{World}
 
 -- why a path can't be read
@@ -54,21 +55,25 @@ abbrev pub is_left_out : Bool → List ℕ → Bool
 is_left_out in_package name =
     starts_with ◌==◌ name (codes ".") || (in_package && bytes_eq name (codes "target/"))
 
--- A walk goes on to directories that aren't left out, and to all where all are wanted; and to files of the extension; a name
+-- the name ends with a dot and one of these
+abbrev pub has_one_of : List (List ℕ) → List ℕ → Bool
+has_one_of extensions name = list_any (λ extension. has_extension extension name) extensions
+
+-- A walk goes on to directories that aren't left out, and to all where all are wanted; and to files of an extension; a name
 -- that is no text is visited too.
 abbrev pub is_wanted : Selection → Bool → List ℕ → Bool
 is_wanted selection in_package name = cond (is_directory name)
     (selection.all || not (is_left_out in_package name))
-    (has_extension selection.extension.now name || (length name == 0))
+    (has_one_of (texts selection.extensions.now) name || (length name == 0))
 
 -- the path of a name in a directory
 abbrev pub path_in : List ℕ → List ℕ → List ℕ
 path_in directory name = cond (is_directory directory) directory (directory ++ codes "/") ++ name
 
--- What a walk has still to go to: a directory, or what an argument names and may be a file; a file; a
--- name in a directory that is no text.
+-- What a walk has still to go to: a directory, and how many bytes of its path are those of the directory that an argument
+-- names, or none where it is that itself and may be a file; a file; a name in a directory that is no text.
 pub data Spot : Type 0 where
-  AtDirectory : (is_given : Bool) → (path : List ℕ) → Spot
+  AtDirectory : (from : Option ℕ) → (path : List ℕ) → Spot
   AtFile : (path : List ℕ) → Spot
   AtBadName : (directory : List ℕ) → Spot
 
@@ -78,7 +83,7 @@ pub data Visited : Type 0 where
   ErrorAt : (path : List ℕ) → (why : PathError) → Visited
 
 abbrev pub spot : {A : Type 0} → Pending A → Spot
-spot (Directory is_given path) = AtDirectory is_given (string_bytes path)
+spot (Directory from path) = AtDirectory from (string_bytes path)
 spot (File path) = AtFile (string_bytes path)
 spot (BadName directory) = AtBadName (string_bytes directory)
 
@@ -88,17 +93,33 @@ visited (visit.Failed path why) = ErrorAt (string_bytes path) why
 
 -- where a walk goes to for what arguments name
 abbrev pub given_spots : List (List ℕ) → List Spot
-given_spots paths = map (λ path. AtDirectory true path) paths
+given_spots paths = map (λ path. AtDirectory None path) paths
 
--- where a walk goes to for a name in a directory
-abbrev pub spots_of : Selection → Bool → List ℕ → List ℕ → List Spot
-spots_of selection in_package directory name = cond (is_wanted selection in_package name)
-    (cond (is_directory name) (AtDirectory false (path_in directory name))
-    (cond (length name == 0) (AtBadName directory) (AtFile (path_in directory name))) ∷ []) []
+-- how many bytes of the paths in a directory are those of the directory that an argument names, and its slash
+abbrev pub base_of : Option ℕ → List ℕ → ℕ
+base_of None path = cond (is_directory path) (length path) (length path + 1)
+base_of (Some from) path = from
+
+-- where a walk goes to that goes on to a name in a directory
+abbrev pub spot_of : ℕ → List ℕ → List ℕ → Spot
+spot_of from directory name = cond (is_directory name) (AtDirectory (Some from) (path_in directory name))
+    (cond (length name == 0) (AtBadName directory) (AtFile (path_in directory name)))
+
+-- a pattern that is to be left out matches the path of a name, without so many bytes of it
+abbrev pub is_pruned : Selection → ℕ → List ℕ → List ℕ → Bool
+is_pruned selection from directory name =
+    is_excluded (texts selection.excludes.now) (drop from (path_in directory name))
+
+-- where a walk goes to for a name in a directory: to what is wanted, and isn't excluded
+abbrev pub spots_of : Selection → Bool → ℕ → List ℕ → List ℕ → List Spot
+spots_of selection in_package from directory name =
+    cond (is_wanted selection in_package name && not (is_pruned selection from directory name))
+    (spot_of from directory name ∷ []) []
 
 -- where it goes to for names in a directory
-abbrev pub spots_in : Selection → List ℕ → List (List ℕ) → List Spot
-spots_in selection directory names = flat_map (spots_of selection (are_of_package names) directory) names
+abbrev pub spots_in : Selection → ℕ → List ℕ → List (List ℕ) → List Spot
+spots_in selection from directory names =
+    flat_map (spots_of selection (are_of_package names) from directory) names
 
 -- these are the same names, in the order of their bytes
 abbrev pub IsOrderOf : List (List ℕ) → List (List ℕ) → Type 0
@@ -112,17 +133,17 @@ pub data Visits (selection : Selection) (w : World) : List Spot → List Visited
       → Visits selection w (AtFile path ∷ rest) (FileAt path ∷ visits)
   VisitsBadName : {directory : List ℕ} {rest : List Spot} {visits : List Visited} → Visits selection w rest visits
       → Visits selection w (AtBadName directory ∷ rest) (ErrorAt directory NameNotUtf8 ∷ visits)
-  EntersDirectory : {is_given : Bool} {path : List ℕ} {rest : List Spot} {visits : List Visited}
+  EntersDirectory : {from : Option ℕ} {path : List ℕ} {rest : List Spot} {visits : List Visited}
       (names sorted : List (List ℕ))
       → w.names path ≡ Ok names → IsOrderOf names sorted
-      → Visits selection w (spots_in selection path sorted ++ rest) visits
-      → Visits selection w (AtDirectory is_given path ∷ rest) visits
-  MissesDirectory : {is_given : Bool} {path : List ℕ} {rest : List Spot} {visits : List Visited} (why : PathError)
+      → Visits selection w (spots_in selection (base_of from path) path sorted ++ rest) visits
+      → Visits selection w (AtDirectory from path ∷ rest) visits
+  MissesDirectory : {from : Option ℕ} {path : List ℕ} {rest : List Spot} {visits : List Visited} (why : PathError)
       → (why ≡ OutOfMemory) ⊎ (w.names path ≡ Err why) → Visits selection w rest visits
-      → Visits selection w (AtDirectory is_given path ∷ rest) (ErrorAt path why ∷ visits)
+      → Visits selection w (AtDirectory from path ∷ rest) (ErrorAt path why ∷ visits)
   IsGivenFile : {path : List ℕ} {rest : List Spot} {visits : List Visited} → w.names path ≡ Err NotADirectory
       → Visits selection w rest visits
-      → Visits selection w (AtDirectory true path ∷ rest) (FileAt path ∷ visits)
+      → Visits selection w (AtDirectory None path ∷ rest) (FileAt path ∷ visits)
 
 -- whatever is visited from the new places on is visited from the old ones on
 abbrev pub WalksOn : Selection → Option World → List Spot → List Spot → Type 0
@@ -138,7 +159,7 @@ abbrev pub VisitsNone : Selection → Option World → List Spot → Type 0
 VisitsNone selection holds old = IfSome holds (λ w. Visits selection w old [])
 
 -- a walk goes to the names in a directory, in the order of their bytes, before the other places
-abbrev pub EntersInOrder : Selection → List ℕ → List (List ℕ) → List Spot → List Spot → Type 0
-EntersInOrder selection directory names old new =
+abbrev pub EntersInOrder : Selection → ℕ → List ℕ → List (List ℕ) → List Spot → List Spot → Type 0
+EntersInOrder selection from directory names old new =
     (sorted : List (List ℕ)) × IsOrderOf names sorted
-    × (new ≡ spots_in selection directory sorted ++ old)
+    × (new ≡ spots_in selection from directory sorted ++ old)

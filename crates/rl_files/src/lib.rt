@@ -1,12 +1,14 @@
 //! Trees of files: what a path holds, and which files a walk visits, in which order.
 #![tactic(auto)]
 
+mod glob;
 mod host;
 mod memory;
 mod tree;
 mod visible;
 mod walk;
 
+pub use crate::glob::is_excluded;
 pub use crate::host::{Host, LONGEST};
 pub use crate::memory::{MemoryDirectory, MemoryFile, MemoryTree};
 pub use crate::tree::{PathError, Tree};

@@ -1,11 +1,12 @@
 //! A walk of a tree: which files are visited, and in which order.
 
-ghost use Rattle.std.specs.Prelude.{◌≡◌, Bool, true, [], ◌∷◌, ◌++◌, OnOk, IfOk, MatchOption, string_bytes};
+ghost use Rattle.std.specs.Prelude.{◌≡◌, ◌≢◌, None, [], ◌∷◌, ◌++◌, drop, OnOk, IfOk, MatchBool, MatchOption, string_bytes};
+ghost use Rattle.rl_files.specs.Globs.{is_excluded as excluded, texts};
 ghost use Rattle.rl_files.specs.declared.walk.Pending.TheVariants.{Directory};
 ghost use Rattle.rl_files.specs.Trees.{string_texts};
-ghost use Rattle.rl_files.specs.declared.walk.Selection.{Selection};
-ghost use Rattle.rl_files.specs.Walks.{has_extension as has_ending, are_of_package as of_package, is_left_out as left_out, is_wanted as wanted, is_directory as directory, path_in as path_of, spot, visited, spots_of, spots_in, given_spots, Spot, EntersInOrder, WalksOn, VisitsFirst, VisitsNone};
+ghost use Rattle.rl_files.specs.Walks.{has_extension as has_ending, are_of_package as of_package, is_left_out as left_out, is_wanted as wanted, has_one_of as has_ending_of, is_directory as directory, base_of as base, path_in as path_of, spot, spot_of, visited, spots_of, spots_in, given_spots, EntersInOrder, WalksOn, VisitsFirst, VisitsNone};
 
+use crate::glob::is_excluded;
 use crate::tree::{PathError, Tree};
 use std::alloc::{AllocError, Allocator, Global};
 use std::fmt;
@@ -19,15 +20,18 @@ const TURNS: u32 = u32::MAX;
 pub struct Selection<'a> {
     /// Whether those of hidden directories are read too, and those of `target` in a package of Cargo.
     pub all: bool,
-    /// What their names end with after a dot.
-    pub extension: &'a str,
+    /// What their names end with after a dot: one of these.
+    pub extensions: &'a [&'a str],
+    /// What is left out: what one of these patterns matches, from the directory on that an argument names.
+    pub excludes: &'a [&'a str],
 }
 
 /// What a walk has still to go to.
 #[derive(Drop)]
 pub enum Pending<A: Allocator = Global> {
-    /// A directory; one that an argument names may be a file.
-    Directory(bool, String<A>),
+    /// A directory, and how many bytes of its path are those of the one that an argument names; or what an argument names, which
+    /// may be a file.
+    Directory(Option<usize>, String<A>),
     /// A file.
     File(String<A>),
     /// A name in a directory that isn't UTF-8.
@@ -98,6 +102,20 @@ fn has_extension(extension: &str, name: &str) -> bool
     bytes.ends_with(ending) && bytes[..bytes.len() - ending.len()].ends_with(b".".as_slice())
 }
 
+/// Whether a name ends with a dot and one of these.
+fn has_one_of(extensions: &[&str], name: &str) -> bool
+    ensures { result ≡ has_ending_of (texts extensions.now) name.now }
+{
+    let mut rest = extensions;
+    while let [extension, after @ ..] = rest {
+        if has_extension(extension, name) {
+            return true;
+        }
+        rest = after;
+    }
+    false
+}
+
 /// Whether names are those of a directory that holds a package of Cargo.
 fn are_of_package<A: Allocator>(names: &[String<A>]) -> bool
     ensures { result ≡ of_package (string_texts names.now) }
@@ -126,7 +144,7 @@ fn is_wanted(selection: Selection<'_>, in_package: bool, name: &str) -> bool
     if is_directory(name) {
         selection.all || !is_left_out(in_package, name)
     } else {
-        has_extension(selection.extension, name) || name.as_bytes().len() == 0
+        has_one_of(selection.extensions, name) || name.as_bytes().len() == 0
     }
 }
 
@@ -142,19 +160,59 @@ fn path_in<A: Allocator>(alloc: A, directory: &str, name: &str) -> Result<String
     Ok(path)
 }
 
-/// Where a walk goes to for a wanted name in a directory.
-fn pending_of<A: Allocator>(alloc: A, directory: &str, name: &str) -> Result<Pending<A>, AllocError>
-    ensures { IfOk result (λ pending. (selection : Selection) → (in_package : Bool)
-        → wanted selection in_package name.now ≡ true
-        → spots_of selection in_package directory.now name.now ≡ spot pending ∷ []) }
+/// Whether this is what an argument names, and not a directory in it.
+fn is_given(from: Option<usize>) -> bool
+    ensures { MatchBool result (from ≡ None) (from ≢ None) }
+{
+    from.is_none()
+}
+
+/// How many bytes of the paths in a directory are those of the directory that an argument names.
+fn base_of(from: Option<usize>, path: &str) -> usize
+    ensures { result ≡ base from path.now }
+{
+    match from {
+        Some(from) => from,
+        None if is_directory(path) => path.len(),
+        None => path.len() + 1,
+    }
+}
+
+/// The bytes from one on.
+fn bytes_from(bytes: &[u8], from: usize) -> &[u8]
+    ensures { result.now ≡ drop from bytes.now }
+{
+    if from > bytes.len() {
+        return &bytes[bytes.len()..];
+    }
+    &bytes[from..]
+}
+
+/// Whether a pattern that is to be left out matches the path of a name in a directory.
+fn is_pruned(selection: Selection<'_>, from: usize, path: &str) -> bool
+    ensures { result ≡ excluded (texts selection.entry.excludes.now) (drop from path.now) }
+{
+    is_excluded(selection.excludes, bytes_from(path.as_bytes(), from))
+}
+
+/// Where a walk goes to for a name in a directory, at this path.
+fn pending_of<A: Allocator>(
+    alloc: A,
+    from: usize,
+    directory: &str,
+    name: &str,
+    path: String<A>,
+) -> Result<Pending<A>, AllocError>
+    requires { string_bytes path ≡ path_of directory.now name.now }
+    ensures { IfOk result (λ pending. spot pending ≡ spot_of from directory.now name.now) }
 {
     if is_directory(name) {
-        return Ok(Pending::Directory(false, path_in(alloc, directory, name)?));
+        return Ok(Pending::Directory(Some(from), path));
     }
     if name.len() == 0 {
         return Ok(Pending::BadName(String::from_str(alloc, directory)?));
     }
-    Ok(Pending::File(path_in(alloc, directory, name)?))
+    Ok(Pending::File(path))
 }
 
 impl<A: Allocator> Walk<A> {
@@ -177,9 +235,9 @@ impl<A: Allocator> Walk<A> {
 
     /// Goes to what an argument names before the other places.
     fn push_given(&mut self, path: String<A>) -> Result<(), AllocError>
-        ensures { OnOk result (self.new ≡ spot (Directory true path) ∷ self.old) }
+        ensures { OnOk result (self.new ≡ spot (Directory None path) ∷ self.old) }
     {
-        self.push(Pending::Directory(true, path))
+        self.push(Pending::Directory(None, path))
     }
 
     /// A walk of what these paths name, in their order.
@@ -212,16 +270,23 @@ impl<A: Allocator> Walk<A> {
         alloc: A,
         selection: Selection<'_>,
         in_package: bool,
+        from: usize,
         directory: &str,
         name: &str,
     ) -> Result<(), AllocError>
+    where
+        A: Copy,
         ensures { OnOk result (self.new
-            ≡ spots_of selection.entry in_package directory.now name.now ++ self.old) }
+            ≡ spots_of selection.entry in_package from directory.now name.now ++ self.old) }
     {
         if !is_wanted(selection, in_package, name) {
             return Ok(());
         }
-        let pending = pending_of(alloc, directory, name)?;
+        let path = path_in(alloc, directory, name)?;
+        if is_pruned(selection, from, path.as_str()) {
+            return Ok(());
+        }
+        let pending = pending_of(alloc, from, directory, name, path)?;
         self.push(pending)
     }
 
@@ -230,17 +295,18 @@ impl<A: Allocator> Walk<A> {
         &mut self,
         alloc: A,
         selection: Selection<'_>,
+        from: usize,
         directory: &str,
         names: &mut Vec<String<A>, A>,
     ) -> Result<(), AllocError>
     where
         A: Copy,
         ensures { OnOk result (self.new
-            ≡ spots_in selection.entry directory.now (string_texts names.old.items) ++ self.old) }
+            ≡ spots_in selection.entry from directory.now (string_texts names.old.items) ++ self.old) }
     {
         let in_package = are_of_package(names.as_slice());
         while let Some(name) = names.pop() {
-            self.push_name(alloc, selection, in_package, directory, name.as_str())?;
+            self.push_name(alloc, selection, in_package, from, directory, name.as_str())?;
         }
         Ok(())
     }
@@ -250,16 +316,17 @@ impl<A: Allocator> Walk<A> {
         &mut self,
         alloc: A,
         selection: Selection<'_>,
+        from: usize,
         directory: &str,
         names: &mut Vec<String<A>, A>,
     ) -> Result<(), AllocError>
     where
         A: Copy,
         ensures { OnOk result
-            (EntersInOrder selection.entry directory.now (string_texts names.old.items) self.old self.new) }
+            (EntersInOrder selection.entry from directory.now (string_texts names.old.items) self.old self.new) }
     {
         names.sort_unstable();
-        self.push_names(alloc, selection, directory, names)?;
+        self.push_names(alloc, selection, from, directory, names)?;
         Ok(())
     }
 
@@ -288,12 +355,17 @@ impl<A: Allocator> Walk<A> {
                 Pending::BadName(directory) => {
                     return Ok(Some(Visit::Failed(directory, PathError::NameNotUtf8)));
                 }
-                Pending::Directory(is_given, path) => match tree.names(alloc, path.as_str()) {
-                    Ok(mut names) => match self.enter(alloc, selection, path.as_str(), &mut names) {
-                        Ok(()) => {}
-                        Err(_) => return Err(WalkError::OutOfMemory),
-                    },
-                    Err(PathError::NotADirectory) if is_given => return Ok(Some(Visit::File(path))),
+                Pending::Directory(from, path) => match tree.names(alloc, path.as_str()) {
+                    Ok(mut names) => {
+                        let base = base_of(from, path.as_str());
+                        match self.enter(alloc, selection, base, path.as_str(), &mut names) {
+                            Ok(()) => {}
+                            Err(_) => return Err(WalkError::OutOfMemory),
+                        }
+                    }
+                    Err(PathError::NotADirectory) if is_given(from) => {
+                        return Ok(Some(Visit::File(path)));
+                    }
                     Err(why) => return Ok(Some(Visit::Failed(path, why))),
                 },
             }

@@ -1,6 +1,7 @@
 -- How a call ends.
-use Rattle.rl_text.proofs.Common.{Bool, List, None, Option, Some, [], refl, subst, sym, ℕ, ◌≡◌}
+use Rattle.rl_text.proofs.Common.{Bool, Bor, List, None, Option, Some, [], ap, inl, inr, length, length-map, not, refl, string_bytes, subst, sym, ℕ, ◌==◌, ◌≡◌}
 use Rattle.std.specs.Prelude.{IfSome, String}
+use Rattle.rl_files.specs.Trees.{string_texts}
 use Rattle.std.specs.Io.KnownBytes.{Keeps}
 use Rattle.std.proofs.KnownBytes.{Appends-nil}
 use Rattle.rl_files.specs.Trees.{World}
@@ -14,12 +15,12 @@ use Rattle.rl_reports.specs.declared.command.Command.{Command}
 use Rattle.rl_reports.specs.declared.command.Console.{Console}
 use Rattle.rl_reports.specs.declared.words.WordError.{WordError}
 use Rattle.rl_reports.specs.declared.ending.CallError.{CallError}
-use Rattle.rl_reports.specs.declared.ending.CallError.TheVariants.{NoArguments, Word, Walk, Write}
+use Rattle.rl_reports.specs.declared.ending.CallError.TheVariants.{NoArguments, Word, Walk, List as NoList, NoFile, Write}
 use Rattle.rl_reports.specs.Reports.{nothing}
 use Rattle.rl_reports.specs.Runs.{Streams, WritesFront}
 use Rattle.rl_files.specs.declared.walk.WalkError.{WalkError}
 use Rattle.rl_reports.specs.Words.{Wishes, wishes_of}
-use Rattle.rl_reports.specs.Endings.{paths_read, AskForWishes, EndsText, EndsWish, EndsAsked, EndsAsScan}
+use Rattle.rl_reports.specs.Endings.{AskForWishes, EndsText, EndsWish, EndsAsked, EndsAsScan, EndsFrom, EndsPaths, EndsScan, IsCommandFor, IsSelecting}
 
 -- what wasn't written to is kept
 pub keeps_same : (a : Option (List ℕ)) → Keeps a a
@@ -46,25 +47,49 @@ front_none command (Some w) spots o e =
     let more = some_visits command.selection w spots in
     ([], more.0, nothing, more.1, refl, ((0, Appends-nil o), (0, Appends-nil e)))
 
-pub ends_unstarted : (B : Type 0) (command : Command) (wishes : Wishes) (is_terminal : Bool) (holds : Option World)
-    (o e : Option (List ℕ)) (error : WalkError) → wishes.wish ≡ Scan → wishes_of command wishes.paths ≡ wishes
-    → EndsAsked {B = B} wishes is_terminal holds (record { out_old = o; out_new = o; err_old = e; err_new = e })
-    (Failed (Walk error))
-ends_unstarted B command wishes is_terminal holds o e error is same = subst
-    (λ (x : Wish). EndsWish {B = B} x wishes is_terminal holds
-    (record { out_old = o; out_new = o; err_old = e; err_new = e }) (Failed (Walk error))) (sym is)
-    (command, same, front_none command holds (given_spots (paths_read is_terminal wishes.paths)) o e)
+-- a command that selects is the one that is asked for
+pub command_for : (command selecting : Command) (extensions excludes paths : List (List ℕ))
+    → IsSelecting command extensions excludes selecting
+    → IsCommandFor (wishes_of command extensions excludes paths) selecting
+command_for command selecting extensions excludes paths is = record {
+  asked = is.same extensions excludes paths;
+  extensions_are = is.extensions_are;
+  excludes_are = is.excludes_are;
+}
+
+pub scan_ends : {B : Type 0} (command selecting : Command) (extensions excludes paths : List (List ℕ))
+    (from : Option (Bor (List ℕ))) (is_terminal : Bool) (holds : Option World) (streams : Streams)
+    (ending : Ending (CallError B)) → IsSelecting command extensions excludes selecting → selecting.files_from ≡ from
+    → EndsFrom from selecting is_terminal holds paths streams ending
+    → EndsScan (wishes_of command extensions excludes paths) is_terminal holds streams ending
+scan_ends command selecting extensions excludes paths from is_terminal holds streams ending is from_is ends = (
+  selecting,
+  command_for command selecting extensions excludes paths is,
+  subst (λ (o : Option (Bor (List ℕ))). EndsFrom o selecting is_terminal holds paths streams ending) (sym from_is) ends,
+)
 
 -- what is asked for ends so
 no_arguments : (B : Type 0) (wish : Wish) (wishes : Wishes) (is_terminal : Bool) (holds : Option World)
     (streams : Streams) → EndsWish {B = B} wish wishes is_terminal holds streams (Failed NoArguments) → ⊥
-no_arguments B Scan wishes is_terminal holds streams (command, is, never) = never
+no_arguments B Scan wishes is_terminal holds streams (command, is, ends) = go command.files_from ends
+  where
+    go : (from : Option (Bor (List ℕ)))
+        → EndsFrom {B = B} from command is_terminal holds wishes.paths streams (Failed NoArguments) → ⊥
+    go None never = never
+    go (Some file) (inl (nothing, (why, read, never))) = never
+    go (Some file) (inr (all, are, never)) = never
 no_arguments B Help wishes is_terminal holds streams (text, (never, begun), kept) = never
 no_arguments B Version wishes is_terminal holds streams (text, (never, begun), kept) = never
 
 no_word : {B : Type 0} (error : WordError B) (wish : Wish) (wishes : Wishes) (is_terminal : Bool) (holds : Option World)
     (streams : Streams) → EndsWish {B = B} wish wishes is_terminal holds streams (Failed (Word error)) → ⊥
-no_word error Scan wishes is_terminal holds streams (command, is, never) = never
+no_word {B} error Scan wishes is_terminal holds streams (command, is, ends) = go command.files_from ends
+  where
+    go : (from : Option (Bor (List ℕ)))
+        → EndsFrom {B = B} from command is_terminal holds wishes.paths streams (Failed (Word error)) → ⊥
+    go None never = never
+    go (Some file) (inl (nothing, (why, read, never))) = never
+    go (Some file) (inr (all, are, never)) = never
 no_word error Help wishes is_terminal holds streams (text, (never, begun), kept) = never
 no_word error Version wishes is_terminal holds streams (text, (never, begun), kept) = never
 
@@ -81,4 +106,6 @@ call_asked {A} {B} args console holds streams (Failed NoArguments) wishes asks e
 call_asked args console holds streams (Failed (Word error)) wishes asks ends = absurd
     (no_word error wishes.wish wishes console.input_is_terminal holds streams ends)
 call_asked args console holds streams (Failed (Walk error)) wishes asks ends = (wishes, asks, ends)
+call_asked args console holds streams (Failed (NoList file why)) wishes asks ends = (wishes, asks, ends)
+call_asked args console holds streams (Failed NoFile) wishes asks ends = (wishes, asks, ends)
 call_asked args console holds streams (Failed Write) wishes asks ends = (wishes, asks, ends)

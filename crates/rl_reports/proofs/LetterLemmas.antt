@@ -4,13 +4,13 @@ use Rattle.std.specs.Prelude.{IfErr, OnOk}
 use Rattle.std.specs.declared.result.Result.{Result}
 use Rattle.std.specs.declared.result.Result.TheVariants.{Err, Ok}
 use Rattle.rl_reports.specs.declared.flags.Flag.{Flag}
-use Rattle.rl_reports.specs.declared.flags.Flag.TheVariants.{Bad, Hidden, Only, Find, IgnoreCase, WholeWords, Text, Json, Color, Bytes, Lines, NoStray, AnySuffix, AllDirectories, Extension, Count, Files, Quiet, Help, Version, Paths}
+use Rattle.rl_reports.specs.declared.flags.Flag.TheVariants.{Bad, Hidden, Only, Find, IgnoreCase, WholeWords, Text, Json, Color, Bytes, Lines, NoStray, AnySuffix, AllDirectories, Extension, Exclude, FilesFrom, NoMessages, Count, Files, Quiet, Help, Version, Paths}
 use Rattle.rl_reports.specs.declared.flags.Operand.{Operand}
 use Rattle.rl_reports.specs.declared.flags.Operand.TheVariants as takes
 use Rattle.rl_reports.specs.declared.flags.Next.{Next}
 use Rattle.rl_reports.specs.declared.flags.Next.TheVariants as next
 use Rattle.rl_reports.specs.declared.words.WordError.{WordError}
-use Rattle.rl_reports.specs.Words.{Wishes, AreLetters, AreRejectedLetters, IsAdded, IsLetter, IsRejectedFlag, IsRejectedJoined, IsTaken, LastLetter, LaterLetter, Letter, LetterAndText, MayStand, NamesUnknown, NoLetters, RejectedLetter, RejectedText, UnknownLetter, next_after, taken_by}
+use Rattle.rl_reports.specs.Words.{Wishes, AreLetters, AreRejectedLetters, IsAdded, IsLetter, IsRejectedFlag, IsRejectedJoined, IsTaken, LastLetter, LaterLetter, Letter, LetterAndText, MayStand, NamesLetter, NoLetters, RejectedLetter, RejectedText, StrangeLetter, next_after, taken_by}
 
 -- letters are of ASCII
 letter_low : (flag : Flag) (c : ℕ) → IsLetter flag c → c < 128
@@ -34,6 +34,9 @@ letter_low NoStray c is = absurd is
 letter_low AnySuffix c is = absurd is
 letter_low AllDirectories c is = absurd is
 letter_low Extension c is = absurd is
+letter_low Exclude c is = absurd is
+letter_low FilesFrom c is = absurd is
+letter_low NoMessages c is = absurd is
 letter_low Paths c is = absurd is
 
 -- a letter begins the bytes
@@ -155,6 +158,9 @@ letter_taken A hc word old letters now new then last rest after c flag split is 
     go AnySuffix is none added front = absurd is
     go AllDirectories is none added front = absurd is
     go Extension is none added front = absurd is
+    go Exclude is none added front = absurd is
+    go FilesFrom is none added front = absurd is
+    go NoMessages is none added front = absurd is
     go Paths is none added front = absurd is
 
 -- a letter and what it takes
@@ -198,11 +204,11 @@ letter_rejected A hc word old letters now then rest after c flag error split is 
 pub letter_unknown : (A : Type 0) (has_colors : Bool) (word : List ℕ) (old : Wishes) (letters : List ℕ)
     (now : Wishes) (then : Next) (rest after : List ℕ) (c : ℕ) (error : WordError A)
     → rest ≡ encode_utf8 c ++ after → ((flag : Flag) → IsLetter flag c → ⊥)
-    → AreLeft A has_colors word old letters now then rest → NamesUnknown word error
+    → AreLeft A has_colors word old letters now then rest → NamesLetter c word error
     → AreRejectedLetters has_colors word error old letters
 letter_unknown A hc word old letters now then rest after c error split none left names =
     let begun = still_open A hc word old letters now then rest after c split left in
-    begun.rejected error (UnknownLetter c after split none names)
+    begun.rejected error (StrangeLetter c after split none names)
 
 -- none is left
 pub letters_end : (A : Type 0) (has_colors : Bool) (word : List ℕ) (old : Wishes) (letters : List ℕ) (now : Wishes)
@@ -222,10 +228,14 @@ taken_flag Only takes.Kinds e = refl
 taken_flag Only takes.Text e = absurd (cc)
 taken_flag Only takes.Color e = absurd (cc)
 taken_flag Only takes.Extension e = absurd (cc)
+taken_flag Only takes.Pattern e = absurd (cc)
+taken_flag Only takes.List e = absurd (cc)
 taken_flag Find takes.Kinds e = absurd (cc)
 taken_flag Find takes.Text e = refl
 taken_flag Find takes.Color e = absurd (cc)
 taken_flag Find takes.Extension e = absurd (cc)
+taken_flag Find takes.Pattern e = absurd (cc)
+taken_flag Find takes.List e = absurd (cc)
 taken_flag IgnoreCase operand e = absurd (cc)
 taken_flag WholeWords operand e = absurd (cc)
 taken_flag Text operand e = absurd (cc)
@@ -234,6 +244,8 @@ taken_flag Color takes.Kinds e = absurd (cc)
 taken_flag Color takes.Text e = absurd (cc)
 taken_flag Color takes.Color e = refl
 taken_flag Color takes.Extension e = absurd (cc)
+taken_flag Color takes.Pattern e = absurd (cc)
+taken_flag Color takes.List e = absurd (cc)
 taken_flag Bytes operand e = absurd (cc)
 taken_flag Lines operand e = absurd (cc)
 taken_flag NoStray operand e = absurd (cc)
@@ -243,6 +255,21 @@ taken_flag Extension takes.Kinds e = absurd (cc)
 taken_flag Extension takes.Text e = absurd (cc)
 taken_flag Extension takes.Color e = absurd (cc)
 taken_flag Extension takes.Extension e = refl
+taken_flag Extension takes.Pattern e = absurd (cc)
+taken_flag Extension takes.List e = absurd (cc)
+taken_flag Exclude takes.Kinds e = absurd (cc)
+taken_flag Exclude takes.Text e = absurd (cc)
+taken_flag Exclude takes.Color e = absurd (cc)
+taken_flag Exclude takes.Extension e = absurd (cc)
+taken_flag Exclude takes.Pattern e = refl
+taken_flag Exclude takes.List e = absurd (cc)
+taken_flag FilesFrom takes.Kinds e = absurd (cc)
+taken_flag FilesFrom takes.Text e = absurd (cc)
+taken_flag FilesFrom takes.Color e = absurd (cc)
+taken_flag FilesFrom takes.Extension e = absurd (cc)
+taken_flag FilesFrom takes.Pattern e = absurd (cc)
+taken_flag FilesFrom takes.List e = refl
+taken_flag NoMessages operand e = absurd (cc)
 taken_flag Count operand e = absurd (cc)
 taken_flag Files operand e = absurd (cc)
 taken_flag Quiet operand e = absurd (cc)
@@ -267,6 +294,9 @@ takes_nothing NoStray none = inl refl
 takes_nothing AnySuffix none = inl refl
 takes_nothing AllDirectories none = inl refl
 takes_nothing Extension none = absurd (none takes.Extension refl)
+takes_nothing Exclude none = absurd (none takes.Pattern refl)
+takes_nothing FilesFrom none = absurd (none takes.List refl)
+takes_nothing NoMessages none = inl refl
 takes_nothing Count none = inl refl
 takes_nothing Files none = inl refl
 takes_nothing Quiet none = inl refl

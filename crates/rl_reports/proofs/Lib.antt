@@ -4,3 +4,4 @@ pub mod RunLemmas
 pub mod EndingLemmas
 pub mod MeantLemmas
 pub mod LetterLemmas
+pub mod ListedLemmas

@@ -1,5 +1,5 @@
 -- Steps of a run.
-use Rattle.rl_text.proofs.Common.{Bool, List, None, Option, Some, [], ap, append-nil, append_assoc, arith, false, inl, inr, length, not, refl, subst, suc, sym, take, take_all, true, ℕ, ◌++◌, ◌==◌, ◌||◌, ◌∙◌, ◌∷◌, ◌≡◌, ◌+◌}
+use Rattle.rl_text.proofs.Common.{Bool, List, None, Option, Some, [], ap, append-nil, append_assoc, arith, cond, false, inl, inr, length, not, refl, subst, suc, sym, take, take_all, true, ℕ, ◌++◌, ◌==◌, ◌||◌, ◌∙◌, ◌∷◌, ◌≡◌, ◌+◌}
 use Rattle.std.proofs.Common.{rules}
 use Rattle.std.proofs.Math.Seq.{take-append-add}
 use Rattle.std.specs.Prelude.{IfSome}
@@ -12,7 +12,7 @@ use Rattle.rl_files.proofs.WalkLemmas.{some_visits}
 use Rattle.rl_reports.specs.declared.command.Command.{Command}
 use Rattle.rl_reports.specs.declared.runs.Tally.{Tally}
 use Rattle.rl_reports.specs.Reports.{Findings, IsReport, AreReports, nothing, both_of}
-use Rattle.rl_reports.specs.Runs.{Streams, IsWritten, WritesReport, WritesSome, WritesFront}
+use Rattle.rl_reports.specs.Runs.{Streams, told, IsWritten, WritesReport, WritesSome, WritesFront}
 
 -- what was written so far, of what was visited so far, and what is visited from the new places on comes
 -- after it
@@ -21,7 +21,34 @@ pub record Ran (command : Command) (w : World) (old new : List Spot) (streams : 
   pub printed : Findings
   pub goes : (more : List Visited) → Visits command.selection w new more → Visits command.selection w old (visits ++ more)
   pub reports : AreReports command w visits printed
-  pub written : IsWritten streams printed tally
+  pub written : IsWritten command streams printed tally
+  pub visited : tally.visited ≡ not (length visits == 0)
+
+told_nothing : (command : Command) → told command [] ≡ []
+told_nothing command = go command.tells_errors
+  where
+    go : (t : Bool) → cond {A = List ℕ} t [] [] ≡ []
+    go true = refl
+    go false = refl
+
+-- nothing was written yet
+pub ran_start : (command : Command) (holds : Option World) (spots : List Spot) (o e : Option (List ℕ))
+    → IfSome holds (λ w. Ran command w spots spots (record { out_old = o; out_new = o; err_old = e; err_new = e })
+    (record { visited = false; found = false; failed = false }))
+ran_start command None spots o e = tt
+ran_start command (Some w) spots o e = record {
+  visits = [];
+  printed = nothing;
+  goes = λ more m. m;
+  reports = refl;
+  written = record {
+    on_out = Appends-nil o;
+    on_err = subst (λ (z : List ℕ). Appends e e z) (sym (told_nothing command)) (Appends-nil e);
+    found = refl;
+    failed = refl;
+  };
+  visited = refl;
+}
 
 -- a list with an element isn't empty
 not_empty : (n : ℕ) → not (suc n == 0) ≡ true
@@ -70,19 +97,36 @@ reports_more command w (v ∷ vs) visit done one (first, others, is_first, are, 
           r.found,
     ) refl
 
+-- both are told together
+told_both : (command : Command) (a b : List ℕ) → told command a ++ told command b ≡ told command (a ++ b)
+told_both command a b = go command.tells_errors
+  where
+    go : (t : Bool) → cond t a [] ++ cond t b [] ≡ cond t (a ++ b) []
+    go true = refl
+    go false = refl
+
 -- both writes together
-written_more : (o0 o1 o2 e0 e1 e2 : Option (List ℕ)) (done one : Findings) (before more after : Tally)
-    → IsWritten (record { out_old = o0; out_new = o1; err_old = e0; err_new = e1 }) done before
-    → IsWritten (record { out_old = o1; out_new = o2; err_old = e1; err_new = e2 }) one more
+written_more : (command : Command) (o0 o1 o2 e0 e1 e2 : Option (List ℕ)) (done one : Findings) (before more after : Tally)
+    → IsWritten command (record { out_old = o0; out_new = o1; err_old = e0; err_new = e1 }) done before
+    → IsWritten command (record { out_old = o1; out_new = o2; err_old = e1; err_new = e2 }) one more
     → after.found ≡ (before.found || more.found) → after.failed ≡ (before.failed || more.failed)
-    → IsWritten (record { out_old = o0; out_new = o2; err_old = e0; err_new = e2 }) (both_of done one) after
-written_more o0 o1 o2 e0 e1 e2 done one before more after first second found failed = record {
+    → IsWritten command (record { out_old = o0; out_new = o2; err_old = e0; err_new = e2 }) (both_of done one) after
+written_more command o0 o1 o2 e0 e1 e2 done one before more after first second found failed = record {
   on_out = Appends-trans o0 o1 o2 done.out one.out first.on_out second.on_out;
-  on_err = Appends-trans e0 e1 e2 done.errors one.errors first.on_err second.on_err;
+  on_err = subst (λ (z : List ℕ). Appends e0 e2 z) (told_both command done.errors one.errors)
+      (Appends-trans e0 e1 e2 (told command done.errors) (told command one.errors) first.on_err second.on_err);
   found = found ∙ ap (λ (z : Bool). z || more.found) first.found ∙ ap (λ (z : Bool). done.found || z) second.found;
   failed = failed ∙ ap (λ (z : Bool). z || more.failed) first.failed
       ∙ ap (λ (z : Bool). not (length done.errors == 0) || z) second.failed ∙ any_both done.errors one.errors;
 }
+
+or_true : (b : Bool) → (b || true) ≡ true
+or_true true = refl
+or_true false = refl
+
+any_more : (visits : List Visited) (visit : Visited) → not (length (visits ++ visit ∷ []) == 0) ≡ true
+any_more [] visit = not_empty 0
+any_more (v ∷ vs) visit = not_empty (length (vs ++ visit ∷ []))
 
 -- one more
 pub ran_more : (command : Command) (holds : Option World) (old mid new : List Spot) (visit : Visited)
@@ -91,19 +135,22 @@ pub ran_more : (command : Command) (holds : Option World) (old mid new : List Sp
     before)
     → VisitsFirst command.selection holds mid visit new
     → IfSome holds (λ w. WritesReport command w visit (record { out_old = o1; out_new = o2; err_old = e1; err_new = e2 }) more)
-    → after.found ≡ (before.found || more.found) → after.failed ≡ (before.failed || more.failed)
+    → after.visited ≡ (before.visited || more.visited) → after.found ≡ (before.found || more.found)
+    → after.failed ≡ (before.failed || more.failed)
     → IfSome holds (λ w. Ran command w old new (record { out_old = o0; out_new = o2; err_old = e0; err_new = e2 })
     after)
-ran_more command None old mid new visit o0 o1 o2 e0 e1 e2 before more after ran visits writes found failed = tt
-ran_more command (Some w) old mid new visit o0 o1 o2 e0 e1 e2 before more after ran visits (one, is, written) found
-    failed = record {
+ran_more command None old mid new visit o0 o1 o2 e0 e1 e2 before more after ran visits writes visited found failed = tt
+ran_more command (Some w) old mid new visit o0 o1 o2 e0 e1 e2 before more after ran visits (one, is, written, some) visited
+    found failed = record {
       visits = ran.visits ++ visit ∷ [];
       printed = both_of ran.printed one;
       goes = λ others m. subst (λ (z : List Visited). Visits command.selection w old z)
           (sym (append_assoc ran.visits (visit ∷ []) others))
           (ran.goes (visit ∷ others) (visits others m));
       reports = reports_more command w ran.visits visit ran.printed one ran.reports is;
-      written = written_more o0 o1 o2 e0 e1 e2 ran.printed one before more after ran.written written found failed;
+      written = written_more command o0 o1 o2 e0 e1 e2 ran.printed one before more after ran.written written found failed;
+      visited = visited ∙ ap (λ (z : Bool). before.visited || z) some ∙ or_true before.visited
+          ∙ sym (any_more ran.visits visit);
     }
 
 -- all of it is a beginning
@@ -137,7 +184,7 @@ ran_front command (Some w) old mid streams tally ran =
       (
         all_of streams.out_old streams.out_new ran.printed.out ran.written.on_out,
         all_of streams.err_old
-            streams.err_new ran.printed.errors ran.written.on_err,
+            streams.err_new (told command ran.printed.errors) ran.written.on_err,
       ),
     )
 
@@ -163,7 +210,7 @@ ran_some command (Some w) old mid new visit o0 o1 o2 e0 e1 e2 before ran visits 
       ran.reports,
       (
         kept o0 o1 o2 ran.printed.out ran.written.on_out same,
-        kept e0 e1 e2 ran.printed.errors ran.written.on_err
+        kept e0 e1 e2 (told command ran.printed.errors) ran.written.on_err
             quiet,
       ),
     )
@@ -177,8 +224,8 @@ ran_some command (Some w) old mid new visit o0 o1 o2 e0 e1 e2 before ran visits 
       reports_more command w ran.visits visit ran.printed one ran.reports is,
       (
         more_of o0 o1 o2 ran.printed.out one.out ran.written.on_out begun.0,
-        more_of e0 e1 e2 ran.printed.errors one.errors
-            ran.written.on_err begun.1,
+        subst (λ (z : List ℕ). AppendsBeginning e0 e2 z) (told_both command ran.printed.errors one.errors)
+            (more_of e0 e1 e2 (told command ran.printed.errors) (told command one.errors) ran.written.on_err begun.1),
       ),
     )
 
@@ -192,7 +239,7 @@ out_failed command (Some w) visit one o0 o1 e0 is begun = inr (one, is, (begun, 
 -- the second write failed
 pub err_failed : (command : Command) (holds : Option World) (visit : Visited) (one : Findings)
     (o0 o1 e0 e1 : Option (List ℕ)) → IfSome holds (λ w. IsReport command w visit one) → Appends o0 o1 one.out
-    → AppendsBeginning e0 e1 one.errors → IfSome holds (λ w. WritesSome command w visit
+    → AppendsBeginning e0 e1 (told command one.errors) → IfSome holds (λ w. WritesSome command w visit
     (record { out_old = o0; out_new = o1; err_old = e0; err_new = e1 }))
 err_failed command None visit one o0 o1 e0 e1 is all begun = tt
 err_failed command (Some w) visit one o0 o1 e0 e1 is all begun = inr (one, is, (all_of o0 o1 one.out all, begun))

@@ -1,8 +1,14 @@
 -- How a call of the program ends.
-use Rattle.std.specs.Prelude.{◌≡◌, ℕ, Bool, cond, List, [], ◌∷◌, ◌++◌, codes, String, Option, IfSome, ⊤}
+use Rattle.std.specs.Prelude.{◌≡◌, ◌⊎◌, ℕ, ◌==◌, Bool, true, false, cond, not, ◌&&◌, List, [], ◌∷◌, ◌++◌, length, codes, String, string_bytes, Option, Some, None, IfSome, ⊤}
+use denote.Ref.{Bor}
+use Rattle.std.specs.Str.{chars}
 use Rattle.std.specs.Io.KnownBytes.{Appends, Keeps}
 use Rattle.rl_files.specs.Trees.{World, string_texts}
-use Rattle.rl_files.specs.Walks.{Spot, given_spots, walk_error_message}
+use Rattle.rl_files.specs.Globs.{texts}
+use Rattle.rl_files.specs.Visible.{visible}
+use Rattle.rl_files.specs.Walks.{Spot, given_spots, path_error_message, walk_error_message}
+use Rattle.rl_files.specs.declared.tree.PathError.{PathError}
+use Rattle.rl_files.specs.declared.walk.WalkError.TheVariants.{OutOfMemory}
 use Rattle.rl_program.specs.Streams.{AppendsBeginning}
 use Rattle.rl_program.specs.declared.ending.Ending.{Ending}
 use Rattle.rl_program.specs.declared.ending.Ending.TheVariants.{Done, FoundBad, Reported, Closed, Usage, Failed}
@@ -13,7 +19,9 @@ use Rattle.rl_reports.specs.declared.command.Console.{Console}
 use Rattle.rl_reports.specs.declared.runs.Tally.{Tally}
 use Rattle.rl_reports.specs.declared.words.WordError.{WordError}
 use Rattle.rl_reports.specs.declared.ending.CallError.{CallError}
-use Rattle.rl_reports.specs.declared.ending.CallError.TheVariants.{NoArguments, Word, Walk, Write}
+use Rattle.rl_reports.specs.declared.ending.CallError.TheVariants.{NoArguments, Word, Walk, List as NoList, NoFile, Write}
+use Rattle.rl_reports.specs.Listed.{AreWithListed}
+use Rattle.rl_reports.specs.Reports.{IsReadError}
 use Rattle.rl_reports.specs.Runs.{Streams, WritesWalk, WritesFront, asked_status}
 use Rattle.rl_reports.specs.Words.{Wishes, wishes_of, Asks, AreRejected, word_message}
 
@@ -22,6 +30,8 @@ abbrev pub call_error_line : {A : Type 0} → CallError A → List ℕ
 call_error_line NoArguments = codes "rl_scan: an argument is not UTF-8"
 call_error_line (Word error) = codes "rl_scan: " ++ word_message error
 call_error_line (Walk error) = codes "rl_scan: " ++ walk_error_message error
+call_error_line (NoList file why) = codes "rl_scan: " ++ (string_bytes file ++ (codes ": " ++ path_error_message why))
+call_error_line NoFile = codes "rl_scan: there was no file to read"
 call_error_line Write = codes "rl_scan: write failed"
 
 -- the arguments are the program's own name and words that ask for this
@@ -43,11 +53,21 @@ paths_read is_terminal (path ∷ paths) = path ∷ paths
 abbrev pub WritesNothing : Streams → Type 0
 WritesNothing streams = Keeps streams.out_old streams.out_new × Keeps streams.err_old streams.err_new
 
+-- paths were named, and nothing was visited
+abbrev pub finds_no_file : Bool → Tally → Bool
+finds_no_file has_paths tally = has_paths && not tally.visited
+
 -- all that is reported was written, and the status is that of what was found
-abbrev pub RunsWith : Command → Option World → List Spot → Streams → ℕ → Type 0
-RunsWith command holds spots streams status =
+abbrev pub RunsWith : Command → Option World → Bool → List Spot → Streams → ℕ → Type 0
+RunsWith command holds has_paths spots streams status =
     (tally : Tally) × IfSome holds (λ w. WritesWalk command w spots streams tally)
-    × (asked_status command.finds command.shown tally ≡ status)
+    × (finds_no_file has_paths tally ≡ false) × (asked_status command.finds command.shown tally ≡ status)
+
+-- nothing was visited, though paths were named
+abbrev pub RunsInVain : Command → Option World → Bool → List Spot → Streams → Type 0
+RunsInVain command holds has_paths spots streams =
+    (tally : Tally) × IfSome holds (λ w. WritesWalk command w spots streams tally)
+    × (finds_no_file has_paths tally ≡ true)
 
 -- the call ends so where a write failed
 abbrev pub IsUnwritten : {B : Type 0} → Ending (CallError B) → Type 0
@@ -65,22 +85,75 @@ abbrev pub EndsText : {B : Type 0} → List ℕ → Option (List ℕ) → Option
 EndsText text old new Done = Appends old new text
 EndsText text old new ending = IsUnwritten ending × AppendsBeginning old new text
 
--- how a run over these places ends: by the status of what was found, or where a beginning was written
-abbrev pub EndsRun : {B : Type 0} → Command → Option World → List Spot → Streams → Ending (CallError B) → Type 0
-EndsRun command holds spots streams Done = RunsWith command holds spots streams 0
-EndsRun command holds spots streams FoundBad = RunsWith command holds spots streams 1
-EndsRun command holds spots streams Reported = RunsWith command holds spots streams 2
-EndsRun command holds spots streams (Usage line) = ⊥
-EndsRun command holds spots streams (Failed NoArguments) = ⊥
-EndsRun command holds spots streams (Failed (Word error)) = ⊥
-EndsRun command holds spots streams _ = IfSome holds (λ w. WritesFront command w spots streams)
+-- How a run over these places ends: by the status of what was found, or with an error where paths were named and nothing
+-- was visited, or where a beginning was written.
+abbrev pub EndsRun : {B : Type 0} → Command → Option World → Bool → List Spot → Streams → Ending (CallError B)
+    → Type 0
+EndsRun command holds has_paths spots streams Done = RunsWith command holds has_paths spots streams 0
+EndsRun command holds has_paths spots streams FoundBad = RunsWith command holds has_paths spots streams 1
+EndsRun command holds has_paths spots streams Reported = RunsWith command holds has_paths spots streams 2
+EndsRun command holds has_paths spots streams (Failed NoFile) = RunsInVain command holds has_paths spots streams
+EndsRun command holds has_paths spots streams (Usage line) = ⊥
+EndsRun command holds has_paths spots streams (Failed NoArguments) = ⊥
+EndsRun command holds has_paths spots streams (Failed (Word error)) = ⊥
+EndsRun command holds has_paths spots streams (Failed (NoList file why)) = ⊥
+EndsRun command holds has_paths spots streams _ = IfSome holds (λ w. WritesFront command w spots streams)
 
--- how a call ends that asks for this: as the run over the paths, or as the writing of how the program is
--- used, or of its version
+-- the same of what paths name
+abbrev pub EndsPaths : {B : Type 0} → Command → Option World → List (List ℕ) → Streams → Ending (CallError B) → Type 0
+EndsPaths command holds paths streams ending =
+    EndsRun command holds (not (length paths == 0)) (given_spots paths) streams ending
+
+-- the error names the file that names paths, and why it can't be read; or memory ran out for that
+abbrev pub IsListError : {B : Type 0} → List ℕ → PathError → Ending (CallError B) → Type 0
+IsListError file why (Failed (NoList said reason)) =
+    (chars (string_bytes said) ≡ visible (chars file)) × (reason ≡ why)
+IsListError file why (Failed (Walk error)) = error ≡ OutOfMemory
+IsListError file why _ = ⊥
+
+-- how a run ends over paths and those that a file names: nothing is written where that can't be read
+abbrev pub EndsListed : {B : Type 0} → Command → List ℕ → Option World → List (List ℕ) → Streams
+    → Ending (CallError B) → Type 0
+EndsListed command file holds paths streams ending =
+    (WritesNothing streams × ((why : PathError) × IfSome holds (λ w. IsReadError w file why)
+    × IsListError file why ending))
+    ⊎ ((all : List (List ℕ)) × IfSome holds (λ w. AreWithListed w file paths all)
+    × EndsPaths command holds all streams ending)
+
+abbrev pub EndsFrom : {B : Type 0} → Option (Bor (List ℕ)) → Command → Bool → Option World → List (List ℕ) → Streams
+    → Ending (CallError B) → Type 0
+EndsFrom None command is_terminal holds paths streams ending =
+    EndsPaths command holds (paths_read is_terminal paths) streams ending
+EndsFrom (Some file) command is_terminal holds paths streams ending =
+    EndsListed command file.now holds paths streams ending
+
+-- what names end with; where nothing is said, `rs`
+abbrev pub extensions_read : List (List ℕ) → List (List ℕ)
+extensions_read [] = codes "rs" ∷ []
+extensions_read (extension ∷ extensions) = extension ∷ extensions
+
+-- The command selects so, and is the same else.
+pub record IsSelecting (command : Command) (extensions excludes : List (List ℕ)) (selecting : Command) : Type 0 where
+  pub same : (some others paths : List (List ℕ))
+      → wishes_of selecting some others paths ≡ wishes_of command some others paths
+  pub extensions_are : texts selecting.selection.extensions.now ≡ extensions_read extensions
+  pub excludes_are : texts selecting.selection.excludes.now ≡ excludes
+
+-- The command does what is asked for.
+pub record IsCommandFor (wishes : Wishes) (command : Command) : Type 0 where
+  pub asked : wishes_of command wishes.extensions wishes.excludes wishes.paths ≡ wishes
+  pub extensions_are : texts command.selection.extensions.now ≡ extensions_read wishes.extensions
+  pub excludes_are : texts command.selection.excludes.now ≡ wishes.excludes
+
+-- how a call ends that scans: as the run over the paths
+abbrev pub EndsScan : {B : Type 0} → Wishes → Bool → Option World → Streams → Ending (CallError B) → Type 0
+EndsScan wishes is_terminal holds streams ending =
+    (command : Command) × IsCommandFor wishes command
+    × EndsFrom command.files_from command is_terminal holds wishes.paths streams ending
+
+-- how a call ends that asks for this: as a scan, or as the writing of how the program is used, or of its version
 abbrev pub EndsWish : {B : Type 0} → Wish → Wishes → Bool → Option World → Streams → Ending (CallError B) → Type 0
-EndsWish Scan wishes is_terminal holds streams ending =
-    (command : Command) × (wishes_of command wishes.paths ≡ wishes)
-    × EndsRun command holds (given_spots (paths_read is_terminal wishes.paths)) streams ending
+EndsWish Scan wishes is_terminal holds streams ending = EndsScan wishes is_terminal holds streams ending
 EndsWish _ wishes is_terminal holds streams ending =
     (text : List ℕ) × EndsText text streams.out_old streams.out_new ending
     × Keeps streams.err_old streams.err_new

@@ -1,5 +1,5 @@
 -- What a run over a walk writes, and the status that it ends with.
-use Rattle.std.specs.Prelude.{◌≡◌, ◌⊎◌, ℕ, ◌==◌, cond, not, ◌&&◌, List, length, ◌++◌, Option, Some, None}
+use Rattle.std.specs.Prelude.{◌≡◌, ◌⊎◌, ℕ, ◌==◌, true, cond, not, ◌&&◌, List, [], length, ◌++◌, Option, Some, None}
 use denote.Ref.{Bor}
 use Rattle.std.specs.Io.KnownBytes.{Appends, Keeps}
 use Rattle.rl_files.specs.Trees.{World}
@@ -17,42 +17,48 @@ pub record Streams : Type 0 where
   pub err_old : Option (List ℕ)
   pub err_new : Option (List ℕ)
 
+-- what is told of errors: nothing, where that isn't wanted
+abbrev pub told : Command → List ℕ → List ℕ
+told command errors = cond command.tells_errors errors []
+
 -- All of this was written, and it is returned whether something was found, and whether an error was reported.
-pub record IsWritten (streams : Streams) (printed : Findings) (tally : Tally) : Type 0 where
+pub record IsWritten (command : Command) (streams : Streams) (printed : Findings) (tally : Tally) : Type 0 where
   pub on_out : Appends streams.out_old streams.out_new printed.out
-  pub on_err : Appends streams.err_old streams.err_new printed.errors
+  pub on_err : Appends streams.err_old streams.err_new (told command printed.errors)
   pub found : tally.found ≡ printed.found
   pub failed : tally.failed ≡ not (length printed.errors == 0)
 
 -- what was written of one visit
 abbrev pub WritesReport : Command → World → Visited → Streams → Tally → Type 0
 WritesReport command w visit streams tally =
-    (printed : Findings) × IsReport command w visit printed × IsWritten streams printed tally
+    (printed : Findings) × IsReport command w visit printed × IsWritten command streams printed tally
+    × (tally.visited ≡ true)
 
 -- What was written of a walk from these places on: what is reported of all that is visited, in order.
 abbrev pub WritesWalk : Command → World → List Spot → Streams → Tally → Type 0
 WritesWalk command w spots streams tally =
     (visits : List Visited) × (printed : Findings) × Visits command.selection w spots visits
-    × AreReports command w visits printed × IsWritten streams printed tally
+    × AreReports command w visits printed × IsWritten command streams printed tally
+    × (tally.visited ≡ not (length visits == 0))
 
 -- a beginning of this was written
-abbrev pub WritesBeginning : Streams → Findings → Type 0
-WritesBeginning streams printed =
+abbrev pub WritesBeginning : Command → Streams → Findings → Type 0
+WritesBeginning command streams printed =
     AppendsBeginning streams.out_old streams.out_new printed.out
-    × AppendsBeginning streams.err_old streams.err_new printed.errors
+    × AppendsBeginning streams.err_old streams.err_new (told command printed.errors)
 
 -- what was written of one visit where that failed: nothing, or a beginning of what is reported
 abbrev pub WritesSome : Command → World → Visited → Streams → Type 0
 WritesSome command w visit streams =
     (Keeps streams.out_old streams.out_new × Keeps streams.err_old streams.err_new)
-    ⊎ ((printed : Findings) × IsReport command w visit printed × WritesBeginning streams printed)
+    ⊎ ((printed : Findings) × IsReport command w visit printed × WritesBeginning command streams printed)
 
 -- What was written where the run ended early: a beginning of what is reported of the first that a walk
 -- visits.
 abbrev pub WritesFront : Command → World → List Spot → Streams → Type 0
 WritesFront command w spots streams =
     (visits others : List Visited) × (printed : Findings) × Visits command.selection w spots (visits ++ others)
-    × AreReports command w visits printed × WritesBeginning streams printed
+    × AreReports command w visits printed × WritesBeginning command streams printed
 
 -- The status of a run: 2 where an error was reported; else 1 where what is bad was asked for, or what
 -- turns or hides text, and some was found; else 0.

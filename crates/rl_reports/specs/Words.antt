@@ -4,6 +4,7 @@ use denote.Ref.{Bor}
 use Prim.Native.Char.{code}
 use Rattle.std.specs.List.{All, starts_with}
 use Rattle.std.specs.Str.{chars, bytes_eq}
+use Rattle.rl_files.specs.Globs.{texts}
 use Rattle.rl_files.specs.Trees.{string_texts}
 use Rattle.rl_files.specs.Visible.{visible}
 use Rattle.rl_reports.specs.declared.command.Wish.{Wish}
@@ -20,7 +21,7 @@ use Rattle.rl_sources.specs.declared.options.Spelling.{Spelling}
 use Rattle.rl_sources.specs.declared.options.Spelling.TheVariants.{Value, Source}
 use Rattle.rl_sources.specs.declared.options.Shown.TheVariants as shown
 use Rattle.rl_reports.specs.declared.flags.Flag.{Flag}
-use Rattle.rl_reports.specs.declared.flags.Flag.TheVariants.{Bad, Hidden, Only, Find, IgnoreCase, WholeWords, Text, Json, Color, Bytes, Lines, NoStray, AnySuffix, AllDirectories, Extension, Count, Files, Quiet, Help, Version, Paths}
+use Rattle.rl_reports.specs.declared.flags.Flag.TheVariants.{Bad, Hidden, Only, Find, IgnoreCase, WholeWords, Text, Json, Color, Bytes, Lines, NoStray, AnySuffix, AllDirectories, Extension, Exclude, FilesFrom, NoMessages, Count, Files, Quiet, Help, Version, Paths}
 use Rattle.rl_reports.specs.declared.flags.Operand.{Operand}
 use Rattle.rl_reports.specs.declared.flags.Operand.TheVariants as takes
 use Rattle.rl_reports.specs.declared.flags.Next.{Next}
@@ -29,9 +30,9 @@ use Rattle.rl_reports.specs.declared.flags.When.{When}
 use Rattle.rl_reports.specs.declared.flags.When.TheVariants.{Auto, Always, Never}
 use Rattle.rl_reports.specs.declared.words.Asked.{Asked}
 use Rattle.rl_reports.specs.declared.words.WordError.{WordError}
-use Rattle.rl_reports.specs.declared.words.WordError.TheVariants.{Memory, UnknownOption, UnknownKind, NoKinds, TwoChoices, NoText, EmptyText, BadAndFind, NoColor, UnknownColor, NoExtension}
+use Rattle.rl_reports.specs.declared.words.WordError.TheVariants.{Memory, UnknownOption, UnknownLetter, NoValue, UnknownKind, NoKinds, TwoChoices, NoText, EmptyText, BadAndFind, NoColor, UnknownColor, NoExtension, NoPattern, NoList}
 use Rattle.rl_sources.specs.Options.{Names, words_of}
-use Rattle.rl_reports.specs.Meant.{IsMeant}
+use Rattle.rl_reports.specs.Meant.{IsMeant, option_part}
 
 -- the word of an option
 abbrev pub IsOptionWord : Flag → List ℕ → Type 0
@@ -50,6 +51,9 @@ IsOptionWord NoStray word = word ≡ codes "--no-stray"
 IsOptionWord AnySuffix word = word ≡ codes "--any-suffix"
 IsOptionWord AllDirectories word = word ≡ codes "--all"
 IsOptionWord Extension word = word ≡ codes "--extension"
+IsOptionWord Exclude word = word ≡ codes "--exclude"
+IsOptionWord FilesFrom word = word ≡ codes "--files-from"
+IsOptionWord NoMessages word = word ≡ codes "--no-messages"
 IsOptionWord Count word = word ≡ codes "--count"
 IsOptionWord Files word = word ≡ codes "--files-with-matches"
 IsOptionWord Quiet word = word ≡ codes "--quiet"
@@ -75,6 +79,8 @@ joined_word takes.Kinds text = codes "--only=" ++ text
 joined_word takes.Text text = codes "--find=" ++ text
 joined_word takes.Color text = codes "--color=" ++ text
 joined_word takes.Extension text = codes "--extension=" ++ text
+joined_word takes.Pattern text = codes "--exclude=" ++ text
+joined_word takes.List text = codes "--files-from=" ++ text
 
 -- the option that takes it
 abbrev pub taken_by : Operand → Flag
@@ -82,6 +88,8 @@ taken_by takes.Kinds = Only
 taken_by takes.Text = Find
 taken_by takes.Color = Color
 taken_by takes.Extension = Extension
+taken_by takes.Pattern = Exclude
+taken_by takes.List = FilesFrom
 
 -- the word that says when lines have colours
 abbrev pub color_word : When → List ℕ
@@ -157,7 +165,10 @@ pub record Wishes : Type 0 where
   pub spelling : Spelling
   pub form : Form
   pub all_directories : Bool
-  pub extension : List ℕ
+  pub files_from : Option (List ℕ)
+  pub tells_errors : Bool
+  pub extensions : List (List ℕ)
+  pub excludes : List (List ℕ)
   pub paths : List (List ℕ)
 
 -- what is asked for where nothing is said
@@ -175,13 +186,16 @@ first_wishes has_colors = record {
   spelling = Value;
   form = colored_form has_colors Auto;
   all_directories = false;
-  extension = codes "rs";
+  files_from = None;
+  tells_errors = true;
+  extensions = [];
+  excludes = [];
   paths = [];
 }
 
 -- what the code holds
-abbrev pub wishes_of : Command → List (List ℕ) → Wishes
-wishes_of command paths = record {
+abbrev pub wishes_of : Command → List (List ℕ) → List (List ℕ) → List (List ℕ) → Wishes
+wishes_of command extensions excludes paths = record {
   wish = command.wish;
   wanted = wanted_of command.shown;
   finds = sought_of command.finds;
@@ -194,12 +208,16 @@ wishes_of command paths = record {
   spelling = command.spelling;
   form = command.form;
   all_directories = command.selection.all;
-  extension = command.selection.extension.now;
+  files_from = sought_of command.files_from;
+  tells_errors = command.tells_errors;
+  extensions = extensions;
+  excludes = excludes;
   paths = paths;
 }
 
 abbrev pub wishes_in : {A : Type 0} → Asked A → Wishes
-wishes_in asked = wishes_of asked.command (string_texts asked.paths.items)
+wishes_in asked = wishes_of asked.command (texts asked.extensions.items) (texts asked.excludes.items)
+    (string_texts asked.paths.items)
 
 -- only one option may say which literals are wanted
 abbrev pub IsAllowed : Flag → Wishes → Type 0
@@ -235,6 +253,9 @@ with_flag NoStray w = record w { rejects_strays = true }
 with_flag AnySuffix w = record w { any_suffix = true }
 with_flag AllDirectories w = record w { all_directories = true }
 with_flag Extension w = w
+with_flag Exclude w = w
+with_flag FilesFrom w = w
+with_flag NoMessages w = record w { tells_errors = false }
 with_flag Count w = record w { output = output.Count }
 with_flag Files w = record w { output = output.Path }
 with_flag Quiet w = record w { output = output.Nothing }
@@ -243,12 +264,14 @@ with_flag Version w = record w { wish = wish.Version }
 with_flag Paths w = w
 
 -- after `--only` stands a list of kinds, after `--find` a text, after `--color` when there are colours, after
--- `--extension` what names end with, after `--` stand paths
+-- `--extension` what names end with, after `--exclude` a pattern, after `--files-from` a file, after `--` stand paths
 abbrev pub next_after : Flag → Next
 next_after Only = next.Operand takes.Kinds
 next_after Find = next.Operand takes.Text
 next_after Color = next.Operand takes.Color
 next_after Extension = next.Operand takes.Extension
+next_after Exclude = next.Operand takes.Pattern
+next_after FilesFrom = next.Operand takes.List
 next_after Paths = next.Path
 next_after _ = next.Any
 
@@ -262,7 +285,19 @@ abbrev pub with_text : List ℕ → Wishes → Wishes
 with_text text w = record w { finds = Some text }
 
 abbrev pub with_extension : List ℕ → Wishes → Wishes
-with_extension extension w = record w { extension = extension }
+with_extension extension w = record w { extensions = w.extensions ++ extension ∷ [] }
+
+abbrev pub with_pattern : List ℕ → Wishes → Wishes
+with_pattern pattern w = record w { excludes = w.excludes ++ pattern ∷ [] }
+
+abbrev pub with_list : List ℕ → Wishes → Wishes
+with_list file w = record w { files_from = Some file }
+
+-- a dot before an extension says nothing
+abbrev pub IsWithoutDot : List ℕ → List ℕ → Type 0
+IsWithoutDot text extension =
+    (text ≡ codes "." ++ extension)
+    ⊎ (((rest : List ℕ) → text ≢ codes "." ++ rest) × (extension ≡ text))
 
 -- With this option more, so much is asked for, and such a word may stand next.
 abbrev pub IsAdded : Flag → Wishes → Next → Wishes → Type 0
@@ -275,7 +310,10 @@ IsTaken has_colors takes.Text old text new = (text ≢ []) × (new ≡ with_text
 IsTaken has_colors takes.Color old word new =
     (when : When) × (word ≡ color_word when)
     × (new ≡ record old { form = recolored old.form (colored_form has_colors when) })
-IsTaken has_colors takes.Extension old text new = new ≡ with_extension text old
+IsTaken has_colors takes.Extension old text new =
+    (extension : List ℕ) × IsWithoutDot text extension × (new ≡ with_extension extension old)
+IsTaken has_colors takes.Pattern old text new = new ≡ with_pattern text old
+IsTaken has_colors takes.List old text new = new ≡ with_list text old
 
 -- With these letters, one after another, so much is asked for, and such a word may stand next: what an option
 -- takes stands after its letter, or is the next word.
@@ -327,18 +365,27 @@ word_message (UnknownOption word None) =
     codes "unknown option '" ++ (string_bytes word ++ codes "': rl_scan --help lists them")
 word_message (UnknownOption word (Some meant)) =
     codes "unknown option '" ++ (string_bytes word ++ (codes "': did you mean '" ++ (meant.now ++ codes "'?")))
+word_message (UnknownLetter letter word None) =
+    codes "unknown option '" ++ (string_bytes letter ++ (codes "' in '" ++ (string_bytes word
+    ++ codes "': rl_scan --help lists them")))
+word_message (UnknownLetter letter word (Some meant)) =
+    codes "unknown option '" ++ (string_bytes letter ++ (codes "' in '" ++ (string_bytes word
+    ++ (codes "': did you mean '" ++ (meant.now ++ codes "'?")))))
+word_message (NoValue option) = string_bytes option ++ codes " takes no value"
 word_message (UnknownKind word) =
     codes "unknown kind '" ++ (string_bytes word
     ++ codes "': one of Str, ByteStr, CStr, Byte, Char, Int, Float, Bool, Verbatim")
 word_message NoKinds = codes "--only: which kinds? as in --only Str,ByteStr"
 word_message TwoChoices = codes "--bad, --hidden and --only: one of them, once"
-word_message NoText = codes "--find: which text? as in --find TODO"
-word_message EmptyText = codes "--find: an empty text stands everywhere"
-word_message BadAndFind = codes "--bad, --hidden and --find: one of them, once"
+word_message NoText = codes "-e, --find: which text? as in --find TODO"
+word_message EmptyText = codes "-e, --find: an empty text stands everywhere"
+word_message BadAndFind = codes "--bad, --hidden and -e, --find: one of them, once"
 word_message NoColor = codes "--color: when? one of auto, always, never"
 word_message (UnknownColor word) =
     codes "unknown colour '" ++ (string_bytes word ++ codes "': one of auto, always, never")
 word_message NoExtension = codes "--extension: which? as in --extension rs.in"
+word_message NoPattern = codes "--exclude: which pattern? as in --exclude tests/ui"
+word_message NoList = codes "--files-from: which file? as in --files-from list"
 
 -- why this option doesn't go with what is asked for
 abbrev pub IsRejectedFlag : {A : Type 0} → Flag → Wishes → WordError A → Type 0
@@ -364,11 +411,25 @@ IsRejectedJoined operand old text error =
     IsRejectedFlag (taken_by operand) old error
     ⊎ (MayStand (taken_by operand) old × IsRejectedText operand text error)
 
--- the error names the word as one of no option, and the option that it was likely meant to be
+-- an option stands before the first `=`, or in the whole word
+abbrev pub HasOptionPart : List ℕ → Type 0
+HasOptionPart word = (flag : Flag) × IsOptionWord flag (option_part word)
+
+-- The error names the word as one of no option, and the option that it was likely meant to be; or the option that takes no
+-- value, where it has one.
 abbrev pub NamesUnknown : {A : Type 0} → List ℕ → WordError A → Type 0
 NamesUnknown word (UnknownOption said meant) =
-    (chars (string_bytes said) ≡ visible (chars word)) × IsMeant word meant
+    (HasOptionPart word → ⊥) × (chars (string_bytes said) ≡ visible (chars word)) × IsMeant word meant
+NamesUnknown word (NoValue said) =
+    HasOptionPart word × (chars (string_bytes said) ≡ visible (chars (option_part word)))
 NamesUnknown word _ = ⊥
+
+-- the error names the letter of no option, and the word where it isn't all of that
+abbrev pub NamesLetter : {A : Type 0} → ℕ → List ℕ → WordError A → Type 0
+NamesLetter c word (UnknownLetter letter said meant) =
+    (word ≢ codes "-" ++ encode_utf8 c) × (chars (string_bytes letter) ≡ visible (chars (codes "-" ++ encode_utf8 c)))
+    × (chars (string_bytes said) ≡ visible (chars word)) × IsMeant word meant
+NamesLetter c word error = (word ≡ codes "-" ++ encode_utf8 c) × NamesUnknown word error
 
 -- there is no option of this word
 abbrev pub IsUnknownOption : {A : Type 0} → List ℕ → WordError A → Type 0
@@ -380,8 +441,8 @@ IsUnknownOption word error =
 -- asked for, or takes no such text.
 pub data AreRejectedLetters {A : Type 0} (has_colors : Bool) (word : List ℕ) (error : WordError A)
     : Wishes → List ℕ → Type 0 where
-  UnknownLetter : {old : Wishes} {letters : List ℕ} (c : ℕ) (more : List ℕ) → letters ≡ encode_utf8 c ++ more
-      → ((flag : Flag) → IsLetter flag c → ⊥) → NamesUnknown word error
+  StrangeLetter : {old : Wishes} {letters : List ℕ} (c : ℕ) (more : List ℕ) → letters ≡ encode_utf8 c ++ more
+      → ((flag : Flag) → IsLetter flag c → ⊥) → NamesLetter c word error
       → AreRejectedLetters has_colors word error old letters
   RejectedLetter : {old : Wishes} {more : List ℕ} (flag : Flag) (c : ℕ) → IsLetter flag c
       → IsRejectedFlag flag old error → AreRejectedLetters has_colors word error old (c ∷ more)
@@ -415,6 +476,8 @@ IsMissing takes.Kinds error = error ≡ NoKinds
 IsMissing takes.Text error = error ≡ NoText
 IsMissing takes.Color error = error ≡ NoColor
 IsMissing takes.Extension error = error ≡ NoExtension
+IsMissing takes.Pattern error = error ≡ NoPattern
+IsMissing takes.List error = error ≡ NoList
 
 -- Why the words can't be asked for: where they end, what an option takes is missing; or they ask for something
 -- up to one that can't be asked for.

@@ -29,6 +29,9 @@ pub(crate) enum Flag {
     AnySuffix,
     AllDirectories,
     Extension,
+    Exclude,
+    FilesFrom,
+    NoMessages,
     Count,
     Files,
     Quiet,
@@ -48,6 +51,10 @@ pub(crate) enum Operand {
     Color,
     /// What the names of files end with.
     Extension,
+    /// A pattern of what is left out.
+    Pattern,
+    /// A file that names paths.
+    List,
 }
 
 /// What the next word may be.
@@ -91,6 +98,9 @@ pub(crate) fn flag_of(word: &str) -> Option<Flag>
         "--any-suffix" => Some(Flag::AnySuffix),
         "--all" => Some(Flag::AllDirectories),
         "--extension" => Some(Flag::Extension),
+        "--exclude" => Some(Flag::Exclude),
+        "--files-from" => Some(Flag::FilesFrom),
+        "--no-messages" => Some(Flag::NoMessages),
         "--count" => Some(Flag::Count),
         "--files-with-matches" => Some(Flag::Files),
         "--quiet" => Some(Flag::Quiet),
@@ -146,6 +156,12 @@ pub(crate) fn joined_of(word: &str) -> Option<(Operand, &str)>
     if let Some(extension) = after_front("--extension=", word) {
         return Some((Operand::Extension, extension));
     }
+    if let Some(pattern) = after_front("--exclude=", word) {
+        return Some((Operand::Pattern, pattern));
+    }
+    if let Some(list) = after_front("--files-from=", word) {
+        return Some((Operand::List, list));
+    }
     None
 }
 
@@ -158,16 +174,18 @@ pub(crate) fn taken_by(operand: Operand) -> Flag
         Operand::Text => Flag::Find,
         Operand::Color => Flag::Color,
         Operand::Extension => Flag::Extension,
+        Operand::Pattern => Flag::Exclude,
+        Operand::List => Flag::FilesFrom,
     }
 }
 
 /// The command with an option more; `None` where another option says already which literals are printed.
 fn with_flag(command: Command<'_>, flag: Flag) -> Option<Command<'_>>
-    ensures some { IfSome result (λ next. (paths : List (List ℕ))
-        → IsAllowed flag (wishes_of command.entry paths)
-        × (wishes_of next paths ≡ flagged flag (wishes_of command.entry paths))) }
-    ensures none { IfNone result ((paths : List (List ℕ))
-        → IsAllowed flag (wishes_of command.entry paths) → ⊥) }
+    ensures some { IfSome result (λ next. (extensions excludes paths : List (List ℕ))
+        → IsAllowed flag (wishes_of command.entry extensions excludes paths)
+        × (wishes_of next extensions excludes paths ≡ flagged flag (wishes_of command.entry extensions excludes paths))) }
+    ensures none { IfNone result ((extensions excludes paths : List (List ℕ))
+        → IsAllowed flag (wishes_of command.entry extensions excludes paths) → ⊥) }
 {
     let mut next = command;
     match (flag, command.shown) {
@@ -175,7 +193,9 @@ fn with_flag(command: Command<'_>, flag: Flag) -> Option<Command<'_>>
         (Flag::Hidden, Shown::All) => next.shown = Shown::Hidden,
         (Flag::Only, Shown::All) => {}
         (Flag::Bad | Flag::Hidden | Flag::Only, _) => return None,
-        (Flag::Find | Flag::Color | Flag::Extension | Flag::Paths, _) => {}
+        (Flag::Find | Flag::Color | Flag::Extension | Flag::Exclude, _) => {}
+        (Flag::FilesFrom | Flag::Paths, _) => {}
+        (Flag::NoMessages, _) => next.tells_errors = false,
         (Flag::IgnoreCase, _) => next.matching.ignores_case = true,
         (Flag::WholeWords, _) => next.matching.whole_words = true,
         (Flag::AllDirectories, _) => next.selection.all = true,
@@ -198,8 +218,8 @@ fn with_flag(command: Command<'_>, flag: Flag) -> Option<Command<'_>>
 /// wanted.
 fn goes_with_find(command: Command<'_>, flag: Flag) -> bool
     ensures { MatchBool result
-        ((paths : List (List ℕ)) → GoesWithFind flag (wishes_of command.entry paths))
-        ((paths : List (List ℕ)) → GoesWithFind flag (wishes_of command.entry paths) → ⊥) }
+        ((extensions excludes paths : List (List ℕ)) → GoesWithFind flag (wishes_of command.entry extensions excludes paths))
+        ((extensions excludes paths : List (List ℕ)) → GoesWithFind flag (wishes_of command.entry extensions excludes paths) → ⊥) }
 {
     match (flag, command.finds, command.shown) {
         (Flag::Bad | Flag::Hidden | Flag::Find, Some(_), _) => false,
@@ -217,12 +237,12 @@ pub(crate) fn add_flag<A: Allocator>(
     command: Command<'_>,
     flag: Flag,
 ) -> Result<Command<'_>, WordError<A>>
-    ensures allowed { IfOk result (λ next. (paths : List (List ℕ))
-        → MayStand flag (wishes_of command.entry paths)) }
-    ensures wishes { IfOk result (λ next. (paths : List (List ℕ))
-        → wishes_of next paths ≡ flagged flag (wishes_of command.entry paths)) }
-    ensures rejected { IfErr result (λ error. (paths : List (List ℕ))
-        → IsRejectedFlag flag (wishes_of command.entry paths) error) }
+    ensures allowed { IfOk result (λ next. (extensions excludes paths : List (List ℕ))
+        → MayStand flag (wishes_of command.entry extensions excludes paths)) }
+    ensures wishes { IfOk result (λ next. (extensions excludes paths : List (List ℕ))
+        → wishes_of next extensions excludes paths ≡ flagged flag (wishes_of command.entry extensions excludes paths)) }
+    ensures rejected { IfErr result (λ error. (extensions excludes paths : List (List ℕ))
+        → IsRejectedFlag flag (wishes_of command.entry extensions excludes paths) error) }
 {
     let Some(next) = with_flag(command, flag) else {
         return Err(WordError::TwoChoices);
@@ -242,6 +262,8 @@ pub(crate) fn next_after(flag: Flag) -> Next
         Flag::Find => Next::Operand(Operand::Text),
         Flag::Color => Next::Operand(Operand::Color),
         Flag::Extension => Next::Operand(Operand::Extension),
+        Flag::Exclude => Next::Operand(Operand::Pattern),
+        Flag::FilesFrom => Next::Operand(Operand::List),
         Flag::Paths => Next::Path,
         _ => Next::Any,
     }

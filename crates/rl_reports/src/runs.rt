@@ -2,7 +2,7 @@
 
 ghost use Rattle.std.specs.Prelude.{◌≡◌, ◌||◌, IfOk, OnErr, IfSome};
 ghost use Rattle.rl_files.specs.Walks.{visited};
-ghost use Rattle.rl_reports.specs.Runs.{WritesReport, WritesSome, WritesWalk, WritesFront, find_status, run_status};
+ghost use Rattle.rl_reports.specs.Runs.{told, WritesReport, WritesSome, WritesWalk, WritesFront, find_status, run_status};
 
 use crate::command::Command;
 use crate::report::{is_alarm, report_of};
@@ -24,6 +24,8 @@ pub enum RunStop {
 /// What a run found.
 #[derive(Clone, Copy)]
 pub struct Tally {
+    /// Whether something was visited: a file, or a path that can't be read.
+    pub visited: bool,
     /// Whether something was found.
     pub found: bool,
     /// Whether an error was reported.
@@ -33,10 +35,12 @@ pub struct Tally {
 impl Tally {
     /// Both together.
     fn and(self, other: Tally) -> Tally
+        ensures visited { result.visited ≡ (self.visited || other.visited) }
         ensures found { result.found ≡ (self.found || other.found) }
         ensures failed { result.failed ≡ (self.failed || other.failed) }
     {
         Tally {
+            visited: self.visited || other.visited,
             found: self.found || other.found,
             failed: self.failed || other.failed,
         }
@@ -66,6 +70,17 @@ impl Tally {
             (false, true) => 0,
             (false, false) => 1,
         }
+    }
+}
+
+/// What is told of errors: nothing, where that isn't wanted.
+fn told_errors<'a>(command: Command<'_>, errors: &'a str) -> &'a [u8]
+    ensures { result.now ≡ told command.entry errors.now }
+{
+    if command.tells_errors {
+        errors.as_bytes()
+    } else {
+        b"".as_slice()
     }
 }
 
@@ -101,11 +116,12 @@ fn write_report<A: Allocator + Copy, T: Tree, W: Write, E: Write>(
         Ok(()) => {}
         Err(error) => return Err(RunStop::Write(error)),
     }
-    match write_bytes(err, report.errors.as_bytes()) {
+    match write_bytes(err, told_errors(command, report.errors.as_str())) {
         Ok(()) => {}
         Err(error) => return Err(RunStop::Write(error)),
     }
     Ok(Tally {
+        visited: true,
         found: report.found,
         failed: !report.errors.as_bytes().is_empty(),
     })
@@ -140,6 +156,7 @@ pub fn run<A: Allocator + Copy, T: Tree, W: Write, E: Write>(
         }))) }
 {
     let mut tally = Tally {
+        visited: false,
         found: false,
         failed: false,
     };

@@ -6,14 +6,14 @@ ghost use Rattle.rl_reports.specs.declared.flags.Next.TheVariants as next;
 ghost use Rattle.rl_reports.specs.declared.flags.Operand.{Operand};
 ghost use Rattle.rl_reports.specs.declared.flags.Operand.TheVariants as takes;
 ghost use Rattle.rl_reports.specs.declared.words.WordError.TheVariants.{Memory};
-ghost use Rattle.rl_reports.specs.Words.{IsKindWord, AreKindWords, IsUnknownKind, is_path_word, taken_by as flag_before, next_after as follows, NamesUnknown, AreLetters, AreRejectedLetters, first_wishes, wishes_of, wishes_in, MayStand, with_kinds, with_path, with_text, with_extension, IsAdded, IsTaken, IsStep, Asks, IsRejectedFlag, IsRejectedText, IsRejectedJoined, IsRejectedWord, IsMissing, AreRejected};
+ghost use Rattle.rl_reports.specs.Words.{IsKindWord, AreKindWords, IsUnknownKind, is_path_word, taken_by as flag_before, next_after as follows, NamesLetter, NamesUnknown, AreLetters, AreRejectedLetters, first_wishes, wishes_of, wishes_in, MayStand, with_kinds, with_path, with_text, with_pattern, with_list, IsWithoutDot, IsAdded, IsTaken, IsStep, Asks, IsRejectedFlag, IsRejectedText, IsRejectedJoined, IsRejectedWord, IsMissing, AreRejected};
 
 use crate::command::{Command, Output, PlaceForm, Wish};
 use crate::flags::{
     Flag, Next, Operand, When, add_flag, after_front, flag_of, form_when, joined_of, letter_of,
     next_after, recolored, taken_by, when_of,
 };
-use crate::meant::meant_by;
+use crate::meant::{meant_by, option_part};
 use crate::report::visible_text;
 use rl_files::Selection;
 use rl_sources::{Matching, Shown, Spelling, names};
@@ -28,6 +28,10 @@ pub enum WordError<A: Allocator = Global> {
     Memory,
     /// There is no such option; the one that was likely meant.
     UnknownOption(String<A>, Option<&'static str>),
+    /// A letter among others is no option's; the word that it stands in, and the option that was likely meant.
+    UnknownLetter(String<A>, String<A>, Option<&'static str>),
+    /// An option that takes nothing has a value.
+    NoValue(String<A>),
     /// There is no such kind of literal.
     UnknownKind(String<A>),
     /// After `--only` stands no list of kinds.
@@ -46,6 +50,10 @@ pub enum WordError<A: Allocator = Global> {
     UnknownColor(String<A>),
     /// After `--extension` no word stands.
     NoExtension,
+    /// After `--exclude` no word stands.
+    NoPattern,
+    /// After `--files-from` no word stands.
+    NoList,
 }
 
 impl<A: Allocator> From<AllocError> for WordError<A> {
@@ -74,20 +82,35 @@ impl<A: Allocator> fmt::Display for WordError<A> {
             WordError::UnknownOption(word, Some(meant)) => {
                 write!(f, "unknown option '{word}': did you mean '{meant}'?")
             }
+            WordError::UnknownLetter(letter, word, None) => write!(
+                f,
+                "unknown option '{letter}' in '{word}': rl_scan --help lists them"
+            ),
+            WordError::UnknownLetter(letter, word, Some(meant)) => write!(
+                f,
+                "unknown option '{letter}' in '{word}': did you mean '{meant}'?"
+            ),
+            WordError::NoValue(option) => write!(f, "{option} takes no value"),
             WordError::UnknownKind(word) => write!(
                 f,
                 "unknown kind '{word}': one of Str, ByteStr, CStr, Byte, Char, Int, Float, Bool, Verbatim"
             ),
             WordError::NoKinds => write!(f, "--only: which kinds? as in --only Str,ByteStr"),
             WordError::TwoChoices => write!(f, "--bad, --hidden and --only: one of them, once"),
-            WordError::NoText => write!(f, "--find: which text? as in --find TODO"),
-            WordError::EmptyText => write!(f, "--find: an empty text stands everywhere"),
-            WordError::BadAndFind => write!(f, "--bad, --hidden and --find: one of them, once"),
+            WordError::NoText => write!(f, "-e, --find: which text? as in --find TODO"),
+            WordError::EmptyText => write!(f, "-e, --find: an empty text stands everywhere"),
+            WordError::BadAndFind => {
+                write!(f, "--bad, --hidden and -e, --find: one of them, once")
+            }
             WordError::NoColor => write!(f, "--color: when? one of auto, always, never"),
             WordError::UnknownColor(word) => {
                 write!(f, "unknown colour '{word}': one of auto, always, never")
             }
             WordError::NoExtension => write!(f, "--extension: which? as in --extension rs.in"),
+            WordError::NoPattern => {
+                write!(f, "--exclude: which pattern? as in --exclude tests/ui")
+            }
+            WordError::NoList => write!(f, "--files-from: which file? as in --files-from list"),
         }
     }
 }
@@ -114,6 +137,10 @@ fn unknown_kind(list: &str) -> Option<&str>
 pub(crate) struct Asked<'a, A: Allocator = Global> {
     pub command: Command<'a>,
     pub paths: Vec<String<A>, A>,
+    /// What the names of files end with.
+    pub extensions: Vec<&'a str, A>,
+    /// Patterns of what is left out.
+    pub excludes: Vec<&'a str, A>,
     next: Next,
 }
 
@@ -133,14 +160,48 @@ fn missing<A: Allocator>(operand: Operand) -> WordError<A>
         Operand::Text => WordError::NoText,
         Operand::Color => WordError::NoColor,
         Operand::Extension => WordError::NoExtension,
+        Operand::Pattern => WordError::NoPattern,
+        Operand::List => WordError::NoList,
     }
 }
 
-/// The error that names a word as one of no option.
+/// The error that names a word as one of no option, or as one whose option takes no value.
 fn unknown_option<A: Allocator>(alloc: A, word: &str) -> Result<WordError<A>, AllocError>
     ensures { IfOk result (NamesUnknown word.now) }
 {
+    let option = option_part(word);
+    if flag_of(option).is_some() {
+        return Ok(WordError::NoValue(visible_text(alloc, option)?));
+    }
     Ok(WordError::UnknownOption(visible_text(alloc, word)?, meant_by(word)))
+}
+
+/// The error that names a letter as one of no option, and the word that it stands in.
+fn unknown_letter<A: Allocator + Copy>(
+    alloc: A,
+    word: &str,
+    c: char,
+) -> Result<WordError<A>, AllocError>
+    ensures { IfOk result (NamesLetter c word.now) }
+{
+    let mut option = String::from_str(alloc, "-")?;
+    option.push(c)?;
+    if word == option.as_str() {
+        return unknown_option(alloc, word);
+    }
+    let option = visible_text(alloc, option.as_str())?;
+    let said = visible_text(alloc, word)?;
+    Ok(WordError::UnknownLetter(option, said, meant_by(word)))
+}
+
+/// An extension without a dot before it.
+fn without_dot(text: &str) -> &str
+    ensures { IsWithoutDot text.now result.now }
+{
+    match after_front(".", text) {
+        Some(extension) => extension,
+        None => text,
+    }
 }
 
 /// The letters of a word, after its dash: none where it begins with two.
@@ -230,11 +291,36 @@ impl<'a, A: Allocator + Copy> Asked<'a, A> {
     }
 
     /// Takes what the names of files end with.
-    fn take_extension(&mut self, extension: &'a str)
-        ensures wishes { wishes_in self.new ≡ with_extension extension.now (wishes_in self.old) }
+    fn take_extension(&mut self, text: &'a str) -> Result<(), WordError<A>>
+        ensures taken { OnOk result
+            (IsTaken false takes.Extension (wishes_in self.old) text.now (wishes_in self.new)) }
+        ensures next { OnOk result (self.new.next ≡ self.old.next) }
+        ensures rejected { IfErr result (IsRejectedText takes.Extension text.now) }
+    {
+        match self.extensions.push(without_dot(text)) {
+            Ok(()) => Ok(()),
+            Err(_) => Err(WordError::Memory),
+        }
+    }
+
+    /// Takes a pattern of what is left out.
+    fn take_pattern(&mut self, pattern: &'a str) -> Result<(), WordError<A>>
+        ensures wishes { OnOk result (wishes_in self.new ≡ with_pattern pattern.now (wishes_in self.old)) }
+        ensures next { OnOk result (self.new.next ≡ self.old.next) }
+        ensures rejected { IfErr result (IsRejectedText takes.Pattern pattern.now) }
+    {
+        match self.excludes.push(pattern) {
+            Ok(()) => Ok(()),
+            Err(_) => Err(WordError::Memory),
+        }
+    }
+
+    /// Takes the file that names paths.
+    fn take_list(&mut self, file: &'a str)
+        ensures wishes { wishes_in self.new ≡ with_list file.now (wishes_in self.old) }
         ensures next { self.new.next ≡ self.old.next }
     {
-        self.command.selection.extension = extension;
+        self.command.files_from = Some(file);
     }
 
     /// Takes what an option takes; any word may stand after that.
@@ -255,8 +341,10 @@ impl<'a, A: Allocator + Copy> Asked<'a, A> {
             Operand::Kinds => self.take_kinds(alloc, text),
             Operand::Text => self.take_text(text),
             Operand::Color => self.take_color(alloc, has_colors, text),
-            Operand::Extension => {
-                self.take_extension(text);
+            Operand::Extension => self.take_extension(text),
+            Operand::Pattern => self.take_pattern(text),
+            Operand::List => {
+                self.take_list(text);
                 Ok(())
             }
         }
@@ -313,7 +401,7 @@ impl<'a, A: Allocator + Copy> Asked<'a, A> {
         let mut rest = letters;
         while let Some((c, after)) = split_char(rest) {
             let Some(flag) = letter_of(c) else {
-                return Err(unknown_option(alloc, word)?);
+                return Err(unknown_letter(alloc, word, c)?);
             };
             if let Some(operand) = operand_in(flag, after) {
                 return self.take_joined(alloc, has_colors, operand, after);
@@ -364,7 +452,7 @@ impl<'a, A: Allocator + Copy> Asked<'a, A> {
 
 /// What is asked for where nothing is said.
 fn first_command<'a>(has_colors: bool) -> Command<'a>
-    ensures { wishes_of result [] ≡ first_wishes has_colors }
+    ensures { wishes_of result [] [] [] ≡ first_wishes has_colors }
 {
     Command {
         wish: Wish::Scan,
@@ -382,8 +470,11 @@ fn first_command<'a>(has_colors: bool) -> Command<'a>
         form: form_when(has_colors, When::Auto),
         selection: Selection {
             all: false,
-            extension: "rs",
+            extensions: &[],
+            excludes: &[],
         },
+        files_from: None,
+        tells_errors: true,
     }
 }
 
@@ -391,7 +482,7 @@ fn first_command<'a>(has_colors: bool) -> Command<'a>
 ///
 /// # Errors
 ///
-/// The first word that can't be asked for, or `NoKinds`, `NoText` or `NoColor` at the end.
+/// The first word that can't be asked for, or at the end what the last option takes is missing, as by `NoKinds`.
 pub(crate) fn asked_by<A: Allocator + Copy>(
     alloc: A,
     has_colors: bool,
@@ -403,6 +494,8 @@ pub(crate) fn asked_by<A: Allocator + Copy>(
     let mut asked = Asked {
         command: first_command(has_colors),
         paths: Vec::new(alloc),
+        extensions: Vec::new(alloc),
+        excludes: Vec::new(alloc),
         next: Next::Any,
     };
     for word in words {

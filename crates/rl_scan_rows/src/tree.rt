@@ -111,6 +111,12 @@ fn text_at(path: &str) -> Option<&'static str> {
         "package/target/x.rs" => Some("8"),
         "package/src/.rs" => Some("9"),
         "./x.txt" => Some("10"),
+        "globs/a.rs" | "globs/x1.rs" | "globs/b.rs" | "globs/gen/a.rs" => Some("1"),
+        "globs/b/a.rs" | "globs/b/gen.rs" | "globs/b/deep/x12.rs" => Some("2"),
+        "globs/b/deep/gen/a.rs" => Some("3"),
+        "list" => Some("\n./a.rs\n\nglobs/gen\nmissing\n"),
+        "list0" => Some("./a.rs\0\0./t\n.rs\0none"),
+        "empty" => Some(""),
         _ => None,
     }
 }
@@ -121,6 +127,7 @@ fn bytes_at(path: &str) -> Result<&'static [u8], PathError> {
         "./b.rs" => Err(PathError::ReadFailed),
         "long.rs" => Err(PathError::TooLong),
         "./n.rs" => Ok(b"1 \"a\xff\"".as_slice()),
+        "listff" => Ok(b"./a.rs\n\xff".as_slice()),
         _ => match text_at(path) {
             Some(text) => Ok(text.as_bytes()),
             None => Err(PathError::NotFound),
@@ -140,6 +147,10 @@ fn names_at(path: &str) -> Result<&'static str, PathError> {
         "package/src/" => Ok("target/|.rs|x.rs.in"),
         "package/target/" | "package/src/target/" | "package/.hidden/" => Ok("x.rs"),
         "./targets/" => Ok("none"),
+        "globs" => Ok("x1.rs|gen/|b/|b.rs|a.rs"),
+        "globs/b/" => Ok("gen.rs|deep/|a.rs"),
+        "globs/b/deep/" => Ok("x12.rs|gen/"),
+        "globs/gen" | "globs/gen/" | "globs/b/deep/gen/" => Ok("a.rs"),
         "./locked/" => Err(PathError::PermissionDenied),
         _ => Err(PathError::NotADirectory),
     }

@@ -1,7 +1,5 @@
-use Rattle.std.proofs.Common.{refl}
-use Rattle.rl_files.specs.declared.walk.WalkError.TheVariants.{OutOfMemory}
 use Rattle.rl_reports.specs.Words.{wishes_in}
-use Rattle.rl_reports.proofs.EndingLemmas.{ends_help, ends_unstarted, ends_version}
+use Rattle.rl_reports.proofs.EndingLemmas.{ends_help, ends_version}
 use Rattle.rl_reports.proofs.ending.answer.Goals as goal
 
 pub returns-in-Help : goal.returns-in-Help
@@ -11,7 +9,3 @@ returns-in-Help g c = ends_help (wishes_in c.args.asked) c.args.is_terminal (g.T
 pub returns-in-Version : goal.returns-in-Version
 returns-in-Version g c = ends_version (wishes_in c.args.asked) c.args.is_terminal (g.T.Tree.holds c.args.tree.now) _ _
     _ _ c.write_text-in-Version.result c.in-Version.is c.write_text-in-Version.ensures
-
-pub returns : goal.returns
-returns g c = ends_unstarted _ c.args.asked.command (wishes_in c.args.asked) c.args.is_terminal
-    (g.T.Tree.holds c.args.tree.now) _ _ OutOfMemory c.in-Scan.is refl

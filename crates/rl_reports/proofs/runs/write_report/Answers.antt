@@ -12,4 +12,4 @@ pub returns-in-Err-write_bytes-2-clause-front : goal.returns-in-Err-write_bytes-
 returns-in-Err-write_bytes-2-clause-front g c = err_failed c.args.command (g.T.Tree.holds c.args.tree.now)
     (visited c.args.visit.now) (in_report c.in-Ok.report) _ _ _ _ c.in-Ok.ensures
     (rw c.as_slice.ensures.value at c.in-Ok-write_bytes.ensures.all)
-    (rw c.as_bytes.ensures.value at c.in-Err-write_bytes-2.ensures.beginning)
+    (rw (c.told_errors.ensures, c.as_str.ensures.value) at c.in-Err-write_bytes-2.ensures.beginning)

@@ -2,6 +2,7 @@
 //! A walk of a tree: which files are visited, and in which order.
 
 use crate::rattle_std::prelude::{String, Vec};
+use crate::rl_files::glob::is_excluded;
 use crate::rl_files::tree::{PathError, Tree};
 use crate::rattle_std::alloc::{AllocError, Allocator, Global};
 use crate::rattle_std::fmt;
@@ -14,14 +15,17 @@ const TURNS: u32 = u32::MAX;
 pub struct Selection<'a> {
     /// Whether those of hidden directories are read too, and those of `target` in a package of Cargo.
     pub all: bool,
-    /// What their names end with after a dot.
-    pub extension: &'a str,
+    /// What their names end with after a dot: one of these.
+    pub extensions: &'a [&'a str],
+    /// What is left out: what one of these patterns matches, from the directory on that an argument names.
+    pub excludes: &'a [&'a str],
 }
 
 /// What a walk has still to go to.
 pub enum Pending<A: Allocator = Global> {
-    /// A directory; one that an argument names may be a file.
-    Directory(bool, String<A>),
+    /// A directory, and how many bytes of its path are those of the one that an argument names; or what an argument names, which
+    /// may be a file.
+    Directory(Option<usize>, String<A>),
     /// A file.
     File(String<A>),
     /// A name in a directory that isn't UTF-8.
@@ -72,6 +76,18 @@ fn has_extension(extension: &str, name: &str) -> bool {
     bytes.ends_with(ending) && bytes[..bytes.len() - ending.len()].ends_with(b".".as_slice())
 }
 
+/// Whether a name ends with a dot and one of these.
+fn has_one_of(extensions: &[&str], name: &str) -> bool {
+    let mut rest = extensions;
+    while let [extension, after @ ..] = rest {
+        if has_extension(extension, name) {
+            return true;
+        }
+        rest = after;
+    }
+    false
+}
+
 /// Whether names are those of a directory that holds a package of Cargo.
 fn are_of_package<A: Allocator>(names: &[String<A>]) -> bool {
     let mut rest = names;
@@ -94,7 +110,7 @@ fn is_wanted(selection: Selection<'_>, in_package: bool, name: &str) -> bool {
     if is_directory(name) {
         selection.all || !is_left_out(in_package, name)
     } else {
-        has_extension(selection.extension, name) || name.as_bytes().len() == 0
+        has_one_of(selection.extensions, name) || name.as_bytes().len() == 0
     }
 }
 
@@ -108,15 +124,48 @@ fn path_in<A: Allocator>(alloc: A, directory: &str, name: &str) -> Result<String
     Ok(path)
 }
 
-/// Where a walk goes to for a wanted name in a directory.
-fn pending_of<A: Allocator>(alloc: A, directory: &str, name: &str) -> Result<Pending<A>, AllocError> {
+/// Whether this is what an argument names, and not a directory in it.
+fn is_given(from: Option<usize>) -> bool {
+    from.is_none()
+}
+
+/// How many bytes of the paths in a directory are those of the directory that an argument names.
+fn base_of(from: Option<usize>, path: &str) -> usize {
+    match from {
+        Some(from) => from,
+        None if is_directory(path) => path.len(),
+        None => path.len() + 1,
+    }
+}
+
+/// The bytes from one on.
+fn bytes_from(bytes: &[u8], from: usize) -> &[u8] {
+    if from > bytes.len() {
+        return &bytes[bytes.len()..];
+    }
+    &bytes[from..]
+}
+
+/// Whether a pattern that is to be left out matches the path of a name in a directory.
+fn is_pruned(selection: Selection<'_>, from: usize, path: &str) -> bool {
+    is_excluded(selection.excludes, bytes_from(path.as_bytes(), from))
+}
+
+/// Where a walk goes to for a name in a directory, at this path.
+fn pending_of<A: Allocator>(
+    alloc: A,
+    from: usize,
+    directory: &str,
+    name: &str,
+    path: String<A>,
+) -> Result<Pending<A>, AllocError> {
     if is_directory(name) {
-        return Ok(Pending::Directory(false, path_in(alloc, directory, name)?));
+        return Ok(Pending::Directory(Some(from), path));
     }
     if name.len() == 0 {
         return Ok(Pending::BadName(String::from_str(alloc, directory)?));
     }
-    Ok(Pending::File(path_in(alloc, directory, name)?))
+    Ok(Pending::File(path))
 }
 
 impl<A: Allocator> Walk<A> {
@@ -135,7 +184,7 @@ impl<A: Allocator> Walk<A> {
 
     /// Goes to what an argument names before the other places.
     fn push_given(&mut self, path: String<A>) -> Result<(), AllocError> {
-        self.push(Pending::Directory(true, path))
+        self.push(Pending::Directory(None, path))
     }
 
     /// A walk of what these paths name, in their order.
@@ -164,13 +213,20 @@ impl<A: Allocator> Walk<A> {
         alloc: A,
         selection: Selection<'_>,
         in_package: bool,
+        from: usize,
         directory: &str,
         name: &str,
-    ) -> Result<(), AllocError> {
+    ) -> Result<(), AllocError>
+    where
+        A: Copy, {
         if !is_wanted(selection, in_package, name) {
             return Ok(());
         }
-        let pending = pending_of(alloc, directory, name)?;
+        let path = path_in(alloc, directory, name)?;
+        if is_pruned(selection, from, path.as_str()) {
+            return Ok(());
+        }
+        let pending = pending_of(alloc, from, directory, name, path)?;
         self.push(pending)
     }
 
@@ -179,6 +235,7 @@ impl<A: Allocator> Walk<A> {
         &mut self,
         alloc: A,
         selection: Selection<'_>,
+        from: usize,
         directory: &str,
         names: &mut Vec<String<A>, A>,
     ) -> Result<(), AllocError>
@@ -186,7 +243,7 @@ impl<A: Allocator> Walk<A> {
         A: Copy, {
         let in_package = are_of_package(names.as_slice());
         while let Some(name) = names.pop() {
-            self.push_name(alloc, selection, in_package, directory, name.as_str())?;
+            self.push_name(alloc, selection, in_package, from, directory, name.as_str())?;
         }
         Ok(())
     }
@@ -196,13 +253,14 @@ impl<A: Allocator> Walk<A> {
         &mut self,
         alloc: A,
         selection: Selection<'_>,
+        from: usize,
         directory: &str,
         names: &mut Vec<String<A>, A>,
     ) -> Result<(), AllocError>
     where
         A: Copy, {
         names.sort_unstable();
-        self.push_names(alloc, selection, directory, names)?;
+        self.push_names(alloc, selection, from, directory, names)?;
         Ok(())
     }
 
@@ -228,12 +286,17 @@ impl<A: Allocator> Walk<A> {
                 Pending::BadName(directory) => {
                     return Ok(Some(Visit::Failed(directory, PathError::NameNotUtf8)));
                 }
-                Pending::Directory(is_given, path) => match tree.names(alloc, path.as_str()) {
-                    Ok(mut names) => match self.enter(alloc, selection, path.as_str(), &mut names) {
-                        Ok(()) => {}
-                        Err(_) => return Err(WalkError::OutOfMemory),
-                    },
-                    Err(PathError::NotADirectory) if is_given => return Ok(Some(Visit::File(path))),
+                Pending::Directory(from, path) => match tree.names(alloc, path.as_str()) {
+                    Ok(mut names) => {
+                        let base = base_of(from, path.as_str());
+                        match self.enter(alloc, selection, base, path.as_str(), &mut names) {
+                            Ok(()) => {}
+                            Err(_) => return Err(WalkError::OutOfMemory),
+                        }
+                    }
+                    Err(PathError::NotADirectory) if is_given(from) => {
+                        return Ok(Some(Visit::File(path)));
+                    }
                     Err(why) => return Ok(Some(Visit::Failed(path, why))),
                 },
             }

@@ -64,6 +64,10 @@ pub struct Command<'a> {
     pub any_suffix: bool,
     /// Which files are read of directories.
     pub selection: Selection<'a>,
+    /// The file that names more paths, where there is one.
+    pub files_from: Option<&'a str>,
+    /// Whether it is told of each file that it can't be read to its end.
+    pub tells_errors: bool,
 }
 
 /// What a call knows of where it runs.

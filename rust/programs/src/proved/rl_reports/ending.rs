@@ -3,9 +3,11 @@
 
 use crate::rattle_std::prelude::{String, Vec};
 use crate::rl_reports::command::{Command, Console, Wish};
+use crate::rl_reports::listed::push_listed;
+use crate::rl_reports::report::visible_text;
 use crate::rl_reports::runs::{RunStop, Tally, run};
 use crate::rl_reports::words::{Asked, WordError, asked_by};
-use crate::rl_files::{Tree, Walk, WalkError};
+use crate::rl_files::{PathError, Selection, Tree, Walk, WalkError};
 use crate::rl_program::{Ending, RunError, WriteError, write_bytes};
 use crate::rattle_std::alloc::{AllocError, Allocator, Global};
 use crate::rattle_std::fmt;
@@ -29,15 +31,21 @@ What is printed: every literal; or one of --bad, --hidden, --only; or --find
                        wherever they stand
       --only KIND,..   literals of these kinds: Str ByteStr CStr Byte Char Int
                        Float Bool Verbatim, in any case
-  -e, --find TEXT      strings, characters and bytes that hold TEXT, however it
-                       is written, at its first place; goes with --only
+  -e, --find TEXT      strings, characters and bytes, no numbers, that hold
+                       TEXT, however it is written, at its first place; goes
+                       with --only
   -i, --ignore-case    of --find: small and large letters of ASCII are the same
   -w, --word           of --find: TEXT as whole words
       --no-stray       a character that begins no token is an error
 
 Which files are read:
       --all            hidden directories and `target` too
-      --extension EXT  *.EXT in place of *.rs
+      --extension EXT  *.EXT in place of *.rs; may be said more than once
+      --exclude GLOB   not what GLOB matches below a PATH, by the rules of
+                       gitignore; may be said more than once
+      --files-from FILE
+                       also what FILE names: a path in each line, or NUL after
+                       each; `-` is standard input
 
 How it is printed:
       --bytes          places as LO..HI, in bytes, as those of standard input
@@ -50,6 +58,7 @@ How it is printed:
   -l, --files-with-matches
                        the path of each file that has lines
   -q, --quiet          nothing
+      --no-messages    no line for a file that can't be read to its end
       --               what follows is a PATH
   -h, --help           this
   -V, --version        the version
@@ -63,13 +72,13 @@ Lines:
 Status:
   0  all was read
   1  --bad or --hidden found something, or --find nothing
-  2  wrong arguments, or a file that can't be read to its end: it has a line on
-     standard error, and the others are still read
+  2  wrong arguments, no file to read, or one that can't be read to its end: it
+     has a line on standard error, and the others are still read
 
 Examples:
   rl_scan --bad src
   rl_scan -wie todo src tests
-  git ls-files -z '*.rs' | xargs -0 rl_scan --hidden --
+  git ls-files -z '*.rs' | rl_scan --hidden --files-from -
 ";
 
 /// Which version it is.
@@ -83,6 +92,10 @@ pub enum CallError<A: Allocator = Global> {
     Word(WordError<A>),
     /// An allocation failed, or there was no end of directories.
     Walk(WalkError),
+    /// The file can't be read that names paths.
+    List(String<A>, PathError),
+    /// There was no file to read in what the paths name.
+    NoFile,
     /// A write failed.
     Write,
 }
@@ -99,6 +112,8 @@ impl<A: Allocator> fmt::Display for CallError<A> {
             CallError::NoArguments => write!(f, "rl_scan: an argument is not UTF-8"),
             CallError::Word(error) => write!(f, "rl_scan: {error}"),
             CallError::Walk(error) => write!(f, "rl_scan: {error}"),
+            CallError::List(file, why) => write!(f, "rl_scan: {file}: {why}"),
+            CallError::NoFile => write!(f, "rl_scan: there was no file to read"),
             CallError::Write => write!(f, "rl_scan: write failed"),
         }
     }
@@ -120,17 +135,17 @@ fn write_text<A: Allocator, W: Write>(out: &mut W, text: &str) -> Ending<CallErr
     }
 }
 
-/// The walk of the paths; where there are none, of `.` or of standard input.
-fn walk_of<A: Allocator + Copy>(
+/// Adds `.` or standard input to the paths, where there are none.
+fn add_usual<A: Allocator + Copy>(
     alloc: A,
     is_terminal: bool,
     paths: &mut Vec<String<A>, A>,
-) -> Result<Walk<A>, AllocError> {
+) -> Result<(), AllocError> {
     if paths.is_empty() {
         let usual = if is_terminal { "." } else { "-" };
         paths.push(String::from_str(alloc, usual)?)?;
     }
-    Walk::of_paths(alloc, paths)
+    Ok(())
 }
 
 /// The status that a run ends with which found this.
@@ -141,16 +156,23 @@ fn status_of(command: Command<'_>, tally: Tally) -> u8 {
     }
 }
 
-/// Scans the files of a walk.
+/// Whether paths were named, and no file was found by them.
+fn is_in_vain(has_paths: bool, tally: Tally) -> bool {
+    has_paths && !tally.visited
+}
+
+/// Scans the files of a walk of paths, of which there are some or none.
 fn scan_walk<A: Allocator + Copy, T: Tree, W: Write, E: Write>(
     alloc: A,
     command: Command<'_>,
     tree: &T,
+    has_paths: bool,
     walk: &mut Walk<A>,
     out: &mut W,
     err: &mut E,
 ) -> Ending<CallError<A>> {
     match run(alloc, command, tree, walk, out, err) {
+        Ok(tally) if is_in_vain(has_paths, tally) => Ending::Failed(CallError::NoFile),
         Ok(tally) => match status_of(command, tally) {
             0 => Ending::Done,
             1 => Ending::FoundBad,
@@ -158,6 +180,116 @@ fn scan_walk<A: Allocator + Copy, T: Tree, W: Write, E: Write>(
         },
         Err(RunStop::Walk(error)) => Ending::Failed(CallError::Walk(error)),
         Err(RunStop::Write(error)) => unwritten(error),
+    }
+}
+
+/// Scans the files that paths name.
+fn scan_paths<A: Allocator + Copy, T: Tree, W: Write, E: Write>(
+    alloc: A,
+    command: Command<'_>,
+    tree: &T,
+    paths: &mut Vec<String<A>, A>,
+    out: &mut W,
+    err: &mut E,
+) -> Ending<CallError<A>> {
+    let has_paths = !paths.is_empty();
+    match Walk::of_paths(alloc, paths) {
+        Ok(mut walk) => scan_walk(alloc, command, tree, has_paths, &mut walk, out, err),
+        Err(_) => Ending::Failed(CallError::Walk(WalkError::OutOfMemory)),
+    }
+}
+
+/// Scans the files that paths name; where there are none, `.` or standard input.
+fn scan_named<A: Allocator + Copy, T: Tree, W: Write, E: Write>(
+    alloc: A,
+    command: Command<'_>,
+    is_terminal: bool,
+    tree: &T,
+    paths: &mut Vec<String<A>, A>,
+    out: &mut W,
+    err: &mut E,
+) -> Ending<CallError<A>> {
+    match add_usual(alloc, is_terminal, paths) {
+        Ok(()) => scan_paths(alloc, command, tree, paths, out, err),
+        Err(_) => Ending::Failed(CallError::Walk(WalkError::OutOfMemory)),
+    }
+}
+
+/// How a call ends where the file can't be read that names paths.
+fn list_error<A: Allocator + Copy>(
+    alloc: A,
+    file: &str,
+    why: PathError,
+) -> Ending<CallError<A>> {
+    match visible_text(alloc, file) {
+        Ok(shown) => Ending::Failed(CallError::List(shown, why)),
+        Err(_) => Ending::Failed(CallError::Walk(WalkError::OutOfMemory)),
+    }
+}
+
+/// Scans the files that paths name, and those that a file names.
+fn scan_listed<A: Allocator + Copy, T: Tree, W: Write, E: Write>(
+    alloc: A,
+    command: Command<'_>,
+    file: &str,
+    tree: &T,
+    paths: &mut Vec<String<A>, A>,
+    out: &mut W,
+    err: &mut E,
+) -> Ending<CallError<A>> {
+    match push_listed(alloc, tree, file, paths) {
+        Ok(()) => scan_paths(alloc, command, tree, paths, out, err),
+        Err(why) => list_error(alloc, file, why),
+    }
+}
+
+/// What the names of files end with, where nothing is said.
+const USUAL: &[&str] = &["rs"];
+
+/// What names end with: `rs`, where nothing is said.
+fn usual_unless<'a>(extensions: &'a [&'a str]) -> &'a [&'a str] {
+    if extensions.is_empty() {
+        USUAL
+    } else {
+        extensions
+    }
+}
+
+/// The command with what it selects.
+fn selecting<'a>(
+    command: Command<'a>,
+    extensions: &'a [&'a str],
+    excludes: &'a [&'a str],
+) -> Command<'a> {
+    let mut selecting = command;
+    selecting.selection = Selection {
+        all: command.selection.all,
+        extensions: usual_unless(extensions),
+        excludes,
+    };
+    selecting
+}
+
+/// Scans what the words ask for.
+fn scan_asked<A: Allocator + Copy, T: Tree, W: Write, E: Write>(
+    alloc: A,
+    asked: Asked<'_, A>,
+    is_terminal: bool,
+    tree: &T,
+    out: &mut W,
+    err: &mut E,
+) -> Ending<CallError<A>> {
+    let Asked {
+        command,
+        mut paths,
+        extensions,
+        excludes,
+        ..
+    } = asked;
+    let command = selecting(command, extensions.as_slice(), excludes.as_slice());
+    match command.files_from {
+        None => scan_named(alloc, command, is_terminal, tree, &mut paths, out, err),
+        Some(file) => scan_listed(alloc, command, file, tree, &mut paths, out, err),
     }
 }
 
@@ -170,18 +302,10 @@ fn answer<A: Allocator + Copy, T: Tree, W: Write, E: Write>(
     out: &mut W,
     err: &mut E,
 ) -> Ending<CallError<A>> {
-    let Asked {
-        command,
-        mut paths,
-        ..
-    } = asked;
-    match command.wish {
+    match asked.command.wish {
         Wish::Help => write_text(out, HELP),
         Wish::Version => write_text(out, VERSION),
-        Wish::Scan => match walk_of(alloc, is_terminal, &mut paths) {
-            Ok(mut walk) => scan_walk(alloc, command, tree, &mut walk, out, err),
-            Err(_) => Ending::Failed(CallError::Walk(WalkError::OutOfMemory)),
-        },
+        Wish::Scan => scan_asked(alloc, asked, is_terminal, tree, out, err),
     }
 }
 

@@ -24,6 +24,9 @@ pub(crate) enum Flag {
     AnySuffix,
     AllDirectories,
     Extension,
+    Exclude,
+    FilesFrom,
+    NoMessages,
     Count,
     Files,
     Quiet,
@@ -43,6 +46,10 @@ pub(crate) enum Operand {
     Color,
     /// What the names of files end with.
     Extension,
+    /// A pattern of what is left out.
+    Pattern,
+    /// A file that names paths.
+    List,
 }
 
 /// What the next word may be.
@@ -83,6 +90,9 @@ pub(crate) fn flag_of(word: &str) -> Option<Flag> {
         "--any-suffix" => Some(Flag::AnySuffix),
         "--all" => Some(Flag::AllDirectories),
         "--extension" => Some(Flag::Extension),
+        "--exclude" => Some(Flag::Exclude),
+        "--files-from" => Some(Flag::FilesFrom),
+        "--no-messages" => Some(Flag::NoMessages),
         "--count" => Some(Flag::Count),
         "--files-with-matches" => Some(Flag::Files),
         "--quiet" => Some(Flag::Quiet),
@@ -127,6 +137,12 @@ pub(crate) fn joined_of(word: &str) -> Option<(Operand, &str)> {
     if let Some(extension) = after_front("--extension=", word) {
         return Some((Operand::Extension, extension));
     }
+    if let Some(pattern) = after_front("--exclude=", word) {
+        return Some((Operand::Pattern, pattern));
+    }
+    if let Some(list) = after_front("--files-from=", word) {
+        return Some((Operand::List, list));
+    }
     None
 }
 
@@ -137,6 +153,8 @@ pub(crate) fn taken_by(operand: Operand) -> Flag {
         Operand::Text => Flag::Find,
         Operand::Color => Flag::Color,
         Operand::Extension => Flag::Extension,
+        Operand::Pattern => Flag::Exclude,
+        Operand::List => Flag::FilesFrom,
     }
 }
 
@@ -148,7 +166,9 @@ fn with_flag(command: Command<'_>, flag: Flag) -> Option<Command<'_>> {
         (Flag::Hidden, Shown::All) => next.shown = Shown::Hidden,
         (Flag::Only, Shown::All) => {}
         (Flag::Bad | Flag::Hidden | Flag::Only, _) => return None,
-        (Flag::Find | Flag::Color | Flag::Extension | Flag::Paths, _) => {}
+        (Flag::Find | Flag::Color | Flag::Extension | Flag::Exclude, _) => {}
+        (Flag::FilesFrom | Flag::Paths, _) => {}
+        (Flag::NoMessages, _) => next.tells_errors = false,
         (Flag::IgnoreCase, _) => next.matching.ignores_case = true,
         (Flag::WholeWords, _) => next.matching.whole_words = true,
         (Flag::AllDirectories, _) => next.selection.all = true,
@@ -202,6 +222,8 @@ pub(crate) fn next_after(flag: Flag) -> Next {
         Flag::Find => Next::Operand(Operand::Text),
         Flag::Color => Next::Operand(Operand::Color),
         Flag::Extension => Next::Operand(Operand::Extension),
+        Flag::Exclude => Next::Operand(Operand::Pattern),
+        Flag::FilesFrom => Next::Operand(Operand::List),
         Flag::Paths => Next::Path,
         _ => Next::Any,
     }

@@ -3,7 +3,7 @@
 
 /// The options; commas separate them.
 const OPTIONS: &str =
-    "--bad,--hidden,--only,--find,--ignore-case,--word,--no-stray,--any-suffix,--all,--extension,--bytes,--lines,--text,--json,--color,--count,--files-with-matches,--quiet,--help,--version";
+    "--bad,--hidden,--only,--find,--ignore-case,--word,--no-stray,--any-suffix,--all,--extension,--exclude,--files-from,--no-messages,--bytes,--lines,--text,--json,--color,--count,--files-with-matches,--quiet,--help,--version";
 
 /// Whether two letters at the front changed places.
 fn is_swapped(said: &[u8], meant: &[u8]) -> bool {
@@ -48,7 +48,7 @@ fn is_near(word: &str, option: &str) -> bool {
 }
 
 /// What stands in a word before the first `=`.
-fn option_part(word: &str) -> &str {
+pub(crate) fn option_part(word: &str) -> &str {
     match word.split_once('=') {
         Some((option, _)) => option,
         None => word,

@@ -4,6 +4,7 @@
 mod command;
 mod ending;
 mod flags;
+mod listed;
 mod meant;
 mod report;
 mod runs;

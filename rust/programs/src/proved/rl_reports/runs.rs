@@ -21,6 +21,8 @@ pub enum RunStop {
 /// What a run found.
 #[derive(Clone, Copy)]
 pub struct Tally {
+    /// Whether something was visited: a file, or a path that can't be read.
+    pub visited: bool,
     /// Whether something was found.
     pub found: bool,
     /// Whether an error was reported.
@@ -31,6 +33,7 @@ impl Tally {
     /// Both together.
     fn and(self, other: Tally) -> Tally {
         Tally {
+            visited: self.visited || other.visited,
             found: self.found || other.found,
             failed: self.failed || other.failed,
         }
@@ -59,6 +62,15 @@ impl Tally {
     }
 }
 
+/// What is told of errors: nothing, where that isn't wanted.
+fn told_errors<'a>(command: Command<'_>, errors: &'a str) -> &'a [u8] {
+    if command.tells_errors {
+        errors.as_bytes()
+    } else {
+        b"".as_slice()
+    }
+}
+
 /// Writes what is reported of what a walk visits.
 fn write_report<A: Allocator + Copy, T: Tree, W: Write, E: Write>(
     alloc: A,
@@ -76,11 +88,12 @@ fn write_report<A: Allocator + Copy, T: Tree, W: Write, E: Write>(
         Ok(()) => {}
         Err(error) => return Err(RunStop::Write(error)),
     }
-    match write_bytes(err, report.errors.as_bytes()) {
+    match write_bytes(err, told_errors(command, report.errors.as_str())) {
         Ok(()) => {}
         Err(error) => return Err(RunStop::Write(error)),
     }
     Ok(Tally {
+        visited: true,
         found: report.found,
         failed: !report.errors.as_bytes().is_empty(),
     })
@@ -100,6 +113,7 @@ pub fn run<A: Allocator + Copy, T: Tree, W: Write, E: Write>(
     err: &mut E,
 ) -> Result<Tally, RunStop> {
     let mut tally = Tally {
+        visited: false,
         found: false,
         failed: false,
     };

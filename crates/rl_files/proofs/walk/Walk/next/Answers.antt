@@ -11,15 +11,15 @@ pub returns-in-BadName : goal.returns-in-BadName
 returns-in-BadName g c = go_bad_name c.args.selection _ _ _ _ _ c.loop.invariant (rw c.in-BadName.is at c.in-Some.ensures)
 
 pub returns-in-Err-NotADirectory : goal.returns-in-Err-NotADirectory
-returns-in-Err-NotADirectory g c = go_given c.args.selection _ _ _ _ c.in-Directory.is_given _ c.loop.invariant
-    (rw c.in-Directory.is at c.in-Some.ensures) c.if-is_given.true
+returns-in-Err-NotADirectory g c = go_given c.args.selection _ _ _ _ c.in-Directory.from _ c.loop.invariant
+    (rw c.in-Directory.is at c.in-Some.ensures) c.if-is_given.ensures
     (rw (c.as_str.ensures.value, c.in-Err-NotADirectory.field-0-is) at c.in-Err-NotADirectory.ensures)
 
 pub returns-in-Err : goal.returns-in-Err
-returns-in-Err g c = go_missing c.args.selection _ _ _ _ c.in-Directory.is_given _ _ c.loop.invariant
+returns-in-Err g c = go_missing c.args.selection _ _ _ _ c.in-Directory.from _ _ c.loop.invariant
     (rw c.in-Directory.is at c.in-Some.ensures) (rw (c.as_str.ensures.value, ← c.in-Err.why-is) at c.in-Err.ensures)
 
 pub loop-preserved : goal.loop-preserved
-loop-preserved g c = go_enter c.args.selection _ _ _ _ _ c.in-Directory.is_given _ _ c.loop.invariant
+loop-preserved g c = go_enter c.args.selection _ _ _ _ _ c.in-Directory.from _ _ c.loop.invariant
     (rw c.in-Directory.is at c.in-Some.ensures) (rw c.as_str.ensures.value at c.in-Ok.ensures)
-    (rw c.as_str-in-Ok.ensures.value at c.in-Ok-enter.ensures)
+    (rw (c.base_of-base.ensures, c.as_str-in-Ok.ensures.value, c.as_str-in-Ok-2.ensures.value) at c.in-Ok-enter.ensures)

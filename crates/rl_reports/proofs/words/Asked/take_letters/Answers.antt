@@ -16,8 +16,8 @@ split_char-requires-text-text g c κs = c.loop-c.invariant.utf8
 pub returns-in_default-letter_of-clause-rejected : goal.returns-in_default-letter_of-clause-rejected
 returns-in_default-letter_of-clause-rejected g c = inr (letter_unknown g.row.A.Denot c.args.has_colors
     c.args.word.now (wishes_in c.args.self.now) c.args.letters.now (wishes_in c.loop-c.self) c.loop-c.self.next
-    c.loop-c.rest.now c.in-Some.after.now c.in-Some.c c.in_ok-unknown_option.field-0 c.in-Some.ensures.bytes
-    c.in_default-letter_of.ensures.unknown c.loop-c.invariant.left c.in_ok-unknown_option.ensures)
+    c.loop-c.rest.now c.in-Some.after.now c.in-Some.c c.in_ok-unknown_letter.field-0 c.in-Some.ensures.bytes
+    c.in_default-letter_of.ensures.unknown c.loop-c.invariant.left c.in_ok-unknown_letter.ensures)
 
 pub returns-in-Some-operand_in-clause-letters : goal.returns-in-Some-operand_in-clause-letters
 returns-in-Some-operand_in-clause-letters g c = all_ok c.take_joined.result (λ may taken any. letter_and_text

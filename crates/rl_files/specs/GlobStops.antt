@@ -1,0 +1,48 @@
+-- How far a pattern goes at once: up to its first star.
+use Rattle.std.specs.Prelude.{◌≡◌, ℕ, ◌+◌, ◌≤◌, Bool, true, false, List, ◌∷◌, ◌++◌, drop, length, ⊤}
+use denote.Ref.{Bor}
+use Rattle.std.specs.List.{All}
+use Rattle.rl_files.specs.declared.glob.Stop.{Stop}
+use Rattle.rl_files.specs.declared.glob.Stop.TheVariants.{Decided, Star}
+use Rattle.rl_files.specs.Globs.{all_match, any_end}
+
+abbrev pub bytes_of : Bor (List ℕ) → List ℕ
+bytes_of bytes = bytes.now
+
+-- what is left to decide there
+abbrev pub says : {P X Q T : Type 0} → (P → Bool) → (P → X → Bool) → (Q → List P) → (T → List X) → Stop Q T → Bool
+says star one pattern_of text_of (Decided matches) = matches
+says star one pattern_of text_of (Star pattern text) =
+    any_end (all_match star one (pattern_of pattern)) (text_of text)
+
+-- Before the star stood parts that match one each, and so many were passed of the text.
+pub record IsReached {P X : Type 0} (star : P → Bool) (pattern : List P) (text : List X) (after : List P)
+    (rest : List X) : Type 0 where
+  pub passed : List P
+  pub at : P
+  pub is_star : star at ≡ true
+  pub plain : All (λ p. star p ≡ false) passed
+  pub pattern_is : pattern ≡ passed ++ at ∷ after
+  pub rest_is : rest ≡ drop (length passed) text
+
+abbrev pub StandsSo : {P X Q T : Type 0} → (P → Bool) → (Q → List P) → (T → List X) → List P → List X → Stop Q T → Type 0
+StandsSo star pattern_of text_of pattern text (Decided matches) = ⊤
+StandsSo star pattern_of text_of pattern text (Star after rest) =
+    IsReached star pattern text (pattern_of after) (text_of rest)
+
+-- a pattern stops so that is held against a text
+pub record StopsAs {P X Q T : Type 0} (star : P → Bool) (one : P → X → Bool) (pattern_of : Q → List P)
+    (text_of : T → List X) (pattern : List P) (text : List X) (stop : Stop Q T) : Type 0 where
+  pub same : all_match star one pattern text ≡ says star one pattern_of text_of stop
+  pub stands : StandsSo star pattern_of text_of pattern text stop
+
+-- how much of a pattern is left
+abbrev pub stop_size : {P Q T : Type 0} → (Q → List P) → Stop Q T → ℕ
+stop_size pattern_of (Decided matches) = 0
+stop_size pattern_of (Star after rest) = length (pattern_of after) + 1
+
+-- a pattern stops so that stands after a star
+pub record StopsAfter {P X Q T : Type 0} (star : P → Bool) (one : P → X → Bool) (pattern_of : Q → List P)
+    (text_of : T → List X) (pattern : List P) (text : List X) (stop : Stop Q T) : Type 0 where
+  pub same : any_end (all_match star one pattern) text ≡ says star one pattern_of text_of stop
+  pub smaller : stop_size pattern_of stop ≤ length pattern

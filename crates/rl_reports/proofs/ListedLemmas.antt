@@ -1,0 +1,12 @@
+-- A file that names paths and is no text.
+use Rattle.rl_text.proofs.Common.{List, None, Option, Some, ℕ, inr, refl, ◌≡◌}
+use Rattle.std.specs.Prelude.{IfSome, Ok}
+use Rattle.std.specs.Str.{IsUtf8, IsValidUpTo}
+use Rattle.rl_files.specs.Trees.{World}
+use Rattle.rl_files.specs.declared.tree.PathError.TheVariants.{NotUtf8}
+use Rattle.rl_reports.specs.Reports.{IsReadError}
+
+pub not_read : (holds : Option World) (file bytes : List ℕ) (at : ℕ) → IfSome holds (λ w. w.bytes file ≡ Ok bytes)
+    → (IsUtf8 bytes → ⊥) → IsValidUpTo bytes at → IfSome holds (λ w. IsReadError w file (NotUtf8 at))
+not_read None file bytes at found none up = tt
+not_read (Some w) file bytes at found none up = inr (inr (bytes, found, (at, refl, none, up)))

@@ -1,0 +1,70 @@
+// Rendered from crates/rl_reports/src/listed.rt by tools/render, which erases contracts: change that file, and render anew.
+//! Paths that a file names.
+
+use crate::rattle_std::prelude::{String, Vec};
+use crate::rl_files::{PathError, Tree};
+use crate::rattle_std::alloc::{AllocError, Allocator};
+
+/// Whether there is a NUL.
+fn has_nul(list: &[u8]) -> bool {
+    list.iter().any(|byte| *byte == 0)
+}
+
+/// What ends a name: NUL, where there is one in the list, else LF.
+fn separator(list: &str) -> char {
+    if has_nul(list.as_bytes()) {
+        return '\0';
+    }
+    '\n'
+}
+
+/// Appends a name, if it isn't empty.
+fn push_name<A: Allocator + Copy>(
+    alloc: A,
+    paths: &mut Vec<String<A>, A>,
+    name: &str,
+) -> Result<(), AllocError> {
+    if name.len() == 0 {
+        return Ok(());
+    }
+    paths.push(String::from_str(alloc, name)?)?;
+    Ok(())
+}
+
+/// Appends the names in a list, after each of which this stands.
+fn push_parts<A: Allocator + Copy>(
+    alloc: A,
+    paths: &mut Vec<String<A>, A>,
+    list: &str,
+    between: char,
+) -> Result<(), AllocError> {
+    for name in list.split(between) {
+        push_name(alloc, paths, name)?;
+    }
+    Ok(())
+}
+
+/// Appends the names in a file.
+///
+/// # Errors
+///
+/// Why it can't be read; some of them may have been appended where memory ran out.
+pub(crate) fn push_listed<A: Allocator + Copy, T: Tree>(
+    alloc: A,
+    tree: &T,
+    file: &str,
+    paths: &mut Vec<String<A>, A>,
+) -> Result<(), PathError> {
+    let bytes = match tree.bytes(alloc, file) {
+        Ok(bytes) => bytes,
+        Err(why) => return Err(why),
+    };
+    let list = match crate::rattle_std::str::from_utf8(bytes.as_slice()) {
+        Ok(list) => list,
+        Err(error) => return Err(PathError::NotUtf8(error.valid_up_to())),
+    };
+    match push_parts(alloc, paths, list, separator(list)) {
+        Ok(()) => Ok(()),
+        Err(_) => Err(PathError::OutOfMemory),
+    }
+}
