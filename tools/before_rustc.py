@@ -29,7 +29,7 @@ HEADS = ['', 'a', 'f', 'c', 'r', 'br', 'b', '_', '1', '1u8', '0x1f', '1.5', '1.5
 HASHES = ['', '#', '##', '###']
 LITERALS = ['"x"', "'x'", '"x"#', '"x"f']
 # What rl_scan cuts otherwise than rustc: these begin a raw string, or a literal with a prefix.
-JOINED = ('r', 'b', 'c')
+JOINED = ('r', 'br', 'b', 'c')
 NEGATED = ['{}', '-{}', '- {}', '-({})', '-( ( {} ) )', '-/* c */{}', '- // c\n{}', '-\n{}', '-\n/* c */\n{}', '!{}', '({})', '[{}][0]',
            '1 + {}', '1 +\n{}', '{{ {} }}', '-{{ {} }}', 'f({})', 'f(\n{}\n)', 'f(-1i8, {})', '1i8 // c\n + {}', '1i8 /* - */ * {}',
            '-\t({})', '- (// c\n({}))', '{{ /* c */ {} }}', '-\u200e{}', '{{ // c\n{} }}']
@@ -41,7 +41,7 @@ def cases(edition):
     for head in HEADS:
         for hashes in HASHES:
             for literal in LITERALS:
-                if head.endswith('"f') and not hashes or head in JOINED and (literal[0] == '"' or head == 'b'):
+                if head.endswith('"f') and not hashes or head in JOINED and (literal[0] == '"' or head != 'c'):
                     continue
                 if head == '"f' or head == 'r#"a"':
                     continue
@@ -92,11 +92,14 @@ def rejected(edition, texts):
 
 
 def reported(program, edition, texts):
-    """The texts in which rl_scan reports something."""
-    out = subprocess.run([program, '--bad', '--json', '--edition', edition, '-'], input=source_of(texts), capture_output=True, check=True
-                         if not texts else False).stdout.decode()
-    ends = ends_of(texts)
-    return {texts[bisect.bisect_right(ends, json.loads(line)['lo'])] for line in out.splitlines()}
+    """The texts in which rl_scan reports something: in a macro's call any suffix may stand."""
+    ends, found = ends_of(texts), set()
+    for words, is_asked in ((['--any-suffix'], lambda text: text.startswith('m!')), ([], lambda text: text.startswith('let'))):
+        asked = [program, '--bad', '--json', '--edition', edition, *words, '-']
+        out = subprocess.run(asked, input=source_of(texts), capture_output=True, check=False).stdout.decode()
+        hits = {texts[bisect.bisect_right(ends, json.loads(line)['lo'])] for line in out.splitlines()}
+        found |= {text for text in hits if is_asked(text)}
+    return found
 
 
 def main():

@@ -4,7 +4,7 @@ use Rattle.std.specs.Prelude.{IfErr, OnOk}
 use Rattle.std.specs.declared.result.Result.{Result}
 use Rattle.std.specs.declared.result.Result.TheVariants.{Err, Ok}
 use Rattle.rl_reports.specs.declared.flags.Flag.{Flag}
-use Rattle.rl_reports.specs.declared.flags.Flag.TheVariants.{Bad, Hidden, Only, Find, IgnoreCase, WholeWords, Text, Json, Color, Bytes, Lines, NoStray, AnySuffix, AllDirectories, Extension, Exclude, FilesFrom, NoMessages, Count, Files, Quiet, Help, Version, Paths}
+use Rattle.rl_reports.specs.declared.flags.Flag.TheVariants.{Bad, Hidden, Only, Find, IgnoreCase, WholeWords, Text, Json, Format, Context, Color, Bytes, Lines, NoStray, AnySuffix, Edition, AllDirectories, Extension, Exclude, FilesFrom, NoMessages, Count, Files, Quiet, Help, Version, Paths}
 use Rattle.rl_reports.specs.declared.flags.Operand.{Operand}
 use Rattle.rl_reports.specs.declared.flags.Operand.TheVariants as takes
 use Rattle.rl_reports.specs.declared.flags.Next.{Next}
@@ -27,11 +27,14 @@ letter_low Hidden c is = absurd is
 letter_low Only c is = absurd is
 letter_low Text c is = absurd is
 letter_low Json c is = absurd is
+letter_low Format c is = absurd is
+letter_low Context c is = absurd is
 letter_low Color c is = absurd is
 letter_low Bytes c is = absurd is
 letter_low Lines c is = absurd is
 letter_low NoStray c is = absurd is
 letter_low AnySuffix c is = absurd is
+letter_low Edition c is = absurd is
 letter_low AllDirectories c is = absurd is
 letter_low Extension c is = absurd is
 letter_low Exclude c is = absurd is
@@ -151,11 +154,14 @@ letter_taken A hc word old letters now new then last rest after c flag split is 
     go Only is none added front = absurd is
     go Text is none added front = absurd is
     go Json is none added front = absurd is
+    go Format is none added front = absurd is
+    go Context is none added front = absurd is
     go Color is none added front = absurd is
     go Bytes is none added front = absurd is
     go Lines is none added front = absurd is
     go NoStray is none added front = absurd is
     go AnySuffix is none added front = absurd is
+    go Edition is none added front = absurd is
     go AllDirectories is none added front = absurd is
     go Extension is none added front = absurd is
     go Exclude is none added front = absurd is
@@ -224,51 +230,16 @@ letters_end A hc word old letters now then rest nil (inl begun) =
 pub taken_flag : (flag : Flag) (operand : Operand) → next_after flag ≡ next.Operand operand → flag ≡ taken_by operand
 taken_flag Bad operand e = absurd (cc)
 taken_flag Hidden operand e = absurd (cc)
-taken_flag Only takes.Kinds e = refl
-taken_flag Only takes.Text e = absurd (cc)
-taken_flag Only takes.Color e = absurd (cc)
-taken_flag Only takes.Extension e = absurd (cc)
-taken_flag Only takes.Pattern e = absurd (cc)
-taken_flag Only takes.List e = absurd (cc)
-taken_flag Find takes.Kinds e = absurd (cc)
-taken_flag Find takes.Text e = refl
-taken_flag Find takes.Color e = absurd (cc)
-taken_flag Find takes.Extension e = absurd (cc)
-taken_flag Find takes.Pattern e = absurd (cc)
-taken_flag Find takes.List e = absurd (cc)
 taken_flag IgnoreCase operand e = absurd (cc)
 taken_flag WholeWords operand e = absurd (cc)
 taken_flag Text operand e = absurd (cc)
 taken_flag Json operand e = absurd (cc)
-taken_flag Color takes.Kinds e = absurd (cc)
-taken_flag Color takes.Text e = absurd (cc)
-taken_flag Color takes.Color e = refl
-taken_flag Color takes.Extension e = absurd (cc)
-taken_flag Color takes.Pattern e = absurd (cc)
-taken_flag Color takes.List e = absurd (cc)
+taken_flag Context operand e = absurd (cc)
 taken_flag Bytes operand e = absurd (cc)
 taken_flag Lines operand e = absurd (cc)
 taken_flag NoStray operand e = absurd (cc)
 taken_flag AnySuffix operand e = absurd (cc)
 taken_flag AllDirectories operand e = absurd (cc)
-taken_flag Extension takes.Kinds e = absurd (cc)
-taken_flag Extension takes.Text e = absurd (cc)
-taken_flag Extension takes.Color e = absurd (cc)
-taken_flag Extension takes.Extension e = refl
-taken_flag Extension takes.Pattern e = absurd (cc)
-taken_flag Extension takes.List e = absurd (cc)
-taken_flag Exclude takes.Kinds e = absurd (cc)
-taken_flag Exclude takes.Text e = absurd (cc)
-taken_flag Exclude takes.Color e = absurd (cc)
-taken_flag Exclude takes.Extension e = absurd (cc)
-taken_flag Exclude takes.Pattern e = refl
-taken_flag Exclude takes.List e = absurd (cc)
-taken_flag FilesFrom takes.Kinds e = absurd (cc)
-taken_flag FilesFrom takes.Text e = absurd (cc)
-taken_flag FilesFrom takes.Color e = absurd (cc)
-taken_flag FilesFrom takes.Extension e = absurd (cc)
-taken_flag FilesFrom takes.Pattern e = absurd (cc)
-taken_flag FilesFrom takes.List e = refl
 taken_flag NoMessages operand e = absurd (cc)
 taken_flag Count operand e = absurd (cc)
 taken_flag Files operand e = absurd (cc)
@@ -276,6 +247,14 @@ taken_flag Quiet operand e = absurd (cc)
 taken_flag Help operand e = absurd (cc)
 taken_flag Version operand e = absurd (cc)
 taken_flag Paths operand e = absurd (cc)
+taken_flag Only operand e = let same : takes.Kinds ≡ operand = (cc) in ap taken_by same
+taken_flag Find operand e = let same : takes.Text ≡ operand = (cc) in ap taken_by same
+taken_flag Color operand e = let same : takes.Color ≡ operand = (cc) in ap taken_by same
+taken_flag Extension operand e = let same : takes.Extension ≡ operand = (cc) in ap taken_by same
+taken_flag Exclude operand e = let same : takes.Pattern ≡ operand = (cc) in ap taken_by same
+taken_flag FilesFrom operand e = let same : takes.List ≡ operand = (cc) in ap taken_by same
+taken_flag Edition operand e = let same : takes.Edition ≡ operand = (cc) in ap taken_by same
+taken_flag Format operand e = let same : takes.Format ≡ operand = (cc) in ap taken_by same
 
 pub takes_nothing : (flag : Flag) → ((operand : Operand) → next_after flag ≢ next.Operand operand)
     → (next_after flag ≡ next.Any) ⊎ (next_after flag ≡ next.Path)
@@ -287,11 +266,14 @@ takes_nothing IgnoreCase none = inl refl
 takes_nothing WholeWords none = inl refl
 takes_nothing Text none = inl refl
 takes_nothing Json none = inl refl
+takes_nothing Format none = absurd (none takes.Format refl)
+takes_nothing Context none = inl refl
 takes_nothing Color none = absurd (none takes.Color refl)
 takes_nothing Bytes none = inl refl
 takes_nothing Lines none = inl refl
 takes_nothing NoStray none = inl refl
 takes_nothing AnySuffix none = inl refl
+takes_nothing Edition none = absurd (none takes.Edition refl)
 takes_nothing AllDirectories none = inl refl
 takes_nothing Extension none = absurd (none takes.Extension refl)
 takes_nothing Exclude none = absurd (none takes.Pattern refl)

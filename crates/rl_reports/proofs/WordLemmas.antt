@@ -4,7 +4,7 @@ use Rattle.std.specs.Prelude.{IfNone, IfSome, MatchOption, String}
 use Rattle.std.specs.Str.Pattern.{FindsTextPrefix}
 use Rattle.rl_reports.specs.declared.flags.Next.{Next}
 use Rattle.rl_reports.specs.declared.flags.Operand.{Operand}
-use Rattle.rl_reports.specs.declared.flags.Operand.TheVariants.{Kinds, Text, Color, Extension, Pattern, List as Names}
+use Rattle.rl_reports.specs.declared.flags.Operand.TheVariants.{Kinds, Text, Color, Extension, Pattern, List as Names, Edition, Format}
 use Rattle.rl_reports.specs.declared.words.WordError.{WordError}
 use Rattle.rl_reports.specs.Endings.{AskForWishes, CannotAsk}
 use Rattle.rl_reports.specs.Words.{Wishes, joined_word, IsStep, AreSteps, AskSoFar, Asks, IsRejectedWord, AreRejected}
@@ -28,14 +28,17 @@ front_none n bs (Some x) m = tt
 pub no_joined : (word : List ℕ) → ((rest : List ℕ) → word ≢ codes "--only=" ++ rest)
     → ((rest : List ℕ) → word ≢ codes "--find=" ++ rest) → ((rest : List ℕ) → word ≢ codes "--color=" ++ rest)
     → ((rest : List ℕ) → word ≢ codes "--extension=" ++ rest) → ((rest : List ℕ) → word ≢ codes "--exclude=" ++ rest)
-    → ((rest : List ℕ) → word ≢ codes "--files-from=" ++ rest)
+    → ((rest : List ℕ) → word ≢ codes "--files-from=" ++ rest) → ((rest : List ℕ) → word ≢ codes "--edition=" ++ rest)
+    → ((rest : List ℕ) → word ≢ codes "--format=" ++ rest)
     → (operand : Operand) (text : List ℕ) → word ≢ joined_word operand text
-no_joined word kinds text color extension pattern list Kinds x = kinds x
-no_joined word kinds text color extension pattern list Text x = text x
-no_joined word kinds text color extension pattern list Color x = color x
-no_joined word kinds text color extension pattern list Extension x = extension x
-no_joined word kinds text color extension pattern list Pattern x = pattern x
-no_joined word kinds text color extension pattern list Names x = list x
+no_joined word kinds text color extension pattern list edition format Kinds x = kinds x
+no_joined word kinds text color extension pattern list edition format Text x = text x
+no_joined word kinds text color extension pattern list edition format Color x = color x
+no_joined word kinds text color extension pattern list edition format Extension x = extension x
+no_joined word kinds text color extension pattern list edition format Pattern x = pattern x
+no_joined word kinds text color extension pattern list edition format Names x = list x
+no_joined word kinds text color extension pattern list edition format Edition x = edition x
+no_joined word kinds text color extension pattern list edition format Format x = format x
 
 -- ---- one word after another
 

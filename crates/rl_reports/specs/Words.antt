@@ -21,7 +21,11 @@ use Rattle.rl_sources.specs.declared.options.Spelling.{Spelling}
 use Rattle.rl_sources.specs.declared.options.Spelling.TheVariants.{Value, Source}
 use Rattle.rl_sources.specs.declared.options.Shown.TheVariants as shown
 use Rattle.rl_reports.specs.declared.flags.Flag.{Flag}
-use Rattle.rl_reports.specs.declared.flags.Flag.TheVariants.{Bad, Hidden, Only, Find, IgnoreCase, WholeWords, Text, Json, Color, Bytes, Lines, NoStray, AnySuffix, AllDirectories, Extension, Exclude, FilesFrom, NoMessages, Count, Files, Quiet, Help, Version, Paths}
+use Rattle.rl_reports.specs.declared.flags.Flag.TheVariants.{Bad, Hidden, Only, Find, IgnoreCase, WholeWords, Text, Json, Format, Context, Color, Bytes, Lines, NoStray, AnySuffix, Edition, AllDirectories, Extension, Exclude, FilesFrom, NoMessages, Count, Files, Quiet, Help, Version, Paths}
+use Rattle.rl_reports.specs.declared.flags.Format.{Format as AnyFormat}
+use Rattle.rl_reports.specs.declared.flags.Format.TheVariants as format
+use Rattle.rl_types.specs.declared.before.Edition.{Edition as AnyEdition}
+use Rattle.rl_types.specs.declared.before.Edition.TheVariants.{E2015, E2018, E2021, E2024}
 use Rattle.rl_reports.specs.declared.flags.Operand.{Operand}
 use Rattle.rl_reports.specs.declared.flags.Operand.TheVariants as takes
 use Rattle.rl_reports.specs.declared.flags.Next.{Next}
@@ -30,7 +34,7 @@ use Rattle.rl_reports.specs.declared.flags.When.{When}
 use Rattle.rl_reports.specs.declared.flags.When.TheVariants.{Auto, Always, Never}
 use Rattle.rl_reports.specs.declared.words.Asked.{Asked}
 use Rattle.rl_reports.specs.declared.words.WordError.{WordError}
-use Rattle.rl_reports.specs.declared.words.WordError.TheVariants.{Memory, UnknownOption, UnknownLetter, NoValue, UnknownKind, NoKinds, TwoChoices, NoText, EmptyText, BadAndFind, NoColor, UnknownColor, NoExtension, NoPattern, NoList}
+use Rattle.rl_reports.specs.declared.words.WordError.TheVariants.{Memory, UnknownOption, UnknownLetter, NoValue, UnknownKind, NoKinds, TwoChoices, NoText, EmptyText, BadAndFind, NoColor, UnknownColor, NoExtension, NoPattern, NoList, NoEdition, UnknownEdition, NoFormat, UnknownFormat}
 use Rattle.rl_sources.specs.Options.{Names, words_of}
 use Rattle.rl_reports.specs.Meant.{IsMeant, option_part}
 
@@ -44,11 +48,14 @@ IsOptionWord IgnoreCase word = word ≡ codes "--ignore-case"
 IsOptionWord WholeWords word = word ≡ codes "--word"
 IsOptionWord Text word = word ≡ codes "--text"
 IsOptionWord Json word = word ≡ codes "--json"
+IsOptionWord Format word = word ≡ codes "--format"
+IsOptionWord Context word = word ≡ codes "--context"
 IsOptionWord Color word = word ≡ codes "--color"
 IsOptionWord Bytes word = word ≡ codes "--bytes"
 IsOptionWord Lines word = word ≡ codes "--lines"
 IsOptionWord NoStray word = word ≡ codes "--no-stray"
 IsOptionWord AnySuffix word = word ≡ codes "--any-suffix"
+IsOptionWord Edition word = word ≡ codes "--edition"
 IsOptionWord AllDirectories word = word ≡ codes "--all"
 IsOptionWord Extension word = word ≡ codes "--extension"
 IsOptionWord Exclude word = word ≡ codes "--exclude"
@@ -81,6 +88,8 @@ joined_word takes.Color text = codes "--color=" ++ text
 joined_word takes.Extension text = codes "--extension=" ++ text
 joined_word takes.Pattern text = codes "--exclude=" ++ text
 joined_word takes.List text = codes "--files-from=" ++ text
+joined_word takes.Edition text = codes "--edition=" ++ text
+joined_word takes.Format text = codes "--format=" ++ text
 
 -- the option that takes it
 abbrev pub taken_by : Operand → Flag
@@ -90,6 +99,8 @@ taken_by takes.Color = Color
 taken_by takes.Extension = Extension
 taken_by takes.Pattern = Exclude
 taken_by takes.List = FilesFrom
+taken_by takes.Edition = Edition
+taken_by takes.Format = Format
 
 -- the word that says when lines have colours
 abbrev pub color_word : When → List ℕ
@@ -109,6 +120,28 @@ recolored written.Json later = written.Json
 recolored written.Github later = written.Github
 recolored written.Plain later = later
 recolored written.Colored later = later
+
+-- the word of an edition
+abbrev pub edition_word : AnyEdition → List ℕ
+edition_word E2015 = codes "2015"
+edition_word E2018 = codes "2018"
+edition_word E2021 = codes "2021"
+edition_word E2024 = codes "2024"
+
+-- the word that says how lines are written
+abbrev pub format_word : AnyFormat → List ℕ
+format_word format.Text = codes "text"
+format_word format.Json = codes "json"
+format_word format.Github = codes "github"
+
+-- how lines are written in it: as text, those that are written so stay as they are
+abbrev pub formatted : Bool → Form → AnyFormat → Form
+formatted has_colors form format.Json = written.Json
+formatted has_colors form format.Github = written.Github
+formatted has_colors written.Json format.Text = colored_form has_colors Auto
+formatted has_colors written.Github format.Text = colored_form has_colors Auto
+formatted has_colors written.Plain format.Text = written.Plain
+formatted has_colors written.Colored format.Text = written.Colored
 
 -- the kinds of literals, and `Verbatim` for those without a reading
 abbrev pub kind_list : List ℕ
@@ -162,6 +195,8 @@ pub record Wishes : Type 0 where
   pub output : Output
   pub rejects_strays : Bool
   pub any_suffix : Bool
+  pub edition : AnyEdition
+  pub context : Bool
   pub spelling : Spelling
   pub form : Form
   pub all_directories : Bool
@@ -183,6 +218,8 @@ first_wishes has_colors = record {
   output = output.Lines;
   rejects_strays = false;
   any_suffix = false;
+  edition = E2021;
+  context = false;
   spelling = Value;
   form = colored_form has_colors Auto;
   all_directories = false;
@@ -205,6 +242,8 @@ wishes_of command extensions excludes paths = record {
   output = command.output;
   rejects_strays = command.rejects_strays;
   any_suffix = command.any_suffix;
+  edition = command.edition;
+  context = command.context;
   spelling = command.spelling;
   form = command.form;
   all_directories = command.selection.all;
@@ -246,11 +285,14 @@ with_flag IgnoreCase w = record w { ignores_case = true }
 with_flag WholeWords w = record w { whole_words = true }
 with_flag Text w = record w { spelling = Source }
 with_flag Json w = record w { form = written.Json }
+with_flag Format w = w
+with_flag Context w = record w { context = true }
 with_flag Color w = w
 with_flag Bytes w = record w { places = form.Bytes }
 with_flag Lines w = record w { places = form.Lines }
 with_flag NoStray w = record w { rejects_strays = true }
 with_flag AnySuffix w = record w { any_suffix = true }
+with_flag Edition w = w
 with_flag AllDirectories w = record w { all_directories = true }
 with_flag Extension w = w
 with_flag Exclude w = w
@@ -264,7 +306,8 @@ with_flag Version w = record w { wish = wish.Version }
 with_flag Paths w = w
 
 -- after `--only` stands a list of kinds, after `--find` a text, after `--color` when there are colours, after
--- `--extension` what names end with, after `--exclude` a pattern, after `--files-from` a file, after `--` stand paths
+-- `--extension` what names end with, after `--exclude` a pattern, after `--files-from` a file, after
+-- `--edition` one, after `--format` how lines are written, after `--` stand paths
 abbrev pub next_after : Flag → Next
 next_after Only = next.Operand takes.Kinds
 next_after Find = next.Operand takes.Text
@@ -272,6 +315,8 @@ next_after Color = next.Operand takes.Color
 next_after Extension = next.Operand takes.Extension
 next_after Exclude = next.Operand takes.Pattern
 next_after FilesFrom = next.Operand takes.List
+next_after Edition = next.Operand takes.Edition
+next_after Format = next.Operand takes.Format
 next_after Paths = next.Path
 next_after _ = next.Any
 
@@ -314,6 +359,11 @@ IsTaken has_colors takes.Extension old text new =
     (extension : List ℕ) × IsWithoutDot text extension × (new ≡ with_extension extension old)
 IsTaken has_colors takes.Pattern old text new = new ≡ with_pattern text old
 IsTaken has_colors takes.List old text new = new ≡ with_list text old
+IsTaken has_colors takes.Edition old word new =
+    (edition : AnyEdition) × (word ≡ edition_word edition) × (new ≡ record old { edition = edition })
+IsTaken has_colors takes.Format old word new =
+    (format : AnyFormat) × (word ≡ format_word format)
+    × (new ≡ record old { form = formatted has_colors old.form format })
 
 -- With these letters, one after another, so much is asked for, and such a word may stand next: what an option
 -- takes stands after its letter, or is the next word.
@@ -386,6 +436,12 @@ word_message (UnknownColor word) =
 word_message NoExtension = codes "--extension: which? as in --extension rs.in"
 word_message NoPattern = codes "--exclude: which pattern? as in --exclude tests/ui"
 word_message NoList = codes "--files-from: which file? as in --files-from list"
+word_message NoEdition = codes "--edition: which? one of 2015, 2018, 2021, 2024"
+word_message (UnknownEdition word) =
+    codes "unknown edition '" ++ (string_bytes word ++ codes "': one of 2015, 2018, 2021, 2024")
+word_message NoFormat = codes "--format: which? one of text, json, github"
+word_message (UnknownFormat word) =
+    codes "unknown format '" ++ (string_bytes word ++ codes "': one of text, json, github")
 
 -- why this option doesn't go with what is asked for
 abbrev pub IsRejectedFlag : {A : Type 0} → Flag → Wishes → WordError A → Type 0
@@ -402,6 +458,12 @@ IsRejectedText operand text (UnknownKind said) =
 IsRejectedText operand text EmptyText = (operand ≡ takes.Text) × (text ≡ [])
 IsRejectedText operand text (UnknownColor said) =
     (operand ≡ takes.Color) × ((when : When) → text ≢ color_word when)
+    × (chars (string_bytes said) ≡ visible (chars text))
+IsRejectedText operand text (UnknownEdition said) =
+    (operand ≡ takes.Edition) × ((edition : AnyEdition) → text ≢ edition_word edition)
+    × (chars (string_bytes said) ≡ visible (chars text))
+IsRejectedText operand text (UnknownFormat said) =
+    (operand ≡ takes.Format) × ((format : AnyFormat) → text ≢ format_word format)
     × (chars (string_bytes said) ≡ visible (chars text))
 IsRejectedText operand text _ = ⊥
 
@@ -478,6 +540,8 @@ IsMissing takes.Color error = error ≡ NoColor
 IsMissing takes.Extension error = error ≡ NoExtension
 IsMissing takes.Pattern error = error ≡ NoPattern
 IsMissing takes.List error = error ≡ NoList
+IsMissing takes.Edition error = error ≡ NoEdition
+IsMissing takes.Format error = error ≡ NoFormat
 
 -- Why the words can't be asked for: where they end, what an option takes is missing; or they ask for something
 -- up to one that can't be asked for.

@@ -1,7 +1,7 @@
 //! What a call of the program asks for.
 
 use rl_files::Selection;
-use rl_sources::{Form, Matching, Shown, Spelling};
+use rl_sources::{Edition, Form, Matching, Shown, Spelling};
 
 /// What a call asks for.
 #[derive(Clone, Copy)]
@@ -61,6 +61,10 @@ pub struct Command<'a> {
     pub rejects_strays: bool,
     /// Whether a literal may have any suffix and any value, as where a macro takes it.
     pub any_suffix: bool,
+    /// The edition, by which a word or hashes right before a quote are reserved.
+    pub edition: Edition,
+    /// Whether the line of the source stands below each line.
+    pub context: bool,
     /// Which files are read of directories.
     pub selection: Selection<'a>,
     /// The file that names more paths, where there is one.

@@ -32,6 +32,8 @@ What is printed: every literal; or one of --bad, --hidden, --only; or --find
                        open, and why
       --any-suffix     of --bad: literals may have any suffix and value, as
                        macros may take 1u9; else those of Rust's types alone
+      --edition YEAR   of --bad: 2015, 2018, 2021 or 2024, by which words and
+                       hashes right before a quote are reserved; else 2021
       --hidden         characters that turn or hide text, such as U+202E,
                        wherever they stand
       --only KIND,..   literals of these kinds: Str ByteStr CStr Byte Char Int
@@ -57,6 +59,8 @@ How it is printed:
       --lines          places as LINE:COLUMN, as those of files
       --text           literals as they are written
       --json           an object of JSON for each line
+      --format FORM    text; json, as --json; or github, annotations
+      --context        below each line that of the source, and the place marked
       --color WHEN     auto, always or never; auto is on a terminal, unless
                        NO_COLOR is set or TERM is dumb
   -c, --count          how many lines each file has

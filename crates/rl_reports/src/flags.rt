@@ -2,13 +2,15 @@
 
 ghost use Rattle.std.specs.Prelude.{◌≡◌, ◌≢◌, ◌++◌, ℕ, List, IfOk, IfErr, IfSome, IfNone, MatchBool};
 ghost use Rattle.rl_reports.specs.declared.flags.Flag.{Flag};
+ghost use Rattle.rl_reports.specs.declared.flags.Format.{Format as AnyFormat};
+ghost use Rattle.rl_types.specs.declared.before.Edition.{Edition as AnyEdition};
 ghost use Rattle.rl_reports.specs.declared.flags.Operand.{Operand};
 ghost use Rattle.rl_reports.specs.declared.flags.When.{When};
-ghost use Rattle.rl_reports.specs.Words.{IsLetter, IsOptionWord, joined_word, taken_by as flag_before, color_word, wishes_of, IsAllowed, GoesWithFind, MayStand, IsRejectedFlag, with_flag as flagged, next_after as follows, colored_form, recolored as with_colors};
+ghost use Rattle.rl_reports.specs.Words.{IsLetter, IsOptionWord, joined_word, taken_by as flag_before, color_word, wishes_of, IsAllowed, GoesWithFind, MayStand, IsRejectedFlag, with_flag as flagged, next_after as follows, colored_form, recolored as with_colors, edition_word, format_word, formatted};
 
 use crate::command::{Command, Output, PlaceForm, Wish};
 use crate::words::WordError;
-use rl_sources::{Form, Shown, Spelling};
+use rl_sources::{Edition, Form, Shown, Spelling};
 use std::alloc::Allocator;
 
 /// An option.
@@ -22,11 +24,14 @@ pub(crate) enum Flag {
     WholeWords,
     Text,
     Json,
+    Format,
+    Context,
     Color,
     Bytes,
     Lines,
     NoStray,
     AnySuffix,
+    Edition,
     AllDirectories,
     Extension,
     Exclude,
@@ -55,6 +60,10 @@ pub(crate) enum Operand {
     Pattern,
     /// A file that names paths.
     List,
+    /// An edition of Rust.
+    Edition,
+    /// How lines are written.
+    Format,
 }
 
 /// What the next word may be.
@@ -77,6 +86,17 @@ pub(crate) enum When {
     Never,
 }
 
+/// How lines are written.
+#[derive(Clone, Copy)]
+pub(crate) enum Format {
+    /// As text.
+    Text,
+    /// As objects of JSON.
+    Json,
+    /// As annotations of GitHub.
+    Github,
+}
+
 /// The option that a word is.
 pub(crate) fn flag_of(word: &str) -> Option<Flag>
     ensures known { IfSome result (λ flag. IsOptionWord flag word.now) }
@@ -91,11 +111,14 @@ pub(crate) fn flag_of(word: &str) -> Option<Flag>
         "--word" => Some(Flag::WholeWords),
         "--text" => Some(Flag::Text),
         "--json" => Some(Flag::Json),
+        "--format" => Some(Flag::Format),
+        "--context" => Some(Flag::Context),
         "--color" => Some(Flag::Color),
         "--bytes" => Some(Flag::Bytes),
         "--lines" => Some(Flag::Lines),
         "--no-stray" => Some(Flag::NoStray),
         "--any-suffix" => Some(Flag::AnySuffix),
+        "--edition" => Some(Flag::Edition),
         "--all" => Some(Flag::AllDirectories),
         "--extension" => Some(Flag::Extension),
         "--exclude" => Some(Flag::Exclude),
@@ -162,6 +185,12 @@ pub(crate) fn joined_of(word: &str) -> Option<(Operand, &str)>
     if let Some(list) = after_front("--files-from=", word) {
         return Some((Operand::List, list));
     }
+    if let Some(edition) = after_front("--edition=", word) {
+        return Some((Operand::Edition, edition));
+    }
+    if let Some(format) = after_front("--format=", word) {
+        return Some((Operand::Format, format));
+    }
     None
 }
 
@@ -176,6 +205,8 @@ pub(crate) fn taken_by(operand: Operand) -> Flag
         Operand::Extension => Flag::Extension,
         Operand::Pattern => Flag::Exclude,
         Operand::List => Flag::FilesFrom,
+        Operand::Edition => Flag::Edition,
+        Operand::Format => Flag::Format,
     }
 }
 
@@ -194,13 +225,14 @@ fn with_flag(command: Command<'_>, flag: Flag) -> Option<Command<'_>>
         (Flag::Only, Shown::All) => {}
         (Flag::Bad | Flag::Hidden | Flag::Only, _) => return None,
         (Flag::Find | Flag::Color | Flag::Extension | Flag::Exclude, _) => {}
-        (Flag::FilesFrom | Flag::Paths, _) => {}
+        (Flag::FilesFrom | Flag::Edition | Flag::Format | Flag::Paths, _) => {}
         (Flag::NoMessages, _) => next.tells_errors = false,
         (Flag::IgnoreCase, _) => next.matching.ignores_case = true,
         (Flag::WholeWords, _) => next.matching.whole_words = true,
         (Flag::AllDirectories, _) => next.selection.all = true,
         (Flag::Text, _) => next.spelling = Spelling::Source,
         (Flag::Json, _) => next.form = Form::Json,
+        (Flag::Context, _) => next.context = true,
         (Flag::Bytes, _) => next.places = PlaceForm::Bytes,
         (Flag::Lines, _) => next.places = PlaceForm::Lines,
         (Flag::NoStray, _) => next.rejects_strays = true,
@@ -264,6 +296,8 @@ pub(crate) fn next_after(flag: Flag) -> Next
         Flag::Extension => Next::Operand(Operand::Extension),
         Flag::Exclude => Next::Operand(Operand::Pattern),
         Flag::FilesFrom => Next::Operand(Operand::List),
+        Flag::Edition => Next::Operand(Operand::Edition),
+        Flag::Format => Next::Operand(Operand::Format),
         Flag::Paths => Next::Path,
         _ => Next::Any,
     }
@@ -300,5 +334,44 @@ pub(crate) fn recolored(form: Form, later: Form) -> Form
         Form::Json => Form::Json,
         Form::Github => Form::Github,
         Form::Plain | Form::Colored => later,
+    }
+}
+
+/// An edition, by its word.
+pub(crate) fn edition_of(word: &str) -> Option<Edition>
+    ensures known { IfSome result (λ edition. word.now ≡ edition_word edition) }
+    ensures unknown { IfNone result ((edition : AnyEdition) → word.now ≢ edition_word edition) }
+{
+    match word {
+        "2015" => Some(Edition::E2015),
+        "2018" => Some(Edition::E2018),
+        "2021" => Some(Edition::E2021),
+        "2024" => Some(Edition::E2024),
+        _ => None,
+    }
+}
+
+/// How lines are written, by its word.
+pub(crate) fn format_of(word: &str) -> Option<Format>
+    ensures known { IfSome result (λ format. word.now ≡ format_word format) }
+    ensures unknown { IfNone result ((format : AnyFormat) → word.now ≢ format_word format) }
+{
+    match word {
+        "text" => Some(Format::Text),
+        "json" => Some(Format::Json),
+        "github" => Some(Format::Github),
+        _ => None,
+    }
+}
+
+/// How lines are written in this format: as text, lines that are written so stay as they are.
+pub(crate) fn form_in(has_colors: bool, form: Form, format: Format) -> Form
+    ensures { result ≡ formatted has_colors form format }
+{
+    match (format, form) {
+        (Format::Json, _) => Form::Json,
+        (Format::Github, _) => Form::Github,
+        (Format::Text, Form::Json | Form::Github) => form_when(has_colors, When::Auto),
+        (Format::Text, Form::Plain | Form::Colored) => form,
     }
 }

@@ -9,14 +9,11 @@ ghost use Rattle.rl_reports.specs.declared.words.WordError.TheVariants.{Memory};
 ghost use Rattle.rl_reports.specs.Words.{IsKindWord, AreKindWords, IsUnknownKind, is_path_word, taken_by as flag_before, next_after as follows, NamesLetter, NamesUnknown, AreLetters, AreRejectedLetters, first_wishes, wishes_of, wishes_in, MayStand, with_kinds, with_path, with_text, with_pattern, with_list, IsWithoutDot, IsAdded, IsTaken, IsStep, Asks, IsRejectedFlag, IsRejectedText, IsRejectedJoined, IsRejectedWord, IsMissing, AreRejected};
 
 use crate::command::{Command, Output, PlaceForm, Wish};
-use crate::flags::{
-    Flag, Next, Operand, When, add_flag, after_front, flag_of, form_when, joined_of, letter_of,
-    next_after, recolored, taken_by, when_of,
-};
+use crate::flags::{Flag, Next, Operand, When, add_flag, after_front, edition_of, flag_of, form_in, form_when, format_of, joined_of, letter_of, next_after, recolored, taken_by, when_of};
 use crate::meant::{meant_by, option_part};
 use crate::report::visible_text;
 use rl_files::Selection;
-use rl_sources::{Matching, Shown, Spelling, names};
+use rl_sources::{Edition, Matching, Shown, Spelling, names};
 use rl_tokens::text::split_char;
 use std::alloc::{AllocError, Allocator, Global};
 use std::fmt;
@@ -54,6 +51,14 @@ pub enum WordError<A: Allocator = Global> {
     NoPattern,
     /// After `--files-from` no word stands.
     NoList,
+    /// After `--edition` no word stands.
+    NoEdition,
+    /// After `--edition` stands a word that is none of the four.
+    UnknownEdition(String<A>),
+    /// After `--format` no word stands.
+    NoFormat,
+    /// After `--format` stands a word that is none of the three.
+    UnknownFormat(String<A>),
 }
 
 impl<A: Allocator> From<AllocError> for WordError<A> {
@@ -111,6 +116,17 @@ impl<A: Allocator> fmt::Display for WordError<A> {
                 write!(f, "--exclude: which pattern? as in --exclude tests/ui")
             }
             WordError::NoList => write!(f, "--files-from: which file? as in --files-from list"),
+            WordError::NoEdition => {
+                write!(f, "--edition: which? one of 2015, 2018, 2021, 2024")
+            }
+            WordError::UnknownEdition(word) => write!(
+                f,
+                "unknown edition '{word}': one of 2015, 2018, 2021, 2024"
+            ),
+            WordError::NoFormat => write!(f, "--format: which? one of text, json, github"),
+            WordError::UnknownFormat(word) => {
+                write!(f, "unknown format '{word}': one of text, json, github")
+            }
         }
     }
 }
@@ -162,6 +178,8 @@ fn missing<A: Allocator>(operand: Operand) -> WordError<A>
         Operand::Extension => WordError::NoExtension,
         Operand::Pattern => WordError::NoPattern,
         Operand::List => WordError::NoList,
+        Operand::Edition => WordError::NoEdition,
+        Operand::Format => WordError::NoFormat,
     }
 }
 
@@ -290,6 +308,34 @@ impl<'a, A: Allocator + Copy> Asked<'a, A> {
         Ok(())
     }
 
+    /// Takes an edition.
+    fn take_edition(&mut self, alloc: A, word: &str) -> Result<(), WordError<A>>
+        ensures taken { OnOk result
+            (IsTaken false takes.Edition (wishes_in self.old) word.now (wishes_in self.new)) }
+        ensures next { OnOk result (self.new.next ≡ self.old.next) }
+        ensures rejected { IfErr result (IsRejectedText takes.Edition word.now) }
+    {
+        let Some(edition) = edition_of(word) else {
+            return Err(WordError::UnknownEdition(visible_text(alloc, word)?));
+        };
+        self.command.edition = edition;
+        Ok(())
+    }
+
+    /// Takes a word that says how lines are written.
+    fn take_format(&mut self, alloc: A, has_colors: bool, word: &str) -> Result<(), WordError<A>>
+        ensures taken { OnOk result
+            (IsTaken has_colors takes.Format (wishes_in self.old) word.now (wishes_in self.new)) }
+        ensures next { OnOk result (self.new.next ≡ self.old.next) }
+        ensures rejected { IfErr result (IsRejectedText takes.Format word.now) }
+    {
+        let Some(format) = format_of(word) else {
+            return Err(WordError::UnknownFormat(visible_text(alloc, word)?));
+        };
+        self.command.form = form_in(has_colors, self.command.form, format);
+        Ok(())
+    }
+
     /// Takes what the names of files end with.
     fn take_extension(&mut self, text: &'a str) -> Result<(), WordError<A>>
         ensures taken { OnOk result
@@ -347,6 +393,8 @@ impl<'a, A: Allocator + Copy> Asked<'a, A> {
                 self.take_list(text);
                 Ok(())
             }
+            Operand::Edition => self.take_edition(alloc, text),
+            Operand::Format => self.take_format(alloc, has_colors, text),
         }
     }
 
@@ -466,6 +514,8 @@ fn first_command<'a>(has_colors: bool) -> Command<'a>
         output: Output::Lines,
         rejects_strays: false,
         any_suffix: false,
+        edition: Edition::E2021,
+        context: false,
         spelling: Spelling::Value,
         form: form_when(has_colors, When::Auto),
         selection: Selection {

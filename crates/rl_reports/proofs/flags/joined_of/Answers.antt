@@ -9,3 +9,4 @@ pub returns-clause-none : goal.returns-clause-none
 returns-clause-none c = no_joined c.args.word.now c.in_default.ensures.none c.in_default-after_front.ensures.none
     c.in_default-after_front-2.ensures.none c.in_default-after_front-3.ensures.none
     c.in_default-after_front-4.ensures.none c.in_default-after_front-5.ensures.none
+    c.in_default-after_front-6.ensures.none c.in_default-after_front-7.ensures.none

@@ -27,6 +27,8 @@ What is printed: every literal; or one of --bad, --hidden, --only; or --find
                        open, and why
       --any-suffix     of --bad: literals may have any suffix and value, as
                        macros may take 1u9; else those of Rust's types alone
+      --edition YEAR   of --bad: 2015, 2018, 2021 or 2024, by which words and
+                       hashes right before a quote are reserved; else 2021
       --hidden         characters that turn or hide text, such as U+202E,
                        wherever they stand
       --only KIND,..   literals of these kinds: Str ByteStr CStr Byte Char Int
@@ -52,6 +54,8 @@ How it is printed:
       --lines          places as LINE:COLUMN, as those of files
       --text           literals as they are written
       --json           an object of JSON for each line
+      --format FORM    text; json, as --json; or github, annotations
+      --context        below each line that of the source, and the place marked
       --color WHEN     auto, always or never; auto is on a terminal, unless
                        NO_COLOR is set or TERM is dumb
   -c, --count          how many lines each file has
@@ -216,11 +220,7 @@ fn scan_named<A: Allocator + Copy, T: Tree, W: Write, E: Write>(
 }
 
 /// How a call ends where the file can't be read that names paths.
-fn list_error<A: Allocator + Copy>(
-    alloc: A,
-    file: &str,
-    why: PathError,
-) -> Ending<CallError<A>> {
+fn list_error<A: Allocator + Copy>(alloc: A, file: &str, why: PathError) -> Ending<CallError<A>> {
     match visible_text(alloc, file) {
         Ok(shown) => Ending::Failed(CallError::List(shown, why)),
         Err(_) => Ending::Failed(CallError::Walk(WalkError::OutOfMemory)),

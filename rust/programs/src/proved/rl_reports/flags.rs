@@ -3,7 +3,7 @@
 
 use crate::rl_reports::command::{Command, Output, PlaceForm, Wish};
 use crate::rl_reports::words::WordError;
-use crate::rl_sources::{Form, Shown, Spelling};
+use crate::rl_sources::{Edition, Form, Shown, Spelling};
 use crate::rattle_std::alloc::Allocator;
 
 /// An option.
@@ -17,11 +17,14 @@ pub(crate) enum Flag {
     WholeWords,
     Text,
     Json,
+    Format,
+    Context,
     Color,
     Bytes,
     Lines,
     NoStray,
     AnySuffix,
+    Edition,
     AllDirectories,
     Extension,
     Exclude,
@@ -50,6 +53,10 @@ pub(crate) enum Operand {
     Pattern,
     /// A file that names paths.
     List,
+    /// An edition of Rust.
+    Edition,
+    /// How lines are written.
+    Format,
 }
 
 /// What the next word may be.
@@ -72,6 +79,17 @@ pub(crate) enum When {
     Never,
 }
 
+/// How lines are written.
+#[derive(Clone, Copy)]
+pub(crate) enum Format {
+    /// As text.
+    Text,
+    /// As objects of JSON.
+    Json,
+    /// As annotations of GitHub.
+    Github,
+}
+
 /// The option that a word is.
 pub(crate) fn flag_of(word: &str) -> Option<Flag> {
     match word {
@@ -83,11 +101,14 @@ pub(crate) fn flag_of(word: &str) -> Option<Flag> {
         "--word" => Some(Flag::WholeWords),
         "--text" => Some(Flag::Text),
         "--json" => Some(Flag::Json),
+        "--format" => Some(Flag::Format),
+        "--context" => Some(Flag::Context),
         "--color" => Some(Flag::Color),
         "--bytes" => Some(Flag::Bytes),
         "--lines" => Some(Flag::Lines),
         "--no-stray" => Some(Flag::NoStray),
         "--any-suffix" => Some(Flag::AnySuffix),
+        "--edition" => Some(Flag::Edition),
         "--all" => Some(Flag::AllDirectories),
         "--extension" => Some(Flag::Extension),
         "--exclude" => Some(Flag::Exclude),
@@ -143,6 +164,12 @@ pub(crate) fn joined_of(word: &str) -> Option<(Operand, &str)> {
     if let Some(list) = after_front("--files-from=", word) {
         return Some((Operand::List, list));
     }
+    if let Some(edition) = after_front("--edition=", word) {
+        return Some((Operand::Edition, edition));
+    }
+    if let Some(format) = after_front("--format=", word) {
+        return Some((Operand::Format, format));
+    }
     None
 }
 
@@ -155,6 +182,8 @@ pub(crate) fn taken_by(operand: Operand) -> Flag {
         Operand::Extension => Flag::Extension,
         Operand::Pattern => Flag::Exclude,
         Operand::List => Flag::FilesFrom,
+        Operand::Edition => Flag::Edition,
+        Operand::Format => Flag::Format,
     }
 }
 
@@ -167,13 +196,14 @@ fn with_flag(command: Command<'_>, flag: Flag) -> Option<Command<'_>> {
         (Flag::Only, Shown::All) => {}
         (Flag::Bad | Flag::Hidden | Flag::Only, _) => return None,
         (Flag::Find | Flag::Color | Flag::Extension | Flag::Exclude, _) => {}
-        (Flag::FilesFrom | Flag::Paths, _) => {}
+        (Flag::FilesFrom | Flag::Edition | Flag::Format | Flag::Paths, _) => {}
         (Flag::NoMessages, _) => next.tells_errors = false,
         (Flag::IgnoreCase, _) => next.matching.ignores_case = true,
         (Flag::WholeWords, _) => next.matching.whole_words = true,
         (Flag::AllDirectories, _) => next.selection.all = true,
         (Flag::Text, _) => next.spelling = Spelling::Source,
         (Flag::Json, _) => next.form = Form::Json,
+        (Flag::Context, _) => next.context = true,
         (Flag::Bytes, _) => next.places = PlaceForm::Bytes,
         (Flag::Lines, _) => next.places = PlaceForm::Lines,
         (Flag::NoStray, _) => next.rejects_strays = true,
@@ -224,6 +254,8 @@ pub(crate) fn next_after(flag: Flag) -> Next {
         Flag::Extension => Next::Operand(Operand::Extension),
         Flag::Exclude => Next::Operand(Operand::Pattern),
         Flag::FilesFrom => Next::Operand(Operand::List),
+        Flag::Edition => Next::Operand(Operand::Edition),
+        Flag::Format => Next::Operand(Operand::Format),
         Flag::Paths => Next::Path,
         _ => Next::Any,
     }
@@ -253,5 +285,36 @@ pub(crate) fn recolored(form: Form, later: Form) -> Form {
         Form::Json => Form::Json,
         Form::Github => Form::Github,
         Form::Plain | Form::Colored => later,
+    }
+}
+
+/// An edition, by its word.
+pub(crate) fn edition_of(word: &str) -> Option<Edition> {
+    match word {
+        "2015" => Some(Edition::E2015),
+        "2018" => Some(Edition::E2018),
+        "2021" => Some(Edition::E2021),
+        "2024" => Some(Edition::E2024),
+        _ => None,
+    }
+}
+
+/// How lines are written, by its word.
+pub(crate) fn format_of(word: &str) -> Option<Format> {
+    match word {
+        "text" => Some(Format::Text),
+        "json" => Some(Format::Json),
+        "github" => Some(Format::Github),
+        _ => None,
+    }
+}
+
+/// How lines are written in this format: as text, lines that are written so stay as they are.
+pub(crate) fn form_in(has_colors: bool, form: Form, format: Format) -> Form {
+    match (format, form) {
+        (Format::Json, _) => Form::Json,
+        (Format::Github, _) => Form::Github,
+        (Format::Text, Form::Json | Form::Github) => form_when(has_colors, When::Auto),
+        (Format::Text, Form::Plain | Form::Colored) => form,
     }
 }

@@ -3,14 +3,11 @@
 
 use crate::rattle_std::prelude::{String, Vec};
 use crate::rl_reports::command::{Command, Output, PlaceForm, Wish};
-use crate::rl_reports::flags::{
-    Flag, Next, Operand, When, add_flag, after_front, flag_of, form_when, joined_of, letter_of,
-    next_after, recolored, taken_by, when_of,
-};
+use crate::rl_reports::flags::{Flag, Next, Operand, When, add_flag, after_front, edition_of, flag_of, form_in, form_when, format_of, joined_of, letter_of, next_after, recolored, taken_by, when_of};
 use crate::rl_reports::meant::{meant_by, option_part};
 use crate::rl_reports::report::visible_text;
 use crate::rl_files::Selection;
-use crate::rl_sources::{Matching, Shown, Spelling, names};
+use crate::rl_sources::{Edition, Matching, Shown, Spelling, names};
 use crate::rl_tokens::text::split_char;
 use crate::rattle_std::alloc::{AllocError, Allocator, Global};
 use crate::rattle_std::fmt;
@@ -47,6 +44,14 @@ pub enum WordError<A: Allocator = Global> {
     NoPattern,
     /// After `--files-from` no word stands.
     NoList,
+    /// After `--edition` no word stands.
+    NoEdition,
+    /// After `--edition` stands a word that is none of the four.
+    UnknownEdition(String<A>),
+    /// After `--format` no word stands.
+    NoFormat,
+    /// After `--format` stands a word that is none of the three.
+    UnknownFormat(String<A>),
 }
 
 impl<A: Allocator> From<AllocError> for WordError<A> {
@@ -94,6 +99,17 @@ impl<A: Allocator> fmt::Display for WordError<A> {
                 write!(f, "--exclude: which pattern? as in --exclude tests/ui")
             }
             WordError::NoList => write!(f, "--files-from: which file? as in --files-from list"),
+            WordError::NoEdition => {
+                write!(f, "--edition: which? one of 2015, 2018, 2021, 2024")
+            }
+            WordError::UnknownEdition(word) => write!(
+                f,
+                "unknown edition '{word}': one of 2015, 2018, 2021, 2024"
+            ),
+            WordError::NoFormat => write!(f, "--format: which? one of text, json, github"),
+            WordError::UnknownFormat(word) => {
+                write!(f, "unknown format '{word}': one of text, json, github")
+            }
         }
     }
 }
@@ -136,6 +152,8 @@ fn missing<A: Allocator>(operand: Operand) -> WordError<A> {
         Operand::Extension => WordError::NoExtension,
         Operand::Pattern => WordError::NoPattern,
         Operand::List => WordError::NoList,
+        Operand::Edition => WordError::NoEdition,
+        Operand::Format => WordError::NoFormat,
     }
 }
 
@@ -231,6 +249,24 @@ impl<'a, A: Allocator + Copy> Asked<'a, A> {
         Ok(())
     }
 
+    /// Takes an edition.
+    fn take_edition(&mut self, alloc: A, word: &str) -> Result<(), WordError<A>> {
+        let Some(edition) = edition_of(word) else {
+            return Err(WordError::UnknownEdition(visible_text(alloc, word)?));
+        };
+        self.command.edition = edition;
+        Ok(())
+    }
+
+    /// Takes a word that says how lines are written.
+    fn take_format(&mut self, alloc: A, has_colors: bool, word: &str) -> Result<(), WordError<A>> {
+        let Some(format) = format_of(word) else {
+            return Err(WordError::UnknownFormat(visible_text(alloc, word)?));
+        };
+        self.command.form = form_in(has_colors, self.command.form, format);
+        Ok(())
+    }
+
     /// Takes what the names of files end with.
     fn take_extension(&mut self, text: &'a str) -> Result<(), WordError<A>> {
         match self.extensions.push(without_dot(text)) {
@@ -271,6 +307,8 @@ impl<'a, A: Allocator + Copy> Asked<'a, A> {
                 self.take_list(text);
                 Ok(())
             }
+            Operand::Edition => self.take_edition(alloc, text),
+            Operand::Format => self.take_format(alloc, has_colors, text),
         }
     }
 
@@ -362,6 +400,8 @@ fn first_command<'a>(has_colors: bool) -> Command<'a> {
         output: Output::Lines,
         rejects_strays: false,
         any_suffix: false,
+        edition: Edition::E2021,
+        context: false,
         spelling: Spelling::Value,
         form: form_when(has_colors, When::Auto),
         selection: Selection {

@@ -21,7 +21,7 @@ pub enum Shown<'a> {
     /// Those whose lines begin with one of these words, in any case of their letters; commas separate the words.
     Only(&'a str),
     /// Those that are bad: no literal tokens of Rust, where a CR LF of the file is an LF, integers past 128 bits, or literals that
-    /// Rust has no type for, or that stand right behind a reserved prefix.
+    /// Rust has no type for, or that stand right after a reserved prefix.
     Bad,
     /// None: in their place the characters of the source are shown that turn or hide text, wherever they stand.
     Hidden,
