@@ -27,7 +27,7 @@ use Rattle.rl_output.specs.declared.place.Place.{Place}
 use Rattle.rl_output.specs.declared.place.Place.TheVariants.{Bytes, Line, Whole}
 use Rattle.rl_reports.specs.declared.report.Report.{Report}
 use Rattle.rl_output.specs.Colors.{painted}
-use Rattle.rl_output.specs.Forms.{has_extents}
+use Rattle.rl_output.specs.Forms.{is_json}
 use Rattle.rl_output.specs.Fronts.{line_front}
 use Rattle.rl_sources.specs.Scans.{Scans, StopsAtError, error_end}
 
@@ -60,12 +60,12 @@ abbrev pub IsShownPath : List ℕ → Option (Bor (List ℕ)) → Type 0
 IsShownPath path None = is_input path ≡ true
 IsShownPath path (Some shown) = (is_input path ≡ false) × (chars shown.now ≡ visible (chars path))
 
--- a path as it stands before each place: as it is printed, or in an object and an annotation as it is; that of standard
+-- a path as it stands before each place: as it is printed, or in an object as it is; that of standard
 -- input doesn't
 abbrev pub IsPathIn : Form → List ℕ → Option (Bor (List ℕ)) → Type 0
 IsPathIn form path None = is_input path ≡ true
 IsPathIn form path (Some shown) =
-    (is_input path ≡ false) × (chars shown.now ≡ cond (has_extents form) (chars path) (visible (chars path)))
+    (is_input path ≡ false) × (chars shown.now ≡ cond (is_json form) (chars path) (visible (chars path)))
 
 -- How a file of this path is scanned.
 pub record IsOptionsFor (command : Command) (path : List ℕ) (options : Options) : Type 0 where

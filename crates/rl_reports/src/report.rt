@@ -11,9 +11,8 @@ ghost use Rattle.rl_reports.specs.Reports.{is_input as input, is_by_line as by_l
 
 use crate::command::{Command, Output, PlaceForm};
 use rl_files::{PathError, Tree, Visit, push_visible};
-use rl_output::has_extents;
 use rl_sources::{
-    Form, Options, Paint, Place, ScanError, Shown, push_painted, push_source_error, scan,
+    Form, Options, Paint, Place, ScanError, Shown, is_json, push_painted, push_source_error, scan,
 };
 use rl_tokens::{LexKind, LineColumn};
 use std::alloc::{AllocError, Allocator, Global};
@@ -88,12 +87,12 @@ fn path_before<'a>(path: &str, shown: &'a str) -> Option<&'a str>
     Some(shown)
 }
 
-/// What stands before each place in a file whose path is printed so: in an object and an annotation the path itself.
+/// What stands before each place in a file whose path is printed so: in an object the path itself.
 fn path_in<'a>(form: Form, path: &'a str, shown: Option<&'a str>) -> Option<&'a str>
     requires { IsShownPath path.now shown }
     ensures { IsPathIn form path.now result }
 {
-    if has_extents(form) && shown.is_some() {
+    if is_json(form) && shown.is_some() {
         return Some(path);
     }
     shown

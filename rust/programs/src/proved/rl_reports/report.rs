@@ -5,7 +5,7 @@ use crate::rattle_std::prelude::{String, Vec};
 use crate::rl_reports::command::{Command, Output, PlaceForm};
 use crate::rl_files::{PathError, Tree, Visit, push_visible};
 use crate::rl_sources::{
-    Form, Options, Paint, Place, ScanError, Shown, has_extents, push_painted, push_source_error, scan,
+    Form, Options, Paint, Place, ScanError, Shown, is_json, push_painted, push_source_error, scan,
 };
 use crate::rl_tokens::{LexKind, LineColumn};
 use crate::rattle_std::alloc::{AllocError, Allocator, Global};
@@ -65,9 +65,9 @@ fn path_before<'a>(path: &str, shown: &'a str) -> Option<&'a str> {
     Some(shown)
 }
 
-/// What stands before each place in a file whose path is printed so: in an object and an annotation the path itself.
+/// What stands before each place in a file whose path is printed so: in an object the path itself.
 fn path_in<'a>(form: Form, path: &'a str, shown: Option<&'a str>) -> Option<&'a str> {
-    if has_extents(form) && shown.is_some() {
+    if is_json(form) && shown.is_some() {
         return Some(path);
     }
     shown

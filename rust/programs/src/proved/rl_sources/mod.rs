@@ -22,5 +22,5 @@ pub use crate::rl_sources::options::{Matching, Options, Shown, Spelling, names};
 pub use crate::rl_sources::reason::push_source_error;
 pub use crate::rl_sources::scan_error::ScanError;
 pub use crate::rl_sources::scanner::scan;
-pub use crate::rl_output::{Form, Paint, Place, has_extents, is_json, push_painted};
+pub use crate::rl_output::{Form, Paint, Place, is_json, push_painted};
 pub use crate::rl_types::Edition;
