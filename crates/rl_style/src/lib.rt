@@ -12,4 +12,4 @@ mod rewrite;
 mod style;
 
 pub use crate::rewrite::rewrite_into;
-pub use crate::style::{Case, Style};
+pub use crate::style::{Case, Separator, Style};

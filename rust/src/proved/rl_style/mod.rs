@@ -11,4 +11,4 @@ mod rewrite;
 mod style;
 
 pub use crate::rl_style::rewrite::rewrite_into;
-pub use crate::rl_style::style::{Case, Style};
+pub use crate::rl_style::style::{Case, Separator, Style};
