@@ -7,10 +7,11 @@
 
 A literal is taken apart by the token grammar of the Rust Reference, each part is mapped by itself, and the parts are put together
 again. Nothing of the repository is asked. A style is a word of letters: `x` and `X` hexadecimal digits in lower and in upper case,
-`u` no underscores in numbers, `z` no zeros in front of integers of base ten, `e` and `E` the exponent's letter, `d` and `D` the digits
-of escapes, `c` the fewest of `\\u{..}`, `a` visible characters of ASCII and `n` letters for LF, CR and TAB where escapes by number
-spell them, `p` no plus, `q` no needless backslash before a quote, `h` the fewest hashes. A row is a style, a text and what it
-becomes, both in hexadecimal: `=` stands for the text itself, and `!` for what is no literal.
+`u` no underscores in numbers, `z` no zeros in front of integers of base ten, `s` nothing and `S` an underscore before a suffix, `e`
+and `E` the exponent's letter, `d` and `D` the digits of escapes, `c` the fewest of `\\u{..}`, `a` visible characters of ASCII and `n`
+letters for LF, CR and TAB where escapes by number spell them, `p` no plus, `q` no needless backslash before a quote, `h` the fewest
+hashes. A row is a style, a text and what it becomes, both in hexadecimal: `=` stands for the text itself, and `!` for what is no
+literal.
 
 The laws: what is written is a literal of the same kind, with the same contents and the same suffix, and the style leaves it as it
 is."""
@@ -28,7 +29,7 @@ HEX = '0123456789abcdefABCDEF'
 OPENERS = {'Str': '"', 'ByteStr': 'b"', 'CStr': 'c"', 'Byte': "b'", 'Char': "'"}
 RAW_OPENERS = {'Str': 'r', 'ByteStr': 'br', 'CStr': 'cr'}
 LETTERS = {'n': 10, 'r': 13, 't': 9, '\\': 92, '0': 0}
-RULES = ['x', 'X', 'u', 'z', 'e', 'E', 'd', 'D', 'c', 'a', 'n', 'p', 'q', 'h']
+RULES = ['x', 'X', 'u', 'z', 's', 'S', 'e', 'E', 'd', 'D', 'c', 'a', 'n', 'p', 'q', 'h']
 NAMES = {10: '\\n', 13: '\\r', 9: '\\t'}
 
 
@@ -232,6 +233,9 @@ def rewrite(style, text):
     # Without its underscores `0_b1` would begin as another base does.
     if 'u' in style and it.suffix[:1] not in ('b', 'o', 'x'):
         parts.update((part, parts[part].replace('_', '')) for part in ('row', 'numeral') if part in parts)
+    last = next((part for part in ('row', 'numeral') if part in parts), None)
+    if last and ('S' in style or 's' in style and it.suffix[:1] not in ('b', 'o', 'x')):
+        parts[last] = parts[last].rstrip('_')
     if 'z' in style and it.form == 'int' and parts['base'] == 10 and it.suffix[:1] not in ('b', 'o', 'x'):
         parts['row'] = parts['row'].lstrip('0_') or '0'
     if it.form == 'int' and parts['base'] == 16:
@@ -239,6 +243,8 @@ def rewrite(style, text):
     if it.form == 'float':
         numeral = parts['numeral'].replace('+', '') if 'p' in style else parts['numeral']
         parts['numeral'] = cased(style, 'e', 'E', numeral)
+    if last and 'S' in style and it.suffix:
+        parts[last] += '_'
     if it.form == 'escapes':
         parts['units'] = [unit(style, it.kind, each) for each in parts['units']]
     if it.form == 'raw' and 'h' in style:
@@ -295,9 +301,9 @@ def long_texts(dice, count):
 
 
 def styles():
-    for x, e, d in itertools.product(['', 'x', 'X'], ['', 'e', 'E'], ['', 'd', 'D']):
+    for x, s, e, d in itertools.product(['', 'x', 'X'], ['', 's', 'S'], ['', 'e', 'E'], ['', 'd', 'D']):
         for letters in itertools.product(*(['', letter] for letter in 'uzcanpqh')):
-            yield x + e + d + ''.join(letters)
+            yield x + s + e + d + ''.join(letters)
 
 
 def broken(style, text):
@@ -311,14 +317,14 @@ def broken(style, text):
             return name
     if rewrite(style, written) != written:
         return 'it changes again'
-    return 'longer' if len(written) > len(text) else None
+    return 'longer' if len(written) > len(text) + ('S' in style) else None
 
 
 def check_laws(dice):
     texts = {text for text in itertools.chain(short_texts(), long_texts(dice, 40000)) if literal(text)}
     every, changed = sorted(texts), 0
     for style in styles():
-        for text in every if len(style) > 10 or style in RULES else dice.sample(every, 150):
+        for text in every if len(style) > 11 or style in RULES else dice.sample(every, 60):
             changed += rewrite(style, text) != text
             law = broken(style, text)
             if law:

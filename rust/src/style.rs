@@ -33,6 +33,32 @@ impl Case {
     }
 }
 
+/// What stands between a number and its suffix.
+///
+/// ```
+/// use navyspindle::{rewrite, Separator, Style};
+///
+/// assert_eq!(rewrite("1u8", Style::new().suffix_separator(Separator::Underscore))?, "1_u8");
+/// # Ok::<(), navyspindle::ParseError>(())
+/// ```
+#[derive(Clone, Copy, Debug, PartialEq, Eq, Hash)]
+pub enum Separator {
+    /// As in `1u8`.
+    Nothing,
+    /// As in `1_u8`.
+    Underscore,
+}
+
+impl Separator {
+    /// The proved separator.
+    fn proved(self) -> rl_style::Separator {
+        match self {
+            Separator::Nothing => rl_style::Separator::Nothing,
+            Separator::Underscore => rl_style::Separator::Underscore,
+        }
+    }
+}
+
 /// How [`rewrite`] writes literals anew: each rule by itself, and none at first.
 ///
 /// ```
@@ -48,6 +74,7 @@ pub struct Style {
     hex_digits: Option<Case>,
     underscores: bool,
     leading_zeros: bool,
+    suffix_separator: Option<Separator>,
     exponent_letter: Option<Case>,
     exponent_plus: bool,
     escape_digits: Option<Case>,
@@ -73,6 +100,7 @@ impl Style {
             hex_digits: None,
             underscores: false,
             leading_zeros: false,
+            suffix_separator: None,
             exponent_letter: None,
             exponent_plus: false,
             escape_digits: None,
@@ -137,6 +165,29 @@ impl Style {
     pub const fn drop_leading_zeros(self, dropped: bool) -> Self {
         Style {
             leading_zeros: dropped,
+            ..self
+        }
+    }
+
+    /// The same with this between a number and its suffix. A number without a suffix loses the underscores at its end. With
+    /// [`Separator::Nothing`] a number keeps them whose suffix begins with `b`, `o` or `x`: `0b1` is another number than `0_b1`.
+    ///
+    /// ```
+    /// use navyspindle::{rewrite, Separator, Style};
+    ///
+    /// let style = Style::new().suffix_separator(Separator::Nothing);
+    /// assert_eq!(rewrite("1_000_u32", style)?, "1_000u32");
+    /// assert_eq!(rewrite("0_b1", style)?, "0_b1");
+    /// let style = Style::new().suffix_separator(Separator::Underscore);
+    /// assert_eq!(rewrite("0xffu8", style)?, "0xff_u8");
+    /// assert_eq!(rewrite("1.5__f32", style)?, "1.5_f32");
+    /// assert_eq!(rewrite("1_", style)?, "1");
+    /// # Ok::<(), navyspindle::ParseError>(())
+    /// ```
+    #[must_use]
+    pub const fn suffix_separator(self, separator: Separator) -> Self {
+        Style {
+            suffix_separator: Some(separator),
             ..self
         }
     }
@@ -286,6 +337,7 @@ impl Style {
             hex_digits: self.hex_digits.map(Case::proved),
             underscores: self.underscores,
             leading_zeros: self.leading_zeros,
+            suffix_separator: self.suffix_separator.map(Separator::proved),
             exponent_letter: self.exponent_letter.map(Case::proved),
             exponent_plus: self.exponent_plus,
             escape_digits: self.escape_digits.map(Case::proved),

@@ -1,6 +1,6 @@
 //! Literals written anew, held against the rows of `style.txt`, which `tools/style_model.py` writes of a model's answers.
 
-use navyspindle::{is_token, rewrite, Case, FlawKind, Lit, Style};
+use navyspindle::{is_token, rewrite, Case, FlawKind, Lit, Separator, Style};
 use std::borrow::Cow;
 
 const ROWS: &str = include_str!("style.txt");
@@ -16,6 +16,8 @@ fn style_of(letters: &str) -> Style {
         'D' => style.escape_digits(Case::Upper),
         'u' => style.drop_underscores(true),
         'z' => style.drop_leading_zeros(true),
+        's' => style.suffix_separator(Separator::Nothing),
+        'S' => style.suffix_separator(Separator::Underscore),
         'p' => style.drop_exponent_plus(true),
         'c' => style.fewest_escape_digits(true),
         'a' => style.drop_ascii_escapes(true),
@@ -77,12 +79,13 @@ fn read_alike(old: &str, new: &str) -> bool {
 
 #[test]
 fn what_is_written_reads_alike() {
-    let all = style_of("xuzepdcanqh");
     for row in ROWS.lines() {
         let text = decoded(row.split(' ').nth(1).unwrap());
-        if let Ok(written) = rewrite(&text, all) {
-            assert!(read_alike(&text, &written), "{text} {written}");
-            assert!(written.len() <= text.len(), "{text} {written}");
+        for (letters, more) in [("xuzsepdcanqh", 0), ("zSepdcanqh", 1)] {
+            if let Ok(written) = rewrite(&text, style_of(letters)) {
+                assert!(read_alike(&text, &written), "{text} {written}");
+                assert!(written.len() <= text.len() + more, "{text} {written}");
+            }
         }
     }
 }
@@ -90,7 +93,7 @@ fn what_is_written_reads_alike() {
 #[test]
 fn errors_are_those_of_the_reader() {
     for text in ["", "0b102", "\"a\\q\"", "r\"a\"b\"", "'ab'", "1e", "x"] {
-        let error = rewrite(text, style_of("xuzepdcanqh")).unwrap_err();
+        let error = rewrite(text, style_of("xuzSepdcanqh")).unwrap_err();
         assert_eq!(error, Lit::parse(text).unwrap_err(), "{text}");
     }
     // A minus is a token of its own.

@@ -2,6 +2,7 @@ pub mod CaseLemmas
 pub mod WrittenTexts
 pub mod NumberCharacters
 pub mod LeadingZeros
+pub mod Trimmed
 pub mod SameIntegers
 pub mod SameFloats
 pub mod SameRaw

@@ -7,7 +7,7 @@ use Rattle.rl_forms.specs.Strict.{spaced_value, strict_closer, strict_opener}
 use Rattle.rl_forms.proofs.StrictQuoted.{between}
 use Rattle.rl_writing.specs.RawStrings.{raw_text}
 use Rattle.rl_style.specs.declared.style.Style.{Style}
-use Rattle.rl_style.specs.Cases.{cased, drops_underscores, exponent_letter, kept_digits, number_character, significant}
+use Rattle.rl_style.specs.Cases.{cased, drops_underscores, exponent_letter, kept_digits, kept_row, number_character, separator, separator_by, significant, trimmed, trims_by}
 use Rattle.rl_style.specs.Rewriting.{HasHashes, HasNoRule, Rewrites, RewritesCooked, RewritesFloat, RewritesInt, RewritesRaw, cased_digit, styled_digits, fewest_digits, has_letter, is_visible, letter_of, respelled, restyled, visible_unit}
 use Rattle.rl_text.specs.Texts.{first_passes}
 use Rattle.rl_lexer.specs.Lexemes.{is_base_letter}
@@ -48,16 +48,28 @@ zeros_kept style base x row n = ap (λ b. cond ((b && base == 10) && not (first_
     (significant row) row)
     n.leading_zeros
 
+untrimmed : (style : Style) (x row : List ℕ) → HasNoRule style → kept_row style x row ≡ row
+untrimmed style x row n = ap (λ z. cond (trims_by z x) (trimmed row) row) n.suffix_separator
+
+unseparated : (style : Style) (x : List ℕ) → HasNoRule style → separator style x ≡ []
+unseparated style x n = ap (λ z. separator_by z x) n.suffix_separator
+
 integer_kept : (style : Style) (t u : List ℕ) → HasNoRule style → RewritesInt style t u → u ≡ t
 integer_kept style t u n c =
-    c.new_is ∙ ap (λ z. z ++ c.suffix) (numeral_kept style (drops_underscores style c.suffix) (c.int.base == 16)
-    (c.int.prefix ++ kept_digits style c.int.base c.suffix c.int.row) n (none_dropped style c.suffix n))
-    ∙ ap (λ z. (c.int.prefix ++ z) ++ c.suffix) (zeros_kept style c.int.base c.suffix c.int.row n) ∙ sym c.int.text
+    let x : List ℕ = c.suffix in
+    let row : List ℕ = kept_digits style c.int.base x (kept_row style x c.int.row) in
+    c.new_is ∙ ap (λ z. z ++ (separator style x ++ x)) (numeral_kept style (drops_underscores style x)
+    (c.int.base == 16) (c.int.prefix ++ row) n (none_dropped style x n))
+    ∙ ap (λ z. (c.int.prefix ++ z) ++ (separator style x ++ x)) (zeros_kept style c.int.base x
+    (kept_row style x c.int.row) n ∙ untrimmed style x c.int.row n)
+    ∙ ap (λ z. (c.int.prefix ++ c.int.row) ++ (z ++ x)) (unseparated style x n) ∙ sym c.int.text
 
 float_kept : (style : Style) (t u : List ℕ) → HasNoRule style → RewritesFloat style t u → u ≡ t
 float_kept style t u n c =
-    c.new_is ∙ ap (λ z. z ++ c.suffix) (numeral_kept style (drops_underscores style c.suffix) false c.float.numeral n
-    (none_dropped style c.suffix n)) ∙ sym c.float.text
+    let x : List ℕ = c.suffix in
+    c.new_is ∙ ap (λ z. z ++ (separator style x ++ x)) (numeral_kept style (drops_underscores style x) false
+    (kept_row style x c.float.numeral) n (none_dropped style x n) ∙ untrimmed style x c.float.numeral n)
+    ∙ ap (λ z. c.float.numeral ++ (z ++ x)) (unseparated style x n) ∙ sym c.float.text
 
 -- ---- quoted literals
 

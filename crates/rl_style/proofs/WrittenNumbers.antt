@@ -11,8 +11,10 @@ use Rattle.rl_reading.specs.Mirrors.NumberAt.{radix_at}
 use Rattle.rl_reading.proofs.IntegerLemmas.{not_based, radix_past}
 use Rattle.rl_style.specs.declared.style.Case.{Case}
 use Rattle.rl_style.specs.declared.style.Case.TheVariants.{Lower, Upper}
+use Rattle.rl_style.specs.declared.style.Separator.{Separator}
+use Rattle.rl_style.specs.declared.style.Separator.TheVariants.{Nothing, Underscore}
 use Rattle.rl_style.specs.declared.style.Style.{Style}
-use Rattle.rl_style.specs.Cases.{cased, drops_underscores, drops_zeros, exponent_letter, kept_digits, number_character, significant}
+use Rattle.rl_style.specs.Cases.{cased, drops_underscores, drops_zeros, exponent_letter, kept_digits, kept_row, number_character, separator, separator_by, significant}
 use Rattle.rl_text.specs.Texts.{first_passes}
 use Rattle.rl_text.proofs.Common.{is_ascii_digit}
 use Rattle.rl_style.specs.Rewriting.{RewritesFloat, RewritesInt}
@@ -21,7 +23,9 @@ use Rattle.rl_reasons.specs.declared.read_numbers.Number.{Number}
 use Rattle.rl_reasons.specs.declared.read_numbers.Number.TheVariants.{Integer, Float}
 use Rattle.rl_reasons.specs.StrictNumbersRead.{IsNumberRead}
 use Rattle.rl_style.proofs.CaseLemmas.{cased_scalar}
-use Rattle.rl_style.proofs.SameIntegers.{zeros_ten}
+use Rattle.rl_style.proofs.NumberCharacters.{of_base}
+use Rattle.rl_style.proofs.SameIntegers.{integer_facts, zeros_ten}
+use Rattle.rl_style.proofs.Trimmed.{kept_join, only, some_not_only}
 use Rattle.rl_style.proofs.WrittenTexts.{scalars_join, text_of}
 
 -- ---- the base
@@ -87,16 +91,31 @@ numeral_scalars style drops hex (c ∷ cs) h =
     (character_scalars ((drops && c == 95) || ((not hex && style.exponent_plus) && c == 43)) _
     (one_scalar hex style.hex_digits style.exponent_letter c p.0)) (numeral_scalars style drops hex cs p.1)
 
+separator_scalars : (s : Option Separator) (x : List ℕ) → scalars (separator_by s x) ≡ true
+separator_scalars None x = refl
+separator_scalars (Some Nothing) x = refl
+separator_scalars (Some Underscore) [] = refl
+separator_scalars (Some Underscore) (c ∷ cs) = refl
+
+-- the bytes of the suffix, and of what the style puts before it
+abbrev pub ended : Style → List ℕ → List ℕ
+ended style suffix = encode_utf8_all (separator style (chars suffix)) ++ suffix
+
 abbrev Written : Style → List ℕ → List ℕ → List ℕ → Bool → Bool → Type 0
 Written style numeral suffix new drops hex =
-    new ≡ encode_utf8_all (flat_map (number_character style drops hex) (chars numeral)) ++ suffix
+    new ≡ encode_utf8_all (flat_map (number_character style drops hex) (chars numeral)) ++ ended style suffix
 
 number_text : (style : Style) (numeral suffix new : List ℕ) (drops hex : Bool) → IsUtf8 numeral → IsUtf8 suffix
     → Written style numeral suffix new drops hex
-    → IsUtf8 new × (chars new ≡ flat_map (number_character style drops hex) (chars numeral) ++ chars suffix)
-number_text style numeral suffix new drops hex un us e = followed
-    (flat_map (number_character style drops hex) (chars numeral)) suffix new us
-    (numeral_scalars style drops hex (chars numeral) (scalars-chars numeral un)) e
+    → IsUtf8 new × (chars new ≡ flat_map (number_character style drops hex) (chars numeral)
+    ++ (separator style (chars suffix) ++ chars suffix))
+number_text style numeral suffix new drops hex un us e =
+    let front : List ℕ = flat_map (number_character style drops hex) (chars numeral) in
+    let end = followed (separator style (chars suffix)) suffix (ended style suffix) us
+    (separator_scalars style.suffix_separator (chars suffix)) refl in
+    let whole = followed front (ended style suffix) new end.0
+    (numeral_scalars style drops hex (chars numeral) (scalars-chars numeral un)) e in
+    (whole.0, whole.1 ∙ ap (λ z. front ++ z) end.1)
 
 pub number_utf8 : (style : Style) (numeral suffix new : List ℕ) (drops hex : Bool) → IsUtf8 numeral → IsUtf8 suffix
     → Written style numeral suffix new drops hex → IsUtf8 new
@@ -116,55 +135,71 @@ ten_prefix t v x i h =
       ]
     ]
 
+-- prefix and digits, without what the style drops at the end
+kept_numeral : (style : Style) (t : List ℕ) (v : Contents) (x full numeral : List ℕ) (i : StrictInt t v x)
+    → t ≡ full ++ x → numeral ≡ kept_row style x full → numeral ≡ i.prefix ++ kept_row style x i.row
+kept_numeral style t v x full numeral i cut kept =
+    let front : full ≡ i.prefix ++ i.row = append_cancel_right full (i.prefix ++ i.row) x (sym cut ∙ i.text) in
+    let some : only i.row ≡ false = some_not_only (of_base i.base) i.row
+    (integer_facts style false t v x i.row i i.each).underscore i.some in
+    kept ∙ ap (kept_row style x) front ∙ kept_join style x i.prefix i.row some
+
 -- the digits are kept, or they are without the zeros in front
-pub integer_whole : (style : Style) (text numeral suffix new : List ℕ) (base : ℕ) (drops : Bool) (v : Contents)
+pub integer_whole : (style : Style) (text full numeral suffix new : List ℕ) (base : ℕ) (drops : Bool) (v : Contents)
     → IsUtf8 numeral → IsUtf8 suffix → base ≡ radix_of (chars text) → drops ≡ drops_underscores style (chars suffix)
-    → drops_zeros style base (chars suffix) ≡ false → chars text ≡ chars numeral ++ chars suffix
+    → drops_zeros style base (chars suffix) ≡ false → chars text ≡ chars full ++ chars suffix
+    → chars numeral ≡ kept_row style (chars suffix) (chars full)
     → Written style numeral suffix new drops (base == 16) → StrictInt (chars text) v (chars suffix)
     → RewritesInt style (chars text) (chars new)
-integer_whole style text numeral suffix new base drops v un us b d zeros cut e i =
+integer_whole style text full numeral suffix new base drops v un us b d zeros cut kept e i =
     let base_is : base ≡ i.base = b ∙ base_found (chars text) v (chars suffix) i in
     let x : List ℕ = chars suffix in
+    let short : List ℕ = kept_row style x i.row in
+    let end : List ℕ = separator style x ++ x in
     let none : drops_zeros style i.base x ≡ false = ap (λ z. drops_zeros style z x) (sym base_is) ∙ zeros in
-    let kept : i.row ≡ kept_digits style i.base x i.row = sym (ap (λ z. cond z (significant i.row) i.row) none) in
-    let front : chars numeral ≡ i.prefix ++ i.row = append_cancel_right (chars numeral) (i.prefix ++ i.row) x
-    (sym cut ∙ i.text) in
+    let same : short ≡ kept_digits style i.base x short = sym (ap (λ z. cond z (significant short) short) none) in
+    let front : chars numeral ≡ i.prefix ++ short = kept_numeral style (chars text) v x (chars full) (chars numeral) i
+    cut kept in
     record {
       contents = v;
       suffix = x;
       int = i;
       new_is = (number_text style numeral suffix new drops (base == 16) un us e).1
-          ∙ ap (λ z. flat_map (number_character style drops (base == 16)) z ++ x) front
-          ∙ ap (λ z. flat_map (number_character style drops (z == 16)) (i.prefix ++ i.row) ++ x) base_is
-          ∙ ap (λ z. flat_map (number_character style z (i.base == 16)) (i.prefix ++ i.row) ++ x) d
-          ∙ ap (λ z. flat_map (number_character style (drops_underscores style x) (i.base == 16)) (i.prefix ++ z) ++ x)
-          kept;
+          ∙ ap (λ z. flat_map (number_character style drops (base == 16)) z ++ end) front
+          ∙ ap (λ z. flat_map (number_character style drops (z == 16)) (i.prefix ++ short) ++ end) base_is
+          ∙ ap (λ z. flat_map (number_character style z (i.base == 16)) (i.prefix ++ short) ++ end) d
+          ∙ ap (λ z. flat_map (number_character style (drops_underscores style x) (i.base == 16)) (i.prefix ++ z)
+          ++ end) same;
     }
 
-pub integer_trimmed : (style : Style) (text numeral digits suffix new : List ℕ) (base : ℕ) (drops : Bool) (v : Contents)
+pub integer_trimmed : (style : Style) (text full numeral digits suffix new : List ℕ) (base : ℕ) (drops : Bool)
+    (v : Contents)
     → IsUtf8 digits → IsUtf8 suffix → base ≡ radix_of (chars text) → drops ≡ drops_underscores style (chars suffix)
-    → drops_zeros style base (chars suffix) ≡ true → chars text ≡ chars numeral ++ chars suffix
+    → drops_zeros style base (chars suffix) ≡ true → chars text ≡ chars full ++ chars suffix
+    → chars numeral ≡ kept_row style (chars suffix) (chars full)
     → chars digits ≡ significant (chars numeral) → Written style digits suffix new drops false
     → StrictInt (chars text) v (chars suffix) → RewritesInt style (chars text) (chars new)
-integer_trimmed style text numeral digits suffix new base drops v ud us b d zeros cut short e i =
+integer_trimmed style text full numeral digits suffix new base drops v ud us b d zeros cut kept short e i =
     let base_is : base ≡ i.base = b ∙ base_found (chars text) v (chars suffix) i in
     let x : List ℕ = chars suffix in
+    let end : List ℕ = separator style x ++ x in
+    let row : List ℕ = kept_row style x i.row in
     let all : drops_zeros style i.base x ≡ true = ap (λ z. drops_zeros style z x) (sym base_is) ∙ zeros in
     let ten : i.base ≡ 10 = zeros_ten style i.base x all in
     let none = ten_prefix (chars text) v x i ten in
-    let front : chars numeral ≡ i.row = append_cancel_right (chars numeral) i.row x
-    (sym cut ∙ i.text ∙ ap (λ z. (z ++ i.row) ++ x) none) in
-    let kept : chars digits ≡ i.prefix ++ kept_digits style i.base x i.row =
-    short ∙ ap significant front ∙ sym (ap (λ z. cond z (significant i.row) i.row) all)
-    ∙ ap (λ z. z ++ kept_digits style i.base x i.row) (sym none) in
+    let front : chars numeral ≡ row = kept_numeral style (chars text) v x (chars full) (chars numeral) i cut kept
+    ∙ ap (λ z. z ++ row) none in
+    let is : chars digits ≡ i.prefix ++ kept_digits style i.base x row =
+    short ∙ ap significant front ∙ sym (ap (λ z. cond z (significant row) row) all)
+    ∙ ap (λ z. z ++ kept_digits style i.base x row) (sym none) in
     let Of : Bool → Bool → List ℕ = λ a h. flat_map (number_character style a h)
-    (i.prefix ++ kept_digits style i.base x i.row) ++ x in
+    (i.prefix ++ kept_digits style i.base x row) ++ end in
     record {
       contents = v;
       suffix = x;
       int = i;
       new_is = (number_text style digits suffix new drops false ud us e).1
-          ∙ ap (λ z. flat_map (number_character style drops false) z ++ x) kept
+          ∙ ap (λ z. flat_map (number_character style drops false) z ++ end) is
           ∙ ap (λ z. Of drops (z == 16)) (sym ten) ∙ ap (λ z. Of z (i.base == 16)) d;
     }
 
@@ -187,20 +222,22 @@ integer_digit t numeral x v i cut b =
       ]
     ]
 
-pub float_written : (style : Style) (text numeral suffix new : List ℕ) (drops : Bool) (v : Contents) → IsUtf8 numeral
-    → IsUtf8 suffix → drops ≡ drops_underscores style (chars suffix) → chars text ≡ chars numeral ++ chars suffix
+pub float_written : (style : Style) (text full numeral suffix new : List ℕ) (drops : Bool) (v : Contents)
+    → IsUtf8 numeral → IsUtf8 suffix → drops ≡ drops_underscores style (chars suffix)
+    → chars text ≡ chars full ++ chars suffix → chars numeral ≡ kept_row style (chars suffix) (chars full)
     → Written style numeral suffix new drops false → StrictFloat (chars text) v (chars suffix)
     → RewritesFloat style (chars text) (chars new)
-float_written style text numeral suffix new drops v un us d cut e f =
+float_written style text full numeral suffix new drops v un us d cut kept e f =
     let x : List ℕ = chars suffix in
-    let front : chars numeral ≡ f.numeral = append_cancel_right (chars numeral) f.numeral x (sym cut ∙ f.text) in
+    let end : List ℕ = separator style x ++ x in
+    let front : chars full ≡ f.numeral = append_cancel_right (chars full) f.numeral x (sym cut ∙ f.text) in
     record {
       contents = v;
       suffix = x;
       float = f;
       new_is = (number_text style numeral suffix new drops false un us e).1
-          ∙ ap (λ z. flat_map (number_character style drops false) z ++ x) front
-          ∙ ap (λ z. flat_map (number_character style z false) f.numeral ++ x) d;
+          ∙ ap (λ z. flat_map (number_character style drops false) z ++ end) (kept ∙ ap (kept_row style x) front)
+          ∙ ap (λ z. flat_map (number_character style z false) (kept_row style x f.numeral) ++ end) d;
     }
 
 -- one character more

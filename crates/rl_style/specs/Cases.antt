@@ -1,11 +1,14 @@
 -- Letters in one case, and what characters of numbers become. A character is its code.
-use Rattle.std.specs.Prelude.{ℕ, ◌+◌, ◌-◌, Bool, not, ◌&&◌, ◌||◌, ◌==◌, nat_le, List, [], ◌∷◌, Option, Some, None, codes, if◌then◌else◌}
+use Rattle.std.specs.Prelude.{ℕ, ◌+◌, ◌-◌, Bool, not, ◌&&◌, ◌||◌, ◌==◌, nat_le, List, [], ◌∷◌, Option, Some, None, codes, true, false, if◌then◌else◌}
 use Prim.Native.Char.{code}
 use Rattle.rl_text.specs.Classes.{after_run}
-use Rattle.rl_text.specs.Texts.{first_passes}
+use Rattle.std.specs.List.{list_all}
+use Rattle.rl_text.specs.Texts.{first_passes, is_underscore}
 use Rattle.rl_lexer.specs.Lexemes.{is_base_letter}
 use Rattle.rl_style.specs.declared.style.Case.{Case}
 use Rattle.rl_style.specs.declared.style.Case.TheVariants.{Lower, Upper}
+use Rattle.rl_style.specs.declared.style.Separator.{Separator}
+use Rattle.rl_style.specs.declared.style.Separator.TheVariants.{Nothing, Underscore}
 use Rattle.rl_style.specs.declared.style.Style.{Style}
 
 -- a hexadecimal digit in upper or in lower case; whatever else as it is
@@ -36,6 +39,30 @@ abbrev pub number_character : Style → Bool → Bool → ℕ → List ℕ
 number_character style drops hex c =
     if (drops && c == code "_") || ((not hex && style.exponent_plus) && c == code "+") then []
     else (if hex then cased style.hex_digits c else exponent_letter style.exponent_letter c) ∷ []
+
+-- without the underscores at the end
+abbrev pub trimmed : List ℕ → List ℕ
+trimmed [] = []
+trimmed (c ∷ cs) = if list_all is_underscore (c ∷ cs) then [] else c ∷ trimmed cs
+
+-- A number with the suffix loses the underscores before it: the rule says so, and no other number comes of it.
+abbrev pub trims_by : Option Separator → List ℕ → Bool
+trims_by None suffix = false
+trims_by (Some Nothing) suffix = not (first_passes is_base_letter suffix)
+trims_by (Some Underscore) suffix = true
+
+abbrev pub kept_row : Style → List ℕ → List ℕ → List ℕ
+kept_row style suffix row = if trims_by style.suffix_separator suffix then trimmed row else row
+
+-- what is put before the suffix
+abbrev pub separator_by : Option Separator → List ℕ → List ℕ
+separator_by None suffix = []
+separator_by (Some Nothing) suffix = []
+separator_by (Some Underscore) [] = []
+separator_by (Some Underscore) (c ∷ cs) = codes "_"
+
+abbrev pub separator : Style → List ℕ → List ℕ
+separator style suffix = separator_by style.suffix_separator suffix
 
 -- zeros in front of digits, and underscores between them
 abbrev pub is_padding : ℕ → Bool

@@ -10,7 +10,7 @@ use Rattle.rl_forms.specs.Spelling.{place_value}
 use Rattle.rl_writing.specs.RawStrings.{raw_text, HasFewestHashes}
 use Rattle.rl_style.specs.declared.style.Case.{Case}
 use Rattle.rl_style.specs.declared.style.Style.{Style}
-use Rattle.rl_style.specs.Cases.{cased, drops_underscores, kept_digits, number_character}
+use Rattle.rl_style.specs.Cases.{cased, drops_underscores, kept_digits, kept_row, number_character, separator}
 
 -- Both texts are strict literals of one kind, with the same contents and the same suffix. By the laws of both grammars
 -- they then read alike.
@@ -23,21 +23,23 @@ pub record SameLiteral (old new : List ℕ) : Type 0 where
 
 -- ---- numbers
 
--- The old text is an integer; the new one has its prefix, its digits, perhaps without the zeros in front, and its
--- suffix, and each character before the suffix is what the style makes of it.
+-- The old text is an integer; the new one has its prefix, its digits, perhaps without the zeros in front and the
+-- underscores at the end, what the style puts before the suffix, and the suffix; each character in front of that is what
+-- the style makes of it.
 pub record RewritesInt (style : Style) (old new : List ℕ) : Type 0 where
   pub contents : Contents
   pub suffix : List ℕ
   pub int : StrictInt old contents suffix
   pub new_is : new ≡ flat_map (number_character style (drops_underscores style suffix) (int.base == 16))
-      (int.prefix ++ kept_digits style int.base suffix int.row) ++ suffix
+      (int.prefix ++ kept_digits style int.base suffix (kept_row style suffix int.row)) ++ (separator style suffix ++ suffix)
 
 -- The same of a float, but for the zeros.
 pub record RewritesFloat (style : Style) (old new : List ℕ) : Type 0 where
   pub contents : Contents
   pub suffix : List ℕ
   pub float : StrictFloat old contents suffix
-  pub new_is : new ≡ flat_map (number_character style (drops_underscores style suffix) false) float.numeral ++ suffix
+  pub new_is : new ≡ flat_map (number_character style (drops_underscores style suffix) false)
+      (kept_row style suffix float.numeral) ++ (separator style suffix ++ suffix)
 
 -- ---- raw literals
 
@@ -141,6 +143,7 @@ pub record HasNoRule (style : Style) : Type 0 where
   pub hex_digits : style.hex_digits ≡ None
   pub underscores : style.underscores ≡ false
   pub leading_zeros : style.leading_zeros ≡ false
+  pub suffix_separator : style.suffix_separator ≡ None
   pub exponent_letter : style.exponent_letter ≡ None
   pub exponent_plus : style.exponent_plus ≡ false
   pub escape_digits : style.escape_digits ≡ None

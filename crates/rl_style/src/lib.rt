@@ -15,5 +15,5 @@ mod whole;
 
 pub use crate::restylable::{Restylable, Restylables};
 pub use crate::rewrite::rewrite_into;
-pub use crate::style::{Case, Style};
+pub use crate::style::{Case, Separator, Style};
 pub use crate::whole::may_restyle;

@@ -1,6 +1,6 @@
 //! Numbers written anew.
 
-ghost use Rattle.std.specs.Prelude.{◌≡◌, ◌≤◌, ◌+◌, ◌++◌, Bool, length, take, encode_utf8, encode_utf8_all, IfSome, IsTrue};
+ghost use Rattle.std.specs.Prelude.{◌≡◌, ◌≤◌, ◌+◌, ◌++◌, Bool, [], codes, if◌then◌else◌, length, take, encode_utf8, encode_utf8_all, IfSome, IsTrue};
 ghost use Rattle.std.specs.List.{flat_map};
 ghost use Rattle.std.specs.Str.{chars, IsUtf8};
 ghost use Rattle.rl_text.specs.Texts.{IsTail, first_passes};
@@ -10,15 +10,15 @@ ghost use Rattle.rl_lexer.specs.Lexemes.{is_base_letter};
 ghost use Rattle.rl_reasons.specs.StrictNumbersRead.{IsNumberRead, suffix_of};
 ghost use Rattle.rl_text.specs.Classes.{after_run};
 ghost use Rattle.std.specs.Char.{is_ascii_digit};
-ghost use Rattle.rl_style.specs.Cases.{drops_underscores, drops_zeros, exponent_letter, is_padding, number_character, significant};
+ghost use Rattle.rl_style.specs.Cases.{drops_underscores, drops_zeros, exponent_letter, is_padding, kept_row, number_character, separator, significant, trimmed, trims_by};
 ghost use Rattle.rl_style.specs.Mirrors.{one_or_none};
 ghost use Rattle.rl_style.specs.Rewriting.{Rewrites, RewritesFloat, RewritesInt};
 
 use crate::case::cased;
-use crate::style::{Case, Style};
+use crate::style::{Case, Separator, Style};
 use rl_reading::number_forms::split_radix;
 use rl_reasons::Number;
-use rl_text::room::{put_char, put_text};
+use rl_text::room::{put_byte, put_char, put_text};
 use rl_text::text::{before, split_char};
 
 /// Whether the text begins with the letter of a base.
@@ -117,49 +117,114 @@ fn drops_zeros(style: Style, base: u32, suffix: &str) -> bool
     style.leading_zeros && base == 10 && !begins_base_letter(suffix)
 }
 
+/// The text without the underscores at its end.
+fn trimmed(text: &str) -> &str
+    ensures kept { chars result.now ≡ trimmed (chars text.now) }
+    ensures shorter { length result.now ≤ length text.now }
+{
+    let mut rest = text;
+    let mut tail = text;
+    while let Some((c, after)) = split_char(rest) {
+        if c != '_' {
+            tail = after;
+        }
+        rest = after;
+    }
+    before(text, tail)
+}
+
+/// Whether a number with the suffix loses the underscores before it.
+fn trims(style: Style, suffix: &str) -> bool
+    ensures { result ≡ trims_by style.suffix_separator (chars suffix.now) }
+{
+    match style.suffix_separator {
+        None => false,
+        Some(Separator::Nothing) => !begins_base_letter(suffix),
+        Some(Separator::Underscore) => true,
+    }
+}
+
+/// What stands before the suffix, perhaps without the underscores at its end.
+fn kept_row<'t>(style: Style, suffix: &str, numeral: &'t str) -> &'t str
+    ensures kept { chars result.now ≡ kept_row style (chars suffix.now) (chars numeral.now) }
+    ensures shorter { length result.now ≤ length numeral.now }
+{
+    if trims(style, suffix) {
+        trimmed(numeral)
+    } else {
+        numeral
+    }
+}
+
+/// Whether an underscore is put before the suffix.
+fn is_separated(style: Style, suffix: &str) -> bool
+    ensures { (if result then codes "_" else []) ≡ separator style (chars suffix.now) }
+{
+    match style.suffix_separator {
+        Some(Separator::Underscore) => split_char(suffix).is_some(),
+        _ => false,
+    }
+}
+
+/// Puts a number's suffix, and what the style puts before it.
+fn put_suffix(out: &mut [u8], at: usize, style: Style, suffix: &str) -> usize
+    requires { at + (length suffix.now + 1) ≤ length out.old }
+    ensures end { result ≤ at + (length suffix.now + 1) }
+    ensures bytes { take result out.new
+        ≡ take at out.old ++ (encode_utf8_all (separator style (chars suffix.now)) ++ suffix.now) }
+    ensures len { length out.new ≡ length out.old }
+{
+    if is_separated(style, suffix) {
+        let end = put_byte(out, at, b'_');
+        return put_text(out, end, suffix);
+    }
+    put_text(out, at, suffix)
+}
+
 /// Writes the integer anew that has this suffix.
 fn write_integer(text: &str, suffix: &str, style: Style, out: &mut [u8]) -> usize
     requires following { IsTail text.now suffix.now }
     requires integer { (v : Contents) × StrictInt (chars text.now) v (chars suffix.now) }
-    requires room { length text.now ≤ length out.old }
+    requires room { length text.now + 1 ≤ length out.old }
     ensures written { RewritesInt style (chars text.now) (chars (take result out.new)) }
     ensures utf8 { IsUtf8 (take result out.new) }
-    ensures within { result ≤ length text.now }
+    ensures within { result ≤ length text.now + 1 }
 {
     let (base, _) = split_radix(text);
     let drops = drops_underscores(style, suffix);
-    let numeral = before(text, suffix);
+    let numeral = kept_row(style, suffix, before(text, suffix));
     if drops_zeros(style, base, suffix) {
         let at = put_numeral(out, style, drops, false, significant(numeral));
-        return put_text(out, at, suffix);
+        return put_suffix(out, at, style, suffix);
     }
     let hex = base == 16;
     let at = put_numeral(out, style, drops, hex, numeral);
-    put_text(out, at, suffix)
+    put_suffix(out, at, style, suffix)
 }
 
 /// Writes the float anew that has this suffix.
 fn write_float(text: &str, suffix: &str, style: Style, out: &mut [u8]) -> usize
     requires following { IsTail text.now suffix.now }
     requires float { (v : Contents) × StrictFloat (chars text.now) v (chars suffix.now) }
-    requires room { length text.now ≤ length out.old }
+    requires room { length text.now + 1 ≤ length out.old }
     ensures written { RewritesFloat style (chars text.now) (chars (take result out.new)) }
     ensures utf8 { IsUtf8 (take result out.new) }
-    ensures within { result ≤ length text.now }
+    ensures within { result ≤ length text.now + 1 }
 {
     let drops = drops_underscores(style, suffix);
-    let at = put_numeral(out, style, drops, false, before(text, suffix));
-    put_text(out, at, suffix)
+    let numeral = kept_row(style, suffix, before(text, suffix));
+    let at = put_numeral(out, style, drops, false, numeral);
+    put_suffix(out, at, style, suffix)
 }
 
 /// Writes the number anew that was read.
 pub(crate) fn write_number(text: &str, number: Number<'_>, style: Style, out: &mut [u8]) -> usize
     requires number { IsNumberRead (chars text.now) number }
     requires following { IsTail text.now (suffix_of number) }
-    requires room { length text.now ≤ length out.old }
+    requires room { length text.now + 1 ≤ length out.old }
     ensures written { Rewrites style (chars text.now) (chars (take result out.new)) }
     ensures utf8 { IsUtf8 (take result out.new) }
-    ensures within { result ≤ length text.now }
+    ensures within { result ≤ length text.now + 1 }
 {
     match number {
         Number::Integer(_, suffix) => write_integer(text, suffix, style, out),

@@ -67,10 +67,10 @@ fn write_quoted(
 /// Writes the number anew that the text is.
 fn rewrite_number(text: &str, style: Style, out: &mut [u8]) -> Result<usize, Flaw>
     requires digit { IsTrue (first_passes is_ascii_digit (chars text.now)) }
-    requires room { length text.now ≤ length out.old }
+    requires room { length text.now + 1 ≤ length out.old }
     ensures written { IfOk result (λ n. Rewrites style (chars text.now) (chars (take n out.new))) }
     ensures utf8 { IfOk result (λ n. IsUtf8 (take n out.new)) }
-    ensures within { IfOk result (λ n. n ≤ length text.now) }
+    ensures within { IfOk result (λ n. n ≤ length text.now + 1) }
     ensures flaw { IfErr result (ExplainsStrictly (chars text.now)) }
 {
     match read_number(text) {

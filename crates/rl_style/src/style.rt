@@ -7,6 +7,13 @@ pub enum Case {
     Upper,
 }
 
+/// What stands between a number and its suffix.
+#[derive(Clone, Copy)]
+pub enum Separator {
+    Nothing,
+    Underscore,
+}
+
 /// How literals are written anew: each field is a rule by itself. With `None` and `false` it changes nothing.
 #[derive(Clone, Copy)]
 pub struct Style {
@@ -18,6 +25,9 @@ pub struct Style {
     /// Whether an integer of base ten loses the zeros in front of its digits: `7` for `007`. One whose suffix begins with `b`, `o` or
     /// `x` keeps them.
     pub leading_zeros: bool,
+    /// What stands between a number and its suffix: `1u8` or `1_u8`. A number without a suffix loses the underscores at its end. With
+    /// `Nothing` one keeps them whose suffix begins with `b`, `o` or `x`.
+    pub suffix_separator: Option<Separator>,
     /// The case of the letter before a float's exponent: `1e5` or `1E5`.
     pub exponent_letter: Option<Case>,
     /// Whether a float's exponent loses its `+`: `1e5` for `1e+5`.

@@ -14,5 +14,5 @@ mod whole;
 
 pub use crate::rl_style::restylable::{Restylable, Restylables};
 pub use crate::rl_style::rewrite::rewrite_into;
-pub use crate::rl_style::style::{Case, Style};
+pub use crate::rl_style::style::{Case, Separator, Style};
 pub use crate::rl_style::whole::may_restyle;

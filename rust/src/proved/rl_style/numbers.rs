@@ -2,10 +2,10 @@
 //! Numbers written anew.
 
 use crate::rl_style::case::cased;
-use crate::rl_style::style::{Case, Style};
+use crate::rl_style::style::{Case, Separator, Style};
 use crate::rl_reading::number_forms::split_radix;
 use crate::rl_reasons::Number;
-use crate::rl_text::room::{put_char, put_text};
+use crate::rl_text::room::{put_byte, put_char, put_text};
 use crate::rl_text::text::{before, split_char};
 
 /// Whether the text begins with the letter of a base.
@@ -79,25 +79,74 @@ fn drops_zeros(style: Style, base: u32, suffix: &str) -> bool {
     style.leading_zeros && base == 10 && !begins_base_letter(suffix)
 }
 
+/// The text without the underscores at its end.
+fn trimmed(text: &str) -> &str {
+    let mut rest = text;
+    let mut tail = text;
+    while let Some((c, after)) = split_char(rest) {
+        if c != '_' {
+            tail = after;
+        }
+        rest = after;
+    }
+    before(text, tail)
+}
+
+/// Whether a number with the suffix loses the underscores before it.
+fn trims(style: Style, suffix: &str) -> bool {
+    match style.suffix_separator {
+        None => false,
+        Some(Separator::Nothing) => !begins_base_letter(suffix),
+        Some(Separator::Underscore) => true,
+    }
+}
+
+/// What stands before the suffix, perhaps without the underscores at its end.
+fn kept_row<'t>(style: Style, suffix: &str, numeral: &'t str) -> &'t str {
+    if trims(style, suffix) {
+        trimmed(numeral)
+    } else {
+        numeral
+    }
+}
+
+/// Whether an underscore is put before the suffix.
+fn is_separated(style: Style, suffix: &str) -> bool {
+    match style.suffix_separator {
+        Some(Separator::Underscore) => split_char(suffix).is_some(),
+        _ => false,
+    }
+}
+
+/// Puts a number's suffix, and what the style puts before it.
+fn put_suffix(out: &mut [u8], at: usize, style: Style, suffix: &str) -> usize {
+    if is_separated(style, suffix) {
+        let end = put_byte(out, at, b'_');
+        return put_text(out, end, suffix);
+    }
+    put_text(out, at, suffix)
+}
+
 /// Writes the integer anew that has this suffix.
 fn write_integer(text: &str, suffix: &str, style: Style, out: &mut [u8]) -> usize {
     let (base, _) = split_radix(text);
     let drops = drops_underscores(style, suffix);
-    let numeral = before(text, suffix);
+    let numeral = kept_row(style, suffix, before(text, suffix));
     if drops_zeros(style, base, suffix) {
         let at = put_numeral(out, style, drops, false, significant(numeral));
-        return put_text(out, at, suffix);
+        return put_suffix(out, at, style, suffix);
     }
     let hex = base == 16;
     let at = put_numeral(out, style, drops, hex, numeral);
-    put_text(out, at, suffix)
+    put_suffix(out, at, style, suffix)
 }
 
 /// Writes the float anew that has this suffix.
 fn write_float(text: &str, suffix: &str, style: Style, out: &mut [u8]) -> usize {
     let drops = drops_underscores(style, suffix);
-    let at = put_numeral(out, style, drops, false, before(text, suffix));
-    put_text(out, at, suffix)
+    let numeral = kept_row(style, suffix, before(text, suffix));
+    let at = put_numeral(out, style, drops, false, numeral);
+    put_suffix(out, at, style, suffix)
 }
 
 /// Writes the number anew that was read.
