@@ -1,15 +1,16 @@
 //! Writes Rust files in a style: the paths of the files come on standard input, a line each; the first argument is `lower` or `upper`,
 //! the second a folder. Of each file that the style changes, its path and that of the new one are printed, with a tab between.
 
-use navyspindle::{restyle, Case, Style};
+use navyspindle::{restyle, Case, Separator, Style};
 use std::borrow::Cow;
 use std::io::{stdin, BufRead};
 use std::{env, fs};
 
 /// A style with all rules.
-fn style_of(case: Case) -> Style {
+fn style_of(case: Case, separator: Separator) -> Style {
     Style::new()
         .hex_digits(case)
+        .suffix_separator(separator)
         .drop_underscores(true)
         .drop_leading_zeros(true)
         .exponent_letter(case)
@@ -24,7 +25,10 @@ fn style_of(case: Case) -> Style {
 
 fn main() {
     let words: Vec<String> = env::args().collect();
-    let style = style_of(if words[1] == "upper" { Case::Upper } else { Case::Lower });
+    let style = match words[1].as_str() {
+        "upper" => style_of(Case::Upper, Separator::Underscore),
+        _ => style_of(Case::Lower, Separator::Nothing),
+    };
     for (at, path) in stdin().lock().lines().map_while(Result::ok).enumerate() {
         let Ok(text) = fs::read_to_string(&path) else { continue };
         if let Ok(Cow::Owned(written)) = restyle(&text, style).apply() {
