@@ -12,3 +12,4 @@ pub mod HiddenLemmas
 pub mod WriteLemmas
 pub mod JsonStringLemmas
 pub mod JsonLemmas
+pub mod FirstHeldLemmas

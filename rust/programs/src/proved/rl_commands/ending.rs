@@ -38,14 +38,21 @@ Examples:
 /// Which version it is.
 const VERSION: &str = "rl_tool 0.2.0\n";
 
-/// The text that the arguments ask for: how the program is used, or its version.
+/// The text that a word asks for: how the program is used, or its version.
+fn text_of_word(word: &str) -> Option<&'static str> {
+    if word == "--help" || word == "-h" {
+        return Some(HELP);
+    }
+    if word == "--version" || word == "-V" {
+        return Some(VERSION);
+    }
+    None
+}
+
+/// The text that the arguments ask for.
 fn text_asked<A: Allocator>(args: &[String<A>]) -> Option<&'static str> {
     match args {
-        [_, word] => match word.as_str() {
-            "--help" | "-h" => Some(HELP),
-            "--version" | "-V" => Some(VERSION),
-            _ => None,
-        },
+        [_, word] => text_of_word(word.as_str()),
         _ => None,
     }
 }

@@ -32,8 +32,8 @@ What is printed: every literal; or one of --bad, --hidden, --only; or --find
       --only KIND,..   literals of these kinds: Str ByteStr CStr Byte Char Int
                        Float Bool Verbatim, in any case
   -e, --find TEXT      strings, characters and bytes, no numbers, that hold
-                       TEXT, however it is written, at its first place; goes
-                       with --only
+                       TEXT, however it is written, at its first place; said
+                       more than once, one of the TEXTs; goes with --only
   -i, --ignore-case    of --find: small and large letters of ASCII are the same
   -w, --word           of --find: TEXT as whole words
       --no-stray       a character that begins no token is an error
@@ -150,9 +150,10 @@ fn add_usual<A: Allocator + Copy>(
 
 /// The status that a run ends with which found this.
 fn status_of(command: Command<'_>, tally: Tally) -> u8 {
-    match command.finds {
-        None => tally.status(command.shown),
-        Some(_) => tally.find_status(),
+    if command.searches {
+        tally.find_status()
+    } else {
+        tally.status(command.shown)
     }
 }
 
@@ -216,11 +217,7 @@ fn scan_named<A: Allocator + Copy, T: Tree, W: Write, E: Write>(
 }
 
 /// How a call ends where the file can't be read that names paths.
-fn list_error<A: Allocator + Copy>(
-    alloc: A,
-    file: &str,
-    why: PathError,
-) -> Ending<CallError<A>> {
+fn list_error<A: Allocator + Copy>(alloc: A, file: &str, why: PathError) -> Ending<CallError<A>> {
     match visible_text(alloc, file) {
         Ok(shown) => Ending::Failed(CallError::List(shown, why)),
         Err(_) => Ending::Failed(CallError::Walk(WalkError::OutOfMemory)),
@@ -255,13 +252,15 @@ fn usual_unless<'a>(extensions: &'a [&'a str]) -> &'a [&'a str] {
     }
 }
 
-/// The command with what it selects.
+/// The command with the texts that it looks for and with what it selects.
 fn selecting<'a>(
     command: Command<'a>,
+    finds: &'a [&'a str],
     extensions: &'a [&'a str],
     excludes: &'a [&'a str],
 ) -> Command<'a> {
     let mut selecting = command;
+    selecting.finds = finds;
     selecting.selection = Selection {
         all: command.selection.all,
         extensions: usual_unless(extensions),
@@ -282,11 +281,17 @@ fn scan_asked<A: Allocator + Copy, T: Tree, W: Write, E: Write>(
     let Asked {
         command,
         mut paths,
+        finds,
         extensions,
         excludes,
         ..
     } = asked;
-    let command = selecting(command, extensions.as_slice(), excludes.as_slice());
+    let command = selecting(
+        command,
+        finds.as_slice(),
+        extensions.as_slice(),
+        excludes.as_slice(),
+    );
     match command.files_from {
         None => scan_named(alloc, command, is_terminal, tree, &mut paths, out, err),
         Some(file) => scan_listed(alloc, command, file, tree, &mut paths, out, err),
