@@ -29,10 +29,10 @@ asks_for_text (program ∷ word ∷ []) = is_text_word (string_bytes word)
 asks_for_text (program ∷ word ∷ other ∷ others) = false
 
 -- How a call ends that asks so: with the text, of which a beginning was written where a write failed.
-abbrev pub EndsText : {B : Type 0} → Option (List ℕ) → Option (List ℕ) → Ending (Fault B) → Type 0
-EndsText old new Done = (text : List ℕ) × Appends old new text
-EndsText old new (Failed Write) = (text : List ℕ) × AppendsBeginning old new text
-EndsText old new _ = ⊥
+abbrev pub EndsHelp : {B : Type 0} → Option (List ℕ) → Option (List ℕ) → Ending (Fault B) → Type 0
+EndsHelp old new Done = (text : List ℕ) × Appends old new text
+EndsHelp old new (Failed Write) = (text : List ℕ) × AppendsBeginning old new text
+EndsHelp old new _ = ⊥
 
 -- How a call ends that asks for a command: with what that does; or, where the arguments ask for none, with how the
 -- program is used, and nothing is written.
@@ -52,5 +52,5 @@ EndsCommand args input old new (Failed fault) =
 abbrev pub EndsAs : {A B : Type 0} → List (String A) → Option (List ℕ) → Option (List ℕ)
     → Option (List ℕ) → Ending (Fault B) → Type 0
 EndsAs args input old new ending =
-    ((asks_for_text args ≡ true) × EndsText old new ending)
+    ((asks_for_text args ≡ true) × EndsHelp old new ending)
     ⊎ ((asks_for_text args ≡ false) × EndsCommand args input old new ending)

@@ -2,7 +2,7 @@
 
 ghost use Rattle.std.specs.Prelude.{◌≡◌};
 ghost use Rattle.std.specs.Option.{is_some};
-ghost use Rattle.rl_commands.specs.Endings.{asks_for_text, is_text_word, EndsAs, EndsText};
+ghost use Rattle.rl_commands.specs.Endings.{asks_for_text, is_text_word, EndsAs, EndsHelp};
 
 use crate::command::Command;
 use crate::run::run;
@@ -34,7 +34,7 @@ Status:
   2  wrong arguments, or a stream failed
 
 Examples:
-  printf '0x1F_u8 \"a\\n\"' | rl_tool read
+  printf '0x1F_u8 \"a\\\\n\"' | rl_tool read
 ";
 
 /// Which version it is.
@@ -65,7 +65,7 @@ fn text_asked<A: Allocator>(args: &[String<A>]) -> Option<&'static str>
 
 /// How a call ends that writes a text.
 fn show_text<A: Allocator, W: Write>(out: &mut W, text: &str) -> Ending<Fault<A>>
-    ensures { EndsText (W.contents out.old) (W.contents out.new) result }
+    ensures { EndsHelp (W.contents out.old) (W.contents out.new) result }
 {
     match write_whole(out, text.as_bytes()) {
         Ok(()) => Ending::Done,

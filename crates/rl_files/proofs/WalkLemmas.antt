@@ -11,7 +11,7 @@ use Rattle.rl_files.specs.Trees.{World, string_texts}
 use Rattle.rl_files.specs.declared.walk.Selection.{Selection}
 use Rattle.rl_files.specs.declared.tree.PathError.{PathError}
 use Rattle.rl_files.specs.declared.tree.PathError.TheVariants.{NotADirectory, OutOfMemory, NameNotUtf8}
-use Rattle.rl_files.specs.Walks.{Spot, AtDirectory, AtFile, AtBadName, Visited, FileAt, ErrorAt, Visits, VisitsNothing, VisitsFile, VisitsBadName, EntersDirectory, MissesDirectory, IsGivenFile, WalksOn, VisitsFirst, VisitsNone, EntersInOrder, base_of, spots_in}
+use Rattle.rl_files.specs.Walks.{Spot, AtDirectory, AtFile, AtBadName, Visited, FileAt, ErrorAt, Visits, VisitsNothing, VisitsFile, VisitsBadName, EntersDirectory, MissesDirectory, IsGivenFile, WalksOn, VisitsFirst, VisitsNone, EntersInOrder, given_length, spots_in}
 
 -- texts in order are lists of bytes in order
 pub texts_sorted : {A : Type 0} (xs : List (String A)) → IsSorted string_cmp xs
@@ -79,7 +79,7 @@ go_given selection (Some w) old mid rest given path on is given_is (inr found) =
 -- a directory is first, and is gone into
 pub go_enter : (selection : Selection) (holds : Option World) (old mid rest new : List Spot) (given : Option ℕ) (path : List ℕ)
     (names : List (List ℕ)) → WalksOn selection holds old mid → mid ≡ AtDirectory given path ∷ rest
-    → IfSome holds (λ w. w.names path ≡ Ok names) → EntersInOrder selection (base_of given path) path names rest new → WalksOn selection holds old new
+    → IfSome holds (λ w. w.names path ≡ Ok names) → EntersInOrder selection (given_length given path) path names rest new → WalksOn selection holds old new
 go_enter selection None old mid rest new given path names on is found enters = tt
 go_enter selection (Some w) old mid rest new given path names on is found (sorted, order, new_is) = λ visited m. on visited
     (subst (λ (z : List Spot). Visits selection w z visited) (sym is) (EntersDirectory names sorted found order

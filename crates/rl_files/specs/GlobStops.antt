@@ -6,8 +6,8 @@ use Rattle.rl_files.specs.declared.glob.Stop.{Stop}
 use Rattle.rl_files.specs.declared.glob.Stop.TheVariants.{Decided, Star}
 use Rattle.rl_files.specs.Globs.{all_match, any_end}
 
-abbrev pub bytes_of : Bor (List ℕ) → List ℕ
-bytes_of bytes = bytes.now
+abbrev pub borrowed_bytes : Bor (List ℕ) → List ℕ
+borrowed_bytes bytes = bytes.now
 
 -- what is left to decide there
 abbrev pub says : {P X Q T : Type 0} → (P → Bool) → (P → X → Bool) → (Q → List P) → (T → List X) → Stop Q T → Bool

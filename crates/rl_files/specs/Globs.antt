@@ -87,8 +87,8 @@ excludes pattern path =
     (not (ends_in_slash pattern) || ends_in_slash path) && glob_matches (without_slash pattern) (without_slash path)
 
 -- one of the patterns matches
-abbrev pub texts : List (Bor (List ℕ)) → List (List ℕ)
-texts words = map (λ word. word.now) words
+abbrev pub borrowed_texts : List (Bor (List ℕ)) → List (List ℕ)
+borrowed_texts words = map (λ word. word.now) words
 
 abbrev pub is_excluded : List (List ℕ) → List ℕ → Bool
 is_excluded patterns path = list_any (λ pattern. excludes pattern path) patterns

@@ -16,7 +16,7 @@ use Rattle.rl_files.specs.declared.walk.Pending.TheVariants.{Directory, File, Ba
 use Rattle.rl_files.specs.declared.walk.Selection.{Selection}
 use Rattle.rl_files.specs.declared.walk.Visit.{Visit}
 use Rattle.rl_files.specs.declared.walk.Visit.TheVariants as visit
-use Rattle.rl_files.specs.Globs.{is_excluded, texts}
+use Rattle.rl_files.specs.Globs.{is_excluded, borrowed_texts}
 use Rattle.rl_files.specs.Trees.{World}
 
 -- why a path can't be read
@@ -64,7 +64,7 @@ has_one_of extensions name = list_any (λ extension. has_extension extension nam
 abbrev pub is_wanted : Selection → Bool → List ℕ → Bool
 is_wanted selection in_package name = cond (is_directory name)
     (selection.all || not (is_left_out in_package name))
-    (has_one_of (texts selection.extensions.now) name || (length name == 0))
+    (has_one_of (borrowed_texts selection.extensions.now) name || (length name == 0))
 
 -- the path of a name in a directory
 abbrev pub path_in : List ℕ → List ℕ → List ℕ
@@ -96,9 +96,9 @@ abbrev pub given_spots : List (List ℕ) → List Spot
 given_spots paths = map (λ path. AtDirectory None path) paths
 
 -- how many bytes of the paths in a directory are those of the directory that an argument names, and its slash
-abbrev pub base_of : Option ℕ → List ℕ → ℕ
-base_of None path = cond (is_directory path) (length path) (length path + 1)
-base_of (Some from) path = from
+abbrev pub given_length : Option ℕ → List ℕ → ℕ
+given_length None path = cond (is_directory path) (length path) (length path + 1)
+given_length (Some from) path = from
 
 -- where a walk goes to that goes on to a name in a directory
 abbrev pub spot_of : ℕ → List ℕ → List ℕ → Spot
@@ -108,7 +108,7 @@ spot_of from directory name = cond (is_directory name) (AtDirectory (Some from) 
 -- a pattern that is to be left out matches the path of a name, without so many bytes of it
 abbrev pub is_pruned : Selection → ℕ → List ℕ → List ℕ → Bool
 is_pruned selection from directory name =
-    is_excluded (texts selection.excludes.now) (drop from (path_in directory name))
+    is_excluded (borrowed_texts selection.excludes.now) (drop from (path_in directory name))
 
 -- where a walk goes to for a name in a directory: to what is wanted, and isn't excluded
 abbrev pub spots_of : Selection → Bool → ℕ → List ℕ → List ℕ → List Spot
@@ -136,7 +136,7 @@ pub data Visits (selection : Selection) (w : World) : List Spot → List Visited
   EntersDirectory : {from : Option ℕ} {path : List ℕ} {rest : List Spot} {visits : List Visited}
       (names sorted : List (List ℕ))
       → w.names path ≡ Ok names → IsOrderOf names sorted
-      → Visits selection w (spots_in selection (base_of from path) path sorted ++ rest) visits
+      → Visits selection w (spots_in selection (given_length from path) path sorted ++ rest) visits
       → Visits selection w (AtDirectory from path ∷ rest) visits
   MissesDirectory : {from : Option ℕ} {path : List ℕ} {rest : List Spot} {visits : List Visited} (why : PathError)
       → (why ≡ OutOfMemory) ⊎ (w.names path ≡ Err why) → Visits selection w rest visits

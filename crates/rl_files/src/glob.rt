@@ -2,8 +2,8 @@
 
 ghost use Rattle.std.specs.Prelude.{◌≡◌, [], ◌∷◌, false, MatchBool, MatchOption};
 ghost use Rattle.rl_files.specs.declared.glob.Stop.TheVariants.{Decided};
-ghost use Rattle.rl_files.specs.Globs.{after_slash as slash_passed, ends_in_slash as slash_ends, excludes as excluded_by, glob_matches, has_slash as slash_in, is_byte_match as byte_matches, is_double_star as double_star, is_excluded as excluded, is_star, name_matches, parts_left, path_matches, path_parts, pattern_left, pattern_parts, texts, without_slash as slash_cut};
-ghost use Rattle.rl_files.specs.GlobStops.{bytes_of, says, StopsAs, StopsAfter};
+ghost use Rattle.rl_files.specs.Globs.{after_slash as slash_passed, ends_in_slash as slash_ends, excludes as excluded_by, glob_matches, has_slash as slash_in, is_byte_match as byte_matches, is_double_star as double_star, is_excluded as excluded, is_star, name_matches, parts_left, path_matches, path_parts, pattern_left, pattern_parts, borrowed_texts, without_slash as slash_cut};
+ghost use Rattle.rl_files.specs.GlobStops.{borrowed_bytes, says, StopsAs, StopsAfter};
 
 /// Where a pattern stops: it matches or doesn't, or there is a star, and after it so much is left of the pattern and of what it
 /// is held against.
@@ -39,7 +39,7 @@ fn is_byte_match(p: u8, byte: u8) -> bool
 
 /// Where a pattern of a name stops first.
 fn name_stop<'p, 'n>(pattern: &'p [u8], name: &'n [u8]) -> Stop<&'p [u8], &'n [u8]>
-    ensures { StopsAs is_star byte_matches bytes_of bytes_of pattern.now name.now result }
+    ensures { StopsAs is_star byte_matches borrowed_bytes borrowed_bytes pattern.now name.now result }
 {
     let mut left = pattern;
     let mut bytes = name;
@@ -61,7 +61,7 @@ fn name_stop<'p, 'n>(pattern: &'p [u8], name: &'n [u8]) -> Stop<&'p [u8], &'n [u
 
 /// Where a pattern of a name stops next, which is left after a star.
 fn name_stop_after<'p, 'n>(pattern: &'p [u8], name: &'n [u8]) -> Stop<&'p [u8], &'n [u8]>
-    ensures { StopsAfter is_star byte_matches bytes_of bytes_of pattern.now name.now result }
+    ensures { StopsAfter is_star byte_matches borrowed_bytes borrowed_bytes pattern.now name.now result }
 {
     let mut left = name;
     loop {
@@ -233,7 +233,7 @@ fn excludes(pattern: &[u8], path: &[u8]) -> bool
 
 /// Whether one of the patterns matches a path; that of a directory ends with a slash.
 pub fn is_excluded(patterns: &[&str], path: &[u8]) -> bool
-    ensures { result ≡ excluded (texts patterns.now) path.now }
+    ensures { result ≡ excluded (borrowed_texts patterns.now) path.now }
 {
     let mut rest = patterns;
     while let [pattern, after @ ..] = rest {

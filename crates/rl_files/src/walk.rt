@@ -1,10 +1,10 @@
 //! A walk of a tree: which files are visited, and in which order.
 
 ghost use Rattle.std.specs.Prelude.{◌≡◌, ◌≢◌, None, [], ◌∷◌, ◌++◌, drop, OnOk, IfOk, MatchBool, MatchOption, string_bytes};
-ghost use Rattle.rl_files.specs.Globs.{is_excluded as excluded, texts};
+ghost use Rattle.rl_files.specs.Globs.{is_excluded as excluded, borrowed_texts};
 ghost use Rattle.rl_files.specs.declared.walk.Pending.TheVariants.{Directory};
 ghost use Rattle.rl_files.specs.Trees.{string_texts};
-ghost use Rattle.rl_files.specs.Walks.{has_extension as has_ending, are_of_package as of_package, is_left_out as left_out, is_wanted as wanted, has_one_of as has_ending_of, is_directory as directory, base_of as base, path_in as path_of, spot, spot_of, visited, spots_of, spots_in, given_spots, EntersInOrder, WalksOn, VisitsFirst, VisitsNone};
+ghost use Rattle.rl_files.specs.Walks.{has_extension as has_ending, are_of_package as of_package, is_left_out as left_out, is_wanted as wanted, has_one_of as has_ending_of, is_directory as directory, given_length as base, path_in as path_of, spot, spot_of, visited, spots_of, spots_in, given_spots, EntersInOrder, WalksOn, VisitsFirst, VisitsNone};
 
 use crate::glob::is_excluded;
 use crate::tree::{PathError, Tree};
@@ -104,7 +104,7 @@ fn has_extension(extension: &str, name: &str) -> bool
 
 /// Whether a name ends with a dot and one of these.
 fn has_one_of(extensions: &[&str], name: &str) -> bool
-    ensures { result ≡ has_ending_of (texts extensions.now) name.now }
+    ensures { result ≡ has_ending_of (borrowed_texts extensions.now) name.now }
 {
     let mut rest = extensions;
     while let [extension, after @ ..] = rest {
@@ -190,7 +190,7 @@ fn bytes_from(bytes: &[u8], from: usize) -> &[u8]
 
 /// Whether a pattern that is to be left out matches the path of a name in a directory.
 fn is_pruned(selection: Selection<'_>, from: usize, path: &str) -> bool
-    ensures { result ≡ excluded (texts selection.entry.excludes.now) (drop from path.now) }
+    ensures { result ≡ excluded (borrowed_texts selection.entry.excludes.now) (drop from path.now) }
 {
     is_excluded(selection.excludes, bytes_from(path.as_bytes(), from))
 }

@@ -48,23 +48,24 @@ front_none command (Some w) spots o e =
     ([], more.0, nothing, more.1, refl, ((0, Appends-nil o), (0, Appends-nil e)))
 
 -- a command that selects is the one that is asked for
-pub command_for : (command selecting : Command) (extensions excludes paths : List (List ℕ))
-    → IsSelecting command extensions excludes selecting
-    → IsCommandFor (wishes_of command extensions excludes paths) selecting
-command_for command selecting extensions excludes paths is = record {
-  asked = is.same extensions excludes paths;
+pub command_for : (command selecting : Command) (finds extensions excludes paths : List (List ℕ))
+    → IsSelecting command finds extensions excludes selecting
+    → IsCommandFor (wishes_of command finds extensions excludes paths) selecting
+command_for command selecting finds extensions excludes paths is = record {
+  asked = is.same finds extensions excludes paths;
+  finds_are = is.finds_are;
   extensions_are = is.extensions_are;
   excludes_are = is.excludes_are;
 }
 
-pub scan_ends : {B : Type 0} (command selecting : Command) (extensions excludes paths : List (List ℕ))
+pub scan_ends : {B : Type 0} (command selecting : Command) (finds extensions excludes paths : List (List ℕ))
     (from : Option (Bor (List ℕ))) (is_terminal : Bool) (holds : Option World) (streams : Streams)
-    (ending : Ending (CallError B)) → IsSelecting command extensions excludes selecting → selecting.files_from ≡ from
+    (ending : Ending (CallError B)) → IsSelecting command finds extensions excludes selecting → selecting.files_from ≡ from
     → EndsFrom from selecting is_terminal holds paths streams ending
-    → EndsScan (wishes_of command extensions excludes paths) is_terminal holds streams ending
-scan_ends command selecting extensions excludes paths from is_terminal holds streams ending is from_is ends = (
+    → EndsScan (wishes_of command finds extensions excludes paths) is_terminal holds streams ending
+scan_ends command selecting finds extensions excludes paths from is_terminal holds streams ending is from_is ends = (
   selecting,
-  command_for command selecting extensions excludes paths is,
+  command_for command selecting finds extensions excludes paths is,
   subst (λ (o : Option (Bor (List ℕ))). EndsFrom o selecting is_terminal holds paths streams ending) (sym from_is) ends,
 )
 

@@ -12,7 +12,7 @@ use Rattle.rl_files.proofs.WalkLemmas.{some_visits}
 use Rattle.rl_reports.specs.declared.command.Command.{Command}
 use Rattle.rl_reports.specs.declared.runs.Tally.{Tally}
 use Rattle.rl_reports.specs.Reports.{Findings, IsReport, AreReports, nothing, both_of}
-use Rattle.rl_reports.specs.Runs.{Streams, told, IsWritten, WritesReport, WritesSome, WritesFront}
+use Rattle.rl_reports.specs.Runs.{Streams, shown_errors, IsWritten, WritesReport, WritesSome, WritesFront}
 
 -- what was written so far, of what was visited so far, and what is visited from the new places on comes
 -- after it
@@ -24,7 +24,7 @@ pub record Ran (command : Command) (w : World) (old new : List Spot) (streams : 
   pub written : IsWritten command streams printed tally
   pub visited : tally.visited ≡ not (length visits == 0)
 
-told_nothing : (command : Command) → told command [] ≡ []
+told_nothing : (command : Command) → shown_errors command [] ≡ []
 told_nothing command = go command.tells_errors
   where
     go : (t : Bool) → cond {A = List ℕ} t [] [] ≡ []
@@ -98,7 +98,7 @@ reports_more command w (v ∷ vs) visit done one (first, others, is_first, are, 
     ) refl
 
 -- both are told together
-told_both : (command : Command) (a b : List ℕ) → told command a ++ told command b ≡ told command (a ++ b)
+told_both : (command : Command) (a b : List ℕ) → shown_errors command a ++ shown_errors command b ≡ shown_errors command (a ++ b)
 told_both command a b = go command.tells_errors
   where
     go : (t : Bool) → cond t a [] ++ cond t b [] ≡ cond t (a ++ b) []
@@ -114,7 +114,7 @@ written_more : (command : Command) (o0 o1 o2 e0 e1 e2 : Option (List ℕ)) (done
 written_more command o0 o1 o2 e0 e1 e2 done one before more after first second found failed = record {
   on_out = Appends-trans o0 o1 o2 done.out one.out first.on_out second.on_out;
   on_err = subst (λ (z : List ℕ). Appends e0 e2 z) (told_both command done.errors one.errors)
-      (Appends-trans e0 e1 e2 (told command done.errors) (told command one.errors) first.on_err second.on_err);
+      (Appends-trans e0 e1 e2 (shown_errors command done.errors) (shown_errors command one.errors) first.on_err second.on_err);
   found = found ∙ ap (λ (z : Bool). z || more.found) first.found ∙ ap (λ (z : Bool). done.found || z) second.found;
   failed = failed ∙ ap (λ (z : Bool). z || more.failed) first.failed
       ∙ ap (λ (z : Bool). not (length done.errors == 0) || z) second.failed ∙ any_both done.errors one.errors;
@@ -184,7 +184,7 @@ ran_front command (Some w) old mid streams tally ran =
       (
         all_of streams.out_old streams.out_new ran.printed.out ran.written.on_out,
         all_of streams.err_old
-            streams.err_new (told command ran.printed.errors) ran.written.on_err,
+            streams.err_new (shown_errors command ran.printed.errors) ran.written.on_err,
       ),
     )
 
@@ -210,7 +210,7 @@ ran_some command (Some w) old mid new visit o0 o1 o2 e0 e1 e2 before ran visits 
       ran.reports,
       (
         kept o0 o1 o2 ran.printed.out ran.written.on_out same,
-        kept e0 e1 e2 (told command ran.printed.errors) ran.written.on_err
+        kept e0 e1 e2 (shown_errors command ran.printed.errors) ran.written.on_err
             quiet,
       ),
     )
@@ -225,7 +225,7 @@ ran_some command (Some w) old mid new visit o0 o1 o2 e0 e1 e2 before ran visits 
       (
         more_of o0 o1 o2 ran.printed.out one.out ran.written.on_out begun.0,
         subst (λ (z : List ℕ). AppendsBeginning e0 e2 z) (told_both command ran.printed.errors one.errors)
-            (more_of e0 e1 e2 (told command ran.printed.errors) (told command one.errors) ran.written.on_err begun.1),
+            (more_of e0 e1 e2 (shown_errors command ran.printed.errors) (shown_errors command one.errors) ran.written.on_err begun.1),
       ),
     )
 
@@ -239,7 +239,7 @@ out_failed command (Some w) visit one o0 o1 e0 is begun = inr (one, is, (begun, 
 -- the second write failed
 pub err_failed : (command : Command) (holds : Option World) (visit : Visited) (one : Findings)
     (o0 o1 e0 e1 : Option (List ℕ)) → IfSome holds (λ w. IsReport command w visit one) → Appends o0 o1 one.out
-    → AppendsBeginning e0 e1 (told command one.errors) → IfSome holds (λ w. WritesSome command w visit
+    → AppendsBeginning e0 e1 (shown_errors command one.errors) → IfSome holds (λ w. WritesSome command w visit
     (record { out_old = o0; out_new = o1; err_old = e0; err_new = e1 }))
 err_failed command None visit one o0 o1 e0 e1 is all begun = tt
 err_failed command (Some w) visit one o0 o1 e0 e1 is all begun = inr (one, is, (all_of o0 o1 one.out all, begun))

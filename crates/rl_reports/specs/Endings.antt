@@ -4,7 +4,7 @@ use denote.Ref.{Bor}
 use Rattle.std.specs.Str.{chars}
 use Rattle.std.specs.Io.KnownBytes.{Appends, Keeps}
 use Rattle.rl_files.specs.Trees.{World, string_texts}
-use Rattle.rl_files.specs.Globs.{texts}
+use Rattle.rl_files.specs.Globs.{borrowed_texts}
 use Rattle.rl_files.specs.Visible.{visible}
 use Rattle.rl_files.specs.Walks.{Spot, given_spots, path_error_message, walk_error_message}
 use Rattle.rl_files.specs.declared.tree.PathError.{PathError}
@@ -61,7 +61,7 @@ finds_no_file has_paths tally = has_paths && not tally.visited
 abbrev pub RunsWith : Command → Option World → Bool → List Spot → Streams → ℕ → Type 0
 RunsWith command holds has_paths spots streams status =
     (tally : Tally) × IfSome holds (λ w. WritesWalk command w spots streams tally)
-    × (finds_no_file has_paths tally ≡ false) × (asked_status command.finds command.shown tally ≡ status)
+    × (finds_no_file has_paths tally ≡ false) × (asked_status command.searches command.shown tally ≡ status)
 
 -- nothing was visited, though paths were named
 abbrev pub RunsInVain : Command → Option World → Bool → List Spot → Streams → Type 0
@@ -132,18 +132,21 @@ abbrev pub extensions_read : List (List ℕ) → List (List ℕ)
 extensions_read [] = codes "rs" ∷ []
 extensions_read (extension ∷ extensions) = extension ∷ extensions
 
--- The command selects so, and is the same else.
-pub record IsSelecting (command : Command) (extensions excludes : List (List ℕ)) (selecting : Command) : Type 0 where
-  pub same : (some others paths : List (List ℕ))
-      → wishes_of selecting some others paths ≡ wishes_of command some others paths
-  pub extensions_are : texts selecting.selection.extensions.now ≡ extensions_read extensions
-  pub excludes_are : texts selecting.selection.excludes.now ≡ excludes
+-- The command looks for these texts and selects so, and is the same else.
+pub record IsSelecting (command : Command) (finds extensions excludes : List (List ℕ)) (selecting : Command)
+    : Type 0 where
+  pub same : (texts endings patterns paths : List (List ℕ))
+      → wishes_of selecting texts endings patterns paths ≡ wishes_of command texts endings patterns paths
+  pub finds_are : borrowed_texts selecting.finds.now ≡ finds
+  pub extensions_are : borrowed_texts selecting.selection.extensions.now ≡ extensions_read extensions
+  pub excludes_are : borrowed_texts selecting.selection.excludes.now ≡ excludes
 
 -- The command does what is asked for.
 pub record IsCommandFor (wishes : Wishes) (command : Command) : Type 0 where
-  pub asked : wishes_of command wishes.extensions wishes.excludes wishes.paths ≡ wishes
-  pub extensions_are : texts command.selection.extensions.now ≡ extensions_read wishes.extensions
-  pub excludes_are : texts command.selection.excludes.now ≡ wishes.excludes
+  pub asked : wishes_of command wishes.finds wishes.extensions wishes.excludes wishes.paths ≡ wishes
+  pub finds_are : borrowed_texts command.finds.now ≡ wishes.finds
+  pub extensions_are : borrowed_texts command.selection.extensions.now ≡ extensions_read wishes.extensions
+  pub excludes_are : borrowed_texts command.selection.excludes.now ≡ wishes.excludes
 
 -- how a call ends that scans: as the run over the paths
 abbrev pub EndsScan : {B : Type 0} → Wishes → Bool → Option World → Streams → Ending (CallError B) → Type 0

@@ -15,10 +15,10 @@ abbrev pub listed_name : List ℕ → List (List ℕ)
 listed_name name = cond (length name == 0) [] (name ∷ [])
 
 -- the names in a list
-abbrev pub listed : List ℕ → List (List ℕ)
-listed list = flat_map listed_name (slice_split (λ b. b == separator_of list) list)
+abbrev pub names_listed : List ℕ → List (List ℕ)
+names_listed list = flat_map listed_name (slice_split (λ b. b == separator_of list) list)
 
 -- all paths: those before, and the names in a file, which is a text
 abbrev pub AreWithListed : World → List ℕ → List (List ℕ) → List (List ℕ) → Type 0
 AreWithListed w file paths all =
-    (bytes : List ℕ) × (w.bytes file ≡ Ok bytes) × IsUtf8 bytes × (all ≡ paths ++ listed bytes)
+    (bytes : List ℕ) × (w.bytes file ≡ Ok bytes) × IsUtf8 bytes × (all ≡ paths ++ names_listed bytes)

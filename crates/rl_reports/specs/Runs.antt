@@ -1,5 +1,5 @@
 -- What a run over a walk writes, and the status that it ends with.
-use Rattle.std.specs.Prelude.{◌≡◌, ◌⊎◌, ℕ, ◌==◌, true, cond, not, ◌&&◌, List, [], length, ◌++◌, Option, Some, None}
+use Rattle.std.specs.Prelude.{◌≡◌, ◌⊎◌, ℕ, ◌==◌, true, Bool, cond, not, ◌&&◌, List, [], length, ◌++◌, Option, Some, None}
 use denote.Ref.{Bor}
 use Rattle.std.specs.Io.KnownBytes.{Appends, Keeps}
 use Rattle.rl_files.specs.Trees.{World}
@@ -18,13 +18,13 @@ pub record Streams : Type 0 where
   pub err_new : Option (List ℕ)
 
 -- what is told of errors: nothing, where that isn't wanted
-abbrev pub told : Command → List ℕ → List ℕ
-told command errors = cond command.tells_errors errors []
+abbrev pub shown_errors : Command → List ℕ → List ℕ
+shown_errors command errors = cond command.tells_errors errors []
 
 -- All of this was written, and it is returned whether something was found, and whether an error was reported.
 pub record IsWritten (command : Command) (streams : Streams) (printed : Findings) (tally : Tally) : Type 0 where
   pub on_out : Appends streams.out_old streams.out_new printed.out
-  pub on_err : Appends streams.err_old streams.err_new (told command printed.errors)
+  pub on_err : Appends streams.err_old streams.err_new (shown_errors command printed.errors)
   pub found : tally.found ≡ printed.found
   pub failed : tally.failed ≡ not (length printed.errors == 0)
 
@@ -45,7 +45,7 @@ WritesWalk command w spots streams tally =
 abbrev pub WritesBeginning : Command → Streams → Findings → Type 0
 WritesBeginning command streams printed =
     AppendsBeginning streams.out_old streams.out_new printed.out
-    × AppendsBeginning streams.err_old streams.err_new (told command printed.errors)
+    × AppendsBeginning streams.err_old streams.err_new (shown_errors command printed.errors)
 
 -- what was written of one visit where that failed: nothing, or a beginning of what is reported
 abbrev pub WritesSome : Command → World → Visited → Streams → Type 0
@@ -71,6 +71,5 @@ abbrev pub find_status : Tally → ℕ
 find_status tally = cond tally.failed 2 (cond tally.found 0 1)
 
 -- the status of a run, by whether a text was looked for, and what was wanted
-abbrev pub asked_status : Option (Bor (List ℕ)) → Shown → Tally → ℕ
-asked_status None shown tally = run_status shown tally
-asked_status (Some sought) shown tally = find_status tally
+abbrev pub asked_status : Bool → Shown → Tally → ℕ
+asked_status searches shown tally = cond searches (find_status tally) (run_status shown tally)

@@ -4,7 +4,7 @@ use denote.Ref.{Bor}
 use Prim.Native.Char.{code}
 use Rattle.std.specs.List.{All, starts_with}
 use Rattle.std.specs.Str.{chars, bytes_eq}
-use Rattle.rl_files.specs.Globs.{texts}
+use Rattle.rl_files.specs.Globs.{borrowed_texts}
 use Rattle.rl_files.specs.Trees.{string_texts}
 use Rattle.rl_files.specs.Visible.{visible}
 use Rattle.rl_reports.specs.declared.command.Wish.{Wish}
@@ -179,16 +179,17 @@ wanted_of (shown.Only list) = OnlyWanted list.now
 wanted_of shown.Bad = BadWanted
 wanted_of shown.Hidden = HiddenWanted
 
--- the text that is looked for, where there is one
-abbrev pub sought_of : Option (Bor (List ℕ)) → Option (List ℕ)
-sought_of None = None
-sought_of (Some text) = Some text.now
+-- the file that names paths, where there is one
+abbrev pub list_of : Option (Bor (List ℕ)) → Option (List ℕ)
+list_of None = None
+list_of (Some file) = Some file.now
 
 -- what a command line asks for
 pub record Wishes : Type 0 where
   pub wish : Wish
   pub wanted : Wanted
-  pub finds : Option (List ℕ)
+  pub searches : Bool
+  pub finds : List (List ℕ)
   pub ignores_case : Bool
   pub whole_words : Bool
   pub places : PlaceForm
@@ -211,7 +212,8 @@ abbrev pub first_wishes : Bool → Wishes
 first_wishes has_colors = record {
   wish = wish.Scan;
   wanted = AllWanted;
-  finds = None;
+  searches = false;
+  finds = [];
   ignores_case = false;
   whole_words = false;
   places = form.Usual;
@@ -231,11 +233,12 @@ first_wishes has_colors = record {
 }
 
 -- what the code holds
-abbrev pub wishes_of : Command → List (List ℕ) → List (List ℕ) → List (List ℕ) → Wishes
-wishes_of command extensions excludes paths = record {
+abbrev pub wishes_of : Command → List (List ℕ) → List (List ℕ) → List (List ℕ) → List (List ℕ) → Wishes
+wishes_of command finds extensions excludes paths = record {
   wish = command.wish;
   wanted = wanted_of command.shown;
-  finds = sought_of command.finds;
+  searches = command.searches;
+  finds = finds;
   ignores_case = command.matching.ignores_case;
   whole_words = command.matching.whole_words;
   places = command.places;
@@ -247,7 +250,7 @@ wishes_of command extensions excludes paths = record {
   spelling = command.spelling;
   form = command.form;
   all_directories = command.selection.all;
-  files_from = sought_of command.files_from;
+  files_from = list_of command.files_from;
   tells_errors = command.tells_errors;
   extensions = extensions;
   excludes = excludes;
@@ -255,8 +258,8 @@ wishes_of command extensions excludes paths = record {
 }
 
 abbrev pub wishes_in : {A : Type 0} → Asked A → Wishes
-wishes_in asked = wishes_of asked.command (texts asked.extensions.items) (texts asked.excludes.items)
-    (string_texts asked.paths.items)
+wishes_in asked = wishes_of asked.command (borrowed_texts asked.finds.items) (borrowed_texts asked.extensions.items)
+    (borrowed_texts asked.excludes.items) (string_texts asked.paths.items)
 
 -- only one option may say which literals are wanted
 abbrev pub IsAllowed : Flag → Wishes → Type 0
@@ -265,11 +268,11 @@ IsAllowed Hidden w = w.wanted ≡ AllWanted
 IsAllowed Only w = w.wanted ≡ AllWanted
 IsAllowed _ w = ⊤
 
--- one text at most is looked for, and none where what is bad or hidden is wanted
+-- no text is looked for where what is bad or hidden is wanted
 abbrev pub GoesWithFind : Flag → Wishes → Type 0
-GoesWithFind Bad w = w.finds ≡ None
-GoesWithFind Hidden w = w.finds ≡ None
-GoesWithFind Find w = (w.finds ≡ None) × (w.wanted ≢ BadWanted) × (w.wanted ≢ HiddenWanted)
+GoesWithFind Bad w = w.searches ≡ false
+GoesWithFind Hidden w = w.searches ≡ false
+GoesWithFind Find w = (w.wanted ≢ BadWanted) × (w.wanted ≢ HiddenWanted)
 GoesWithFind _ w = ⊤
 
 -- the option goes with what is asked for
@@ -327,7 +330,7 @@ abbrev pub with_kinds : List ℕ → Wishes → Wishes
 with_kinds list w = record w { wanted = OnlyWanted list }
 
 abbrev pub with_text : List ℕ → Wishes → Wishes
-with_text text w = record w { finds = Some text }
+with_text text w = record w { searches = true; finds = w.finds ++ text ∷ [] }
 
 abbrev pub with_extension : List ℕ → Wishes → Wishes
 with_extension extension w = record w { extensions = w.extensions ++ extension ∷ [] }
@@ -429,7 +432,7 @@ word_message NoKinds = codes "--only: which kinds? as in --only Str,ByteStr"
 word_message TwoChoices = codes "--bad, --hidden and --only: one of them, once"
 word_message NoText = codes "-e, --find: which text? as in --find TODO"
 word_message EmptyText = codes "-e, --find: an empty text stands everywhere"
-word_message BadAndFind = codes "--bad, --hidden and -e, --find: one of them, once"
+word_message BadAndFind = codes "--bad, --hidden and -e, --find: one of them"
 word_message NoColor = codes "--color: when? one of auto, always, never"
 word_message (UnknownColor word) =
     codes "unknown colour '" ++ (string_bytes word ++ codes "': one of auto, always, never")

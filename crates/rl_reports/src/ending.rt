@@ -1,7 +1,7 @@
 //! A call of the program, and how it ends.
 
 ghost use Rattle.std.specs.Prelude.{◌≡◌, OnOk};
-ghost use Rattle.rl_files.specs.Globs.{texts};
+ghost use Rattle.rl_files.specs.Globs.{borrowed_texts};
 ghost use Rattle.rl_files.specs.Trees.{string_texts};
 ghost use Rattle.rl_reports.specs.Endings.{extensions_read, finds_no_file, paths_read, EndsAsScan, EndsAsked, EndsListed, EndsPaths, EndsRun, EndsScan, EndsText, EndsWithoutMemory, IsListError, IsSelecting, IsUnwritten};
 ghost use Rattle.rl_reports.specs.Runs.{asked_status};
@@ -39,8 +39,8 @@ What is printed: every literal; or one of --bad, --hidden, --only; or --find
       --only KIND,..   literals of these kinds: Str ByteStr CStr Byte Char Int
                        Float Bool Verbatim, in any case
   -e, --find TEXT      strings, characters and bytes, no numbers, that hold
-                       TEXT, however it is written, at its first place; goes
-                       with --only
+                       TEXT, however it is written, at its first place; said
+                       more than once, one of the TEXTs; goes with --only
   -i, --ignore-case    of --find: small and large letters of ASCII are the same
   -w, --word           of --find: TEXT as whole words
       --no-stray       a character that begins no token is an error
@@ -176,11 +176,12 @@ fn add_usual<A: Allocator + Copy>(
 
 /// The status that a run ends with which found this.
 fn status_of(command: Command<'_>, tally: Tally) -> u8
-    ensures { result ≡ asked_status command.entry.finds command.entry.shown tally }
+    ensures { result ≡ asked_status command.entry.searches command.entry.shown tally }
 {
-    match command.finds {
-        None => tally.status(command.shown),
-        Some(_) => tally.find_status(),
+    if command.searches {
+        tally.find_status()
+    } else {
+        tally.status(command.shown)
     }
 }
 
@@ -305,7 +306,7 @@ const USUAL: &[&str] = &["rs"];
 
 /// What names end with: `rs`, where nothing is said.
 fn usual_unless<'a>(extensions: &'a [&'a str]) -> &'a [&'a str]
-    ensures { texts result.now ≡ extensions_read (texts extensions.now) }
+    ensures { borrowed_texts result.now ≡ extensions_read (borrowed_texts extensions.now) }
 {
     if extensions.is_empty() {
         USUAL
@@ -314,21 +315,35 @@ fn usual_unless<'a>(extensions: &'a [&'a str]) -> &'a [&'a str]
     }
 }
 
-/// The command with what it selects.
+/// The command with the texts that it looks for and with what it selects.
 fn selecting<'a>(
     command: Command<'a>,
+    finds: &'a [&'a str],
     extensions: &'a [&'a str],
     excludes: &'a [&'a str],
 ) -> Command<'a>
-    ensures { IsSelecting command.entry (texts extensions.now) (texts excludes.now) result }
+    ensures { IsSelecting command.entry (borrowed_texts finds.now) (borrowed_texts extensions.now) (borrowed_texts excludes.now) result }
 {
-    let mut selecting = command;
-    selecting.selection = Selection {
-        all: command.selection.all,
-        extensions: usual_unless(extensions),
-        excludes,
-    };
-    selecting
+    Command {
+        wish: command.wish,
+        shown: command.shown,
+        searches: command.searches,
+        finds,
+        matching: command.matching,
+        spelling: command.spelling,
+        form: command.form,
+        places: command.places,
+        output: command.output,
+        rejects_strays: command.rejects_strays,
+        any_suffix: command.any_suffix,
+        selection: Selection {
+            all: command.selection.all,
+            extensions: usual_unless(extensions),
+            excludes,
+        },
+        files_from: command.files_from,
+        tells_errors: command.tells_errors,
+    }
 }
 
 /// Scans what the words ask for.
@@ -350,11 +365,17 @@ fn scan_asked<A: Allocator + Copy, T: Tree, W: Write, E: Write>(
     let Asked {
         command,
         mut paths,
+        finds,
         extensions,
         excludes,
         ..
     } = asked;
-    let command = selecting(command, extensions.as_slice(), excludes.as_slice());
+    let command = selecting(
+        command,
+        finds.as_slice(),
+        extensions.as_slice(),
+        excludes.as_slice(),
+    );
     match command.files_from {
         None => scan_named(alloc, command, is_terminal, tree, &mut paths, out, err),
         Some(file) => scan_listed(alloc, command, file, tree, &mut paths, out, err),

@@ -212,11 +212,11 @@ pub(crate) fn taken_by(operand: Operand) -> Flag
 
 /// The command with an option more; `None` where another option says already which literals are printed.
 fn with_flag(command: Command<'_>, flag: Flag) -> Option<Command<'_>>
-    ensures some { IfSome result (λ next. (extensions excludes paths : List (List ℕ))
-        → IsAllowed flag (wishes_of command.entry extensions excludes paths)
-        × (wishes_of next extensions excludes paths ≡ flagged flag (wishes_of command.entry extensions excludes paths))) }
-    ensures none { IfNone result ((extensions excludes paths : List (List ℕ))
-        → IsAllowed flag (wishes_of command.entry extensions excludes paths) → ⊥) }
+    ensures some { IfSome result (λ next. (finds extensions excludes paths : List (List ℕ))
+        → IsAllowed flag (wishes_of command.entry finds extensions excludes paths)
+        × (wishes_of next finds extensions excludes paths ≡ flagged flag (wishes_of command.entry finds extensions excludes paths))) }
+    ensures none { IfNone result ((finds extensions excludes paths : List (List ℕ))
+        → IsAllowed flag (wishes_of command.entry finds extensions excludes paths) → ⊥) }
 {
     let mut next = command;
     match (flag, command.shown) {
@@ -246,16 +246,15 @@ fn with_flag(command: Command<'_>, flag: Flag) -> Option<Command<'_>>
     Some(next)
 }
 
-/// Whether an option goes with what is looked for: there is one text at most, and none where what is bad or hidden is
-/// wanted.
+/// Whether an option goes with what is looked for: no text is where what is bad or hidden is wanted.
 fn goes_with_find(command: Command<'_>, flag: Flag) -> bool
     ensures { MatchBool result
-        ((extensions excludes paths : List (List ℕ)) → GoesWithFind flag (wishes_of command.entry extensions excludes paths))
-        ((extensions excludes paths : List (List ℕ)) → GoesWithFind flag (wishes_of command.entry extensions excludes paths) → ⊥) }
+        ((finds extensions excludes paths : List (List ℕ)) → GoesWithFind flag (wishes_of command.entry finds extensions excludes paths))
+        ((finds extensions excludes paths : List (List ℕ)) → GoesWithFind flag (wishes_of command.entry finds extensions excludes paths) → ⊥) }
 {
-    match (flag, command.finds, command.shown) {
-        (Flag::Bad | Flag::Hidden | Flag::Find, Some(_), _) => false,
-        (Flag::Find, None, Shown::Bad | Shown::Hidden) => false,
+    match (flag, command.shown) {
+        (Flag::Bad | Flag::Hidden, _) => !command.searches,
+        (Flag::Find, Shown::Bad | Shown::Hidden) => false,
         _ => true,
     }
 }
@@ -269,12 +268,12 @@ pub(crate) fn add_flag<A: Allocator>(
     command: Command<'_>,
     flag: Flag,
 ) -> Result<Command<'_>, WordError<A>>
-    ensures allowed { IfOk result (λ next. (extensions excludes paths : List (List ℕ))
-        → MayStand flag (wishes_of command.entry extensions excludes paths)) }
-    ensures wishes { IfOk result (λ next. (extensions excludes paths : List (List ℕ))
-        → wishes_of next extensions excludes paths ≡ flagged flag (wishes_of command.entry extensions excludes paths)) }
-    ensures rejected { IfErr result (λ error. (extensions excludes paths : List (List ℕ))
-        → IsRejectedFlag flag (wishes_of command.entry extensions excludes paths) error) }
+    ensures allowed { IfOk result (λ next. (finds extensions excludes paths : List (List ℕ))
+        → MayStand flag (wishes_of command.entry finds extensions excludes paths)) }
+    ensures wishes { IfOk result (λ next. (finds extensions excludes paths : List (List ℕ))
+        → wishes_of next finds extensions excludes paths ≡ flagged flag (wishes_of command.entry finds extensions excludes paths)) }
+    ensures rejected { IfErr result (λ error. (finds extensions excludes paths : List (List ℕ))
+        → IsRejectedFlag flag (wishes_of command.entry finds extensions excludes paths) error) }
 {
     let Some(next) = with_flag(command, flag) else {
         return Err(WordError::TwoChoices);

@@ -3,7 +3,7 @@
 ghost use Rattle.std.specs.Prelude.{◌≡◌, ◌==◌, ◌++◌, ◌<◌, OnOk, IfErr, IfSome};
 ghost use Rattle.std.specs.List.{flat_map, list_any, slice_split};
 ghost use Rattle.rl_files.specs.Trees.{string_texts};
-ghost use Rattle.rl_reports.specs.Listed.{AreWithListed, listed, listed_name, separator_of};
+ghost use Rattle.rl_reports.specs.Listed.{AreWithListed, names_listed, listed_name, separator_of};
 ghost use Rattle.rl_reports.specs.Reports.{IsReadError};
 
 use rl_files::{PathError, Tree};

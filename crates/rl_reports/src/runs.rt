@@ -2,7 +2,7 @@
 
 ghost use Rattle.std.specs.Prelude.{◌≡◌, ◌||◌, IfOk, OnErr, IfSome};
 ghost use Rattle.rl_files.specs.Walks.{visited};
-ghost use Rattle.rl_reports.specs.Runs.{told, WritesReport, WritesSome, WritesWalk, WritesFront, find_status, run_status};
+ghost use Rattle.rl_reports.specs.Runs.{shown_errors, WritesReport, WritesSome, WritesWalk, WritesFront, find_status, run_status};
 
 use crate::command::Command;
 use crate::report::{is_alarm, report_of};
@@ -75,7 +75,7 @@ impl Tally {
 
 /// What is told of errors: nothing, where that isn't wanted.
 fn told_errors<'a>(command: Command<'_>, errors: &'a str) -> &'a [u8]
-    ensures { result.now ≡ told command.entry errors.now }
+    ensures { result.now ≡ shown_errors command.entry errors.now }
 {
     if command.tells_errors {
         errors.as_bytes()

@@ -39,7 +39,7 @@ pub enum WordError<A: Allocator = Global> {
     NoText,
     /// After `--find` stands an empty text.
     EmptyText,
-    /// A text is looked for twice, or in what is bad or hidden.
+    /// A text is looked for in what is bad or hidden.
     BadAndFind,
     /// After `--color` no word stands.
     NoColor,
@@ -104,9 +104,7 @@ impl<A: Allocator> fmt::Display for WordError<A> {
             WordError::TwoChoices => write!(f, "--bad, --hidden and --only: one of them, once"),
             WordError::NoText => write!(f, "-e, --find: which text? as in --find TODO"),
             WordError::EmptyText => write!(f, "-e, --find: an empty text stands everywhere"),
-            WordError::BadAndFind => {
-                write!(f, "--bad, --hidden and -e, --find: one of them, once")
-            }
+            WordError::BadAndFind => write!(f, "--bad, --hidden and -e, --find: one of them"),
             WordError::NoColor => write!(f, "--color: when? one of auto, always, never"),
             WordError::UnknownColor(word) => {
                 write!(f, "unknown colour '{word}': one of auto, always, never")
@@ -153,6 +151,8 @@ fn unknown_kind(list: &str) -> Option<&str>
 pub(crate) struct Asked<'a, A: Allocator = Global> {
     pub command: Command<'a>,
     pub paths: Vec<String<A>, A>,
+    /// Texts that are looked for.
+    pub finds: Vec<&'a str, A>,
     /// What the names of files end with.
     pub extensions: Vec<&'a str, A>,
     /// Patterns of what is left out.
@@ -290,8 +290,11 @@ impl<'a, A: Allocator + Copy> Asked<'a, A> {
         if text.is_empty() {
             return Err(WordError::EmptyText);
         }
-        self.command.finds = Some(text);
-        Ok(())
+        self.command.searches = true;
+        match self.finds.push(text) {
+            Ok(()) => Ok(()),
+            Err(_) => Err(WordError::Memory),
+        }
     }
 
     /// Takes a word that says when lines have colours.
@@ -500,12 +503,13 @@ impl<'a, A: Allocator + Copy> Asked<'a, A> {
 
 /// What is asked for where nothing is said.
 fn first_command<'a>(has_colors: bool) -> Command<'a>
-    ensures { wishes_of result [] [] [] ≡ first_wishes has_colors }
+    ensures { wishes_of result [] [] [] [] ≡ first_wishes has_colors }
 {
     Command {
         wish: Wish::Scan,
         shown: Shown::All,
-        finds: None,
+        searches: false,
+        finds: &[],
         matching: Matching {
             ignores_case: false,
             whole_words: false,
@@ -544,6 +548,7 @@ pub(crate) fn asked_by<A: Allocator + Copy>(
     let mut asked = Asked {
         command: first_command(has_colors),
         paths: Vec::new(alloc),
+        finds: Vec::new(alloc),
         extensions: Vec::new(alloc),
         excludes: Vec::new(alloc),
         next: Next::Any,

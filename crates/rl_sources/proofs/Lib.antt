@@ -10,3 +10,4 @@ pub mod FlawLineLemmas
 pub mod HiddenLemmas
 pub mod WriteLemmas
 pub mod JsonLemmas
+pub mod FirstHeldLemmas

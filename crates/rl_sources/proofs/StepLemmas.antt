@@ -1,6 +1,6 @@
 -- What is appended for one token.
 use Rattle.rl_reading.proofs.Names.{HasNoReading, HasReading, Kind}
-use Rattle.rl_text.proofs.Common.{Bool, IsUtf8, List, None, Option, Some, [], ap, append_assoc, arith, chars, chars-nil, inl, inr, nat_tests, refl, subst, sym, true, ℕ, ◌++◌, ◌&&◌, ◌∙◌, ◌∷◌, ◌≡◌, ◌⊎◌, IsCharBoundary, and_parts, codes, list_all, length, take, drop, ◌+◌, chars_from_encodes, encodes-append, encodes-chars, length-append, take-append_seam}
+use Rattle.rl_text.proofs.Common.{Bool, Bor, IsUtf8, List, None, Option, Some, [], ap, append_assoc, arith, chars, chars-nil, inl, inr, nat_tests, refl, subst, sym, true, ℕ, ◌++◌, ◌&&◌, ◌∙◌, ◌∷◌, ◌≡◌, ◌⊎◌, IsCharBoundary, and_parts, codes, list_all, length, take, drop, ◌+◌, chars_from_encodes, encodes-append, encodes-chars, length-append, take-append_seam}
 use Rattle.std.proofs.lemmas.List.{append-nil}
 use Rattle.std.proofs.lemmas.Str.{IsCharBoundary-from_drop}
 use Rattle.std.specs.Prelude.{◌↔◌, IfNone, IfSome, MatchOption, IsTrue, is_some, encode_utf8_all}
@@ -30,7 +30,8 @@ use Rattle.rl_sources.specs.Places.{IsContextIn, IsPlaceIn, WithContext}
 use Rattle.rl_output.proofs.Pieces.{back_utf8}
 use Rattle.rl_output.specs.Fronts.{leveled_front}
 use Rattle.rl_output.specs.declared.github.Level.TheVariants.{Notice}
-use Rattle.rl_sources.specs.Held.{Holds, IsHeldAt}
+use Rattle.rl_files.specs.Globs.{borrowed_texts}
+use Rattle.rl_sources.specs.Held.{IsFirstHeld}
 use Rattle.rl_sources.specs.Scans.{IsPicked, IsPlacedLine, AreReasonLines, IsHeldLine, IsLineAt, IsLineEnd, IsLineIn, IsOwnLine, IsPickedLine, IsPrintedAs, IsShownLiteral}
 use Rattle.rl_sources.specs.Steps.{LooksForFlaws}
 use Rattle.rl_sources.specs.Findings.{FindsFlaw, FindsNoFlaw, HasFoundError, HasFoundType, IsBad, IsFoundIn, IsRight, IsWrong}
@@ -213,18 +214,24 @@ picks_found options before text found label wrongs r b is some none picks = go o
         (λ t. both.0 (p.0 t), λ t. p.1 (both.1 t))
     go Hidden e p = p
 
--- the line where the contents hold what is looked for
-pub at_held : (sought : List ℕ) (options : Options) (whole text : List ℕ) (lo first last : ℕ) (old new : List ℕ)
-    → IsHeldAt options.matching sought text first last
-    → Appends (IsPlacedLine options whole text (lo + first) (lo + last)) old new
-    → Appends (IsHeldLine sought options whole text lo) old new
-at_held sought options whole text lo first last old new held (shown, is, e) =
-    (shown, inl (first, last, held, is), e)
+-- the line where the contents hold one of the texts that are looked for
+pub at_held : (soughts : List (List ℕ)) (options : Options) (whole text : List ℕ) (lo : ℕ) (range : ℕ × ℕ)
+    (old new : List ℕ) → IsFirstHeld options.matching soughts text (Some range)
+    → Appends (IsPlacedLine options whole text (lo + range.0) (lo + range.1)) old new
+    → Appends (IsHeldLine soughts options whole text lo) old new
+at_held soughts options whole text lo range old new held (shown, is, e) = (shown, (Some range, held, is), e)
 
--- nothing of a literal whose contents don't hold what is looked for
-pub not_held : (sought : List ℕ) (options : Options) (whole text : List ℕ) (lo : ℕ) (old : List ℕ)
-    → (Holds options.matching sought text → ⊥) → Appends (IsHeldLine sought options whole text lo) old old
-not_held sought options whole text lo old none = ([], inr (none, refl), sym (append-nil old))
+-- nothing of a literal whose contents hold none
+pub not_held : (soughts : List (List ℕ)) (options : Options) (whole text : List ℕ) (lo : ℕ) (old : List ℕ)
+    → IsFirstHeld options.matching soughts text None → Appends (IsHeldLine soughts options whole text lo) old old
+not_held soughts options whole text lo old none = ([], (None, none, refl), sym (append-nil old))
+
+-- texts are looked for
+pub picked_held : (soughts : List (Bor (List ℕ))) (options : Options) (whole text : List ℕ) (lo hi : ℕ)
+    (old new : List ℕ) → false ≡ (length soughts == 0) → Appends (IsHeldLine (borrowed_texts soughts) options whole text lo) old new
+    → Appends (IsPickedLine (borrowed_texts soughts) options whole text lo hi) old new
+picked_held [] options whole text lo hi old new some line = absurd (false≢true some)
+picked_held (s ∷ ss) options whole text lo hi old new some line = line
 
 -- the word of a text's line, by what was found
 pub found_label : (text label : List ℕ) (kind : Option Kind) (found : Option Found)
@@ -241,7 +248,7 @@ found_label text label kind None none is k e = (None, none, e ∙ ap label_of k)
 pub picked_line : (options : Options) (whole text : List ℕ) (found : Option Found) (label : List ℕ) (lo hi : ℕ)
     (old new : List ℕ) → IsLabelOf (chars text) label → IsFoundIn text found
     → IsPicked options (bytes_before whole lo) text found label
-    → Appends (IsPickedLine options.finds options whole (chars text) lo hi) old new
+    → Appends (IsPickedLine (borrowed_texts options.finds.now) options whole (chars text) lo hi) old new
     → Appends (IsShownLiteral options whole (chars text) lo hi) old new
 picked_line options whole text found label lo hi old new is_label read picked (shown, is, e) =
     (shown, (label, text, found, is_label, refl, read, inl (picked, is)), e)

@@ -1,6 +1,6 @@
 -- Where a text stands in what a literal stands for. Contents and texts that are looked for are lists
 -- of bytes, texts of literals lists of characters.
-use Rattle.std.specs.Prelude.{◌≡◌, ◌≢◌, ℕ, ◌+◌, ◌-◌, ◌<◌, ◌≤◌, ◌==◌, nat_le, Bool, cond, not, ◌||◌, ◌&&◌, List, [], ◌++◌, length, map, drop, slice_index, IsTrue}
+use Rattle.std.specs.Prelude.{◌≡◌, ◌≢◌, ℕ, ◌+◌, ◌-◌, ◌<◌, ◌≤◌, ◌==◌, nat_le, Bool, cond, not, ◌||◌, ◌&&◌, List, [], ◌∷◌, ◌++◌, length, map, drop, slice_index, IsTrue, Option, Some, None, ⊤}
 use Rattle.std.specs.Char.{is_ascii_alphanumeric, to_ascii_lowercase}
 use Rattle.std.specs.List.{starts_with}
 use Rattle.rl_text.specs.Texts.{byte_len}
@@ -76,6 +76,34 @@ pub record IsHeldAt (matching : Matching) (sought text : List ℕ) (lo hi : ℕ)
   pub first : FirstMatchAt matching sought bytes at
   pub begins : IsBytePlace kind text at lo
   pub ends : IsByteEnd kind text (at + (length sought - 1)) hi
+
+-- where a text is held, its range of bytes; none where it isn't
+abbrev pub IsHeldIn : Matching → List ℕ → List ℕ → Option (ℕ × ℕ) → Type 0
+IsHeldIn matching text sought None = Holds matching sought text → ⊥
+IsHeldIn matching text sought (Some range) = IsHeldAt matching sought text range.0 range.1
+
+-- the same of each of some texts
+abbrev pub AreHeldIn : Matching → List ℕ → List (List ℕ) → List (Option (ℕ × ℕ)) → Type 0
+AreHeldIn matching text [] [] = ⊤
+AreHeldIn matching text (sought ∷ others) (range ∷ ranges) =
+    IsHeldIn matching text sought range × AreHeldIn matching text others ranges
+AreHeldIn matching text _ _ = ⊥
+
+-- the one of two ranges that begins first; where both begin at one byte, the earlier one
+abbrev pub first_range : Option (ℕ × ℕ) → Option (ℕ × ℕ) → Option (ℕ × ℕ)
+first_range None later = later
+first_range (Some range) None = Some range
+first_range (Some range) (Some later) = cond (nat_le range.0 later.0) (Some range) (Some later)
+
+-- the first of ranges, of which these are after one
+abbrev pub first_after : Option (ℕ × ℕ) → List (Option (ℕ × ℕ)) → Option (ℕ × ℕ)
+first_after first [] = first
+first_after first (range ∷ ranges) = first_after (first_range first range) ranges
+
+-- the first of the ranges where texts are held
+abbrev pub IsFirstHeld : Matching → List (List ℕ) → List ℕ → Option (ℕ × ℕ) → Type 0
+IsFirstHeld matching soughts text first =
+    (ranges : List (Option (ℕ × ℕ))) × AreHeldIn matching text soughts ranges × (first_after None ranges ≡ first)
 
 -- A text is cut at this byte: it is the place after some of the text's first characters.
 pub record IsCutAt (text : List ℕ) (at : ℕ) : Type 0 where

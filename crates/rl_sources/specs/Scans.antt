@@ -2,7 +2,7 @@
 -- for one that says why it is bad; or a line for each character that turns or hides text. Texts and what is shown are
 -- lists of characters, what
 -- is written lists of bytes.
-use Rattle.std.specs.Prelude.{◌≡◌, ◌≢◌, ◌⊎◌, ◌↔◌, ℕ, ◌+◌, Bool, List, [], ◌++◌, IsTrue, codes, encode_utf8_all, Option, Some, None}
+use Rattle.std.specs.Prelude.{◌∷◌, ◌≡◌, ◌≢◌, ◌⊎◌, ◌↔◌, ℕ, ◌+◌, Bool, List, [], ◌++◌, IsTrue, codes, encode_utf8_all, Option, Some, None}
 use denote.Ref.{Bor}
 use Rattle.std.specs.List.{All}
 use Rattle.std.specs.Io.KnownBytes.{Appends, Keeps}
@@ -46,7 +46,8 @@ use Rattle.rl_sources.specs.declared.finding.Finding.{Finding}
 use Rattle.rl_sources.specs.declared.finding.Reason.{Reason}
 use Rattle.rl_reading.specs.declared.found.Found.{Found}
 use Rattle.std.specs.Str.{chars}
-use Rattle.rl_sources.specs.Held.{Holds, IsHeldAt}
+use Rattle.rl_files.specs.Globs.{borrowed_texts}
+use Rattle.rl_sources.specs.Held.{IsFirstHeld}
 use Rattle.rl_sources.specs.Hidden.{ShowsHidden}
 use Rattle.rl_sources.specs.Json.{IsJsonLiteral, finding_members, error_members}
 use Rattle.rl_sources.specs.Options.{Picks}
@@ -168,19 +169,24 @@ IsLineIn options whole text lo hi shown =
     (bytes : List ℕ) × (found : Option Found) × (chars bytes ≡ text) × IsFoundIn bytes found
     × IsLineOfFound options whole bytes found lo hi shown
 
--- what is shown where this is looked for: where the contents of the literal hold it, the literal's
--- line, at the place of what gives it where it stands first; else nothing
-abbrev pub IsHeldLine : List ℕ → Options → List ℕ → List ℕ → ℕ → List ℕ → Type 0
-IsHeldLine sought options whole text lo shown =
-    ((first : ℕ) × (last : ℕ) × IsHeldAt options.matching sought text first last
-    × IsPlacedLine options whole text (lo + first) (lo + last) shown)
-    ⊎ ((Holds options.matching sought text → ⊥) × (shown ≡ []))
+-- a line at a range of a literal's bytes; nothing where there is none
+abbrev pub IsLineAtRange : Option (ℕ × ℕ) → Options → List ℕ → List ℕ → ℕ → List ℕ → Type 0
+IsLineAtRange None options whole text lo shown = shown ≡ []
+IsLineAtRange (Some range) options whole text lo shown =
+    IsPlacedLine options whole text (lo + range.0) (lo + range.1) shown
+
+-- what is shown where these are looked for: where the contents of the literal hold one, the literal's line, at the place of
+-- what gives that which stands first; else nothing
+abbrev pub IsHeldLine : List (List ℕ) → Options → List ℕ → List ℕ → ℕ → List ℕ → Type 0
+IsHeldLine soughts options whole text lo shown =
+    (first : Option (ℕ × ℕ)) × IsFirstHeld options.matching soughts text first
+    × IsLineAtRange first options whole text lo shown
 
 -- what is shown of a literal that is picked
-abbrev pub IsPickedLine : Option (Bor (List ℕ)) → Options → List ℕ → List ℕ → ℕ → ℕ → List ℕ → Type 0
-IsPickedLine None options whole text lo hi shown = IsLineIn options whole text lo hi shown
-IsPickedLine (Some sought) options whole text lo hi shown =
-    IsHeldLine sought.now options whole text lo shown
+abbrev pub IsPickedLine : List (List ℕ) → Options → List ℕ → List ℕ → ℕ → ℕ → List ℕ → Type 0
+IsPickedLine [] options whole text lo hi shown = IsLineIn options whole text lo hi shown
+IsPickedLine (sought ∷ soughts) options whole text lo hi shown =
+    IsHeldLine (sought ∷ soughts) options whole text lo shown
 
 -- the literal, its text in bytes, behind these, of what was found, is picked, whose line begins with this word
 abbrev pub IsPicked : Options → List ℕ → List ℕ → Option Found → List ℕ → Type 0
@@ -192,7 +198,7 @@ IsShownLiteral options whole text lo hi shown =
     (label : List ℕ) × (bytes : List ℕ) × (found : Option Found) × IsLabelOf text label × (chars bytes ≡ text)
     × IsFoundIn bytes found
     × ((IsPicked options (bytes_before whole lo) bytes found label
-    × IsPickedLine options.finds options whole text lo hi shown)
+    × IsPickedLine (borrowed_texts options.finds.now) options whole text lo hi shown)
     ⊎ ((IsPicked options (bytes_before whole lo) bytes found label → ⊥) × (shown ≡ [])))
 
 -- what is shown of a token: of a literal, and of the words `true` and `false`, what is shown of

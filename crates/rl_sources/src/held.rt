@@ -8,7 +8,8 @@ ghost use Rattle.rl_forms.specs.declared.kind.Kind.TheVariants.{Str, ByteStr, CS
 ghost use Rattle.rl_forms.specs.Reading.{HasNoReading};
 ghost use Rattle.rl_reading.specs.Founds.{IsFound, is_quoted};
 ghost use Rattle.rl_reading.specs.Segments.{IsBytePlace, IsByteEnd};
-ghost use Rattle.rl_sources.specs.Held.{AreContentsOf, Holds, IsCutAt, IsHeldAt};
+ghost use Rattle.rl_sources.specs.Held.{AreContentsOf, Holds, IsCutAt, IsFirstHeld, IsHeldAt, first_range as earlier};
+ghost use Rattle.rl_files.specs.Globs.{borrowed_texts};
 
 use crate::options::Matching;
 use crate::search::first_in;
@@ -109,7 +110,7 @@ fn range_of(text: &str, found: &Found, first: usize, last: usize) -> (usize, usi
 
 /// Which bytes of a text, in which this was found, give the text that is looked for, where the contents hold that first:
 /// `None` where they don't hold it.
-pub(crate) fn held_at<A: Allocator + Copy>(
+fn held_at<A: Allocator + Copy>(
     alloc: A,
     text: &str,
     found: Option<Found>,
@@ -135,4 +136,41 @@ pub(crate) fn held_at<A: Allocator + Copy>(
     };
     let last = at + sought.len().saturating_sub(1);
     Ok(Some(range_of(text, &found, at, last)))
+}
+
+/// The one of two ranges that begins first; where both begin at one byte, the earlier one.
+fn first_range(
+    range: Option<(usize, usize)>,
+    later: Option<(usize, usize)>,
+) -> Option<(usize, usize)>
+    ensures { result ≡ earlier range later }
+{
+    match (range, later) {
+        (Some(first), Some(second)) if first.0 > second.0 => later,
+        (Some(_), _) => range,
+        (None, _) => later,
+    }
+}
+
+/// Which bytes of a text, in which this was found, give the one of the texts that are looked for which its contents hold first,
+/// the one that is named first where two begin at one place: `None` where they hold none.
+pub(crate) fn first_held_at<A: Allocator + Copy>(
+    alloc: A,
+    text: &str,
+    found: Option<Found>,
+    matching: Matching,
+    soughts: &[&str],
+) -> Result<Option<(usize, usize)>, AllocError>
+    requires none { IfNone found (HasNoReading (chars text.now)) }
+    requires found { IfSome found (IsFound text.now) }
+    ensures first { IfOk result (IsFirstHeld matching (borrowed_texts soughts.now) (chars text.now)) }
+    ensures cut { IfOk result (λ held. IfSome held (λ range. IsCutAt (chars text.now) range.0)) }
+    ensures within { IfOk result (λ held. IfSome held (λ range. range.1 ≤ byte_len (chars text.now))) }
+{
+    let mut first = None;
+    for sought in soughts {
+        let held = held_at(alloc, text, found, matching, sought)?;
+        first = first_range(first, held);
+    }
+    Ok(first)
 }

@@ -44,9 +44,10 @@ pub struct Matching {
 pub struct Options<'a> {
     /// Which literals are shown.
     pub shown: Shown<'a>,
-    /// A text that is looked for: only literals are shown whose contents hold it, at the place where it begins there.
-    pub finds: Option<&'a str>,
-    /// How it is looked for.
+    /// Texts that are looked for: where there are some, only literals are shown whose contents hold one of them, at the first place
+    /// where one begins there.
+    pub finds: &'a [&'a str],
+    /// How they are looked for.
     pub matching: Matching,
     /// How they are printed.
     pub spelling: Spelling,
@@ -70,15 +71,15 @@ pub struct Options<'a> {
 }
 
 impl Default for Options<'_> {
-    ghost use Rattle.std.specs.Prelude.{◌≡◌, None, false};
+    ghost use Rattle.std.specs.Prelude.{◌≡◌, [], None, false};
     ghost use Rattle.rl_output.specs.declared.form.Form.TheVariants.{Plain};
     ghost use Rattle.rl_types.specs.declared.before.Edition.TheVariants.{E2021};
     ghost use Rattle.rl_sources.specs.declared.options.Shown.TheVariants.{All};
     ghost use Rattle.rl_sources.specs.declared.options.Spelling.TheVariants.{Value};
 
-    ghost is_default = { λ options. options ≡ record {
+    ghost is_default = { λ options. (options.finds.now ≡ []) × (options ≡ record {
       shown = All;
-      finds = None;
+      finds = options.finds;
       matching = record { ignores_case = false; whole_words = false };
       spelling = Value;
       form = Plain;
@@ -89,13 +90,13 @@ impl Default for Options<'_> {
       any_suffix = false;
       edition = E2021;
       path = None;
-    } };
+    }) };
 
     /// All literals, each by its value after its place in bytes, without reasons; texts are looked for as they are.
     fn default() -> Self {
         Options {
             shown: Shown::All,
-            finds: None,
+            finds: &[],
             matching: Matching {
                 ignores_case: false,
                 whole_words: false,

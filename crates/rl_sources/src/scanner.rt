@@ -80,7 +80,7 @@ fn scan_hidden<A: Allocator + Copy, W: Write>(
 /// Writes a line for each literal of a source, in order: its place, after the path where there is one, and what
 /// `rl_lines` prints of its text, with escapes for what turns or hides text; with `explains` the line of a literal that
 /// Rust rejects has the place and the reason of its flaw, as `rl_grammar` explains it. With `finds` only literals whose
-/// contents hold that text have a line, with the place of what gives it where it stands first. With `Hidden` no literal has a
+/// contents hold one of those texts have a line, with the place of what gives the one that stands first. With `Hidden` no literal has a
 /// line, but each character that turns or hides text, wherever it stands, with its number. In the form `Json` a line is an
 /// object: `path`, `lo`, `hi`, `line`, `column`, and of a literal `kind`, `text`, `value` and `suffix`, of a flaw `text`,
 /// `error` and `piece`, of such a character `hidden`. Tokens are cut by [`Sources`]; the words `true` and `false` are literals

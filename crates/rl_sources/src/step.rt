@@ -5,6 +5,7 @@ ghost use Rattle.std.specs.Str.{chars};
 ghost use Rattle.rl_text.specs.Texts.{byte_len};
 ghost use Rattle.rl_lexer.specs.Cursors.{IsCursorState};
 ghost use Rattle.rl_lexer.specs.Sources.{TakesSource};
+ghost use Rattle.rl_files.specs.Globs.{borrowed_texts};
 ghost use Rattle.rl_files.specs.Visible.{visible};
 ghost use Rattle.rl_lines.specs.Lines.{Appends};
 ghost use Rattle.rl_sources.specs.Held.{IsCutAt};
@@ -15,7 +16,7 @@ ghost use Rattle.rl_sources.specs.Steps.{BeginsRest, EndsUnshown, IsAcceptedToke
 ghost use Rattle.rl_sources.specs.Findings.{IsFoundIn};
 
 use crate::flaw_lines::push_wrong;
-use crate::held::held_at;
+use crate::held::first_held_at;
 use crate::json::push_json_literal;
 use crate::judge::{reason_of, wrong_in};
 use crate::literal::{Literal, kind_of};
@@ -221,7 +222,7 @@ fn push_line_in<'t, A: Allocator + Copy>(
     }
 }
 
-/// Appends the line of a literal whose contents hold what is looked for, at the place of that.
+/// Appends the line of a literal whose contents hold one of the texts that are looked for, at the place of the first.
 #[inline(never)]
 fn push_held_line<'t, A: Allocator + Copy>(
     alloc: A,
@@ -229,21 +230,21 @@ fn push_held_line<'t, A: Allocator + Copy>(
     options: &Options<'_>,
     literal: &Literal<'_, 't>,
     places: &mut Places<'t>,
-    sought: &str,
+    soughts: &[&str],
 ) -> Result<(), AllocError>
     requires { IsLiteralOf options.now places.old literal.now }
     ensures shown { OnOk result (Appends
-        (IsHeldLine sought.now options.now (chars places.old) (chars literal.now.token.now.text.now)
+        (IsHeldLine (borrowed_texts soughts.now) options.now (chars places.old) (chars literal.now.token.now.text.now)
         literal.now.token.now.lo)
         (chars (string_bytes out.old)) (chars (string_bytes out.new))) }
     ensures same { places.new ≡ places.old }
 {
-    let Some(range) = held_at(
+    let Some(range) = first_held_at(
         alloc,
         literal.token.text,
         *literal.found,
         options.matching,
-        sought,
+        soughts,
     )?
     else {
         return Ok(());
@@ -251,7 +252,7 @@ fn push_held_line<'t, A: Allocator + Copy>(
     push_inside(alloc, out, options, literal, places, range)
 }
 
-/// Appends what is shown of a literal that is picked: where a text is looked for, its line where its contents hold that.
+/// Appends what is shown of a literal that is picked: where texts are looked for, its line where its contents hold one.
 #[inline(always)]
 fn push_picked<'t, A: Allocator + Copy>(
     alloc: A,
@@ -262,15 +263,15 @@ fn push_picked<'t, A: Allocator + Copy>(
 ) -> Result<(), AllocError>
     requires { IsLiteralOf options.now places.old literal.now }
     ensures shown { OnOk result (Appends
-        (IsPickedLine options.now.finds options.now (chars places.old)
+        (IsPickedLine (borrowed_texts options.now.finds.now) options.now (chars places.old)
         (chars literal.now.token.now.text.now) literal.now.token.now.lo literal.now.token.now.hi)
         (chars (string_bytes out.old)) (chars (string_bytes out.new))) }
     ensures same { places.new ≡ places.old }
 {
-    match options.finds {
-        None => push_line_in(alloc, out, options, literal, places),
-        Some(sought) => push_held_line(alloc, out, options, literal, places, sought),
+    if options.finds.is_empty() {
+        return push_line_in(alloc, out, options, literal, places);
     }
+    push_held_line(alloc, out, options, literal, places, options.finds)
 }
 
 /// Appends what is shown of a literal, where it is picked.

@@ -1,7 +1,8 @@
+use Rattle.rl_text.proofs.Common.{chars, on_ok_weaker}
+use Rattle.rl_sources.proofs.StepLemmas.{picked_held}
 use Rattle.rl_sources.proofs.step.push_picked.Goals as goal
 
-pub returns-in-Some-clause-shown : goal.returns-in-Some-clause-shown
-returns-in-Some-clause-shown g c = rw c.in-Some.is c.push_held_line.ensures.shown
-
-pub returns-in-None-clause-shown : goal.returns-in-None-clause-shown
-returns-in-None-clause-shown g c = rw c.in-None.is c.push_line_in.ensures.shown
+pub returns-clause-shown : goal.returns-clause-shown
+returns-clause-shown g c = on_ok_weaker c.push_held_line.result (picked_held c.args.options.now.finds.now c.args.options.now
+    (chars c.args.places.now) (chars c.args.literal.now.token.now.text.now) c.args.literal.now.token.now.lo
+    c.args.literal.now.token.now.hi _ _ c.if-is_empty.ensures) c.push_held_line.ensures.shown

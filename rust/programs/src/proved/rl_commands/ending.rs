@@ -32,7 +32,7 @@ Status:
   2  wrong arguments, or a stream failed
 
 Examples:
-  printf '0x1F_u8 \"a\\n\"' | rl_tool read
+  printf '0x1F_u8 \"a\\\\n\"' | rl_tool read
 ";
 
 /// Which version it is.

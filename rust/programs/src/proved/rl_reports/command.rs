@@ -46,9 +46,11 @@ pub struct Command<'a> {
     pub wish: Wish,
     /// Which literals are shown.
     pub shown: Shown<'a>,
-    /// The text that their contents have to hold, where one is looked for.
-    pub finds: Option<&'a str>,
-    /// How it is looked for.
+    /// Whether texts are looked for.
+    pub searches: bool,
+    /// The texts of which their contents have to hold one, where some are looked for.
+    pub finds: &'a [&'a str],
+    /// How they are looked for.
     pub matching: Matching,
     /// How they are printed.
     pub spelling: Spelling,

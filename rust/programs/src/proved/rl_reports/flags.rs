@@ -217,12 +217,11 @@ fn with_flag(command: Command<'_>, flag: Flag) -> Option<Command<'_>> {
     Some(next)
 }
 
-/// Whether an option goes with what is looked for: there is one text at most, and none where what is bad or hidden is
-/// wanted.
+/// Whether an option goes with what is looked for: no text is where what is bad or hidden is wanted.
 fn goes_with_find(command: Command<'_>, flag: Flag) -> bool {
-    match (flag, command.finds, command.shown) {
-        (Flag::Bad | Flag::Hidden | Flag::Find, Some(_), _) => false,
-        (Flag::Find, None, Shown::Bad | Shown::Hidden) => false,
+    match (flag, command.shown) {
+        (Flag::Bad | Flag::Hidden, _) => !command.searches,
+        (Flag::Find, Shown::Bad | Shown::Hidden) => false,
         _ => true,
     }
 }

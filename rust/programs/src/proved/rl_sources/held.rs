@@ -76,7 +76,7 @@ fn range_of(text: &str, found: &Found, first: usize, last: usize) -> (usize, usi
 
 /// Which bytes of a text, in which this was found, give the text that is looked for, where the contents hold that first:
 /// `None` where they don't hold it.
-pub(crate) fn held_at<A: Allocator + Copy>(
+fn held_at<A: Allocator + Copy>(
     alloc: A,
     text: &str,
     found: Option<Found>,
@@ -94,4 +94,33 @@ pub(crate) fn held_at<A: Allocator + Copy>(
     };
     let last = at + sought.len().saturating_sub(1);
     Ok(Some(range_of(text, &found, at, last)))
+}
+
+/// The one of two ranges that begins first; where both begin at one byte, the earlier one.
+fn first_range(
+    range: Option<(usize, usize)>,
+    later: Option<(usize, usize)>,
+) -> Option<(usize, usize)> {
+    match (range, later) {
+        (Some(first), Some(second)) if first.0 > second.0 => later,
+        (Some(_), _) => range,
+        (None, _) => later,
+    }
+}
+
+/// Which bytes of a text, in which this was found, give the one of the texts that are looked for which its contents hold first,
+/// the one that is named first where two begin at one place: `None` where they hold none.
+pub(crate) fn first_held_at<A: Allocator + Copy>(
+    alloc: A,
+    text: &str,
+    found: Option<Found>,
+    matching: Matching,
+    soughts: &[&str],
+) -> Result<Option<(usize, usize)>, AllocError> {
+    let mut first = None;
+    for sought in soughts {
+        let held = held_at(alloc, text, found, matching, sought)?;
+        first = first_range(first, held);
+    }
+    Ok(first)
 }

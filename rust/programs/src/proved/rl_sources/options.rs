@@ -42,9 +42,10 @@ pub struct Matching {
 pub struct Options<'a> {
     /// Which literals are shown.
     pub shown: Shown<'a>,
-    /// A text that is looked for: only literals are shown whose contents hold it, at the place where it begins there.
-    pub finds: Option<&'a str>,
-    /// How it is looked for.
+    /// Texts that are looked for: where there are some, only literals are shown whose contents hold one of them, at the first place
+    /// where one begins there.
+    pub finds: &'a [&'a str],
+    /// How they are looked for.
     pub matching: Matching,
     /// How they are printed.
     pub spelling: Spelling,
@@ -72,7 +73,7 @@ impl Default for Options<'_> {
     fn default() -> Self {
         Options {
             shown: Shown::All,
-            finds: None,
+            finds: &[],
             matching: Matching {
                 ignores_case: false,
                 whole_words: false,

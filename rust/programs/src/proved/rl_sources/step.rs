@@ -3,7 +3,7 @@
 
 use crate::rattle_std::prelude::{String};
 use crate::rl_sources::flaw_lines::push_wrong;
-use crate::rl_sources::held::held_at;
+use crate::rl_sources::held::first_held_at;
 use crate::rl_sources::json::push_json_literal;
 use crate::rl_sources::judge::{reason_of, wrong_in};
 use crate::rl_sources::literal::{Literal, kind_of};
@@ -158,7 +158,7 @@ fn push_line_in<'t, A: Allocator + Copy>(
     }
 }
 
-/// Appends the line of a literal whose contents hold what is looked for, at the place of that.
+/// Appends the line of a literal whose contents hold one of the texts that are looked for, at the place of the first.
 #[inline(never)]
 fn push_held_line<'t, A: Allocator + Copy>(
     alloc: A,
@@ -166,14 +166,14 @@ fn push_held_line<'t, A: Allocator + Copy>(
     options: &Options<'_>,
     literal: &Literal<'_, 't>,
     places: &mut Places<'t>,
-    sought: &str,
+    soughts: &[&str],
 ) -> Result<(), AllocError> {
-    let Some(range) = held_at(
+    let Some(range) = first_held_at(
         alloc,
         literal.token.text,
         *literal.found,
         options.matching,
-        sought,
+        soughts,
     )?
     else {
         return Ok(());
@@ -181,7 +181,7 @@ fn push_held_line<'t, A: Allocator + Copy>(
     push_inside(alloc, out, options, literal, places, range)
 }
 
-/// Appends what is shown of a literal that is picked: where a text is looked for, its line where its contents hold that.
+/// Appends what is shown of a literal that is picked: where texts are looked for, its line where its contents hold one.
 #[inline(always)]
 fn push_picked<'t, A: Allocator + Copy>(
     alloc: A,
@@ -190,10 +190,10 @@ fn push_picked<'t, A: Allocator + Copy>(
     literal: &Literal<'_, 't>,
     places: &mut Places<'t>,
 ) -> Result<(), AllocError> {
-    match options.finds {
-        None => push_line_in(alloc, out, options, literal, places),
-        Some(sought) => push_held_line(alloc, out, options, literal, places, sought),
+    if options.finds.is_empty() {
+        return push_line_in(alloc, out, options, literal, places);
     }
+    push_held_line(alloc, out, options, literal, places, options.finds)
 }
 
 /// Appends what is shown of a literal, where it is picked.
