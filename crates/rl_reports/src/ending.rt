@@ -336,6 +336,8 @@ fn selecting<'a>(
         output: command.output,
         rejects_strays: command.rejects_strays,
         any_suffix: command.any_suffix,
+        edition: command.edition,
+        context: command.context,
         selection: Selection {
             all: command.selection.all,
             extensions: usual_unless(extensions),

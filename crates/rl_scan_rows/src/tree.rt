@@ -82,6 +82,10 @@ const TYPED: &str = "1u8 256u8 -128i8 129i8 1u9
 \"a\"x 'b'y b\"c\"d r\"e\"u8
 1.0u8 0b1f32 1e5f64 1_f32 0xFFi8 1f16 true";
 
+/// Words and hashes right before quotes, which Rust reserves or not, and the least number of a type with and without a minus.
+const BEFORE: &str = "f\"a\" c'b' #\"c\"# 1u8\"d\" 128i8 -128i8
+ -(128i8) /**/ 128i8 5 - 128i8";
+
 /// What a file of the tree holds that is a text.
 fn text_at(path: &str) -> Option<&'static str> {
     match path {
@@ -100,6 +104,7 @@ fn text_at(path: &str) -> Option<&'static str> {
         "large" => Some(LARGE),
         "many" => Some(MANY),
         "typed" => Some(TYPED),
+        "before" => Some(BEFORE),
         "hides" => Some(HIDES),
         "trojan.rs" => Some(TROJAN),
         "marked" => Some(MARKED),
