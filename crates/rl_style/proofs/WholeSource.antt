@@ -86,7 +86,8 @@ preamble t cuts r no_line cut =
     }
 
 pub source_recut : (t : List ℕ) (before after : List CutSource) (old new : Lexeme) (place : ℕ) (r : List ℕ)
-    → begins (codes "#!") (without_mark t) ≡ false → (cut : IsCutUpTo t (before ++ (placed_literal old place ∷ after)) r)
+    → begins (codes "#!") (without_mark t) ≡ false → (cut : IsCutUpTo t (before ++ (placed_literal old place ∷ after))
+    r)
     → Recut cut.at cut.body before after old new place r → IsRecutSource t before after old new place r
 source_recut t before after old new place r no_line cut m =
     let p : Preamble t cut.body cut.at = preamble t (before ++ (placed_literal old place ∷ after)) r no_line cut in
