@@ -161,13 +161,15 @@ fewest_twice (d ∷ e ∷ ds) = go (d.0 == 48) refl (fewest_twice (e ∷ ds))
     go false z more = ap (λ b. cond b (fewest_digits (map bare_digit (e ∷ ds))) (map bare_digit all)) z
         ∙ bare_twice (d ∷ e ∷ ds)
 
-pub code_twice : (style : Style) (ds : List (ℕ × ℕ)) → styled_digits style (styled_digits style ds) ≡ styled_digits style ds
+pub code_twice : (style : Style) (ds : List (ℕ × ℕ)) → styled_digits style (styled_digits style ds)
+    ≡ styled_digits style ds
 code_twice style ds = go style.code_digits
   where
     to : List (ℕ × ℕ) → List (ℕ × ℕ)
     to xs = map (cased_digit style.escape_digits) xs
 
-    go : (b : Bool) → to (cond b (fewest_digits (to (cond b (fewest_digits ds) ds))) (to (cond b (fewest_digits ds) ds)))
+    go : (b : Bool) → to (cond b (fewest_digits (to (cond b (fewest_digits ds) ds)))
+        (to (cond b (fewest_digits ds) ds)))
         ≡ to (cond b (fewest_digits ds) ds)
     go true = ap to (fewest_cased style.escape_digits (fewest_digits ds))
         ∙ twice_digits style.escape_digits (fewest_digits (fewest_digits ds)) ∙ ap to (fewest_twice ds)
@@ -260,7 +262,8 @@ fewest_is (d ∷ ds) h = go (d.0 == 48) refl
     go false z =
         ap fewest_text (closed_more d ds)
         ∙ ap (λ b. cond b (without_underscores (zero_closed (after_run is_padding rest)))
-        (without_underscores (d.0 ∷ rest))) (is_other d.0 z (and_parts (is_ascii_hexdigit d.0) (list_all hex_of ds) h).0)
+        (without_underscores (d.0 ∷ rest))) (is_other d.0 z (and_parts (is_ascii_hexdigit d.0) (list_all hex_of ds)
+        h).0)
         ∙ ap without_underscores (sym (closed_more d ds)) ∙ bare_text (d ∷ ds) h
         ∙ ap closed (sym (other_text d ds z h))
 

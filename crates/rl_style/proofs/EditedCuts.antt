@@ -73,7 +73,8 @@ put style (Some written) token after new_after sound is (l, token_is, w) a =
       is_token = (n.text_is, ap PlainKind n.same_form ∙ ap source_kind (sym token_is));
       text_is = n.text_is;
       proper = alike_stays (PlainToken n.new) after new_after a n.is_new;
-      alike = subst (λ (z : SourceLexeme). Alike (source_text z ++ after) (lexeme_text n.new ++ new_after)) (sym token_is)
+      alike = subst (λ (z : SourceLexeme). Alike (source_text z ++ after) (lexeme_text n.new ++ new_after))
+          (sym token_is)
           (n.alike new_after a);
     }
 
@@ -95,7 +96,8 @@ one_more e es at w ws front old new after new_after r old_is new_is p skipped mo
     record {
       tokens = record { token = p.new; at = here } ∷ more.tokens;
       are_tokens = (p.is_token, more.are_tokens);
-      are_cuts = subst (λ (z : List ℕ). SourcesUpTo at z (record { token = p.new; at = here } ∷ more.tokens) r) (sym text)
+      are_cuts = subst (λ (z : List ℕ). SourcesUpTo at z (record { token = p.new; at = here } ∷ more.tokens) r)
+          (sym text)
           (new_after, skipped, proper_source p.new new_after p.proper, there, more.are_cuts);
       alike = subst (λ (z : List ℕ). Alike z new) (sym old_is) (subst (λ (z : List ℕ). Alike
           (front ++ (source_text w.token ++ after)) z) (sym text)

@@ -172,7 +172,8 @@ no_turn_new d [] y is h = ap (λ b. d == 48 && b) (no_base_after y h) ∙ none (
     none true = refl
     none false = refl
 
-at_digit : (t y : List ℕ) (s : DecimalForm t) → lexeme_at (t ++ y) ≡ Some (LiteralForm, after_digit s.digit (s.more ++ y))
+at_digit : (t y : List ℕ) (s : DecimalForm t) → lexeme_at (t ++ y)
+    ≡ Some (LiteralForm, after_digit s.digit (s.more ++ y))
 at_digit t y s = ap (λ z. lexeme_at (z ++ y)) s.text_is ∙ at_class s.digit (s.more ++ y) DigitHead
     (class_digit s.digit s.is_digit)
 
@@ -277,7 +278,8 @@ exponent_gone e w s =
 -- no row and no dot goes on with an exponent
 exponent_stands : (test : ℕ → Bool) (e w : List ℕ) → IsStrictExponent e → test 101 ≡ false → test 69 ≡ false
     → first_passes test (e ++ w) ≡ false
-exponent_stands test e w s a b = ap (λ z. first_passes test (z ++ w)) s.text ∙ letter_fails test s.letter a b s.is_letter
+exponent_stands test e w s a b = ap (λ z. first_passes test (z ++ w)) s.text
+    ∙ letter_fails test s.letter a b s.is_letter
 
 no_dot : (s : List ℕ) → first_passes (λ c. c == 46) s ≡ false → begins_dot s ≡ false
 no_dot [] h = refl

@@ -21,7 +21,8 @@ pub record NewToken (old : Lexeme) (u rest : List ℕ) : Type 0 where
   pub is_new : IsLexeme new rest
   pub alike : (z : List ℕ) → Alike rest z → Alike (lexeme_text old ++ rest) (lexeme_text new ++ z)
 
-pub new_token : (style : Style) (old : Lexeme) (u rest : List ℕ) → IsLexeme old rest → Rewrites style (lexeme_text old) u
+pub new_token : (style : Style) (old : Lexeme) (u rest : List ℕ) → IsLexeme old rest
+    → Rewrites style (lexeme_text old) u
     → NewToken old u rest
 new_token style old u rest is w = go (word_or_form style (lexeme_text old) u w)
   where

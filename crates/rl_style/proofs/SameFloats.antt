@@ -569,7 +569,8 @@ form_trims drops plus digits letter numeral x (inl (d, h, e, n)) t =
 form_trims drops plus digits letter numeral x (inr (inl (d, z, h, k, e, n))) t =
     let f : ℕ → List ℕ = becomes drops false plus digits letter in
     let is = pointed_is drops plus digits letter numeral d z e in
-    let last : IsTrim z = tail_trims (46 ∷ []) z (digits_some_only z k) (tail_trims d (46 ∷ z) refl (subst IsTrim e t)) in
+    let last : IsTrim z = tail_trims (46 ∷ []) z (digits_some_only z k) (tail_trims d (46 ∷ z) refl (subst IsTrim e t))
+    in
     ap trimmed is ∙ trimmed_join (flat_map f d) (46 ∷ flat_map f z) refl
     ∙ ap (λ y. flat_map f d ++ (46 ∷ y)) (row_mapped drops plus digits letter z k.1 last) ∙ sym is
 form_trims drops plus digits letter numeral x (inr (inr (d, e, h, s, inl n))) t =
@@ -588,7 +589,8 @@ numeral_trims : (style : Style) (x numeral : List ℕ) → FloatForm numeral x �
     → IsTrim (new_numeral style x numeral)
 numeral_trims style x numeral form h =
     let kept : List ℕ = kept_row style x numeral in
-    let short : IsTrim kept = subst IsTrim (sym (ap (λ b. cond b (trimmed numeral) numeral) h)) (trimmed_again numeral) in
+    let short : IsTrim kept = subst IsTrim (sym (ap (λ b. cond b (trimmed numeral) numeral) h)) (trimmed_again numeral)
+    in
     form_trims (drops_underscores style x) style.exponent_plus style.hex_digits style.exponent_letter kept x
     (kept_form style numeral x form).form short
 

@@ -245,7 +245,8 @@ named_any P n h a b c =
 named_allowed : (k : Kind) (us : List StrictUnit) (n : ℕ) → HasUnits k us → has_letter n ≡ true
     → is_strict_unit k (PlainEscape (letter_of n)) ≡ true
 named_allowed Str us n q h = named_any (λ n. is_strict_unit Str (PlainEscape (letter_of n)) ≡ true) n h refl refl refl
-named_allowed ByteStr us n q h = named_any (λ n. is_strict_unit ByteStr (PlainEscape (letter_of n)) ≡ true) n h refl refl
+named_allowed ByteStr us n q h = named_any (λ n. is_strict_unit ByteStr (PlainEscape (letter_of n)) ≡ true) n h refl
+    refl
     refl
 named_allowed CStr us n q h = named_any (λ n. is_strict_unit CStr (PlainEscape (letter_of n)) ≡ true) n h refl refl refl
 named_allowed Byte us n q h = named_any (λ n. is_strict_unit Byte (PlainEscape (letter_of n)) ≡ true) n h refl refl refl
@@ -333,7 +334,8 @@ all_allowed style k vs (u ∷ us) q h =
 
 -- ---- how many
 
-pub same_count : (style : Style) (k : Kind) (us : List StrictUnit) → HasUnits k us → HasUnits k (map (restyled style k) us)
+pub same_count : (style : Style) (k : Kind) (us : List StrictUnit) → HasUnits k us
+    → HasUnits k (map (restyled style k) us)
 same_count style Str us h = tt
 same_count style ByteStr us h = tt
 same_count style CStr us h = tt
@@ -378,7 +380,8 @@ quote_ends : (b : Bool) (c : ℕ) (us : List StrictUnit) → BlanksEnd us → Bl
 quote_ends true c us e = e
 quote_ends false c us e = e
 
-pub blanks_stay : (style : Style) (k : Kind) (us : List StrictUnit) → list_all (is_strict_unit k) us ≡ true → BlanksEnd us
+pub blanks_stay : (style : Style) (k : Kind) (us : List StrictUnit) → list_all (is_strict_unit k) us ≡ true
+    → BlanksEnd us
     → BlanksEnd (map (restyled style k) us)
 blanks_stay style k [] h b = tt
 blanks_stay style k (u ∷ us) h b = go u (and_parts (is_strict_unit k u) (list_all (is_strict_unit k) us) h).1 b

@@ -227,7 +227,8 @@ kept_first style x row h = go (trims_by style.suffix_separator x)
 
 -- ---- the separator
 
-pub separator_all : (test : ℕ → Bool) (s : Option Separator) (x : List ℕ) → list_all (is_row_part test) (separator_by s x)
+pub separator_all : (test : ℕ → Bool) (s : Option Separator) (x : List ℕ)
+    → list_all (is_row_part test) (separator_by s x)
     ≡ true
 separator_all test None x = refl
 separator_all test (Some Nothing) x = refl

@@ -141,7 +141,8 @@ number_is style k n m text escape of same =
           ∙ ap strict_text (sym (ap (λ b. cond (style.ascii_escapes && b) (visible_unit k n)
           (cond (style.named_escapes && has_letter n) (PlainEscape (letter_of n)) escape)) none
           ∙ ap (λ b. cond b (visible_unit k n)
-          (cond (style.named_escapes && has_letter n) (PlainEscape (letter_of n)) escape)) (none_right style.ascii_escapes)
+          (cond (style.named_escapes && has_letter n) (PlainEscape (letter_of n)) escape))
+          (none_right style.ascii_escapes)
           ∙ ap (λ b. cond (style.named_escapes && b) (PlainEscape (letter_of n)) escape) unnamed
           ∙ ap (λ b. cond b (PlainEscape (letter_of n)) escape) (none_right style.named_escapes)))
     ]
@@ -154,7 +155,8 @@ plain_text style k n c h =
     let b = apart is_plain_letter c 34 h refl in
     let x = apart is_plain_letter c 120 h refl in
     let u = apart is_plain_letter c 117 h refl in
-    ap (λ z. cond z (cond (style.quote_escapes && not (c == closer k)) (c ∷ []) (92 ∷ c ∷ [])) (otherwise style k n c []))
+    ap (λ z. cond z (cond (style.quote_escapes && not (c == closer k)) (c ∷ []) (92 ∷ c ∷ []))
+    (otherwise style k n c []))
     (or_from (c == 39) (c == 34) a b)
     ∙ ap (λ z. cond z (number_text style k n (92 ∷ c ∷ [])) (92 ∷ c ∷ [])) (or_from (c == 120) (c == 117) x u)
 

@@ -24,14 +24,16 @@ pub record SameLiteral (old new : List ℕ) : Type 0 where
 -- ---- numbers
 
 -- The old text is an integer; the new one has its prefix, its digits, perhaps without the zeros in front and the
--- underscores at the end, what the style puts before the suffix, and the suffix; each character in front of that is what
+-- underscores at the end, what the style puts before the suffix, and the suffix; each character in front of that is
+-- what
 -- the style makes of it.
 pub record RewritesInt (style : Style) (old new : List ℕ) : Type 0 where
   pub contents : Contents
   pub suffix : List ℕ
   pub int : StrictInt old contents suffix
   pub new_is : new ≡ flat_map (number_character style (drops_underscores style suffix) (int.base == 16))
-      (int.prefix ++ kept_digits style int.base suffix (kept_row style suffix int.row)) ++ (separator style suffix ++ suffix)
+      (int.prefix ++ kept_digits style int.base suffix (kept_row style suffix int.row))
+      ++ (separator style suffix ++ suffix)
 
 -- The same of a float, but for the zeros.
 pub record RewritesFloat (style : Style) (old new : List ℕ) : Type 0 where

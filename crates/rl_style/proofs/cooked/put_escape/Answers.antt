@@ -5,14 +5,16 @@ use Rattle.rl_style.proofs.cooked.put_escape.Goals as goal
 pub returns-then-is_bared-clause-bytes : goal.returns-then-is_bared-clause-bytes
 returns-then-is_bared-clause-bytes c = c.put_text-then-is_bared.ensures.bytes
     ∙ ap (λ z. take c.args.at c.args.out.now ++ z)
-    (sym (bared_bytes c.args.style c.args.kind c.args.byte c.args.unit.now c.args.escape.now _ c.in-Some.first c.utf8.escape
+    (sym (bared_bytes c.args.style c.args.kind c.args.byte c.args.unit.now c.args.escape.now _ c.in-Some.first
+    c.utf8.escape
     c.requires.text c.in-Some.ensures.chars (sym c.is_quote.ensures ∙ c.if-is_quote.true)
     (sym c.is_bared.ensures ∙ c.if-is_bared.true)))
 
 pub returns-then-is_quote-clause-bytes : goal.returns-then-is_quote-clause-bytes
 returns-then-is_quote-clause-bytes c = c.put_text-then-is_quote.ensures.bytes
     ∙ ap (λ z. take c.args.at c.args.out.now ++ z)
-    (sym (kept_bytes c.args.style c.args.kind c.args.byte c.args.unit.now c.args.escape.now _ c.in-Some.first c.utf8.unit
+    (sym (kept_bytes c.args.style c.args.kind c.args.byte c.args.unit.now c.args.escape.now _ c.in-Some.first
+    c.utf8.unit
     c.requires.text c.in-Some.ensures.chars (sym c.is_quote.ensures ∙ c.if-is_quote.true)
     (sym c.is_bared.ensures ∙ c.if-is_bared.false)))
 
@@ -24,7 +26,8 @@ returns-then-begins_number-clause-bytes c = c.put_number.ensures.bytes ∙ ap (�
 
 pub returns-clause-bytes : goal.returns-clause-bytes
 returns-clause-bytes c = c.put_text-2.ensures.bytes ∙ ap (λ z. take c.args.at c.args.out.now ++ z)
-    (sym (other_bytes c.args.style c.args.kind c.args.byte c.args.unit.now c.args.escape.now _ c.in-Some.first c.utf8.unit
+    (sym (other_bytes c.args.style c.args.kind c.args.byte c.args.unit.now c.args.escape.now _ c.in-Some.first
+    c.utf8.unit
     c.requires.text c.in-Some.ensures.chars (sym c.is_quote.ensures ∙ c.if-is_quote.false)
     (sym c.begins_number.ensures ∙ c.if-begins_number.false)))
 

@@ -38,10 +38,12 @@ returns-clause-written c = integer_whole c.args.style c.args.text.now c.before-2
     c.utf8.suffix
     (ap (λ (p : ℕ × List ℕ). p.0) c.split_radix-base.ensures.value) c.drops_underscores-drops.ensures
     (sym c.drops_zeros.ensures ∙ c.if-drops_zeros.false) c.before-2.ensures.chars c.kept_row-numeral.ensures.kept
-    (c.put_suffix-2.ensures.bytes ∙ ap (λ z. z ++ ended c.args.style c.args.suffix.now) c.put_numeral-at-2.ensures.bytes)
+    (c.put_suffix-2.ensures.bytes ∙ ap (λ z. z ++ ended c.args.style c.args.suffix.now)
+    c.put_numeral-at-2.ensures.bytes)
     c.requires.integer.1
 
 pub returns-clause-utf8 : goal.returns-clause-utf8
 returns-clause-utf8 c = number_utf8 c.args.style c.kept_row-numeral.result.now c.args.suffix.now _
     c.drops_underscores-drops.result (c.split_radix-base.result.0 == 16) c.kept_row-numeral.utf8 c.utf8.suffix
-    (c.put_suffix-2.ensures.bytes ∙ ap (λ z. z ++ ended c.args.style c.args.suffix.now) c.put_numeral-at-2.ensures.bytes)
+    (c.put_suffix-2.ensures.bytes ∙ ap (λ z. z ++ ended c.args.style c.args.suffix.now)
+    c.put_numeral-at-2.ensures.bytes)
