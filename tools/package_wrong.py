@@ -172,6 +172,8 @@ WRONG = [Wrong(*row) for row in [
      'base eight is written as base sixteen'),
     ('write.rs', "upper: self.upper,", "upper: false,",
      'upper case is written as lower case'),
+    ('write.rs', "least: self.least,", "least: 0,",
+     'groups are written of few digits too'),
     ('write.rs', "style.suffixed.then_some(N::SUFFIX)", "style.suffixed.then_some(rl_writing::IntegerType::I64)",
      'each integer has the same suffix'),
     ('write.rs', "|out| write_str_ascii_into(value, out)", "|out| write_str_into(value, out)",

@@ -188,6 +188,7 @@ pub struct IntegerStyle {
     base: Base,
     upper: bool,
     group: usize,
+    least: usize,
     suffixed: bool,
 }
 
@@ -205,6 +206,7 @@ impl IntegerStyle {
             base: Base::Decimal,
             upper: false,
             group: 0,
+            least: 0,
             suffixed: false,
         }
     }
@@ -250,6 +252,23 @@ impl IntegerStyle {
         }
     }
 
+    /// The same with underscores only in numbers of so many digits or more; of 0 in all.
+    ///
+    /// ```
+    /// use navyspindle::{write_integer, IntegerStyle};
+    ///
+    /// let style = IntegerStyle::new().group(3).least(5);
+    /// assert_eq!(write_integer(1000, style), "1000");
+    /// assert_eq!(write_integer(10000, style), "10_000");
+    /// ```
+    #[must_use]
+    pub const fn least(self, digits: usize) -> Self {
+        IntegerStyle {
+            least: digits,
+            ..self
+        }
+    }
+
     /// The same with the name of the number's type as the suffix, or with none.
     ///
     /// ```
@@ -274,6 +293,7 @@ impl IntegerStyle {
             base,
             upper: self.upper,
             group: self.group,
+            least: self.least,
         }
     }
 }

@@ -23,7 +23,8 @@ fn grouped(digits: &str, size: usize) -> String {
     groups.join("_")
 }
 
-/// Checks what is written for a number, whose magnitude is given, in each base, with groups of each size.
+/// Checks what is written for a number, whose magnitude is given, in each base, with groups of each size, where it has digits
+/// enough for them and where it lacks one.
 fn check_integer<N: Integer + fmt::Display>(value: N, magnitude: u128, name: &str) {
     let sign = if value.to_string().starts_with('-') {
         "-"
@@ -60,6 +61,15 @@ fn check_integer<N: Integer + fmt::Display>(value: N, magnitude: u128, name: &st
             let read = LitInt::parse(&suffixed).unwrap();
             assert_eq!((read.magnitude(), read.suffix()), (magnitude, name));
             assert_eq!(read.base10_digits(), value.to_string());
+            for least in [0, digits.len(), digits.len() + 1] {
+                let literal = if digits.len() < least {
+                    &text
+                } else {
+                    &literal
+                };
+                let written = write_integer(value, style.least(least));
+                assert_eq!(written, format!("{sign}{literal}"));
+            }
         }
     }
 }
@@ -104,6 +114,7 @@ fn as_rustc_has_them() {
     let upper = HEX.upper(true).group(4);
     written_back! {
         |value: u32| write_integer(value, IntegerStyle::new().group(3)) => 0 999 1_000 4_294_967_295;
+        |value: u32| write_integer(value, IntegerStyle::new().group(3).least(5)) => 0 1000 9999 10_000 1_000_000;
         |value: u8| write_integer(value, IntegerStyle::new().suffixed(true)) => 0u8 255u8;
         |value: u64| write_integer(value, upper) => 0x0 0xFFFF 0x1_0000 0xFFFF_FFFF_FFFF_FFFF;
         |value: i16| write_integer(value, IntegerStyle::new().base(Base::Binary).group(4)) => 0b0 0b1010_0101;

@@ -1,12 +1,12 @@
 -- Digits in groups: what holds of the digits holds of the groups.
-use Rattle.rl_text.proofs.Common.{◌≡◌, ℕ, ◌*◌, ◌-◌, ◌≤◌, Bool, true, false, not, cond, List, [], ◌∷◌, ◌++◌, length, take, refl, ap, ◌∙◌, inl, inr, arith, nat_lt, list_all, and_parts, and_from, cases_Bool, if◌then◌else◌}
+use Rattle.rl_text.proofs.Common.{◌≡◌, ℕ, ◌*◌, ◌-◌, ◌<◌, ◌≤◌, Bool, true, false, not, cond, List, [], ◌∷◌, ◌++◌, length, take, refl, ap, ◌∙◌, inl, inr, arith, nat_lt, list_all, and_parts, and_from, cases_Bool, if◌then◌else◌}
 use Rattle.std.specs.Prelude.{reverse}
 use Rattle.std.proofs.Common.{length-take}
-use Rattle.std.proofs.lemmas.Bool.{and_left, and_right}
-use Rattle.std.proofs.lemmas.List.{length-reverse}
+use Rattle.std.proofs.lemmas.Bool.{and_left, and_right, le-ltb, lt-ltb}
+use Rattle.std.proofs.lemmas.List.{length-reverse, length-take-le}
 use Rattle.rl_text.specs.Texts.{is_underscore}
 use Rattle.rl_forms.specs.Spelling.{without_underscores}
-use Rattle.rl_writing.specs.Integers.{ends_group, grouped}
+use Rattle.rl_writing.specs.Integers.{ends_group, group_size, grouped}
 
 -- a digit without and with an underscore after it
 pub without_mark : (size d : ℕ) (ds : List ℕ) → ends_group size (length ds) ≡ false
@@ -62,7 +62,21 @@ pub grouped_short : (size n k : ℕ) (room : List ℕ) → n ≤ k → length (g
 grouped_short size n k room h =
     omega (arith, h, grouped_length size (reverse (take n room)), length-reverse (take n room), length-take n room)
 
+-- how many digits were put
+pub count_is : (n : ℕ) (room : List ℕ) → n ≤ length room → length (reverse (take n room)) ≡ n
+count_is n room h = length-reverse (take n room) ∙ length-take-le n room h
+
 -- of size 0 is no group
 pub ungrouped : (ds : List ℕ) → grouped 0 ds ≡ ds
 ungrouped [] = refl
 ungrouped (d ∷ ds) = ap (λ z. d ∷ z) (ungrouped ds)
+
+-- ---- how many there are at least
+
+pub few_ungrouped : (group least : ℕ) (ds : List ℕ) → length ds < least
+    → grouped (group_size group least (length ds)) ds ≡ ds
+few_ungrouped group least ds h =
+    ap (λ b. grouped (if b then 0 else group) ds) (lt-ltb (length ds) least h) ∙ ungrouped ds
+
+pub others_grouped : (group least : ℕ) (ds : List ℕ) → least ≤ length ds → group_size group least (length ds) ≡ group
+others_grouped group least ds h = ap (λ b. if b then 0 else group) (le-ltb (length ds) least h)

@@ -12,8 +12,8 @@ use Rattle.rl_forms.proofs.Dec.{dec_is_decimal}
 use Rattle.rl_forms.proofs.StrictNumbers.{strict_int}
 use Rattle.rl_writing.specs.declared.integer_type.IntegerType.{IntegerType}
 use Rattle.rl_writing.specs.declared.integers.IntegerStyle.{IntegerStyle}
-use Rattle.rl_writing.specs.Integers.{base_of, ends_group, grouped, numeral, suffix_text}
-use Rattle.rl_writing.specs.WrittenIntegers.{IsWrittenInteger, written_integer}
+use Rattle.rl_writing.specs.Integers.{base_of, ends_group, group_size, grouped, numeral, suffix_text}
+use Rattle.rl_writing.specs.WrittenIntegers.{IsWrittenInteger, grouped_numeral, written_integer}
 use Rattle.rl_writing.proofs.AsciiLemmas.{is_low, low_chars, low_join, low_utf8}
 use Rattle.rl_writing.proofs.GroupLemmas.{grouped_all, grouped_digits}
 use Rattle.rl_writing.proofs.NumeralLemmas.{is_glyph, numeral_glyphs, numeral_some, numeral_value}
@@ -82,6 +82,12 @@ row_is b upper size value =
           (all_weaker (is_glyph base) (λ c. not (is_underscore c)) (glyph_bare base) ds glyphs))
           ∙ numeral_value base upper value (radix_low b) (radix_high b);
     }
+
+-- in a style
+styled_row : (value : ℕ) (style : IntegerStyle) → IsRow (radix (base_of style.base)) value (grouped_numeral value style)
+styled_row value style =
+    let b = base_of style.base in
+    row_is b style.upper (group_size style.group style.least (length (numeral (radix b) style.upper value))) value
 
 -- ---- decimal digits
 
@@ -188,9 +194,9 @@ pub integer_written : (value : ℕ) (style : IntegerStyle) (suffix : Option Inte
     → IsWrittenInteger value style suffix (written_integer value style suffix)
 integer_written value style suffix h =
     let b = base_of style.base in
-    let row = grouped style.group (numeral (radix b) style.upper value) in
+    let row = grouped_numeral value style in
     let x = suffix_text suffix in
-    let strict = integer_strict b value row x h (row_is b style.upper style.group value) (suffix_is suffix) in
+    let strict = integer_strict b value row x h (styled_row value style) (suffix_is suffix) in
     record { text_is = refl; strict = strict; reads = integer_reads (prefix b ++ (row ++ x)) x value h strict }
 
 -- ---- in ASCII
@@ -211,25 +217,30 @@ written_low : (value : ℕ) (style : IntegerStyle) (suffix : Option IntegerType)
     → list_all is_low (written_integer value style suffix) ≡ true
 written_low value style suffix =
     let b = base_of style.base in
-    let row = grouped style.group (numeral (radix b) style.upper value) in
+    let row = grouped_numeral value style in
     let x = suffix_text suffix in
     low_join (prefix b) (row ++ x) (prefix_low b)
-    (low_join row x (row_is b style.upper style.group value).ascii (suffix_is suffix).ascii)
+    (low_join row x (styled_row value style).ascii (suffix_is suffix).ascii)
 
 -- ---- the bytes that are put
 
 pub written_bytes : (value : ℕ) (style : IntegerStyle) (suffix : Option IntegerType)
     (whole inner front digits x : List ℕ)
-    (base : ℕ) → whole ≡ inner ++ x → inner ≡ front ++ grouped style.group digits → front ≡ prefix (base_of style.base)
-    → digits ≡ numeral base style.upper value → base ≡ radix (base_of style.base) → x ≡ suffix_text suffix
+    (base size count : ℕ) → whole ≡ inner ++ x → inner ≡ front ++ grouped size digits
+    → front ≡ prefix (base_of style.base) → digits ≡ numeral base style.upper value → base ≡ radix (base_of style.base)
+    → size ≡ group_size style.group style.least count → length digits ≡ count → x ≡ suffix_text suffix
     → whole ≡ written_integer value style suffix
-written_bytes value style suffix whole inner front digits x base is_whole is_inner is_front are_digits is_base is_x =
-    is_whole ∙ ap (λ z. z ++ x) is_inner ∙ append_assoc front (grouped style.group digits) x
-    ∙ ap (λ z. z ++ (grouped style.group digits ++ x)) is_front
-    ∙ ap (λ z. prefix (base_of style.base) ++ (grouped style.group z ++ x))
-    (are_digits ∙ ap (λ z. numeral z style.upper value) is_base)
-    ∙ ap (λ z. prefix (base_of style.base) ++ (grouped style.group
-    (numeral (radix (base_of style.base)) style.upper value) ++ z)) is_x
+written_bytes value style suffix whole inner front digits x base size count is_whole is_inner is_front are_digits
+    is_base is_size is_count is_x =
+    let styled : List ℕ → List ℕ = λ ds. grouped (group_size style.group style.least (length ds)) ds in
+    let sized : size ≡ group_size style.group style.least (length digits) =
+    is_size ∙ ap (group_size style.group style.least) (sym is_count) in
+    let are_grouped : grouped size digits ≡ grouped_numeral value style = ap (λ n. grouped n digits) sized
+    ∙ ap styled (are_digits ∙ ap (λ z. numeral z style.upper value) is_base) in
+    is_whole ∙ ap (λ z. z ++ x) is_inner ∙ append_assoc front (grouped size digits) x
+    ∙ ap (λ z. z ++ (grouped size digits ++ x)) is_front
+    ∙ ap (λ z. prefix (base_of style.base) ++ (z ++ x)) are_grouped
+    ∙ ap (λ z. prefix (base_of style.base) ++ (grouped_numeral value style ++ z)) is_x
 
 whole_low : (value : ℕ) (style : IntegerStyle) (suffix : Option IntegerType) (whole : List ℕ)
     → whole ≡ written_integer value style suffix → list_all is_low whole ≡ true

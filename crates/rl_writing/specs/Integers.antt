@@ -42,6 +42,10 @@ numeral base upper n = digits_onto (suc n) base upper n []
 abbrev pub ends_group : ℕ → ℕ → Bool
 ends_group size left = nat_lt 0 size && nat_lt 0 left && left % size == 0
 
+-- the size of the groups that so many digits stand in: fewer than `least` are in no groups
+abbrev pub group_size : ℕ → ℕ → ℕ → ℕ
+group_size group least count = if nat_lt count least then 0 else group
+
 -- digits in groups of this size, counted from the last; of size 0, all of them in one
 abbrev pub grouped : ℕ → List ℕ → List ℕ
 grouped size [] = []

@@ -2,7 +2,7 @@
 
 ghost use Rattle.std.specs.Prelude.{◌≡◌, ◌≤◌, length, take};
 ghost use Rattle.std.specs.Str.{chars, IsUtf8};
-ghost use Rattle.rl_writing.specs.Integers.{suffix_text};
+ghost use Rattle.rl_writing.specs.Integers.{group_size, suffix_text};
 ghost use Rattle.rl_writing.specs.WrittenIntegers.{IsWrittenInteger};
 
 use crate::base::Base;
@@ -19,6 +19,8 @@ pub struct IntegerStyle {
     pub upper: bool,
     /// How many digits stand between two underscores, counted from the last digit: of 3 in `1_000`. Of 0 is no underscore.
     pub group: usize,
+    /// How many digits a number has at least that underscores stand in: of 5 and groups of 3 none in `1000`, and one in `10_000`.
+    pub least: usize,
 }
 
 /// The suffix that names the type, or none.
@@ -30,6 +32,13 @@ fn suffix_of(suffix: Option<IntegerType>) -> &'static str
         Some(name) => name.name(),
         None => "",
     }
+}
+
+/// The size of the groups that so many digits stand in; 0 of no group.
+fn group_size(style: IntegerStyle, count: usize) -> usize
+    ensures { result ≡ group_size style.group style.least count }
+{
+    if count < style.least { 0 } else { style.group }
 }
 
 /// Writes the integer literal of the value, in the style and with the suffix (the Rust Reference, section Integer literals). Returns
@@ -48,6 +57,6 @@ pub fn write_integer_into(
     let mut room = [0; 128];
     let count = put_reversed(value, style.base.radix(), style.upper, &mut room);
     let at = put_text(out, 0, style.base.prefix());
-    let at = put_grouped(out, at, &room[..count], style.group);
+    let at = put_grouped(out, at, &room[..count], group_size(style, count));
     put_text(out, at, suffix_of(suffix))
 }
