@@ -3,7 +3,6 @@
 -- lists of characters, what
 -- is written lists of bytes.
 use Rattle.std.specs.Prelude.{◌∷◌, ◌≡◌, ◌≢◌, ◌⊎◌, ◌↔◌, ℕ, ◌+◌, Bool, List, [], ◌++◌, IsTrue, codes, encode_utf8_all, Option, Some, None}
-use denote.Ref.{Bor}
 use Rattle.std.specs.List.{All}
 use Rattle.std.specs.Io.KnownBytes.{Appends, Keeps}
 use Rattle.rl_text.specs.Texts.{byte_len}
