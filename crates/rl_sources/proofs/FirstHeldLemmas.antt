@@ -2,7 +2,7 @@
 use Rattle.rl_text.proofs.Common.{Bool, Bor, List, None, Option, Some, [], ap, arith, common_steps, cond, drop, false, get_or, length, nat_le, refl, subst, sym, true, ℕ, ◌+◌, ◌<◌, ◌∷◌, ◌≡◌, ◌≤◌}
 use Rattle.std.proofs.lemmas.List.{drop_all}
 use Rattle.rl_files.specs.Globs.{borrowed_texts}
-use Rattle.std.specs.Prelude.{IfNone, IfSome, ⊤}
+use Rattle.std.specs.Prelude.{IfNone, IfSome}
 use Rattle.rl_text.specs.Texts.{byte_len}
 use Rattle.rl_sources.specs.declared.options.Matching.{Matching}
 use Rattle.rl_sources.specs.Held.{AreHeldIn, Holds, IsCutAt, IsFirstHeld, IsHeldAt, IsHeldIn, first_after, first_range}
