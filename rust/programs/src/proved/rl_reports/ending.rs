@@ -259,14 +259,26 @@ fn selecting<'a>(
     extensions: &'a [&'a str],
     excludes: &'a [&'a str],
 ) -> Command<'a> {
-    let mut selecting = command;
-    selecting.finds = finds;
-    selecting.selection = Selection {
-        all: command.selection.all,
-        extensions: usual_unless(extensions),
-        excludes,
-    };
-    selecting
+    Command {
+        wish: command.wish,
+        shown: command.shown,
+        searches: command.searches,
+        finds,
+        matching: command.matching,
+        spelling: command.spelling,
+        form: command.form,
+        places: command.places,
+        output: command.output,
+        rejects_strays: command.rejects_strays,
+        any_suffix: command.any_suffix,
+        selection: Selection {
+            all: command.selection.all,
+            extensions: usual_unless(extensions),
+            excludes,
+        },
+        files_from: command.files_from,
+        tells_errors: command.tells_errors,
+    }
 }
 
 /// Scans what the words ask for.
