@@ -1,9 +1,9 @@
 -- A pattern and what it is held against.
-use Rattle.std.proofs.Common.{◌≡◌, ℕ, zero, suc, ◌&&◌, ◌+◌, ◌<◌, ◌≤◌, ◌==◌, ◌||◌, Bool, true, false, List, [], ◌∷◌, ◌++◌, drop, length, refl, sym, ap, ◌∙◌, subst, arith, cond, drop-drop, All, append_assoc, length-append}
+use Rattle.std.proofs.Common.{◌≡◌, ℕ, zero, suc, ◌&&◌, ◌+◌, ◌≤◌, ◌==◌, ◌||◌, Bool, true, false, List, [], ◌∷◌, ◌++◌, drop, length, refl, sym, ap, ◌∙◌, subst, arith, drop-drop, All, append_assoc, length-append}
 use Rattle.std.proofs.lemmas.Bool.{and_parts, cond-false, cond-true, false≢true}
 use Rattle.std.proofs.lemmas.List.Elements.{All-nil, All-cons, All-head, All-tail, All-append}
 use Rattle.rl_files.specs.Globs.{all_match, any_end, first_and}
-use Rattle.rl_files.specs.GlobStops.{IsReached, StopsAfter, StopsAs, stop_size, says}
+use Rattle.rl_files.specs.GlobStops.{IsReached, StopsAfter, StopsAs}
 use Rattle.rl_files.specs.declared.glob.Stop.{Stop}
 use Rattle.rl_files.specs.declared.glob.Stop.TheVariants.{Decided, Star}
 

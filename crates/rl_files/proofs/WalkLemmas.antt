@@ -1,6 +1,6 @@
 -- Names in order, and steps of a walk.
 use Rattle.std.proofs.Common.{◌≡◌, inl, inr, ℕ, ◌+◌, ◌<◌, List, [], ◌∷◌, ◌++◌, length, refl, sym, ap, ◌∙◌, subst, arith, string_bytes}
-use Rattle.std.specs.Prelude.{String, Option, Some, None, Ok, Err, IfSome, Bool, true, ◌⊎◌}
+use Rattle.std.specs.Prelude.{String, Option, Some, None, Ok, Err, IfSome, ◌⊎◌}
 use Rattle.std.specs.List.Sorted.{IsSorted, IsPermutation}
 use Rattle.std.specs.Cmp.Lexicographic.{slice_cmp}
 use Rattle.std.specs.Ordering.{nat_cmp}

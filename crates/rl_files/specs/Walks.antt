@@ -1,5 +1,5 @@
 -- A walk of a tree: which files are visited, and in which order.
-use Rattle.std.specs.Prelude.{◌≡◌, ◌⊎◌, ℕ, ◌==◌, Bool, true, false, cond, not, ◌&&◌, ◌||◌, ◌+◌, ◌-◌, List, [], ◌∷◌, ◌++◌, map, take, drop, length, codes, string_bytes, Option, Some, None, IfSome}
+use Rattle.std.specs.Prelude.{◌≡◌, ◌⊎◌, ℕ, ◌==◌, Bool, cond, not, ◌&&◌, ◌||◌, ◌+◌, ◌-◌, List, [], ◌∷◌, ◌++◌, map, take, drop, length, codes, string_bytes, Option, Some, None, IfSome}
 use Rattle.std.specs.Fmt.{decimal}
 use Rattle.std.specs.List.{starts_with, ends_with, flat_map, list_any}
 use Rattle.std.specs.Str.{bytes_eq}

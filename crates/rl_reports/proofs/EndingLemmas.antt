@@ -1,11 +1,10 @@
 -- How a call ends.
-use Rattle.rl_text.proofs.Common.{Bool, Bor, List, None, Option, Some, [], ap, inl, inr, length, length-map, not, refl, string_bytes, subst, sym, ℕ, ◌==◌, ◌≡◌}
+use Rattle.rl_text.proofs.Common.{Bool, Bor, List, None, Option, Some, [], inl, inr, refl, subst, sym, ℕ, ◌≡◌}
 use Rattle.std.specs.Prelude.{IfSome, String}
-use Rattle.rl_files.specs.Trees.{string_texts}
 use Rattle.std.specs.Io.KnownBytes.{Keeps}
 use Rattle.std.proofs.KnownBytes.{Appends-nil}
 use Rattle.rl_files.specs.Trees.{World}
-use Rattle.rl_files.specs.Walks.{Spot, given_spots}
+use Rattle.rl_files.specs.Walks.{Spot}
 use Rattle.rl_files.proofs.WalkLemmas.{some_visits}
 use Rattle.rl_program.specs.declared.ending.Ending.{Ending}
 use Rattle.rl_program.specs.declared.ending.Ending.TheVariants.{Done, FoundBad, Reported, Closed, Usage, Failed}
@@ -18,9 +17,8 @@ use Rattle.rl_reports.specs.declared.ending.CallError.{CallError}
 use Rattle.rl_reports.specs.declared.ending.CallError.TheVariants.{NoArguments, Word, Walk, List as NoList, NoFile, Write}
 use Rattle.rl_reports.specs.Reports.{nothing}
 use Rattle.rl_reports.specs.Runs.{Streams, WritesFront}
-use Rattle.rl_files.specs.declared.walk.WalkError.{WalkError}
 use Rattle.rl_reports.specs.Words.{Wishes, wishes_of}
-use Rattle.rl_reports.specs.Endings.{AskForWishes, EndsText, EndsWish, EndsAsked, EndsAsScan, EndsFrom, EndsPaths, EndsScan, IsCommandFor, IsSelecting}
+use Rattle.rl_reports.specs.Endings.{AskForWishes, EndsText, EndsWish, EndsAsked, EndsAsScan, EndsFrom, EndsScan, IsCommandFor, IsSelecting}
 
 -- what wasn't written to is kept
 pub keeps_same : (a : Option (List ℕ)) → Keeps a a

@@ -1,6 +1,5 @@
 -- The paths that a file names. All are lists of bytes.
-use Rattle.std.specs.Prelude.{◌≡◌, ℕ, ◌==◌, Bool, cond, List, [], ◌∷◌, ◌++◌, length}
-use Prim.Native.Char.{code}
+use Rattle.std.specs.Prelude.{◌≡◌, ℕ, ◌==◌, cond, List, [], ◌∷◌, ◌++◌, length}
 use Rattle.std.specs.List.{flat_map, list_any, slice_split}
 use Rattle.std.specs.Str.{IsUtf8}
 use Rattle.std.specs.declared.result.Result.TheVariants.{Ok}

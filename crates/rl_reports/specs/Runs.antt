@@ -1,6 +1,5 @@
 -- What a run over a walk writes, and the status that it ends with.
-use Rattle.std.specs.Prelude.{◌≡◌, ◌⊎◌, ℕ, ◌==◌, true, Bool, cond, not, ◌&&◌, List, [], length, ◌++◌, Option, Some, None}
-use denote.Ref.{Bor}
+use Rattle.std.specs.Prelude.{◌≡◌, ◌⊎◌, ℕ, ◌==◌, true, Bool, cond, not, ◌&&◌, List, [], length, ◌++◌, Option}
 use Rattle.std.specs.Io.KnownBytes.{Appends, Keeps}
 use Rattle.rl_files.specs.Trees.{World}
 use Rattle.rl_files.specs.Walks.{Spot, Visited, Visits}
