@@ -2,7 +2,7 @@
 -- for one that says why it is bad; or a line for each character that turns or hides text. Texts and what is shown are
 -- lists of characters, what
 -- is written lists of bytes.
-use Rattle.std.specs.Prelude.{◌∷◌, ◌≡◌, ◌≢◌, ◌⊎◌, ◌↔◌, ℕ, ◌+◌, Bool, List, [], ◌++◌, IsTrue, codes, encode_utf8_all, Option, Some, None, cond}
+use Rattle.std.specs.Prelude.{◌∷◌, ◌≡◌, ◌≢◌, ◌⊎◌, ◌↔◌, ℕ, ◌+◌, Bool, List, [], ◌++◌, IsTrue, codes, encode_utf8_all, Option, Some, None}
 use Rattle.std.specs.List.{All}
 use Rattle.std.specs.Io.KnownBytes.{Appends, Keeps}
 use Rattle.rl_text.specs.Texts.{byte_len}
