@@ -1,6 +1,6 @@
 -- What is reported of what a walk visits. All are lists of bytes, but where `chars` makes characters of
 -- them.
-use Rattle.std.specs.Prelude.{◌≡◌, ◌⊎◌, ℕ, ◌==◌, Bool, true, false, cond, not, ◌||◌, List, [], ◌∷◌, ◌++◌, length, codes, string_bytes, encode_utf8_all, Option, Some, None}
+use Rattle.std.specs.Prelude.{◌≡◌, ◌⊎◌, ℕ, ◌==◌, Bool, true, false, cond, not, ◌&&◌, ◌||◌, List, [], ◌∷◌, ◌++◌, length, codes, string_bytes, encode_utf8_all, Option, Some, None}
 use denote.Ref.{Bor}
 use Rattle.std.specs.declared.result.Result.TheVariants.{Ok, Err}
 use Rattle.std.specs.Fmt.{decimal}
@@ -67,6 +67,15 @@ IsPathIn form path None = is_input path ≡ true
 IsPathIn form path (Some shown) =
     (is_input path ≡ false) × (chars shown.now ≡ cond (is_json form) (chars path) (visible (chars path)))
 
+-- lines are printed, and not how many there are
+abbrev pub prints_lines : Output → Bool
+prints_lines output.Lines = true
+prints_lines _ = false
+
+-- the line of the source stands below each
+abbrev pub has_context : Command → Bool
+has_context command = command.context && prints_lines command.output
+
 -- How a file of this path is scanned.
 pub record IsOptionsFor (command : Command) (path : List ℕ) (options : Options) : Type 0 where
   pub shown : options.shown ≡ command.shown
@@ -74,7 +83,7 @@ pub record IsOptionsFor (command : Command) (path : List ℕ) (options : Options
   pub matching : options.matching ≡ command.matching
   pub spelling : options.spelling ≡ command.spelling
   pub form : options.form ≡ command.form
-  pub context : options.context ≡ command.context
+  pub context : options.context ≡ has_context command
   pub by_line : options.by_line ≡ is_by_line command.places path
   pub rejects_strays : options.rejects_strays ≡ command.rejects_strays
   pub any_suffix : options.any_suffix ≡ command.any_suffix

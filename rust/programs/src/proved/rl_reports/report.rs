@@ -73,6 +73,11 @@ fn path_in<'a>(form: Form, path: &'a str, shown: Option<&'a str>) -> Option<&'a 
     shown
 }
 
+/// Whether the line of the source stands below each line: where lines are printed, and not how many there are.
+fn has_context(command: Command<'_>) -> bool {
+    command.context && matches!(command.output, Output::Lines)
+}
+
 /// How a file is scanned, whose path is printed so.
 fn options_for<'a>(command: Command<'a>, path: &'a str, shown: Option<&'a str>) -> Options<'a> {
     Options {
@@ -81,7 +86,7 @@ fn options_for<'a>(command: Command<'a>, path: &'a str, shown: Option<&'a str>) 
         matching: command.matching,
         spelling: command.spelling,
         form: command.form,
-        context: command.context,
+        context: has_context(command),
         by_line: is_by_line(command.places, path),
         rejects_strays: command.rejects_strays,
         any_suffix: command.any_suffix,
