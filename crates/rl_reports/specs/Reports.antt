@@ -73,8 +73,8 @@ prints_lines output.Lines = true
 prints_lines _ = false
 
 -- the line of the source stands below each
-abbrev pub has_context : Command → Bool
-has_context command = command.context && prints_lines command.output
+abbrev pub shows_context : Command → Bool
+shows_context command = command.context && prints_lines command.output
 
 -- How a file of this path is scanned.
 pub record IsOptionsFor (command : Command) (path : List ℕ) (options : Options) : Type 0 where
@@ -83,7 +83,7 @@ pub record IsOptionsFor (command : Command) (path : List ℕ) (options : Options
   pub matching : options.matching ≡ command.matching
   pub spelling : options.spelling ≡ command.spelling
   pub form : options.form ≡ command.form
-  pub context : options.context ≡ has_context command
+  pub context : options.context ≡ shows_context command
   pub by_line : options.by_line ≡ is_by_line command.places path
   pub rejects_strays : options.rejects_strays ≡ command.rejects_strays
   pub any_suffix : options.any_suffix ≡ command.any_suffix

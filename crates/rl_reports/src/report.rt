@@ -7,7 +7,7 @@ ghost use Rattle.rl_files.specs.Walks.{FileAt, visited};
 ghost use Rattle.rl_files.specs.declared.tree.PathError.{PathError};
 ghost use Rattle.rl_output.specs.Fronts.{line_front};
 ghost use Rattle.rl_sources.specs.Scans.{error_end};
-ghost use Rattle.rl_reports.specs.Reports.{is_input as input, is_by_line as by_line, is_bad as bad, is_alarm as alarm, has_context as context, IsShownPath, IsPathIn, IsOptionsFor, IsScannedAs, error_form, error_path, error_line_place, worded_place as as_words, error_text, line_count, count_line, path_line, printed_of, in_report, IsTextReport, IsErrorReport, IsNotUtf8, IsReport};
+ghost use Rattle.rl_reports.specs.Reports.{is_input as input, is_by_line as by_line, is_bad as bad, is_alarm as alarm, shows_context as context, IsShownPath, IsPathIn, IsOptionsFor, IsScannedAs, error_form, error_path, error_line_place, worded_place as as_words, error_text, line_count, count_line, path_line, printed_of, in_report, IsTextReport, IsErrorReport, IsNotUtf8, IsReport};
 
 use crate::command::{Command, Output, PlaceForm};
 use rl_files::{PathError, Tree, Visit, push_visible};
@@ -99,7 +99,7 @@ fn path_in<'a>(form: Form, path: &'a str, shown: Option<&'a str>) -> Option<&'a 
 }
 
 /// Whether the line of the source stands below each line: where lines are printed, and not how many there are.
-fn has_context(command: Command<'_>) -> bool
+fn shows_context(command: Command<'_>) -> bool
     ensures { result ≡ context command.entry }
 {
     command.context && matches!(command.output, Output::Lines)
@@ -116,7 +116,7 @@ fn options_for<'a>(command: Command<'a>, path: &'a str, shown: Option<&'a str>) 
         matching: command.matching,
         spelling: command.spelling,
         form: command.form,
-        context: has_context(command),
+        context: shows_context(command),
         by_line: is_by_line(command.places, path),
         rejects_strays: command.rejects_strays,
         any_suffix: command.any_suffix,

@@ -74,7 +74,7 @@ fn path_in<'a>(form: Form, path: &'a str, shown: Option<&'a str>) -> Option<&'a 
 }
 
 /// Whether the line of the source stands below each line: where lines are printed, and not how many there are.
-fn has_context(command: Command<'_>) -> bool {
+fn shows_context(command: Command<'_>) -> bool {
     command.context && matches!(command.output, Output::Lines)
 }
 
@@ -86,7 +86,7 @@ fn options_for<'a>(command: Command<'a>, path: &'a str, shown: Option<&'a str>) 
         matching: command.matching,
         spelling: command.spelling,
         form: command.form,
-        context: has_context(command),
+        context: shows_context(command),
         by_line: is_by_line(command.places, path),
         rejects_strays: command.rejects_strays,
         any_suffix: command.any_suffix,
