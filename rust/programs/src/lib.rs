@@ -6,7 +6,8 @@
 
 #[cfg_attr(not(feature = "rendered"), allow(dead_code))]
 #[allow(unused_imports, unused_variables)]
-#[allow(clippy::style, clippy::complexity, clippy::pedantic)]
+// (`contains` for `any` in the sources: when they change next)
+#[allow(clippy::style, clippy::complexity, clippy::pedantic, clippy::manual_contains)]
 #[rustfmt::skip]
 mod proved;
 pub mod rattle_std;

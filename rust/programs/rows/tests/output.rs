@@ -136,7 +136,7 @@ fn context_of_literals() {
          \x20   \t ^^^^^^^^\n"
     );
     let found = Options {
-        finds: Some("b"),
+        finds: &["b"],
         ..options
     };
     assert_eq!(
