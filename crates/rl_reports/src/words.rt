@@ -9,7 +9,10 @@ ghost use Rattle.rl_reports.specs.declared.words.WordError.TheVariants.{Memory};
 ghost use Rattle.rl_reports.specs.Words.{IsKindWord, AreKindWords, IsUnknownKind, is_path_word, taken_by as flag_before, next_after as follows, NamesLetter, NamesUnknown, AreLetters, AreRejectedLetters, first_wishes, wishes_of, wishes_in, MayStand, with_kinds, with_path, with_text, with_pattern, with_list, IsWithoutDot, IsAdded, IsTaken, IsStep, Asks, IsRejectedFlag, IsRejectedText, IsRejectedJoined, IsRejectedWord, IsMissing, AreRejected};
 
 use crate::command::{Command, Output, PlaceForm, Wish};
-use crate::flags::{Flag, Next, Operand, When, add_flag, after_front, edition_of, flag_of, form_in, form_when, format_of, joined_of, letter_of, next_after, recolored, taken_by, when_of};
+use crate::flags::{
+    Flag, Next, Operand, When, add_flag, after_front, edition_of, flag_of, form_in, form_when,
+    format_of, joined_of, letter_of, next_after, recolored, taken_by, when_of,
+};
 use crate::meant::{meant_by, option_part};
 use crate::report::visible_text;
 use rl_files::Selection;
@@ -114,9 +117,7 @@ impl<A: Allocator> fmt::Display for WordError<A> {
                 write!(f, "--exclude: which pattern? as in --exclude tests/ui")
             }
             WordError::NoList => write!(f, "--files-from: which file? as in --files-from list"),
-            WordError::NoEdition => {
-                write!(f, "--edition: which? one of 2015, 2018, 2021, 2024")
-            }
+            WordError::NoEdition => { write!(f, "--edition: which? one of 2015, 2018, 2021, 2024") }
             WordError::UnknownEdition(word) => write!(
                 f,
                 "unknown edition '{word}': one of 2015, 2018, 2021, 2024"

@@ -3,7 +3,10 @@
 
 use crate::rattle_std::prelude::{String, Vec};
 use crate::rl_reports::command::{Command, Output, PlaceForm, Wish};
-use crate::rl_reports::flags::{Flag, Next, Operand, When, add_flag, after_front, edition_of, flag_of, form_in, form_when, format_of, joined_of, letter_of, next_after, recolored, taken_by, when_of};
+use crate::rl_reports::flags::{
+    Flag, Next, Operand, When, add_flag, after_front, edition_of, flag_of, form_in, form_when,
+    format_of, joined_of, letter_of, next_after, recolored, taken_by, when_of,
+};
 use crate::rl_reports::meant::{meant_by, option_part};
 use crate::rl_reports::report::visible_text;
 use crate::rl_files::Selection;
@@ -97,9 +100,7 @@ impl<A: Allocator> fmt::Display for WordError<A> {
                 write!(f, "--exclude: which pattern? as in --exclude tests/ui")
             }
             WordError::NoList => write!(f, "--files-from: which file? as in --files-from list"),
-            WordError::NoEdition => {
-                write!(f, "--edition: which? one of 2015, 2018, 2021, 2024")
-            }
+            WordError::NoEdition => { write!(f, "--edition: which? one of 2015, 2018, 2021, 2024") }
             WordError::UnknownEdition(word) => write!(
                 f,
                 "unknown edition '{word}': one of 2015, 2018, 2021, 2024"
