@@ -3,12 +3,13 @@
 #     rl_scan --json --bad src | jq -s -f tools/sarif.jq
 #
 # Columns are counted in characters. Standard input has no path: its artifact is `-`.
-def uri: sub("^(\\./)+"; "") | split("/") | map(@uri) | join("/");
+def uri: sub("^(\\./+)+"; "") | split("/") | map(@uri) | join("/");
 def rule: .id // "hidden-character";
 def message:
   if has("hidden") then .hidden
   elif has("piece") and .piece != "" then "\(.error): \(.piece)"
-  else .error end;
+  elif has("error") then .error
+  else error("an object of neither --bad nor --hidden") end;
 def result:
   {
     ruleId: rule,
