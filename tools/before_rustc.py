@@ -5,7 +5,7 @@
 
 Texts before (words, numbers, other literals, lifetimes, marks, hashes, white space, comments) stand in front of strings and
 characters, each in a macro's call of its own, so that rustc judges the tokens alone; and the least number of a signed type stands
-behind minuses, parentheses and comments, each in a statement. What rustc reports is taken out, and the rest is read again, until
+after minuses, parentheses and comments, each in a statement. What rustc reports is taken out, and the rest is read again, until
 nothing is reported. The last lines are what rl_scan reports and rustc takes (`false:`), what rustc rejects and rl_scan doesn't report
 (`missed:`), and the numbers. The status is 1 where one is false.
 """
@@ -25,10 +25,10 @@ EDITIONS = ['2015', '2018', '2021', '2024']
 HEADS = ['', 'a', 'f', 'c', 'r', 'br', 'b', '_', '1', '1u8', '0x1f', '1.5', '1.5f', 'x.1f', 'x.f', "'a ", 'r#a', 'r#b ', '"a"', '"a"f',
          "'a'", "'a'f", 'r#"a"#', 'r#"a"#f', 'r"a"', "b'a'", "b'a'f", 'é', 'aé', 'éa', 'a-', '!', '=', 'a1', '1a', '1_a', '1._a', '1e5',
          '1.e', '$', 'k ', 'f ', '/**/', 'f/**/', '//\n', 'f//\n', '1e5f', 'a\u200e', '\u200ea', '\u200e1', 'A9_', 'f(', 'f\t', '1.0e+5f',
-         '"f', '0b1', '0o7f', 'true', 'self', 'r#"a"', 'x#', 'r#a#', "'a#"]
+         '0b1', '0o7f', 'true', 'self', 'x#', 'r#a#', "'a#"]
 HASHES = ['', '#', '##', '###']
 LITERALS = ['"x"', "'x'", '"x"#', '"x"f']
-# What rl_scan cuts otherwise than rustc: these begin a raw string, or a literal with a prefix.
+# With a quote or hashes after them these begin a literal of their own.
 JOINED = ('r', 'br', 'b', 'c')
 NEGATED = ['{}', '-{}', '- {}', '-({})', '-( ( {} ) )', '-/* c */{}', '- // c\n{}', '-\n{}', '-\n/* c */\n{}', '!{}', '({})', '[{}][0]',
            '1 + {}', '1 +\n{}', '{{ {} }}', '-{{ {} }}', 'f({})', 'f(\n{}\n)', 'f(-1i8, {})', '1i8 // c\n + {}', '1i8 /* - */ * {}',
@@ -43,9 +43,8 @@ def cases(edition):
             for literal in LITERALS:
                 if head.endswith('"f') and not hashes or head in JOINED and (literal[0] == '"' or head != 'c'):
                     continue
-                if head == '"f' or head == 'r#"a"':
-                    continue
-                yield f'm!{{ {head}{hashes}{literal} \n}}\n' if '(' not in head else f'm!{{ {head}{hashes}{literal} \n)}}\n'
+                closer = ')' if head.endswith('(') else ''
+                yield f'm!{{ {head}{hashes}{literal} \n{closer}}}\n'
     if edition == '2021':
         for form in NEGATED:
             for number in LEAST:

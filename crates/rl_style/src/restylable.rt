@@ -1,8 +1,8 @@
 //! The literals of a source that may be written anew.
 
-ghost use Rattle.std.specs.Prelude.{◌≡◌, ◌+◌, [], length, IfSome, IfNone};
+ghost use Rattle.std.specs.Prelude.{◌≡◌, ◌⊎◌, ◌+◌, ℕ, List, [], length, IfSome, IfNone};
 ghost use Rattle.std.specs.Str.{chars};
-ghost use Rattle.rl_lexer.specs.Sources.{IsCutUpTo, SourceErrorAt};
+ghost use Rattle.rl_lexer.specs.Sources.{IsCutUpTo, SourceBefore, SourceErrorAt, SourceKind};
 ghost use Rattle.rl_style.specs.Restylable.{GivesLiteral, GivesNone, dots_after, is_field};
 ghost use Rattle.rl_style.specs.declared.restylable.Dots.TheVariants as dots;
 
@@ -96,10 +96,13 @@ impl<'t> Restylables<'t> {
         None
     }
 
-    /// The error that stands at what is left: a quote or a comment that isn't closed.
+    /// The error that stands at what is left: a quote or a comment that isn't closed. `None` at the end of the source, and where a token
+    /// begins what is left.
     pub fn error(&self) -> Option<LexError>
         ensures error { IfSome result (λ e. SourceErrorAt e.kind (chars self.now.tokens.rest)) }
         ensures place { IfSome result (λ e. e.at + length self.now.tokens.rest ≡ length self.now.tokens.text) }
+        ensures none { IfNone result ((self.now.tokens.rest ≡ [])
+            ⊎ ((kind : SourceKind) × (after : List ℕ) × SourceBefore (chars self.now.tokens.rest) kind after)) }
     {
         self.tokens.error()
     }

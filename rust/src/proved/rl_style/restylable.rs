@@ -70,7 +70,8 @@ impl<'t> Restylables<'t> {
         None
     }
 
-    /// The error that stands at what is left: a quote or a comment that isn't closed.
+    /// The error that stands at what is left: a quote or a comment that isn't closed. `None` at the end of the source, and where a token
+    /// begins what is left.
     pub fn error(&self) -> Option<LexError> {
         self.tokens.error()
     }
