@@ -1,12 +1,12 @@
 -- A literal that Rust has no type for has none.
-use Rattle.rl_text.proofs.Common.{◌≡◌, ◌≢◌, ◌⊎◌, ◌+◌, ◌*◌, ◌<◌, ◌==◌, ℕ, Bool, true, false, List, [], ◌∷◌, Option, Some, None, refl, sym, ap, ◌∙◌, inl, inr, arith, both_ways, if◌then◌else◌}
+use Rattle.rl_text.proofs.Common.{◌≡◌, ◌≢◌, ◌⊎◌, ◌+◌, ◌*◌, ◌<◌, ◌==◌, ℕ, Bool, true, false, List, [], ◌∷◌, Option, Some, None, refl, sym, ap, ◌∙◌, inl, inr, arith, both_ways, subst, if◌then◌else◌}
 use Rattle.rl_text.specs.Texts.{first_passes}
 use Rattle.rl_reading.proofs.Names.{Kind, Int, Float}
 use Rattle.rl_forms.specs.declared.kind.Kind.TheVariants.{Bool as BoolKind}
-use Rattle.rl_forms.specs.Numbers.{begins_base}
 use Rattle.rl_reading.specs.Founds.{is_quoted}
-use Rattle.rl_types.specs.NumberTypes.{greatest_of, number_name}
-use Rattle.rl_types.specs.TypeErrors.{HasTypeError, HasType, IsOfType, NamesType}
+use Rattle.rl_types.specs.FloatRange.{Reaches, numeral_of}
+use Rattle.rl_types.specs.NumberTypes.{greatest_of, infinite_from, number_name}
+use Rattle.rl_types.specs.TypeErrors.{HasTypeError, HasType, IsFinite, IsInfinite, IsInRange, IsOfType, IsPastRange, IsTypeOfFloat, NamesNone, NamesType}
 use Rattle.rl_types.specs.declared.type_errors.TypeError.{TypeError}
 use Rattle.rl_types.specs.declared.type_errors.TypeError.TheVariants.{QuotedSuffix, UnknownSuffix, FloatSuffix, BasedFloat, OutOfRange}
 use Rattle.rl_types.specs.declared.number_types.NumberType.{NumberType}
@@ -58,22 +58,32 @@ some_name s t a none =
     let e : Some t ≡ None = sym (name_tells t) ∙ ap (λ z. named_by (number_of z)) (sym a ∙ none) in
     absurd (cc)
 
--- what begins as a float's suffix names no type of integers
-float_name : (t : NumberType) (n : Bool) → first_passes (λ b. b == 102) (number_name t) ≡ true → greatest_of t n ≡ None
-float_name F32 n h = refl
-float_name F64 n h = refl
-float_name U8 n h = absurd (both_ways false refl h)
-float_name U16 n h = absurd (both_ways false refl h)
-float_name U32 n h = absurd (both_ways false refl h)
-float_name U64 n h = absurd (both_ways false refl h)
-float_name U128 n h = absurd (both_ways false refl h)
-float_name Usize n h = absurd (both_ways false refl h)
-float_name I8 n h = absurd (both_ways false refl h)
-float_name I16 n h = absurd (both_ways false refl h)
-float_name I32 n h = absurd (both_ways false refl h)
-float_name I64 n h = absurd (both_ways false refl h)
-float_name I128 n h = absurd (both_ways false refl h)
-float_name Isize n h = absurd (both_ways false refl h)
+-- no type is one of integers and of floats
+none_some : (o : Option ℕ) (g : ℕ) → o ≡ None → o ≡ Some g → ⊥
+none_some o g a b = let e : None ≡ Some g = sym a ∙ b in absurd (cc)
+
+one_kind : (t : NumberType) (n : Bool) (g l : ℕ) → greatest_of t n ≡ Some g → infinite_from t ≡ Some l → ⊥
+one_kind U8 n g l some infinite = none_some None l refl infinite
+one_kind U16 n g l some infinite = none_some None l refl infinite
+one_kind U32 n g l some infinite = none_some None l refl infinite
+one_kind U64 n g l some infinite = none_some None l refl infinite
+one_kind U128 n g l some infinite = none_some None l refl infinite
+one_kind Usize n g l some infinite = none_some None l refl infinite
+one_kind I8 n g l some infinite = none_some None l refl infinite
+one_kind I16 n g l some infinite = none_some None l refl infinite
+one_kind I32 n g l some infinite = none_some None l refl infinite
+one_kind I64 n g l some infinite = none_some None l refl infinite
+one_kind I128 n g l some infinite = none_some None l refl infinite
+one_kind Isize n g l some infinite = none_some None l refl infinite
+one_kind F32 n g l some infinite = none_some None g refl some
+one_kind F64 n g l some infinite = none_some None g refl some
+
+integers_only : (t : NumberType) (n : Bool) (l : ℕ) → greatest_of t n ≢ None → infinite_from t ≡ Some l → ⊥
+integers_only t n l some infinite = go (greatest_of t n) refl
+  where
+    go : (o : Option ℕ) → greatest_of t n ≡ o → ⊥
+    go None h = some h
+    go (Some g) h = one_kind t n g l h infinite
 
 -- ---- kinds
 
@@ -91,62 +101,77 @@ float_not_bool k a b = let e : Float ≡ BoolKind = sym a ∙ b in absurd (cc)
 int_not_float : (k : Kind) → k ≡ Int → k ≡ Float → ⊥
 int_not_float k a b = let e : Int ≡ Float = sym a ∙ b in absurd (cc)
 
-none_some : (o : Option ℕ) (g : ℕ) → o ≡ None → o ≡ Some g → ⊥
-none_some o g a b = let e : None ≡ Some g = sym a ∙ b in absurd (cc)
-
 same_greatest : (o : Option ℕ) (g h : ℕ) → o ≡ Some g → o ≡ Some h → g ≡ h
 same_greatest o g h a b = let e : Some g ≡ Some h = sym a ∙ b in (cc)
 
-number_kind : (t : NumberType) (k : Kind) (text : List ℕ) (m : ℕ) (n : Bool) → IsOfType t k text m n → (k ≡ Int)
+number_kind : (t : NumberType) (k : Kind) (text s : List ℕ) (m : ℕ) (n : Bool) → IsOfType t k text m n s → (k ≡ Int)
     ⊎ (k ≡ Float)
-number_kind t k text m n (inl o) = inl o.0
-number_kind t k text m n (inr (inl o)) = inl o.0
-number_kind t k text m n (inr (inr o)) = inr o.0
+number_kind t k text s m n (inl o) = inl o.0
+number_kind t k text s m n (inr o) = inr o.0
 
 -- ---- both
 
-float_is_float : (t u : NumberType) (k : Kind) (text : List ℕ) (m : ℕ) (n : Bool) → t ≡ u → k ≡ Float
-    → greatest_of t n ≢ None → IsOfType u k text m n → ⊥
-float_is_float t u k text m n same f some (inl o) = int_not_float k o.0 f
-float_is_float t u k text m n same f some (inr (inl o)) = int_not_float k o.0 f
-float_is_float t u k text m n same f some (inr (inr o)) = some (ap (λ z. greatest_of z n) same ∙ o.1)
+no_name : (t : NumberType) → NamesType [] t → ⊥
+no_name t h = some_name [] t h refl
 
-based_is_none : (t : NumberType) (k : Kind) (text s : List ℕ) (m : ℕ) (n : Bool) → NamesType s t → k ≡ Int
-    → begins_base text ≡ true → first_passes (λ b. b == 102) s ≡ true → IsOfType t k text m n → ⊥
-based_is_none t k text s m n named i based float (inl (e, (g, is, le))) =
-    none_some (greatest_of t n) g (float_name t n (sym (ap (first_passes (λ b. b == 102)) named) ∙ float)) is
-based_is_none t k text s m n named i based float (inr (inl o)) = both_ways (begins_base text) o.2 based
-based_is_none t k text s m n named i based float (inr (inr o)) = int_not_float k i o.0
+one_float : (s : List ℕ) (t u : NumberType) → IsTypeOfFloat s t → IsTypeOfFloat s u → t ≡ u
+one_float s t u (inl a) (inl b) = one_type s t u a b
+one_float s t u (inl a) (inr b) = absurd (some_name s t a b.0)
+one_float s t u (inr a) (inl b) = absurd (some_name s u b a.0)
+one_float s t u (inr a) (inr b) = a.1 ∙ sym b.1
 
-range_is_out : (t u : NumberType) (k : Kind) (text : List ℕ) (m g : ℕ) (n : Bool) → t ≡ u → k ≡ Int
-    → greatest_of t n ≡ Some g → g < m → IsOfType u k text m n → ⊥
-range_is_out t u k text m g n same i is out (inl (e, (h, its, le))) =
-    let one = same_greatest (greatest_of u n) g h (sym (ap (λ z. greatest_of z n) same) ∙ is) its in
+not_named : (s : List ℕ) (t : NumberType) → NamesNone s → s ≢ [] → IsTypeOfFloat s t → ⊥
+not_named s t none some (inl a) = none t a
+not_named s t none some (inr a) = some a.0
+
+no_integer : (s : List ℕ) (t u : NumberType) (n : Bool) (numeral : List ℕ) → NamesType s t → greatest_of t n ≢ None
+    → IsTypeOfFloat s u → IsFinite u numeral → ⊥
+no_integer s t u n numeral named some typed (l, infinite, finite) =
+    integers_only t n l some (ap infinite_from (one_float s t u (inl named) typed) ∙ infinite)
+
+range_is_out : (t : NumberType) (m : ℕ) (n : Bool) → IsPastRange t m n → IsInRange t m n → ⊥
+range_is_out t m n (inl (g, is, out)) (inl (h, its, le)) =
+    let one = same_greatest (greatest_of t n) g h is its in
     absurd (omega (arith, one, out, le))
-range_is_out t u k text m g n same i is out (inr (inl o)) =
-    none_some (greatest_of u n) g o.1 (sym (ap (λ z. greatest_of z n) same) ∙ is)
-range_is_out t u k text m g n same i is out (inr (inr o)) = int_not_float k i o.0
+range_is_out t m n (inl (g, is, out)) (inr (l, infinite, less)) = one_kind t n g l is infinite
+range_is_out t m n (inr (l, infinite, out)) (inl (g, is, le)) = one_kind t n g l is infinite
+range_is_out t m n (inr (l, infinite, out)) (inr (k, its, less)) =
+    let one = same_greatest (infinite_from t) l k infinite its in
+    absurd (omega (arith, one, out, less))
+
+float_is_out : (t u : NumberType) (numeral : List ℕ) → t ≡ u → IsInfinite t numeral → IsFinite u numeral → ⊥
+float_is_out t u numeral same (l, infinite, reaches) (k, its, finite) =
+    let one : l ≡ k = same_greatest (infinite_from u) l k (sym (ap infinite_from same) ∙ infinite) its in
+    finite (subst (λ z. Reaches z numeral) one reaches)
 
 pub no_both : (error : TypeError) (k : Kind) (text : List ℕ) (m : ℕ) (n : Bool) (s : List ℕ)
     → HasTypeError error k text m n s
     → HasType k text m n s → ⊥
-no_both QuotedSuffix k text m n s (q, some) (inl none) = some none
+no_both QuotedSuffix k text m n s (q, some) (inl none) = some none.1
 no_both QuotedSuffix k text m n s (q, some) (inr (inl b)) = no_quoted k q (inl b)
-no_both QuotedSuffix k text m n s (q, some) (inr (inr (t, named, o))) = no_quoted k q (inr (number_kind t k text m n o))
-no_both UnknownSuffix k text m n s (number, some, unknown) (inl none) = some none
+no_both QuotedSuffix k text m n s (q, some) (inr (inr (t, o))) = no_quoted k q (inr (number_kind t k text s m n o))
+no_both UnknownSuffix k text m n s (number, some, unknown) (inl none) = some none.1
 no_both UnknownSuffix k text m n s (inl i, some, unknown) (inr (inl b)) = int_not_bool k i.0 b
 no_both UnknownSuffix k text m n s (inr f, some, unknown) (inr (inl b)) = float_not_bool k f b
-no_both UnknownSuffix k text m n s (number, some, unknown) (inr (inr (t, named, o))) = unknown t named
-no_both FloatSuffix k text m n s (f, (t, named, some)) (inl none) = some_name s t named none
+no_both UnknownSuffix k text m n s (number, some, unknown) (inr (inr (t, inl o))) = unknown t o.1
+no_both UnknownSuffix k text m n s (number, some, unknown) (inr (inr (t, inr o))) = not_named s t unknown some o.1
+no_both FloatSuffix k text m n s (f, (t, named, some)) (inl none) = none.0 f
 no_both FloatSuffix k text m n s (f, (t, named, some)) (inr (inl b)) = float_not_bool k f b
-no_both FloatSuffix k text m n s (f, (t, named, some)) (inr (inr (u, names, o))) =
-    float_is_float t u k text m n (one_type s t u named names) f some o
+no_both FloatSuffix k text m n s (f, (t, named, some)) (inr (inr (u, inl o))) = int_not_float k o.0 f
+no_both FloatSuffix k text m n s (f, (t, named, some)) (inr (inr (u, inr o))) =
+    no_integer s t u n (numeral_of text s) named some o.1 o.2
 no_both BasedFloat k text m n s (i, (based, float)) (inl none) =
-    both_ways false refl (sym (ap (first_passes (λ b. b == 102)) none) ∙ float)
+    both_ways false refl (sym (ap (first_passes (λ b. b == 102)) none.1) ∙ float)
 no_both BasedFloat k text m n s (i, (based, float)) (inr (inl b)) = int_not_bool k i b
-no_both BasedFloat k text m n s (i, (based, float)) (inr (inr (t, named, o))) =
-    based_is_none t k text s m n named i based float o
-no_both OutOfRange k text m n s (i, (t, g, named, is, out)) (inl none) = some_name s t named none
-no_both OutOfRange k text m n s (i, (t, g, named, is, out)) (inr (inl b)) = int_not_bool k i b
-no_both OutOfRange k text m n s (i, (t, g, named, is, out)) (inr (inr (u, names, o))) =
-    range_is_out t u k text m g n (one_type s t u named names) i is out o
+no_both BasedFloat k text m n s (i, (based, float)) (inr (inr (t, inl o))) = o.2 (based, float)
+no_both BasedFloat k text m n s (i, (based, float)) (inr (inr (t, inr o))) = int_not_float k i o.0
+no_both OutOfRange k text m n s (inl (i, (t, named, out))) (inl none) = some_name s t named none.1
+no_both OutOfRange k text m n s (inl (i, (t, named, out))) (inr (inl b)) = int_not_bool k i b
+no_both OutOfRange k text m n s (inl (i, (t, named, out))) (inr (inr (u, inl o))) =
+    range_is_out t m n out (subst (λ z. IsInRange z m n) (one_type s u t o.1 named) o.3)
+no_both OutOfRange k text m n s (inl (i, (t, named, out))) (inr (inr (u, inr o))) = int_not_float k i o.0
+no_both OutOfRange k text m n s (inr (f, (t, typed, out))) (inl none) = none.0 f
+no_both OutOfRange k text m n s (inr (f, (t, typed, out))) (inr (inl b)) = float_not_bool k f b
+no_both OutOfRange k text m n s (inr (f, (t, typed, out))) (inr (inr (u, inl o))) = int_not_float k o.0 f
+no_both OutOfRange k text m n s (inr (f, (t, typed, out))) (inr (inr (u, inr o))) =
+    float_is_out t u (numeral_of text s) (one_float s t u typed o.1) out o.2

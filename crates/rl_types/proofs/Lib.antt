@@ -1,2 +1,3 @@
 pub mod TypeLemmas
 pub mod Exclusions
+pub mod FloatLemmas

@@ -26,7 +26,7 @@ unsigned_greatest bits = Some (2 ^ bits - 1)
 abbrev pub signed_greatest : ℕ → Bool → Option ℕ
 signed_greatest bits negated = Some (if negated then 2 ^ (bits - 1) else 2 ^ (bits - 1) - 1)
 
--- the greatest integer that a literal of the type may be; with a minus before it, where that is said. Floats have no such type.
+-- the greatest integer that a literal of the type may be; with a minus before it, where that is said. Floats have none.
 abbrev pub greatest_of : NumberType → Bool → Option ℕ
 greatest_of U8 negated = unsigned_greatest 8
 greatest_of U16 negated = unsigned_greatest 16
@@ -42,3 +42,9 @@ greatest_of I128 negated = signed_greatest 128 negated
 greatest_of Isize negated = signed_greatest 64 negated
 greatest_of F32 negated = None
 greatest_of F64 negated = None
+
+-- The least number that rounds to infinity in a type of floats: half a step past its greatest one.
+abbrev pub infinite_from : NumberType → Option ℕ
+infinite_from F32 = Some (2 ^ 128 - 2 ^ 103)
+infinite_from F64 = Some (2 ^ 1024 - 2 ^ 970)
+infinite_from _ = None

@@ -2,6 +2,7 @@
 #![tactic(auto)]
 
 mod before;
+mod float_range;
 pub mod laws;
 mod number_types;
 mod type_errors;

@@ -1,6 +1,6 @@
 //! What Rust's types don't allow of a literal.
 
-ghost use Rattle.std.specs.Prelude.{◌≡◌, ◌≢◌, ◌<◌, ◌≤◌, ◌==◌, ℕ, [], Some, IfNone, IfSome};
+ghost use Rattle.std.specs.Prelude.{◌≡◌, ◌≢◌, ◌==◌, ◌++◌, [], None, IfNone, IfSome};
 ghost use Rattle.std.specs.Str.{chars};
 ghost use Rattle.rl_text.specs.Texts.{code, first_passes};
 ghost use Rattle.rl_forms.specs.Numbers.{begins_base as is_of_base};
@@ -8,12 +8,13 @@ ghost use Rattle.rl_forms.specs.declared.kind.Kind.TheVariants.{Int, Float};
 ghost use Rattle.rl_reading.specs.Founds.{IsFound, suffix_in};
 ghost use Rattle.rl_types.specs.NumberTypes.{greatest_of};
 ghost use Rattle.rl_types.specs.declared.type_errors.TypeError.TheVariants.{OutOfRange};
-ghost use Rattle.rl_types.specs.TypeErrors.{HasTypeError, HasType};
+ghost use Rattle.rl_types.specs.TypeErrors.{HasTypeError, HasType, IsInRange, IsPastRange, IsTypeOfFloat, NamesNone};
 
+use crate::float_range::is_infinite;
 use crate::number_types::{NumberType, greatest, type_named};
 use rl_forms::Kind;
 use rl_reading::Found;
-use rl_text::text::begins;
+use rl_text::text::{before, begins};
 
 /// Why no type of Rust has a literal.
 #[derive(Clone, Copy, PartialEq, Eq, Debug)]
@@ -26,7 +27,7 @@ pub enum TypeError {
     FloatSuffix,
     /// The suffix of a binary, octal or hexadecimal integer is that of a float.
     BasedFloat,
-    /// The integer is out of its type's range.
+    /// The integer is out of its type's range, or the float rounds to infinity.
     OutOfRange,
 }
 
@@ -74,15 +75,35 @@ fn begins_float(suffix: &str) -> bool
     matches!(suffix.as_bytes(), [b'f', ..])
 }
 
+/// 2 to the 128th less 2 to the 103rd.
+const F32_INFINITE: u128 = 0xFFFF_FF80_0000_0000_0000_0000_0000_0000;
+
+/// Why an integer has not this type of floats.
+fn infinite_error(ty: NumberType, magnitude: u128, negated: bool) -> Option<TypeError>
+    requires { greatest_of ty negated ≡ None }
+    ensures some { IfSome result (λ error. (error ≡ OutOfRange) × IsPastRange ty magnitude negated) }
+    ensures none { IfNone result (IsInRange ty magnitude negated) }
+{
+    match ty {
+        NumberType::F32 => {
+            if magnitude >= F32_INFINITE {
+                return Some(TypeError::OutOfRange);
+            }
+            None
+        }
+        _ => None,
+    }
+}
+
 /// Why an integer has not this type.
 fn range_error(ty: NumberType, magnitude: u128, negated: bool) -> Option<TypeError>
-    ensures some { IfSome result (λ error. (error ≡ OutOfRange)
-        × ((most : ℕ) × (greatest_of ty negated ≡ Some most) × (most < magnitude))) }
-    ensures none { IfNone result ((most : ℕ) → greatest_of ty negated ≡ Some most → magnitude ≤ most) }
+    ensures some { IfSome result (λ error. (error ≡ OutOfRange) × IsPastRange ty magnitude negated) }
+    ensures none { IfNone result (IsInRange ty magnitude negated) }
 {
     match greatest(ty, negated) {
         Some(most) if magnitude > most => Some(TypeError::OutOfRange),
-        _ => None,
+        Some(_) => None,
+        None => infinite_error(ty, magnitude, negated),
     }
 }
 
@@ -101,23 +122,55 @@ fn integer_error(text: &str, suffix: &str, magnitude: u128, negated: bool) -> Op
     }
 }
 
-/// Why no type has a float with this suffix.
-fn float_error(text: &str, suffix: &str, negated: bool) -> Option<TypeError>
-    requires { suffix.now ≢ [] }
+/// The type of a float with the suffix; `None` where it names none.
+fn type_of_float(suffix: &str) -> Option<NumberType>
+    ensures some { IfSome result (λ t. IsTypeOfFloat suffix.now t) }
+    ensures none { IfNone result ((suffix.now ≢ []) × NamesNone suffix.now) }
+{
+    if suffix.is_empty() {
+        return Some(NumberType::F64);
+    }
+    type_named(suffix)
+}
+
+/// Why a float with this numeral has not this type of floats.
+fn decimal_error(
+    ty: NumberType,
+    text: &str,
+    numeral: &str,
+    suffix: &str,
+    negated: bool,
+) -> Option<TypeError>
+    requires cut { text.now ≡ numeral.now ++ suffix.now }
+    requires typed { IsTypeOfFloat suffix.now ty }
+    requires float { greatest_of ty negated ≡ None }
     ensures some { IfSome result (λ error. HasTypeError error Float (chars text.now) 0 negated suffix.now) }
     ensures none { IfNone result (HasType Float (chars text.now) 0 negated suffix.now) }
 {
-    match type_named(suffix) {
-        Some(ty) => match greatest(ty, negated) {
-            Some(_) => Some(TypeError::FloatSuffix),
-            None => None,
-        },
-        None => Some(TypeError::UnknownSuffix),
+    if is_infinite(ty, numeral) {
+        return Some(TypeError::OutOfRange);
+    }
+    None
+}
+
+/// Why no type has a float with this numeral and this suffix.
+fn float_error(text: &str, numeral: &str, suffix: &str, negated: bool) -> Option<TypeError>
+    requires { text.now ≡ numeral.now ++ suffix.now }
+    ensures some { IfSome result (λ error. HasTypeError error Float (chars text.now) 0 negated suffix.now) }
+    ensures none { IfNone result (HasType Float (chars text.now) 0 negated suffix.now) }
+{
+    let Some(ty) = type_of_float(suffix) else {
+        return Some(TypeError::UnknownSuffix);
+    };
+    match greatest(ty, negated) {
+        Some(_) => Some(TypeError::FloatSuffix),
+        None => decimal_error(ty, text, numeral, suffix, negated),
     }
 }
 
 /// Why Rust has no type for a literal that reads: its suffix names none, or it is out of that type's range. `None` where there is
-/// one, as where it has no suffix: then Rust infers it.
+/// one, as for an integer without a suffix: then Rust infers it. A float is out of range where its number rounds to infinity, without
+/// a suffix that of `f64`.
 ///
 /// `found` is the literal's reading; `negated` says whether a minus may stand before it, which makes `128i8` a value of its type.
 /// No memory is taken.
@@ -129,12 +182,14 @@ pub fn type_error(text: &str, found: &Found, negated: bool) -> Option<TypeError>
         (suffix_in text.now found.now.body)) }
 {
     let suffix = found.suffix_in(text);
+    if matches!(found.kind, Kind::Float) {
+        return float_error(text, before(text, suffix), suffix, negated);
+    }
     if suffix.is_empty() {
         return None;
     }
     match found.kind {
         Kind::Int => integer_error(text, suffix, found.magnitude, negated),
-        Kind::Float => float_error(text, suffix, negated),
         Kind::Bool => None,
         _ => Some(TypeError::QuotedSuffix),
     }

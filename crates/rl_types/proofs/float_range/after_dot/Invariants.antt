@@ -1,0 +1,16 @@
+-- What is left has the same end.
+use Rattle.rl_text.proofs.Common.{◌≡◌, length}
+use Rattle.rl_types.specs.FloatRange.{after_dot}
+use denote.Text.{Utf8}
+use denote.Shadow.{shadow}
+use Rattle.std.specs.Str.{chars}
+use Rattle.rl_types.proofs.float_range.after_dot.Given as goal
+
+abbrev pub invariant-loop-c : goal.invariant-loop-c
+invariant-loop-c l = record {
+  utf8 : shadow (Utf8 l.rest);
+  same : after_dot (chars l.rest) ≡ after_dot (chars l.text);
+}
+
+abbrev pub decreases-loop-c : goal.decreases-loop-c
+decreases-loop-c l = length l.rest

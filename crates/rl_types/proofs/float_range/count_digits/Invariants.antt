@@ -1,0 +1,17 @@
+-- So many were passed.
+use Rattle.rl_text.proofs.Common.{◌≡◌, ◌≤◌, ◌+◌, length}
+use Rattle.rl_types.specs.FloatRange.{digits_in}
+use denote.Text.{Utf8}
+use denote.Shadow.{shadow}
+use Rattle.std.specs.Str.{chars}
+use Rattle.rl_types.proofs.float_range.count_digits.Given as goal
+
+abbrev pub invariant-loop-after : goal.invariant-loop-after
+invariant-loop-after l = record {
+  utf8 : shadow (Utf8 l.rest);
+  counted : l.count + length (digits_in (chars l.rest)) ≡ length (digits_in (chars l.text));
+  room : l.count + length l.rest ≤ length l.text;
+}
+
+abbrev pub decreases-loop-after : goal.decreases-loop-after
+decreases-loop-after l = length l.rest

@@ -1,0 +1,18 @@
+-- What is left has the answer.
+use Rattle.rl_text.proofs.Common.{◌≡◌, length}
+use Rattle.rl_types.specs.FloatRange.{digits_in}
+use Rattle.rl_types.specs.Mirrors.Floats.{not_below}
+use denote.Text.{Utf8}
+use denote.Shadow.{shadow}
+use Rattle.std.specs.Str.{chars}
+use Rattle.rl_types.proofs.float_range.is_not_below.Given as goal
+
+abbrev pub invariant-loop-wanted : goal.invariant-loop-wanted
+invariant-loop-wanted l = record {
+  utf8 : shadow (Utf8 l.rest);
+  left : shadow (Utf8 l.left);
+  same : not_below (digits_in (chars l.left)) (chars l.rest) ≡ not_below (digits_in (chars l.digits)) (chars l.bound);
+}
+
+abbrev pub decreases-loop-wanted : goal.decreases-loop-wanted
+decreases-loop-wanted l = length l.rest

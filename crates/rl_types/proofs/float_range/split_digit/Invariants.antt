@@ -1,0 +1,17 @@
+-- No digit was passed.
+use Rattle.rl_text.proofs.Common.{◌≡◌, ◌≤◌, length}
+use Rattle.rl_types.specs.FloatRange.{digits_in}
+use denote.Text.{Utf8}
+use denote.Shadow.{shadow}
+use Rattle.std.specs.Str.{chars}
+use Rattle.rl_types.proofs.float_range.split_digit.Given as goal
+
+abbrev pub invariant-loop-c : goal.invariant-loop-c
+invariant-loop-c l = record {
+  utf8 : shadow (Utf8 l.rest);
+  same : digits_in (chars l.rest) ≡ digits_in (chars l.text);
+  shorter : length l.rest ≤ length l.text;
+}
+
+abbrev pub decreases-loop-c : goal.decreases-loop-c
+decreases-loop-c l = length l.rest

@@ -1,0 +1,214 @@
+//! Decimal numbers that round to infinity.
+
+ghost use Rattle.std.specs.Prelude.{◌≡◌, ◌==◌, ◌*◌, ◌^◌, ◌≤◌, ◌<◌, ◌⊎◌, ℕ, List, [], ◌∷◌, true, false, cond, nat_lt, IfNone, IfSome, IsTrue, length};
+ghost use Rattle.std.specs.Char.{is_ascii_digit};
+ghost use Rattle.std.specs.List.{list_any};
+ghost use Rattle.std.specs.Str.{chars};
+ghost use Rattle.rl_text.specs.Texts.{code};
+ghost use Rattle.rl_forms.specs.Numbers.{is_exponent_letter};
+ghost use Rattle.rl_forms.specs.Spelling.{place_value};
+ghost use Rattle.rl_types.specs.FloatRange.{Reaches, after_dot, after_letter, before_letter, digits_in};
+ghost use Rattle.rl_types.specs.Mirrors.Floats.{IsBound, not_below, without_zeros};
+ghost use Rattle.rl_types.specs.TypeErrors.{IsInfinite};
+
+use crate::number_types::NumberType;
+use rl_text::text::{before, split_char};
+
+/// An exponent from here on is past every other place of a number: no text has as many digits.
+const HUGE: u128 = 1 << 100;
+
+/// The digits of 2 to the 128th less 2 to the 103rd.
+const F32_DIGITS: &str = "340282356779733661637539395458142568448";
+
+/// The digits of 2 to the 1024th less 2 to the 970th.
+const F64_DIGITS: &str =
+    "1797693134862315807937289714053034150799341327100378269361737789804449682927647509466\
+     4901797758720709633028641669288791094655554785194040263065748867150582068190890200070\
+     8383676273854845817711531764475730270069855571366959622842914819860834936475292719074\
+     168444365510704342711559699508093042880177904174497792";
+
+/// Whether the character begins an exponent.
+fn is_exponent_letter(c: char) -> bool
+    ensures { result ≡ is_exponent_letter c }
+{
+    matches!(c, 'e' | 'E')
+}
+
+/// What stands before the letter of the exponent, and after it.
+fn split_letter(numeral: &str) -> (&str, &str)
+    ensures before { chars result.0.now ≡ before_letter (chars numeral.now) }
+    ensures after { chars result.1.now ≡ after_letter (chars numeral.now) }
+{
+    let mut rest = numeral;
+    while let Some((c, after)) = split_char(rest) {
+        if is_exponent_letter(c) {
+            return (before(numeral, rest), after);
+        }
+        rest = after;
+    }
+    (numeral, rest)
+}
+
+/// What stands after the dot.
+fn after_dot(text: &str) -> &str
+    ensures { chars result.now ≡ after_dot (chars text.now) }
+{
+    let mut rest = text;
+    while let Some((c, after)) = split_char(rest) {
+        if c == '.' {
+            return after;
+        }
+        rest = after;
+    }
+    rest
+}
+
+/// Whether there is a minus.
+fn has_minus(text: &str) -> bool
+    ensures { result ≡ list_any (λ c. c == code "-") (chars text.now) }
+{
+    let mut rest = text;
+    while let Some((c, after)) = split_char(rest) {
+        if c == '-' {
+            return true;
+        }
+        rest = after;
+    }
+    false
+}
+
+/// The first digit, and what stands after it.
+fn split_digit(text: &str) -> Option<(char, &str)>
+    ensures some { IfSome result (λ p. IsTrue (is_ascii_digit p.0)
+        × (digits_in (chars text.now) ≡ p.0 ∷ digits_in (chars p.1.now)) × (length p.1.now < length text.now)) }
+    ensures none { IfNone result (digits_in (chars text.now) ≡ []) }
+{
+    let mut rest = text;
+    while let Some((c, after)) = split_char(rest) {
+        if c.is_ascii_digit() {
+            return Some((c, after));
+        }
+        rest = after;
+    }
+    None
+}
+
+/// The text from the first digit on that isn't zero.
+fn skip_zeros(text: &str) -> &str
+    ensures { digits_in (chars result.now) ≡ without_zeros (digits_in (chars text.now)) }
+{
+    let mut rest = text;
+    while let Some(('0', after)) = split_digit(rest) {
+        rest = after;
+    }
+    rest
+}
+
+/// How many digits there are.
+fn count_digits(text: &str) -> usize
+    ensures count { result ≡ length (digits_in (chars text.now)) }
+    ensures fits { result < 2 ^ 64 }
+{
+    let mut count = 0;
+    let mut rest = text;
+    while let Some((_, after)) = split_digit(rest) {
+        count += 1;
+        rest = after;
+    }
+    count
+}
+
+/// What the digits spell, exactly below `HUGE`.
+fn capped_value(text: &str) -> u128
+    ensures value { (result ≡ place_value 10 (digits_in (chars text.now)))
+        ⊎ ((HUGE ≤ result) × (HUGE ≤ place_value 10 (digits_in (chars text.now)))) }
+    ensures fits { result < 16 * HUGE }
+{
+    let mut value = 0;
+    let mut rest = text;
+    while let Some((digit, after)) = split_digit(rest) {
+        if value < HUGE {
+            value = 10 * value + u128::from(digit as u32 - '0' as u32);
+        }
+        rest = after;
+    }
+    value
+}
+
+/// The first digit, and what stands after it; a zero where there is none.
+fn digit_or_zero(text: &str) -> (char, &str)
+    ensures { (b : ℕ) (bs : List ℕ) → not_below (digits_in (chars text.now)) (b ∷ bs)
+        ≡ cond (result.0 == b) (not_below (digits_in (chars result.1.now)) bs) (nat_lt b result.0) }
+{
+    match split_digit(text) {
+        Some(parts) => parts,
+        None => ('0', ""),
+    }
+}
+
+/// Whether the digits aren't below those of the bound, where the first ones have the same power of ten.
+fn is_not_below(digits: &str, bound: &str) -> bool
+    ensures { result ≡ not_below (digits_in (chars digits.now)) (chars bound.now) }
+{
+    let mut left = digits;
+    let mut rest = bound;
+    while let Some((wanted, after)) = split_char(rest) {
+        let (digit, more) = digit_or_zero(left);
+        if digit != wanted {
+            return digit > wanted;
+        }
+        left = more;
+        rest = after;
+    }
+    true
+}
+
+/// The value, or zero.
+fn value_if(condition: bool, value: u128) -> u128
+    ensures { result ≡ cond condition value 0 }
+{
+    if condition {
+        value
+    } else {
+        0
+    }
+}
+
+/// Whether a number is at least the one that the digits of the bound spell.
+fn reaches(bound: &str, numeral: &str) -> bool
+    requires bound { IsBound bound.now }
+    requires short { length bound.now ≤ 309 }
+    ensures yes { result ≡ true → Reaches (place_value 10 bound.now) (chars numeral.now) }
+    ensures no { result ≡ false → Reaches (place_value 10 bound.now) (chars numeral.now) → ⊥ }
+{
+    let (significand, exponent) = split_letter(numeral);
+    let digits = skip_zeros(significand);
+    let count = count_digits(digits);
+    if count == 0 {
+        return false;
+    }
+    let places = count_digits(after_dot(significand));
+    let power = capped_value(exponent);
+    let is_divided = has_minus(exponent);
+    let ours = count as u128 + value_if(!is_divided, power);
+    let least = bound.len() as u128 + places as u128 + value_if(is_divided, power);
+    if ours > least {
+        return true;
+    }
+    if ours < least {
+        return false;
+    }
+    is_not_below(digits, bound)
+}
+
+/// Whether the number rounds to infinity in the type; none does in a type of integers.
+pub(crate) fn is_infinite(ty: NumberType, numeral: &str) -> bool
+    ensures yes { result ≡ true → IsInfinite ty (chars numeral.now) }
+    ensures no { result ≡ false → IsInfinite ty (chars numeral.now) → ⊥ }
+{
+    match ty {
+        NumberType::F32 => reaches(F32_DIGITS, numeral),
+        NumberType::F64 => reaches(F64_DIGITS, numeral),
+        _ => false,
+    }
+}
