@@ -44,6 +44,17 @@ def number_near(source, bits):
     return source.choice(['{}', '0x{:x}', '0b{:b}', '0o{:o}', '0{}', '{}_']).format(value)
 
 
+def float_near(source):
+    """A float near the least number that rounds to infinity, its dot anywhere."""
+    high, low = source.choice([(128, 103), (1024, 970)])
+    digits = str(2 ** high - 2 ** low + source.randint(-2, 2))
+    kept = source.choice([len(digits), len(digits), source.randint(1, len(digits))])
+    dot = source.randint(1, kept)
+    zeros = source.choice(['', '0', '00_'])
+    power = len(digits) - dot + source.choice([0, 0, 0, 0, -1, 1])
+    return (zeros + digits[:dot] + '.' + digits[dot:kept] if dot < kept else zeros + digits[:dot] + '.0') + f'e{power}'
+
+
 def literal(source):
     """A literal, good or bad."""
     pick = source.random()
@@ -52,6 +63,8 @@ def literal(source):
         return source.choice(QUOTED).format(inside) + source.choice(['', '', '', source.choice(SUFFIXES)])
     if pick < .7:
         return source.choice(NUMBERS) + source.choice(SUFFIXES)
+    if pick < .8:
+        return float_near(source) + source.choice(['', 'f32', 'f64', '_f64'])
     suffix = source.choice(list(BITS))
     return number_near(source, BITS[suffix]) + suffix
 

@@ -15,10 +15,10 @@ impl fmt::Display for TypeError {
 impl core::error::Error for TypeError {}
 
 impl Lit<'_> {
-    /// Why Rust has no type for the literal: its suffix is none of a number's type, or it is an integer out of that type's range.
-    /// rustc says so of a literal in an expression, and not of one that a macro takes. `None` where there is a type, where the
-    /// literal has no suffix, since Rust infers its type then, and of a `Verbatim`, which has no reading. Floats that are too
-    /// large are found by [`LitFloat::value`](crate::LitFloat::value).
+    /// Why Rust has no type for the literal: its suffix is none of a number's type, or it is out of that type's range, as a float
+    /// that rounds to infinity, without a suffix in `f64`. rustc says so of a literal in an expression, and not of one that a macro
+    /// takes. `None` where there is a type, where an integer has no suffix, since Rust infers its type then, and of a `Verbatim`,
+    /// which has no reading.
     ///
     /// `negated` says whether a minus stands before the literal, which makes `128i8` a value of its type; one in its own text
     /// counts too. Who knows only a literal of [`source`](fn@crate::source), which has none, passes `true`, and misses `128i8`.
@@ -33,6 +33,7 @@ impl Lit<'_> {
     /// assert_eq!(error("128i8", false), Some(TypeError::OutOfRange));
     /// assert_eq!(error("128i8", true), None);
     /// assert_eq!(error("256", false), None);
+    /// assert_eq!(error("1e400", false), Some(TypeError::OutOfRange));
     /// ```
     #[must_use]
     pub fn type_error(&self, negated: bool) -> Option<TypeError> {

@@ -31,6 +31,11 @@ const TAKEN: &[(&str, &str)] = &[
     ("-", "9223372036854775808i64"),
     ("-", "170141183460469231731687303715884105728i128"),
     ("-", "1.0f32"),
+    ("", "1.7976931348623158e308"),
+    ("", "3.4028235677973366e38f32"),
+    ("", "340282356779733661637539395458142568447f32"),
+    ("", "0e999999999999999999999999999999999999999999f32"),
+    ("", "1e-999999999999999999999999999999999999999999"),
 ];
 
 /// Those that it rejects.
@@ -62,6 +67,12 @@ const REJECTED: &[(&str, &str)] = &[
     ("", "65536u16"),
     ("-", "129i8"),
     ("-", "0b1f32"),
+    ("", "1e400"),
+    ("", "1.7976931348623159e308_f64"),
+    ("", "1e39f32"),
+    ("-", "3.4028235677973367e38f32"),
+    ("", "340282356779733661637539395458142568448f32"),
+    ("", "0.000_1e999999999999999999999999999999999999999999"),
 ];
 
 /// Whether Rust has a type for the literal after the minus, by the literal alone and as one with its minus.
@@ -93,4 +104,45 @@ fn an_error_has_words_and_a_name() {
     let error = Lit::new("1u9").type_error(false).unwrap();
     assert_eq!(error.to_string(), error.words());
     assert_eq!(error.id(), "unknown-suffix");
+}
+
+/// The digits of the least numbers that round to infinity: half a step past the greatest finite ones.
+const LEAST: [&str; 2] = [
+    "340282356779733661637539395458142568448",
+    "179769313486231580793728971405303415079934132710037826936173778980444968292764750946649017977587207096330286416692887910\
+     946555547851940402630657488671505820681908902000708383676273854845817711531764475730270069855571366959622842914819860834\
+     936475292719074168444365510704342711559699508093042880177904174497792",
+];
+
+/// A numeral with the digits, its dot after so many of them, so that the first one's power of ten is off by so much.
+fn numeral(digits: &str, length: usize, dot: usize, off: i32) -> String {
+    let power = i32::try_from(length - dot).expect("a few hundred digits") + off;
+    format!("00_{}.{}e{power}", &digits[..dot], &digits[dot..])
+}
+
+#[test]
+fn floats_are_out_of_range_where_std_reads_infinity() {
+    let mut infinite = 0;
+    for least in LEAST {
+        for dot in (1..least.len()).step_by(5) {
+            for at in [dot, least.len() - 1] {
+                for byte in b'0'..=b'9' {
+                    let mut digits = least.as_bytes()[..=at].to_vec();
+                    digits[at] = byte;
+                    let digits = String::from_utf8(digits).expect("digits");
+                    for off in -1..=1 {
+                        let text = numeral(&digits, least.len(), dot, off);
+                        let plain = text.replace('_', "");
+                        let in_f32 = plain.parse::<f32>().expect("a float").is_infinite();
+                        let in_f64 = plain.parse::<f64>().expect("a float").is_infinite();
+                        infinite += usize::from(in_f32) + usize::from(in_f64);
+                        assert_eq!(Lit::new(&text).type_error(false).is_some(), in_f64, "{text}");
+                        let text = format!("{text}f32");
+                        assert_eq!(Lit::new(&text).type_error(false).is_some(), in_f32, "{text}");
+                    }
+                }
+            }
+        }
+    }
+    assert!(infinite > 500);
 }

@@ -3,6 +3,7 @@
 
 #[cfg(feature = "rendered")]
 mod before;
+mod float_range;
 mod number_types;
 mod type_errors;
 

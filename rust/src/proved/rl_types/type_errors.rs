@@ -1,10 +1,11 @@
 // Rendered from crates/rl_types/src/type_errors.rt by tools/render, which erases contracts: change that file, and render anew.
 //! What Rust's types don't allow of a literal.
 
+use crate::rl_types::float_range::is_infinite;
 use crate::rl_types::number_types::{NumberType, greatest, type_named};
 use crate::rl_forms::Kind;
 use crate::rl_reading::Found;
-use crate::rl_text::text::begins;
+use crate::rl_text::text::{before, begins};
 
 /// Why no type of Rust has a literal.
 #[derive(Clone, Copy, PartialEq, Eq, Debug)]
@@ -17,7 +18,7 @@ pub enum TypeError {
     FloatSuffix,
     /// The suffix of a binary, octal or hexadecimal integer is that of a float.
     BasedFloat,
-    /// The integer is out of its type's range.
+    /// The integer is out of its type's range, or the float rounds to infinity.
     OutOfRange,
 }
 
@@ -55,11 +56,28 @@ fn begins_float(suffix: &str) -> bool {
     matches!(suffix.as_bytes(), [b'f', ..])
 }
 
+/// 2 to the 128th less 2 to the 103rd.
+const F32_INFINITE: u128 = 0xFFFF_FF80_0000_0000_0000_0000_0000_0000;
+
+/// Why an integer has not this type of floats.
+fn infinite_error(ty: NumberType, magnitude: u128, negated: bool) -> Option<TypeError> {
+    match ty {
+        NumberType::F32 => {
+            if magnitude >= F32_INFINITE {
+                return Some(TypeError::OutOfRange);
+            }
+            None
+        }
+        _ => None,
+    }
+}
+
 /// Why an integer has not this type.
 fn range_error(ty: NumberType, magnitude: u128, negated: bool) -> Option<TypeError> {
     match greatest(ty, negated) {
         Some(most) if magnitude > most => Some(TypeError::OutOfRange),
-        _ => None,
+        Some(_) => None,
+        None => infinite_error(ty, magnitude, negated),
     }
 }
 
@@ -74,30 +92,55 @@ fn integer_error(text: &str, suffix: &str, magnitude: u128, negated: bool) -> Op
     }
 }
 
-/// Why no type has a float with this suffix.
-fn float_error(text: &str, suffix: &str, negated: bool) -> Option<TypeError> {
-    match type_named(suffix) {
-        Some(ty) => match greatest(ty, negated) {
-            Some(_) => Some(TypeError::FloatSuffix),
-            None => None,
-        },
-        None => Some(TypeError::UnknownSuffix),
+/// The type of a float with the suffix; `None` where it names none.
+fn type_of_float(suffix: &str) -> Option<NumberType> {
+    if suffix.is_empty() {
+        return Some(NumberType::F64);
+    }
+    type_named(suffix)
+}
+
+/// Why a float with this numeral has not this type of floats.
+fn decimal_error(
+    ty: NumberType,
+    text: &str,
+    numeral: &str,
+    suffix: &str,
+    negated: bool,
+) -> Option<TypeError> {
+    if is_infinite(ty, numeral) {
+        return Some(TypeError::OutOfRange);
+    }
+    None
+}
+
+/// Why no type has a float with this numeral and this suffix.
+fn float_error(text: &str, numeral: &str, suffix: &str, negated: bool) -> Option<TypeError> {
+    let Some(ty) = type_of_float(suffix) else {
+        return Some(TypeError::UnknownSuffix);
+    };
+    match greatest(ty, negated) {
+        Some(_) => Some(TypeError::FloatSuffix),
+        None => decimal_error(ty, text, numeral, suffix, negated),
     }
 }
 
 /// Why Rust has no type for a literal that reads: its suffix names none, or it is out of that type's range. `None` where there is
-/// one, as where it has no suffix: then Rust infers it.
+/// one, as for an integer without a suffix: then Rust infers it. A float is out of range where its number rounds to infinity, without
+/// a suffix that of `f64`.
 ///
 /// `found` is the literal's reading; `negated` says whether a minus may stand before it, which makes `128i8` a value of its type.
 /// No memory is taken.
 pub fn type_error(text: &str, found: &Found, negated: bool) -> Option<TypeError> {
     let suffix = found.suffix_in(text);
+    if matches!(found.kind, Kind::Float) {
+        return float_error(text, before(text, suffix), suffix, negated);
+    }
     if suffix.is_empty() {
         return None;
     }
     match found.kind {
         Kind::Int => integer_error(text, suffix, found.magnitude, negated),
-        Kind::Float => float_error(text, suffix, negated),
         Kind::Bool => None,
         _ => Some(TypeError::QuotedSuffix),
     }
