@@ -1,6 +1,7 @@
 -- Characters that turn or hide text, and the escapes by their numbers.
 use Rattle.rl_text.proofs.Common.{◌≡◌, ℕ, ◌/◌, ◌%◌, ◌*◌, ◌<◌, ◌≤◌, ◌||◌, ◌&&◌, Bool, true, false, not, ◌==◌, cond, nat_lt, nat_tests, List, [], ◌∷◌, ◌++◌, length, map, refl, sym, ap, ◌∙◌, inl, inr, arith, append-nil, and_from, and_parts, both_ways, cases_lt, lt-ltb, ltb-true, not-true, eqb-true, agree_below_at, is_ascii_hexdigit, list_all, scalar, encode_utf8, encode_utf8_all, encode_ascii, length-encode, len_utf8_bounds}
 use Rattle.std.specs.Char.{IsScalar}
+use Rattle.std.specs.Str.{IsUtf8, chars}
 use Rattle.std.proofs.lemmas.Bool.{le-ltb}
 use Rattle.std.proofs.Math.Utf8.{scalars}
 use Rattle.rl_text.proofs.Basics.{all_weaker, false_unless}
@@ -8,7 +9,7 @@ use Rattle.rl_text.specs.Hiding.{needs_escape}
 use Rattle.rl_reading.proofs.Names.{Kind, Str, ByteStr, CStr, Byte, Char, Int, Float, BoolKind, StrictUnit, Itself, AsciiEscape, ByteEscape, UnicodeEscape, strict_contents, strict_content_of, is_strict_unit, place_value}
 use Rattle.rl_forms.specs.Strict.{HasUnits, is_bare_in_string, is_octal, is_unicode_escape, spaced_value}
 use Rattle.rl_writing.specs.AsciiStrings.{unicode_escape}
-use Rattle.rl_writing.proofs.AsciiLemmas.{is_low}
+use Rattle.rl_writing.proofs.AsciiLemmas.{is_low, low_chars, low_utf8}
 use Rattle.rl_writing.proofs.UnicodeLemmas.{digits_of, escape_fits, escape_is, escape_low, escape_short, escape_value}
 use Rattle.rl_style.specs.Mirrors.{code_text}
 use Rattle.rl_style.specs.Rewriting.{has_letter, needs_number, is_visible, lower_digit, number_escape, hex_escape}
@@ -29,7 +30,8 @@ number_any P k c ascii byte unicode = go (nat_lt c 128)
     two Float high low = byte high low
     two BoolKind high low = byte high low
 
-    go : (b : Bool) → P (cond b (hex_escape k (lower_digit (c / 16)) (lower_digit (c % 16))) (UnicodeEscape (digits_of c)))
+    go : (b : Bool) → P (cond b (hex_escape k (lower_digit (c / 16)) (lower_digit (c % 16)))
+        (UnicodeEscape (digits_of c)))
     go true = two k (lower_digit (c / 16)) (lower_digit (c % 16))
     go false = unicode (digits_of c)
 
@@ -216,3 +218,13 @@ low_scalars cs h = all_weaker is_low scalar one cs h
   where
     one : (c : ℕ) → is_low c ≡ true → scalar c ≡ true
     one c l = agree_below_at scalar (λ c. true) 128 c refl (ltb-true c 128 l)
+
+pub put_code_utf8 : (c : ℕ) (bytes : List ℕ) → bytes ≡ code_text c → IsUtf8 bytes
+put_code_utf8 c bytes e = low_utf8 bytes (ap (list_all is_low) e ∙ text_low c)
+
+pub put_code_chars : (c : ℕ) (bytes escape : List ℕ) → bytes ≡ code_text c → escape ≡ bytes → chars escape ≡ code_text c
+put_code_chars c bytes escape e f = ap chars (f ∙ e) ∙ low_chars (code_text c) (text_low c)
+
+pub put_code_fits : (c : ℕ) (bytes escape : List ℕ) → IsScalar c → bytes ≡ code_text c → escape ≡ bytes
+    → length escape ≤ 4 * length (encode_utf8 c)
+put_code_fits c bytes escape s e f = let n = ap length (f ∙ e) in omega (arith, n, text_fits c s)

@@ -16,6 +16,7 @@ pub mod SameLiterals
 pub mod WrittenNumbers
 pub mod WrittenQuoted
 pub mod WrittenUnraw
+pub mod FrontEnds
 pub mod FrontTests
 pub mod Stays
 pub mod Decimals

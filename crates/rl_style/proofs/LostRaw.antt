@@ -135,7 +135,8 @@ escaped t k v x s = record {
   contents = s.contents ∙ ap (quoted_contents k) (sym (raw_contents k s.inside));
 }
 
-pub lost : (style : Style) (front t u : List ℕ) → (c : LosesRaw style front t u) → StrictCooked u c.kind c.contents c.suffix
+pub lost : (style : Style) (front t u : List ℕ) → (c : LosesRaw style front t u)
+    → StrictCooked u c.kind c.contents c.suffix
 lost style front t u c = units.written style (escaped_text c.kind c.raw.inside c.suffix) u c.kind c.contents c.suffix
     (escaped t c.kind c.contents c.suffix c.raw) c.new_is
 

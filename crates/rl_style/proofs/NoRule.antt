@@ -117,7 +117,8 @@ unit_kept style k (UnicodeEscape digits) n =
     ∙ ap (λ b. UnicodeEscape (map (cased_digit style.escape_digits) (cond b (fewest_digits digits) digits)))
     n.code_digits
     ∙ ap (λ z. UnicodeEscape (map (cased_digit z) digits)) n.escape_digits ∙ ap UnicodeEscape (codes_kept digits)
-unit_kept style k (Itself c) n = ap (λ b. cond (b && needs_number c) (reescaped style k (number_escape k c)) (Itself c)) n.hidden
+unit_kept style k (Itself c) n = ap (λ b. cond (b && needs_number c) (reescaped style k (number_escape k c)) (Itself c))
+    n.hidden
 unit_kept style k (PlainEscape c) n = refl
 unit_kept style k (LineBreak blanks) n = refl
 

@@ -17,7 +17,8 @@ use Rattle.rl_forms.specs.Spelling.{place_value}
 abbrev free : ℕ → ℕ → ℕ → Bool
 free a b c = not (c == a || c == b)
 
-pub free_from : (test : ℕ → Bool) (a b : ℕ) → test a ≡ false → test b ≡ false → (c : ℕ) → test c ≡ true → free a b c ≡ true
+pub free_from : (test : ℕ → Bool) (a b : ℕ) → test a ≡ false → test b ≡ false → (c : ℕ) → test c ≡ true → free a b c
+    ≡ true
 free_from test a b at_a at_b c h = not_from_false (c == a || c == b)
     (or_from (c == a) (c == b) (apart test c a h at_a) (apart test c b h at_b))
 

@@ -355,7 +355,7 @@ follows_inner lead at t d old new place u rest front text_is here (new_is, same)
         byte_len-append s f,
       ) in
       subst (λ (z : List ℕ). Alike z (lexeme_text old ++ rest) (lexeme_text new ++ rest))
-          (sym (joined lead front s f)) (same (front ++ (s ++ f)) whole k),
+      (sym (joined lead front s f)) (same (front ++ (s ++ f)) whole k),
 )
 
 pub recut : (lead : List ℕ) (at : ℕ) (t : List ℕ) (before after : List CutSource) (old new : Lexeme) (place : ℕ)

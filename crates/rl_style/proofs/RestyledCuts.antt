@@ -78,7 +78,7 @@ new_cut style lead at from whole t before after old front u place r whole_is at_
             let same = same_place front (lead ++ f) (lexeme_text old ++ stands.rest) (lexeme_text old ++ rest)
             (sym stands.text_is ∙ there) (omega (arith, at_is, k, stands.place_is, byte_len-append lead f)) in
             subst (λ z. Alike z (lexeme_text old ++ rest) (lexeme_text token.new ++ rest)) same.0
-                (token.alike rest (inl refl)),
+            (token.alike rest (inl refl)),
       );
     }
 

@@ -301,17 +301,20 @@ respelled_contents style k n escape v same h =
 
 -- what holds of the escape, and of the character itself, holds of what it becomes
 pub itself_any : (P : StrictUnit → Type 0) (style : Style) (k : Kind) (c : ℕ)
-    → (needs_number c ≡ true → P (reescaped style k (number_escape k c))) → P (Itself c) → P (restyled style k (Itself c))
+    → (needs_number c ≡ true → P (reescaped style k (number_escape k c))) → P (Itself c)
+        → P (restyled style k (Itself c))
 itself_any P style k c escaped other = go (style.hidden && needs_number c) refl
   where
-    go : (b : Bool) → (style.hidden && needs_number c) ≡ b → P (cond b (reescaped style k (number_escape k c)) (Itself c))
+    go : (b : Bool) → (style.hidden && needs_number c) ≡ b → P
+        (cond b (reescaped style k (number_escape k c)) (Itself c))
     go true e = escaped (and_parts style.hidden (needs_number c) e).1
     go false e = other
 
 -- ---- any unit
 
 ascii_stays : (style : Style) (k : Kind) (us : List StrictUnit) (high low : ℕ) → HasUnits k us
-    → is_strict_unit k (AsciiEscape high low) ≡ true → is_strict_unit k (reescaped style k (AsciiEscape high low)) ≡ true
+    → is_strict_unit k (AsciiEscape high low) ≡ true → is_strict_unit k (reescaped style k (AsciiEscape high low))
+        ≡ true
 ascii_stays style k us high low q h = respelled_allowed style k us (place_value 16 (high ∷ low ∷ []))
     (AsciiEscape (cased style.escape_digits high) (cased style.escape_digits low)) q
     (ascii_allowed style.escape_digits k high low h)
@@ -323,7 +326,8 @@ byte_stays style k us high low q h = respelled_allowed style k us (place_value 1
     (byte_allowed style.escape_digits k high low h)
 
 unicode_stays : (style : Style) (k : Kind) (us : List StrictUnit) (digits : List (ℕ × ℕ)) → HasUnits k us
-    → is_strict_unit k (UnicodeEscape digits) ≡ true → is_strict_unit k (reescaped style k (UnicodeEscape digits)) ≡ true
+    → is_strict_unit k (UnicodeEscape digits) ≡ true → is_strict_unit k (reescaped style k (UnicodeEscape digits))
+        ≡ true
 unicode_stays style k us digits q h = respelled_allowed style k us (spaced_value digits)
     (UnicodeEscape (styled_digits style digits)) q (code_allowed style k digits h)
 

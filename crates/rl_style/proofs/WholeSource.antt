@@ -1,4 +1,5 @@
--- A source whose first line is no interpreter's, in which one literal is written anew, is cut as before everywhere else.
+-- A source whose first line is no interpreter's, in which one literal is written anew, is cut as before everywhere
+-- else.
 use Rattle.rl_text.proofs.Common.{◌≡◌, ℕ, ◌+◌, inl, inr, Bool, true, false, not, ◌||◌, ◌==◌, and_parts, both_ways, cond, List, [], ◌∷◌, ◌++◌, refl, sym, ◌∙◌, ap, subst, arith, codes, append_assoc}
 use Rattle.rl_text.specs.Texts.{first_passes, begins, begins_char, byte_len, is_white}
 use Rattle.rl_lexer.specs.Lexemes.{Lexeme, lexeme_text}
@@ -94,7 +95,8 @@ pub record Preamble (t body : List ℕ) (at : ℕ) : Type 0 where
   pub at_is : at ≡ byte_len mark
   pub goes : (u : List ℕ) → Alike mark body u → IsWithoutPreamble (mark ++ u) u
 
-pub preamble : (t : List ℕ) (cuts : List CutSource) (r : List ℕ) → begins_with_code t ≡ true → (cut : IsCutUpTo t cuts r)
+pub preamble : (t : List ℕ) (cuts : List CutSource) (r : List ℕ) → begins_with_code t ≡ true
+    → (cut : IsCutUpTo t cuts r)
     → Preamble t cut.body cut.at
 preamble t cuts r code cut =
     let whole : cut.body ≡ without_mark t = body_is (without_mark t) cut.body code cut.front in

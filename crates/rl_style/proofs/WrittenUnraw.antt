@@ -76,7 +76,8 @@ unraw_written style k t inside suffix new ui us p w =
 -- ---- one character after another
 
 pub raw_more : (style : Style) (front a b xs : List ℕ) (c : ℕ)
-    → a ≡ front ++ encode_utf8_all (flat_map (raw_character style) xs) → b ≡ a ++ encode_utf8_all (raw_character style c)
+    → a ≡ front ++ encode_utf8_all (flat_map (raw_character style) xs) → b ≡ a
+        ++ encode_utf8_all (raw_character style c)
     → b ≡ front ++ encode_utf8_all (flat_map (raw_character style) (xs ++ (c ∷ [])))
 raw_more style front a b xs c e f =
     let old : List ℕ = flat_map (raw_character style) xs in

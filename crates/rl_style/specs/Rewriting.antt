@@ -87,7 +87,8 @@ respelled style kind c escape =
     if style.ascii_escapes && is_visible c then visible_unit kind c
     else (if style.named_escapes && has_letter c then PlainEscape (letter_of c) else escape)
 
--- what an escape becomes: a quote that doesn't close the literal stands for itself, and so does a visible character that
+-- what an escape becomes: a quote that doesn't close the literal stands for itself, and so does a visible character
+-- that
 -- is spelled by its number; other escapes by number have their digits in one case
 abbrev pub reescaped : Style → Kind → StrictUnit → StrictUnit
 reescaped style kind (QuoteEscape c) =
@@ -172,7 +173,8 @@ abbrev pub unraw_text : Style → Kind → List ℕ → List ℕ → List ℕ
 unraw_text style kind inside suffix =
     strict_opener kind ++ (restyled_inside style kind (map raw_unit inside) ++ (strict_closer kind ++ suffix))
 
--- The old text is a raw literal and stays one: the new one has the same text inside, the style's hashes, and the suffix.
+-- The old text is a raw literal and stays one: the new one has the same text inside, the style's hashes, and the
+-- suffix.
 pub record StaysRaw (style : Style) (front old new : List ℕ) : Type 0 where
   pub kind : Kind
   pub contents : Contents

@@ -1,8 +1,9 @@
 //! Raw literals written anew.
 
-ghost use Rattle.std.specs.Prelude.{◌≡◌, ◌≤◌, ◌+◌, ◌*◌, ◌++◌, not, length, take, encode_utf8, encode_utf8_all};
+ghost use Rattle.std.specs.Prelude.{◌≡◌, ◌≤◌, ◌+◌, ◌*◌, ◌++◌, ◌||◌, ◌==◌, not, length, take, encode_utf8, encode_utf8_all};
 ghost use Rattle.std.specs.List.{flat_map, list_all};
 ghost use Rattle.std.specs.Str.{chars, IsUtf8};
+ghost use Rattle.rl_text.specs.Texts.{code};
 ghost use Rattle.rl_style.specs.Around.{may_precede_quote};
 ghost use Rattle.rl_style.specs.Mirrors.{RawParts, raw_character};
 ghost use Rattle.rl_style.specs.Rewriting.{RewritesRaw, loses_raw, may_lose_r, needs_backslash, unraw_text};
@@ -15,11 +16,21 @@ use rl_text::room::{put_byte, put_text};
 use rl_text::text::split_char;
 use rl_writing::{raw_hashes, write_raw_into};
 
+/// Whether the byte is a hash or a dot.
+fn is_hash_or_dot(byte: u8) -> bool
+    ensures { result ≡ (byte == code "#" || byte == code ".") }
+{
+    matches!(byte, b'#' | b'.')
+}
+
 /// Whether the text ends with neither a hash nor a dot.
 fn may_precede_quote(front: &str) -> bool
     ensures { result ≡ may_precede_quote (chars front.now) }
 {
-    !matches!(front.as_bytes(), [.., b'#' | b'.'])
+    match front.as_bytes() {
+        [.., last] => !is_hash_or_dot(*last),
+        [] => true,
+    }
 }
 
 /// Whether a literal of the kind may begin with its quote after this front.

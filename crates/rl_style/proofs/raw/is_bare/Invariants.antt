@@ -9,7 +9,8 @@ use Rattle.rl_style.proofs.raw.is_bare.Given as goal
 abbrev pub invariant-loop-c : goal.invariant-loop-c
 invariant-loop-c l = record {
   utf8 : shadow (Utf8 l.rest);
-  same : list_all (λ c. not (needs_backslash c)) (chars l.text) ≡ list_all (λ c. not (needs_backslash c)) (chars l.rest);
+  same : list_all (λ c. not (needs_backslash c)) (chars l.text)
+      ≡ list_all (λ c. not (needs_backslash c)) (chars l.rest);
 }
 
 abbrev pub decreases-loop-c : goal.decreases-loop-c
