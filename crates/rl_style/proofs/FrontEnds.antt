@@ -1,7 +1,6 @@
 -- What a text ends with, by its last byte.
 use Rattle.rl_text.proofs.Common.{◌≡◌, ℕ, suc, ◌<◌, ◌≤◌, ◌-◌, ◌||◌, Bool, true, false, not, ◌==◌, List, [], ◌∷◌, ◌++◌, length, get_or, refl, sym, ap, ◌∙◌, inl, inr, arith, nat_tests, append-nil, cases_lt, encode_utf8, encode_utf8_all, encodes-chars, encode_ascii, IsUtf8}
 use Rattle.std.specs.Str.{chars}
-use Rattle.rl_text.proofs.Basics.{false_unless}
 use Rattle.rl_text.proofs.LowBytes.{AllHigh, encode_is_high}
 use Rattle.rl_style.specs.Around.{may_precede_quote}
 

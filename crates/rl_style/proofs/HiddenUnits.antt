@@ -1,5 +1,5 @@
 -- Characters that turn or hide text, and the escapes by their numbers.
-use Rattle.rl_text.proofs.Common.{◌≡◌, ℕ, ◌/◌, ◌%◌, ◌*◌, ◌<◌, ◌≤◌, ◌||◌, ◌&&◌, Bool, true, false, not, ◌==◌, cond, nat_lt, nat_tests, List, [], ◌∷◌, ◌++◌, length, map, refl, sym, ap, ◌∙◌, inl, inr, arith, append-nil, and_from, and_parts, both_ways, cases_lt, lt-ltb, ltb-true, not-true, eqb-true, agree_below_at, is_ascii_hexdigit, list_all, scalar, encode_utf8, encode_utf8_all, encode_ascii, length-encode, len_utf8_bounds}
+use Rattle.rl_text.proofs.Common.{◌≡◌, ℕ, ◌/◌, ◌%◌, ◌*◌, ◌<◌, ◌≤◌, ◌||◌, ◌&&◌, Bool, true, false, not, ◌==◌, cond, nat_lt, nat_tests, List, [], ◌∷◌, length, refl, sym, ap, ◌∙◌, inl, inr, arith, append-nil, and_from, and_parts, both_ways, cases_lt, lt-ltb, ltb-true, not-true, eqb-true, agree_below_at, is_ascii_hexdigit, list_all, scalar, encode_utf8, encode_ascii, length-encode, len_utf8_bounds}
 use Rattle.std.specs.Char.{IsScalar}
 use Rattle.std.specs.Str.{IsUtf8, chars}
 use Rattle.std.proofs.lemmas.Bool.{le-ltb}

@@ -1,5 +1,5 @@
 -- A raw literal that becomes one with escapes is the same literal.
-use Rattle.rl_text.proofs.Common.{◌≡◌, ℕ, ◌<◌, ◌||◌, ◌&&◌, Bool, true, false, not, ◌==◌, cond, nat_lt, List, [], ◌∷◌, ◌++◌, map, refl, sym, ap, ◌∙◌, inl, inr, arith, and_from, and_parts, eqb-true, list_all, flat_map, encodes-append, encode_utf8_all}
+use Rattle.rl_text.proofs.Common.{◌≡◌, ℕ, ◌||◌, ◌&&◌, Bool, true, false, not, ◌==◌, cond, nat_lt, List, [], ◌∷◌, ◌++◌, map, refl, sym, ap, ◌∙◌, arith, and_from, and_parts, eqb-true, list_all, flat_map, encodes-append}
 use Rattle.rl_reading.proofs.Names.{Kind, Str, ByteStr, CStr, Byte, Char, Int, Float, BoolKind, Contents, StrictUnit, Itself, QuoteEscape, PlainEscape, is_string, strict_contents, strict_content_of, is_strict_unit, strict_text, quoted_contents}
 use Rattle.rl_forms.specs.Strict.{BlanksEnd, HasUnits, IsRawInside, StrictCooked, StrictRaw, is_bare_in_string, is_plain_letter, plain_escapes, plain_value_in, strict_closer, strict_opener}
 use Rattle.rl_forms.proofs.StrictQuoted.{between}

@@ -10,7 +10,7 @@ use Rattle.rl_style.specs.declared.style.Case.{Case}
 use Rattle.rl_style.specs.declared.style.Case.TheVariants.{Lower, Upper}
 use Rattle.rl_style.specs.declared.style.Style.{Style}
 use Rattle.rl_style.specs.Cases.{cased, lower_case, upper_case}
-use Rattle.rl_style.specs.Rewriting.{SameLiteral, RewritesCooked, cased_digit, needs_number, number_escape, reescaped, restyled, restyled_inside}
+use Rattle.rl_style.specs.Rewriting.{SameLiteral, RewritesCooked, cased_digit, needs_number, number_escape, reescaped, restyled}
 use Rattle.rl_style.specs.Rewriting.{styled_digits, fewest_digits, has_letter, is_visible, letter_of, respelled, visible_unit}
 use Rattle.rl_style.proofs.CodeDigits.{code_twice, fewest_unicode, fewest_value}
 use Rattle.rl_style.proofs.HiddenUnits.{held_low, number_allowed, number_any, number_contents, quotes_shown, visible_shown}

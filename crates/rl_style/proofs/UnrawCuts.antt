@@ -1,8 +1,7 @@
 -- A text in which a raw string becomes one with escapes is cut as before, where neither a hash nor a dot stands before
 -- it.
-use Rattle.rl_text.proofs.Common.{◌≡◌, ℕ, ◌+◌, inr, true, List, [], ◌++◌, refl, sym, ◌∙◌, ap, append-nil, AllByRecursion}
-use Rattle.rl_text.specs.Texts.{byte_len}
-use Rattle.rl_lexer.specs.Lexemes.{BodyPart, IsBody, NoPrefix, Lexeme, RawLexeme, QuotedLexeme, lexeme_text}
+use Rattle.rl_text.proofs.Common.{◌≡◌, ℕ, inr, true, List, [], ◌++◌, refl, ◌∙◌, ap, append-nil}
+use Rattle.rl_lexer.specs.Lexemes.{BodyPart, NoPrefix, Lexeme, RawLexeme, QuotedLexeme, lexeme_text}
 use Rattle.rl_style.specs.Around.{may_precede_quote}
 use Rattle.rl_style.specs.Recut.{KeepsTheCutUnraw}
 use Rattle.rl_style.proofs.Ends.{raw_rest, quoted_rest}

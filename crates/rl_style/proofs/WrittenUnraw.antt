@@ -1,9 +1,9 @@
 -- Raw literals as they are written with escapes.
-use Rattle.rl_text.proofs.Common.{◌≡◌, ℕ, ◌+◌, ◌*◌, ◌≤◌, ◌||◌, Bool, true, false, not, ◌&&◌, ◌==◌, List, [], ◌∷◌, ◌++◌, length, map, replicate, refl, sym, ap, ◌∙◌, arith, append_assoc, append-nil, and_from, and_parts, list_all, list_any, flat_map, encode_utf8, encode_utf8_all, encodes-append, encodes-chars, length-append, scalar, IsUtf8}
+use Rattle.rl_text.proofs.Common.{◌≡◌, ℕ, ◌+◌, ◌*◌, ◌≤◌, true, List, [], ◌∷◌, ◌++◌, length, map, replicate, refl, sym, ap, ◌∙◌, arith, append_assoc, append-nil, and_from, and_parts, list_all, flat_map, encode_utf8_all, encodes-append, encodes-chars, length-append, scalar, IsUtf8}
 use Rattle.std.specs.Str.{chars}
 use Rattle.std.proofs.Math.Utf8.{scalars}
 use Rattle.std.proofs.lemmas.Str.{scalars-chars}
-use Rattle.rl_reading.proofs.Names.{flat_map-append, Kind, Str, ByteStr, CStr, Byte, Char, Int, Float, BoolKind, is_string, opener}
+use Rattle.rl_reading.proofs.Names.{flat_map-append, Kind, Str, ByteStr, CStr, is_string, opener}
 use Rattle.rl_forms.specs.Strict.{strict_closer, strict_opener, strict_raw_opener, strict_text}
 use Rattle.rl_forms.proofs.StrictQuoted.{between}
 use Rattle.rl_writing.proofs.AsciiLemmas.{encoded_low, is_low, low_join}
