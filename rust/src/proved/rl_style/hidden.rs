@@ -9,7 +9,7 @@ use crate::rl_text::text::split_char;
 use crate::rl_writing::put_unicode;
 
 /// Whether the character turns or hides text, and has no letter.
-fn hides(c: char) -> bool {
+fn needs_number(c: char) -> bool {
     needs_escape(c) && !matches!(c, '\n' | '\r' | '\t')
 }
 
@@ -17,7 +17,7 @@ fn hides(c: char) -> bool {
 pub(crate) fn holds_hidden(text: &str) -> bool {
     let mut rest = text;
     while let Some((c, after)) = split_char(rest) {
-        if hides(c) {
+        if needs_number(c) {
             return true;
         }
         rest = after;
@@ -64,7 +64,7 @@ fn put_hidden(out: &mut [u8], at: usize, style: Style, c: char) -> usize {
 
 /// Puts a character that stands for itself, written anew: at most four bytes for each of its own.
 pub(crate) fn put_itself(out: &mut [u8], at: usize, style: Style, c: char) -> usize {
-    if style.hidden && hides(c) {
+    if style.hidden && needs_number(c) {
         return put_hidden(out, at, style, c);
     }
     put_char(out, at, c)

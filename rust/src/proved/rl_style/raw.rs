@@ -9,9 +9,17 @@ use crate::rl_text::room::{put_byte, put_text};
 use crate::rl_text::text::split_char;
 use crate::rl_writing::{raw_hashes, write_raw_into};
 
+/// Whether the byte is a hash or a dot.
+fn is_hash_or_dot(byte: u8) -> bool {
+    matches!(byte, b'#' | b'.')
+}
+
 /// Whether the text ends with neither a hash nor a dot.
 fn may_precede_quote(front: &str) -> bool {
-    !matches!(front.as_bytes(), [.., b'#' | b'.'])
+    match front.as_bytes() {
+        [.., last] => !is_hash_or_dot(*last),
+        [] => true,
+    }
 }
 
 /// Whether a literal of the kind may begin with its quote after this front.
