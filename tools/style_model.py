@@ -10,8 +10,9 @@ again. Nothing of the repository is asked. A style is a word of letters: `x` and
 `u` no underscores in numbers, `z` no zeros in front of integers of base ten, `s` nothing and `S` an underscore before a suffix, `e`
 and `E` the exponent's letter, `d` and `D` the digits of escapes, `c` the fewest of `\\u{..}`, `a` visible characters of ASCII and `n`
 letters for LF, CR and TAB where escapes by number spell them, `p` no plus, `q` no needless backslash before a quote, `h` the fewest
-hashes. A row is a style, a text and what it becomes, both in hexadecimal: `=` stands for the text itself, and `!` for what is no
-literal.
+hashes, `r` no raw strings that need none, `i` escapes for characters that turn or hide text, by Unicode's table as perl has it. A row
+is a style, the text that stands in front, a text and what it becomes, all three in hexadecimal: `-` stands for no style and for no text,
+`=` for the text itself, and `!` for what is no literal.
 
 The laws: what is written is a literal of the same kind, with the same contents and the same suffix, and the style leaves it as it
 is."""
@@ -23,13 +24,15 @@ import sys
 from pathlib import Path
 from typing import NamedTuple
 
+from hiding import hiding
+
 ROWS = Path(__file__).resolve().parent.parent / 'rust/tests/style.txt'
 HEX = '0123456789abcdefABCDEF'
 # By the kind: what opens a literal with escapes, and a raw one.
 OPENERS = {'Str': '"', 'ByteStr': 'b"', 'CStr': 'c"', 'Byte': "b'", 'Char': "'"}
 RAW_OPENERS = {'Str': 'r', 'ByteStr': 'br', 'CStr': 'cr'}
 LETTERS = {'n': 10, 'r': 13, 't': 9, '\\': 92, '0': 0}
-RULES = ['x', 'X', 'u', 'z', 's', 'S', 'e', 'E', 'd', 'D', 'c', 'a', 'n', 'p', 'q', 'h']
+RULES = ['x', 'X', 'u', 'z', 's', 'S', 'e', 'E', 'd', 'D', 'c', 'a', 'n', 'p', 'q', 'h', 'r', 'i']
 NAMES = {10: '\\n', 13: '\\r', 9: '\\t'}
 
 
@@ -216,7 +219,28 @@ def unit(style, kind, it):
         it = it._replace(text='\\u{%s}' % (it.text[3:-1].replace('_', '').lstrip('0') or '0'))
     if it.what in ('hex', 'unicode'):
         return it._replace(text=it.text[:2] + cased(style, 'd', 'D', it.text[2:]))
+    if it.what == 'itself' and 'i' in style and is_hidden(it.text):
+        digits = '\\x%02x' % it.code if it.code < 128 else '\\u{%x}' % it.code
+        return Unit('hex', digits[:2] + cased(style, 'd', 'D', digits[2:]), it.code)
     return it
+
+
+def is_hidden(c):
+    # A form feed lays out a source, and no text.
+    return c in hiding() and c != '\r' or c == '\f'
+
+
+def loses_raw(style, kind, front, inside):
+    """Whether a raw literal becomes one with escapes. After a hash or a dot one without a prefix is cut otherwise then."""
+    bare = 'r' in style and not set(inside) & set('"\\')
+    shown = 'i' in style and any(map(is_hidden, inside))
+    return (bare or shown) and not (kind == 'Str' and front[-1:] in ('#', '.'))
+
+
+def unit_of(kind, c):
+    if c in '"\\':
+        return Unit('quote' if c == '"' else 'letter', '\\' + c, ord(c))
+    return Unit('itself', c, ord(c))
 
 
 def fewest_hashes(inside):
@@ -224,11 +248,13 @@ def fewest_hashes(inside):
     return max([0] + [len(match[1]) + 1 for match in re.finditer('"(#*)', inside)])
 
 
-def rewrite(style, text):
-    """What the literal is in the style; None where the text is none."""
+def rewrite(style, text, front=''):
+    """What the literal after this text is in the style; None where the text is none."""
     it = literal(text)
     if it is None:
         return None
+    if it.form == 'raw' and loses_raw(style, it.kind, front, it.parts['inside']):
+        it = it._replace(form='escapes', parts={'units': [unit_of(it.kind, c) for c in it.parts['inside']]})
     parts = dict(it.parts)
     # Without its underscores `0_b1` would begin as another base does.
     if 'u' in style and it.suffix[:1] not in ('b', 'o', 'x'):
@@ -254,8 +280,10 @@ def rewrite(style, text):
 
 SUFFIXES = ['', 'x', 'u8', '_x', 'e1', 'b1', 'r', 'é', 'f32', 'o7', 'E', 'aB', 'F']
 PIECES = ['a', ' ', '\n', "'", '"', "\\'", '\\"', '\\\\', '\\n', '\\0', '\\x41', '\\x2a', '\\x2A', '\\x27', '\\x0A', '\\x00', '\\x7F', '\\xfF',
-          '\\u{41}', '\\u{0000e9}', '\\u{E_9_}', '\\u{202E}', '\\u{D}', '\\u{aBcD}', '\\x09', '\\u{5c}', '\\x5C', '\\x20', '\\u{22}', '\\u{7f}', '\\u{141}', '\\xc1', '\\u{0_0}', '\\u{0_1_0}', '\\u{000041}', '\\\n', '\\\n \t', 'é', '\u202e', '1', 'x', '{', '\t']
-RAW_PIECES = ['"', '"#', '#', 'a', '\\', '\n', '"##', ' ', 'é', '"#"']
+          '\\u{41}', '\\u{0000e9}', '\\u{E_9_}', '\\u{202E}', '\\u{D}', '\\u{aBcD}', '\\x09', '\\u{5c}', '\\x5C', '\\x20', '\\u{22}', '\\u{7f}', '\\u{141}', '\\xc1', '\\u{0_0}', '\\u{0_1_0}', '\\u{000041}', '\\\n', '\\\n \t', 'é', '\u202e', '1', 'x', '{', '\t',
+          '\x00', '\x1b', '\x7f', '\x0c', '\x80', '\u200d', '\ufe0f', '\U000e0041']
+RAW_PIECES = ['"', '"#', '#', 'a', '\\', '\n', '"##', ' ', 'é', '"#"', '\u202e', '\x1b', '\t', '\0']
+FRONTS = ['', '', '', '#', '.', '1.', '.#', '#.', '# ', '. ', 'é', 'a', '(', '\n']
 NUMBERS = ['019_.eE+-xaF', '01_.eE+-']
 
 
@@ -275,7 +303,7 @@ def short_texts():
         yield from (opener + ''.join(pair) + opener[-1] for pair in itertools.product(PIECES, repeat=2))
     for opener in RAW_OPENERS.values():
         for hashes in ('', '#', '##', '###'):
-            for inside in words(['"', '#', 'a', '\\'], range(4)):
+            for inside in words(['"', '#', 'a', '\\', '\u200b', '\x1b'], range(4)):
                 yield opener + hashes + '"' + inside + '"' + hashes
 
 
@@ -302,33 +330,36 @@ def long_texts(dice, count):
 
 def styles():
     for x, s, e, d in itertools.product(['', 'x', 'X'], ['', 's', 'S'], ['', 'e', 'E'], ['', 'd', 'D']):
-        for letters in itertools.product(*(['', letter] for letter in 'uzcanpqh')):
+        for letters in itertools.product(*(['', letter] for letter in 'uzcanpqhri')):
             yield x + s + e + d + ''.join(letters)
 
 
-def broken(style, text):
+def broken(style, text, front):
     """Which law the text breaks in the style; None if none."""
-    old, written = literal(text), rewrite(style, text)
+    old, written = literal(text), rewrite(style, text, front)
     new = literal(written)
     if new is None:
         return 'no literal'
     for name, part in (('kind', lambda it: it.kind), ('contents', contents), ('suffix', lambda it: it.suffix)):
         if part(old) != part(new):
             return name
-    if rewrite(style, written) != written:
+    if rewrite(style, written, front) != written:
         return 'it changes again'
-    return 'longer' if len(written) > len(text) + ('S' in style) else None
+    # An escape takes four bytes for each of a character's at most.
+    long = 4 * len(text.encode()) if 'i' in style else len(text.encode())
+    return 'longer' if len(written.encode()) > long + ('S' in style) else None
 
 
 def check_laws(dice):
     texts = {text for text in itertools.chain(short_texts(), long_texts(dice, 40000)) if literal(text)}
     every, changed = sorted(texts), 0
     for style in styles():
-        for text in every if style in RULES else dice.sample(every, 20):
-            changed += rewrite(style, text) != text
-            law = broken(style, text)
+        for text in every if style in RULES else dice.sample(every, 5):
+            front = dice.choice(FRONTS)
+            changed += rewrite(style, text, front) != text
+            law = broken(style, text, front)
             if law:
-                print(f'{style!r} {text!r} {rewrite(style, text)!r}: {law}')
+                print(f'{style!r} {front!r} {text!r} {rewrite(style, text, front)!r}: {law}')
                 return 1
     print(f'{len(texts)} literals, {changed} changed, in {len(list(styles()))} styles: each law holds')
     return 0
@@ -341,12 +372,12 @@ def write_rows(dice, count):
     kept = [text for text in dict.fromkeys(texts) if literal(text) or dice.random() < .2]
     lines = []
     for text in kept:
-        style = dice.choice(every)
-        written = rewrite(style, text)
+        style, front = dice.choice(every), dice.choice(FRONTS)
+        written = rewrite(style, text, front)
         shown = '!' if written is None else '=' if written == text else written.encode().hex()
-        lines.append(f'{style or "-"} {text.encode().hex()} {shown}\n')
+        lines.append(f'{style or "-"} {front.encode().hex() or "-"} {text.encode().hex()} {shown}\n')
     ROWS.write_text(''.join(lines), encoding='utf-8')
-    ends = [line.split()[2] for line in lines]
+    ends = [line.split()[3] for line in lines]
     print(f'{len(lines)} rows: {ends.count("!")} are no literal, {ends.count("=")} stay')
 
 

@@ -2,7 +2,7 @@
 
 use crate::error::ListError;
 use crate::rl_style::{may_restyle, Restylable, Restylables};
-use crate::style::{rewrite, Style};
+use crate::style::{rewrite_after, Style};
 use alloc::borrow::Cow;
 use alloc::string::String;
 use core::fmt;
@@ -89,11 +89,11 @@ impl<'t> Restyles<'t> {
 }
 
 /// The edit that brings a literal into the style; `None` where it stays as it is.
-fn edit_of(style: Style, literal: Restylable<'_>) -> Option<Edit> {
+fn edit_of(style: Style, source: &str, literal: Restylable<'_>) -> Option<Edit> {
     if literal.is_field {
         return None;
     }
-    match rewrite(literal.token.text, style) {
+    match rewrite_after(&source[..literal.token.lo], literal.token.text, style) {
         Ok(Cow::Owned(text)) => Some(Edit {
             range: literal.token.lo..literal.token.hi,
             text,
@@ -112,7 +112,7 @@ impl Iterator for Restyles<'_> {
                 let error = self.literals.error()?;
                 return Some(Err(ListError::of_source(self.text, error)));
             };
-            if let Some(edit) = edit_of(self.style, literal) {
+            if let Some(edit) = edit_of(self.style, self.text, literal) {
                 return Some(Ok(edit));
             }
         }

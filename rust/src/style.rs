@@ -83,6 +83,8 @@ pub struct Style {
     named_escapes: bool,
     quote_escapes: bool,
     raw_hashes: bool,
+    raw: bool,
+    hidden: bool,
 }
 
 impl Style {
@@ -109,6 +111,8 @@ impl Style {
             named_escapes: false,
             quote_escapes: false,
             raw_hashes: false,
+            raw: false,
+            hidden: false,
         }
     }
 
@@ -331,6 +335,45 @@ impl Style {
         }
     }
 
+    /// The same with escapes in place of raw strings that hold neither a backslash nor a quote, or with those that stand there. After
+    /// a hash or a dot a raw string without `b` or `c` stays ([`rewrite_after`]).
+    ///
+    /// ```
+    /// use navyspindle::{rewrite, Style};
+    ///
+    /// let style = Style::new().drop_raw(true);
+    /// assert_eq!(rewrite(r###"r#"a"#"###, style)?, r#""a""#);
+    /// assert_eq!(rewrite(r#"br"\d""#, style)?, r#"br"\d""#);
+    /// # Ok::<(), navyspindle::ParseError>(())
+    /// ```
+    #[must_use]
+    pub const fn drop_raw(self, dropped: bool) -> Self {
+        Style {
+            raw: dropped,
+            ..self
+        }
+    }
+
+    /// The same with escapes by number for characters that turn or hide text, or with what stands there: control characters but LF and
+    /// TAB, what turns the direction of text, and what has no width, as a joiner of emoji has none; variation selectors from U+FE00 to
+    /// U+FE0F stay. A raw string that holds one gets escapes, where [`Style::drop_raw`] could.
+    ///
+    /// ```
+    /// use navyspindle::{rewrite, Style};
+    ///
+    /// let style = Style::new().escape_hidden(true);
+    /// assert_eq!(rewrite("\"a\u{202e}\u{1b}\"", style)?, r#""a\u{202e}\x1b""#);
+    /// assert_eq!(rewrite("r\"\\d\u{feff}\"", style)?, r#""\\d\u{feff}""#);
+    /// # Ok::<(), navyspindle::ParseError>(())
+    /// ```
+    #[must_use]
+    pub const fn escape_hidden(self, escaped: bool) -> Self {
+        Style {
+            hidden: escaped,
+            ..self
+        }
+    }
+
     /// The proved style.
     fn proved(self) -> rl_style::Style {
         rl_style::Style {
@@ -346,6 +389,8 @@ impl Style {
             named_escapes: self.named_escapes,
             quote_escapes: self.quote_escapes,
             raw_hashes: self.raw_hashes,
+            raw: self.raw,
+            hidden: self.hidden,
         }
     }
 }
@@ -357,7 +402,7 @@ impl Default for Style {
     }
 }
 
-/// The literal in the style: of the same kind, with the same contents and the same suffix. Borrowed where nothing changes.
+/// The literal in the style, where it stands alone or after a space: of the same kind, with the same contents and the same suffix. Borrowed where nothing changes.
 ///
 /// A text that was written so, the same style leaves as it is. What looks at a token's text and not at its value sees the change:
 /// `stringify!`, an arm of `macro_rules!` that names a literal, `concat!` of floats.
@@ -378,8 +423,32 @@ impl Default for Style {
 /// # Ok::<(), navyspindle::ParseError>(())
 /// ```
 pub fn rewrite(text: &str, style: Style) -> Result<Cow<'_, str>, ParseError> {
-    let mut room = vec![0; text.len() + 1];
-    let len = rewrite_into(text, style.proved(), &mut room).map_err(ParseError::of_flaw)?;
+    rewrite_after("", text, style)
+}
+
+/// The same of a literal that stands after this text in its source, of which the last character counts: after `#` and `.` no raw string
+/// loses its `r`. `1.r"a"` are three tokens, and `1."a"` are two; `#"a"` is reserved from edition 2024 on.
+///
+/// # Errors
+///
+/// As [`rewrite`].
+///
+/// ```
+/// use navyspindle::{rewrite_after, Style};
+///
+/// let style = Style::new().drop_raw(true);
+/// assert_eq!(rewrite_after("let a = ", r#"r"a""#, style)?, r#""a""#);
+/// assert_eq!(rewrite_after("1.", r#"r"a""#, style)?, r#"r"a""#);
+/// # Ok::<(), navyspindle::ParseError>(())
+/// ```
+pub fn rewrite_after<'t>(
+    front: &str,
+    text: &'t str,
+    style: Style,
+) -> Result<Cow<'t, str>, ParseError> {
+    let mut room = vec![0; 4 * text.len() + 1];
+    let len =
+        rewrite_into(front, text, style.proved(), &mut room).map_err(ParseError::of_flaw)?;
     room.truncate(len);
     if room == text.as_bytes() {
         return Ok(Cow::Borrowed(text));

@@ -127,3 +127,20 @@ fn edits_stand_in_order_and_once_is_enough() {
 fn literals(text: &str) -> Vec<Lit<'_>> {
     source(text).map(|item| item.unwrap().1).collect()
 }
+
+#[test]
+fn raw_strings_stay_after_hashes_and_dots() {
+    let style = Style::new().drop_raw(true).escape_hidden(true);
+    let whole = |text| restyle(text, style).apply().unwrap();
+    assert_eq!(
+        whole("a(r\"b\", br#\"c\"#, cr\"d\\\", r\"\\\u{202e}\")"),
+        "a(\"b\", b\"c\", cr\"d\\\", \"\\\\\\u{202e}\")"
+    );
+    assert_eq!(
+        whole("# r\"a\", 1. r\"b\", #br\"c\", x.cr\"d\", r\"e\".r\"f\""),
+        "# \"a\", 1. \"b\", #b\"c\", x.c\"d\", \"e\".r\"f\""
+    );
+    for text in ["1.r\"a\"", "#r\"a\"", "##r#\"a\"#", "x.r\"\u{202e}\""] {
+        assert_eq!(whole(text), text);
+    }
+}

@@ -1,6 +1,6 @@
 //! Literals written anew, held against the rows of `style.txt`, which `tools/style_model.py` writes of a model's answers.
 
-use navyspindle::{is_token, rewrite, Case, FlawKind, Lit, Separator, Style};
+use navyspindle::{is_token, rewrite, rewrite_after, Case, FlawKind, Lit, Separator, Style};
 use std::borrow::Cow;
 
 const ROWS: &str = include_str!("style.txt");
@@ -24,11 +24,16 @@ fn style_of(letters: &str) -> Style {
         'n' => style.named_escapes(true),
         'q' => style.drop_quote_escapes(true),
         'h' => style.fewest_hashes(true),
+        'r' => style.drop_raw(true),
+        'i' => style.escape_hidden(true),
         _ => style,
     })
 }
 
 fn decoded(digits: &str) -> String {
+    if digits == "-" {
+        return String::new();
+    }
     let byte = |at| u8::from_str_radix(&digits[at..at + 2], 16).unwrap();
     String::from_utf8((0..digits.len()).step_by(2).map(byte).collect()).unwrap()
 }
@@ -37,11 +42,11 @@ fn decoded(digits: &str) -> String {
 fn the_model_writes_the_same() {
     let mut changed = 0;
     for row in ROWS.lines() {
-        let [letters, text, written] = row.split(' ').collect::<Vec<_>>()[..] else {
+        let [letters, front, text, written] = row.split(' ').collect::<Vec<_>>()[..] else {
             panic!("{row}")
         };
-        let (style, text) = (style_of(letters), decoded(text));
-        let answer = rewrite(&text, style);
+        let (style, front, text) = (style_of(letters), decoded(front), decoded(text));
+        let answer = rewrite_after(&front, &text, style);
         if written == "!" {
             assert!(answer.is_err() && !is_token(&text), "{letters} {text}");
             continue;
@@ -55,7 +60,8 @@ fn the_model_writes_the_same() {
             continue;
         }
         assert_eq!(answer, decoded(written), "{letters} {text}");
-        assert_eq!(rewrite(&answer, style).unwrap(), answer, "{letters} {text}");
+        let again = rewrite_after(&front, &answer, style).unwrap();
+        assert_eq!(again, answer, "{letters} {text}");
         changed += 1;
     }
     assert!(changed > 500, "{changed}");
@@ -80,11 +86,16 @@ fn read_alike(old: &str, new: &str) -> bool {
 #[test]
 fn what_is_written_reads_alike() {
     for row in ROWS.lines() {
-        let text = decoded(row.split(' ').nth(1).unwrap());
-        for (letters, more) in [("xuzsepdcanqh", 0), ("zSepdcanqh", 1)] {
+        let text = decoded(row.split(' ').nth(2).unwrap());
+        let len = text.len();
+        for (letters, most) in [
+            ("xuzsepdcanqhr", len),
+            ("zSepdcanqh", len + 1),
+            ("Sri", 4 * len + 1),
+        ] {
             if let Ok(written) = rewrite(&text, style_of(letters)) {
                 assert!(read_alike(&text, &written), "{text} {written}");
-                assert!(written.len() <= text.len() + more, "{text} {written}");
+                assert!(written.len() <= most, "{text} {written}");
             }
         }
     }

@@ -12,5 +12,6 @@ pub use crate::glob::is_excluded;
 pub use crate::host::{Host, LONGEST};
 pub use crate::memory::{MemoryDirectory, MemoryFile, MemoryTree};
 pub use crate::tree::{PathError, Tree};
-pub use crate::visible::{is_hiding, make_visible, needs_escape, push_visible};
+pub use crate::visible::{make_visible, push_visible};
 pub use crate::walk::{Pending, Selection, Visit, Walk, WalkError};
+pub use rl_text::hiding::{is_hiding, needs_escape};

@@ -4,41 +4,10 @@ ghost use Rattle.std.specs.Prelude.{◌≡◌, ◌++◌, ◌∷◌, ◌==◌, []
 ghost use Rattle.std.specs.List.{flat_map, list_all};
 ghost use Rattle.std.specs.Str.{chars, IsCharBoundary};
 ghost use Rattle.std.specs.Char.Escape.{escape_default};
-ghost use Rattle.rl_files.specs.Visible.{is_hiding as hiding, needs_escape as escaped, visible_char, visible, visible_in_line, visible_lines, is_plain_byte};
+ghost use Rattle.rl_files.specs.Visible.{visible_char, visible, visible_in_line, visible_lines, is_plain_byte};
 
+use rl_text::hiding::needs_escape;
 use std::alloc::{AllocError, Allocator};
-
-/// Whether a character turns the direction of text or has no width, so that what is shown isn't what is there.
-pub fn is_hiding(c: char) -> bool
-    ensures { result ≡ hiding c }
-{
-    matches!(
-        c,
-        '\u{ad}'
-            | '\u{34f}'
-            | '\u{61c}'
-            | '\u{115f}'..='\u{1160}'
-            | '\u{17b4}'..='\u{17b5}'
-            | '\u{180b}'..='\u{180f}'
-            | '\u{200b}'..='\u{200f}'
-            | '\u{2028}'..='\u{202e}'
-            | '\u{2060}'..='\u{206f}'
-            | '\u{3164}'
-            | '\u{feff}'
-            | '\u{ffa0}'
-            | '\u{fff0}'..='\u{fffb}'
-            | '\u{1bca0}'..='\u{1bca3}'
-            | '\u{1d173}'..='\u{1d17a}'
-            | '\u{e0000}'..='\u{e0fff}'
-    )
-}
-
-/// Whether a character is printed as an escape: a control character, and one that turns or hides text.
-pub fn needs_escape(c: char) -> bool
-    ensures { result ≡ escaped c }
-{
-    c.is_control() || is_hiding(c)
-}
 
 /// Appends an escape of a character: `\n`, `\r`, `\t`, or its number, as `\u{202e}`.
 fn push_escape<A: Allocator>(out: &mut String<A>, c: char) -> Result<(), AllocError>

@@ -72,13 +72,13 @@ decimal_front d more new f g e p x after is =
     or_true true = refl
     or_true false = refl
 
-unraw_front : (p : LiteralPrefix) → p ≢ NoPrefix → (n : ℕ) (body : List ℕ) (parts : List BodyPart) (x after : List ℕ)
-    → SameFront (lexeme_text (RawLexeme p n body x) ++ after) (lexeme_text (QuotedLexeme p parts x) ++ after)
-unraw_front NoPrefix some n body parts x after = absurd (some refl)
-unraw_front BytePrefix some n body parts x after = alike [] 98 (114 ∷ raw_rest n body x after)
-    (34 ∷ (body_text parts ++ 34 ∷ x ++ after)) refl (not_r 98 refl)
-unraw_front CPrefix some n body parts x after = alike [] 99 (114 ∷ raw_rest n body x after)
-    (34 ∷ (body_text parts ++ 34 ∷ x ++ after)) refl (not_r 99 refl)
+pub unraw_front : (p : LiteralPrefix) → p ≢ NoPrefix → (n : ℕ) (body : List ℕ) (parts : List BodyPart) (x y z : List ℕ)
+    → SameFront (lexeme_text (RawLexeme p n body x) ++ y) (lexeme_text (QuotedLexeme p parts x) ++ z)
+unraw_front NoPrefix some n body parts x y z = absurd (some refl)
+unraw_front BytePrefix some n body parts x y z = alike [] 98 (114 ∷ raw_rest n body x y)
+    (34 ∷ (body_text parts ++ 34 ∷ x ++ z)) refl (not_r 98 refl)
+unraw_front CPrefix some n body parts x y z = alike [] 99 (114 ∷ raw_rest n body x y)
+    (34 ∷ (body_text parts ++ 34 ∷ x ++ z)) refl (not_r 99 refl)
 
 -- what a new literal has to show
 abbrev Keeps : Lexeme → List ℕ → Lexeme → Type 0
@@ -137,5 +137,5 @@ keeps_its_ends l m after (inr (inr (inr (inr (inr s))))) is =
     s.new_is (
       (s.is_body, (as_named l (RawLexeme s.prefix s.hashes s.body s.suffix) after s.old_is is).1),
       unraw_front
-          s.prefix s.has_prefix s.hashes s.body s.new_parts s.suffix after,
+          s.prefix s.has_prefix s.hashes s.body s.new_parts s.suffix after after,
     )

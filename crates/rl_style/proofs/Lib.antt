@@ -7,12 +7,16 @@ pub mod SameIntegers
 pub mod SameFloats
 pub mod SameRaw
 pub mod CodeDigits
+pub mod HiddenUnits
 pub mod SameUnits
-pub mod SameLiterals
 pub mod QuotedParts
 pub mod UnitTexts
+pub mod LostRaw
+pub mod SameLiterals
 pub mod WrittenNumbers
 pub mod WrittenQuoted
+pub mod WrittenUnraw
+pub mod FrontEnds
 pub mod FrontTests
 pub mod Stays
 pub mod Decimals
@@ -26,6 +30,7 @@ pub mod NoRule
 pub mod QuotedLexemes
 pub mod Lexings
 pub mod Restyled
+pub mod Places
 pub mod RestyledCuts
 mod RestylableLemmas
 pub mod EditedCuts

@@ -1,5 +1,5 @@
 -- A style without rules changes nothing.
-use Rattle.rl_text.proofs.Common.{◌≡◌, ℕ, ◌&&◌, ◌||◌, Bool, true, false, not, ◌==◌, cond, List, [], ◌∷◌, ◌++◌, map, None, refl, sym, ap, subst, ◌∙◌, inl, inr, flat_map}
+use Rattle.rl_text.proofs.Common.{◌≡◌, ℕ, ◌&&◌, ◌||◌, Bool, true, false, not, ◌==◌, cond, List, [], ◌∷◌, ◌++◌, map, None, refl, sym, ap, subst, ◌∙◌, inl, inr, flat_map, list_all, list_any, both_ways}
 use Rattle.rl_reading.proofs.Names.{Kind, StrictUnit, Itself, QuoteEscape, PlainEscape, AsciiEscape, ByteEscape, UnicodeEscape, LineBreak, strict_text}
 use Rattle.rl_forms.specs.Written.{closer}
 use Rattle.rl_forms.specs.Spelling.{place_value}
@@ -8,7 +8,7 @@ use Rattle.rl_forms.proofs.StrictQuoted.{between}
 use Rattle.rl_writing.specs.RawStrings.{raw_text}
 use Rattle.rl_style.specs.declared.style.Style.{Style}
 use Rattle.rl_style.specs.Cases.{cased, drops_underscores, exponent_letter, kept_digits, kept_row, number_character, separator, separator_by, significant, trimmed, trims_by}
-use Rattle.rl_style.specs.Rewriting.{HasHashes, HasNoRule, Rewrites, RewritesCooked, RewritesFloat, RewritesInt, RewritesRaw, cased_digit, styled_digits, fewest_digits, has_letter, is_visible, letter_of, respelled, restyled, visible_unit}
+use Rattle.rl_style.specs.Rewriting.{HasHashes, HasNoRule, Rewrites, RewritesCooked, RewritesFloat, RewritesInt, RewritesRaw, cased_digit, styled_digits, fewest_digits, has_letter, needs_number, is_visible, letter_of, loses_raw, may_lose_r, needs_backslash, number_escape, reescaped, respelled, restyled, visible_unit}
 use Rattle.rl_text.specs.Texts.{first_passes}
 use Rattle.rl_lexer.specs.Lexemes.{is_base_letter}
 use Rattle.rl_style.proofs.CaseLemmas.{none_right}
@@ -73,13 +73,21 @@ float_kept style t u n c =
 
 -- ---- quoted literals
 
-raw_kept : (style : Style) (t u : List ℕ) → HasNoRule style → RewritesRaw style t u → u ≡ t
-raw_kept style t u n c =
+raw_kept : (style : Style) (front t u : List ℕ) → HasNoRule style → RewritesRaw style front t u → u ≡ t
+raw_kept style front t u n (inl c) =
     let Has : Bool → Type 0 = λ b. HasHashes b c.kind c.raw.inside c.raw.hashes c.hashes in
     let same : c.hashes ≡ c.raw.hashes = subst Has n.raw_hashes c.hashes_are in
     c.new_is ∙ ap (λ z. raw_text c.kind z c.raw.inside ++ c.suffix) same
     ∙ raw_followed c.kind c.raw.hashes c.raw.inside c.suffix (raw_string t c.kind c.contents c.suffix c.raw)
     ∙ sym c.raw.text
+raw_kept style front t u n (inr c) =
+    let may : Bool = may_lose_r c.kind front in
+    let bare : Bool = list_all (λ c. not (needs_backslash c)) c.raw.inside in
+    let some : Bool = list_any needs_number c.raw.inside in
+    let none : loses_raw style c.kind front c.raw.inside ≡ false =
+    ap (λ b. may && ((b && bare) || (style.hidden && some))) n.raw ∙ ap (λ b. may && (b && some)) n.hidden
+    ∙ none_right may in
+    absurd (both_ways (loses_raw style c.kind front c.raw.inside) none c.loses)
 
 codes_kept : (ds : List (ℕ × ℕ)) → map (cased_digit None) ds ≡ ds
 codes_kept [] = refl
@@ -109,7 +117,8 @@ unit_kept style k (UnicodeEscape digits) n =
     ∙ ap (λ b. UnicodeEscape (map (cased_digit style.escape_digits) (cond b (fewest_digits digits) digits)))
     n.code_digits
     ∙ ap (λ z. UnicodeEscape (map (cased_digit z) digits)) n.escape_digits ∙ ap UnicodeEscape (codes_kept digits)
-unit_kept style k (Itself c) n = refl
+unit_kept style k (Itself c) n = ap (λ b. cond (b && needs_number c) (reescaped style k (number_escape k c)) (Itself c))
+    n.hidden
 unit_kept style k (PlainEscape c) n = refl
 unit_kept style k (LineBreak blanks) n = refl
 
@@ -125,9 +134,9 @@ cooked_kept style t u n c =
     ∙ sym (between (strict_opener c.kind) (flat_map strict_text c.cooked.units) (strict_closer c.kind) c.suffix)
     ∙ sym c.cooked.text
 
-pub nothing_changes : (style : Style) (t u : List ℕ) → HasNoRule style → Rewrites style t u → u ≡ t
-nothing_changes style t u n (inl a) = integer_kept style t u n a
-nothing_changes style t u n (inr (inl a)) = float_kept style t u n a
-nothing_changes style t u n (inr (inr (inl a))) = raw_kept style t u n a
-nothing_changes style t u n (inr (inr (inr (inl a)))) = cooked_kept style t u n a
-nothing_changes style t u n (inr (inr (inr (inr a)))) = a.new_is
+pub nothing_changes : (style : Style) (front t u : List ℕ) → HasNoRule style → Rewrites style front t u → u ≡ t
+nothing_changes style front t u n (inl a) = integer_kept style t u n a
+nothing_changes style front t u n (inr (inl a)) = float_kept style t u n a
+nothing_changes style front t u n (inr (inr (inl a))) = raw_kept style front t u n a
+nothing_changes style front t u n (inr (inr (inr (inl a)))) = cooked_kept style t u n a
+nothing_changes style front t u n (inr (inr (inr (inr a)))) = a.new_is

@@ -10,7 +10,7 @@ use Rattle.rl_forms.proofs.StrictQuoted.{between}
 use Rattle.rl_writing.specs.RawStrings.{HasFewestHashes, raw_contents, raw_text}
 use Rattle.rl_style.specs.declared.style.Style.{Style}
 use Rattle.rl_style.specs.Cases.{drops_underscores, kept_digits, kept_row, number_character, separator}
-use Rattle.rl_style.specs.Rewriting.{HasHashes, KeepsTruth, Rewrites, RewritesCooked, RewritesFloat, RewritesInt, RewritesRaw, restyled}
+use Rattle.rl_style.specs.Rewriting.{HasHashes, KeepsTruth, LosesRaw, Rewrites, RewritesCooked, RewritesFloat, RewritesInt, RewritesRaw, StaysRaw, loses_raw, restyled, unraw_text}
 use Rattle.rl_style.proofs.SameRaw.{first_quote, length_hashes, raw_joined, raw_strict, raw_string, second_quote}
 use Rattle.rl_style.proofs.SameUnits.{cooked_strict}
 use Rattle.rl_style.proofs.UnitTexts.{texts_once}
@@ -111,26 +111,76 @@ raw_parts_once t k v w x a b =
     )
 
 -- the other answer, as one of the same kind and with the same suffix
-abbrev RawAs : Style → List ℕ → List ℕ → Contents → ℕ → Kind → List ℕ → Type 0
-RawAs style t w v n k x =
+abbrev StaysAs : Style → List ℕ → List ℕ → List ℕ → Contents → ℕ → Kind → List ℕ → Type 0
+StaysAs style front t w v n k x =
     (s : StrictRaw t k v x) × HasHashes style.raw_hashes k s.inside s.hashes n × (w ≡ raw_text k n s.inside ++ x)
+    × (loses_raw style k front s.inside ≡ false)
 
-raw_once : (style : Style) (t u w : List ℕ) → RewritesRaw style t u → RewritesRaw style t w → u ≡ w
-raw_once style t u w a b =
-    let one = one_strict t a.kind b.kind a.contents b.contents a.suffix b.suffix
-    (raw_strict t a.kind a.contents a.suffix a.raw) (raw_strict t b.kind b.contents b.suffix b.raw) in
-    let As : Kind → List ℕ → Type 0 = RawAs style t w b.contents b.hashes in
-    let own : As b.kind b.suffix = (b.raw, b.hashes_are, b.new_is) in
-    let other : As a.kind a.suffix = subst (λ k. As k a.suffix) (sym one.0) (subst (As b.kind) (sym one.2) own) in
+abbrev LosesAs : Style → List ℕ → List ℕ → List ℕ → Contents → Kind → List ℕ → Type 0
+LosesAs style front t w v k x =
+    (s : StrictRaw t k v x) × (w ≡ unraw_text style k s.inside x) × (loses_raw style k front s.inside ≡ true)
+
+stays_as : (style : Style) (front t w : List ℕ) (k : Kind) (v : Contents) (x : List ℕ) → Strict t k v x
+    → (b : StaysRaw style front t w) → StaysAs style front t w b.contents b.hashes k x
+stays_as style front t w k v x a b =
+    let one = one_strict t k b.kind v b.contents x b.suffix a (raw_strict t b.kind b.contents b.suffix b.raw) in
+    let As : Kind → List ℕ → Type 0 = StaysAs style front t w b.contents b.hashes in
+    let own : As b.kind b.suffix = (b.raw, b.hashes_are, b.new_is, b.stays) in
+    subst (λ k. As k x) (sym one.0) (subst (As b.kind) (sym one.2) own)
+
+loses_as : (style : Style) (front t w : List ℕ) (k : Kind) (v : Contents) (x : List ℕ) → Strict t k v x
+    → (b : LosesRaw style front t w) → LosesAs style front t w b.contents k x
+loses_as style front t w k v x a b =
+    let one = one_strict t k b.kind v b.contents x b.suffix a (raw_strict t b.kind b.contents b.suffix b.raw) in
+    let As : Kind → List ℕ → Type 0 = LosesAs style front t w b.contents in
+    let own : As b.kind b.suffix = (b.raw, b.new_is, b.loses) in
+    subst (λ k. As k x) (sym one.0) (subst (As b.kind) (sym one.2) own)
+
+stays_once : (style : Style) (front t u w : List ℕ) → StaysRaw style front t u → StaysRaw style front t w → u ≡ w
+stays_once style front t u w a b =
     let r = a.raw in
-    let s = other.0 in
+    let (s, hashes, new_is, stays) = stays_as style front t w a.kind a.contents a.suffix
+    (raw_strict t a.kind a.contents a.suffix a.raw) b in
     let parts = raw_parts_once t a.kind a.contents b.contents a.suffix r s in
     let Has : List ℕ → ℕ → Type 0 = λ i n. HasHashes style.raw_hashes a.kind i n b.hashes in
     let same : Has r.inside r.hashes = subst (λ i. Has i r.hashes) (sym parts.1)
-    (subst (Has s.inside) (sym parts.0) other.1) in
+    (subst (Has s.inside) (sym parts.0) hashes) in
     let count = hashes_once style.raw_hashes a.kind r.inside r.hashes a.hashes b.hashes a.hashes_are same in
     a.new_is ∙ ap (λ n. raw_text a.kind n r.inside ++ a.suffix) count
-    ∙ ap (λ i. raw_text a.kind b.hashes i ++ a.suffix) parts.1 ∙ sym other.2
+    ∙ ap (λ i. raw_text a.kind b.hashes i ++ a.suffix) parts.1 ∙ sym new_is
+
+loses_once : (style : Style) (front t u w : List ℕ) → LosesRaw style front t u → LosesRaw style front t w → u ≡ w
+loses_once style front t u w a b =
+    let (s, new_is, loses) = loses_as style front t w a.kind a.contents a.suffix
+    (raw_strict t a.kind a.contents a.suffix a.raw) b in
+    let parts = raw_parts_once t a.kind a.contents b.contents a.suffix a.raw s in
+    a.new_is ∙ ap (λ i. unraw_text style a.kind i a.suffix) parts.1 ∙ sym new_is
+
+-- none both stays and loses its `r`
+never_both : (style : Style) (front t u w : List ℕ) → StaysRaw style front t u → LosesRaw style front t w → ⊥
+never_both style front t u w a b =
+    let (s, new_is, loses) = loses_as style front t w a.kind a.contents a.suffix
+    (raw_strict t a.kind a.contents a.suffix a.raw) b in
+    let parts = raw_parts_once t a.kind a.contents b.contents a.suffix a.raw s in
+    both_ways (loses_raw style a.kind front a.raw.inside) a.stays
+    (ap (loses_raw style a.kind front) parts.1 ∙ loses)
+
+raw_once : (style : Style) (front t u w : List ℕ) → RewritesRaw style front t u → RewritesRaw style front t w → u ≡ w
+raw_once style front t u w (inl a) (inl b) = stays_once style front t u w a b
+raw_once style front t u w (inl a) (inr b) = absurd (never_both style front t u w a b)
+raw_once style front t u w (inr a) (inl b) = absurd (never_both style front t w u b a)
+raw_once style front t u w (inr a) (inr b) = loses_once style front t u w a b
+
+-- the raw literal that it was
+record WasRaw (t : List ℕ) : Type 0 where
+  kind : Kind
+  contents : Contents
+  suffix : List ℕ
+  raw : StrictRaw t kind contents suffix
+
+was_raw : (style : Style) (front t u : List ℕ) → RewritesRaw style front t u → WasRaw t
+was_raw style front t u (inl a) = record { kind = a.kind; contents = a.contents; suffix = a.suffix; raw = a.raw }
+was_raw style front t u (inr a) = record { kind = a.kind; contents = a.contents; suffix = a.suffix; raw = a.raw }
 
 -- ---- literals with escapes
 
@@ -193,8 +243,8 @@ raw_not_cooked ByteStr y z s e = both_ways false refl (ap second_quote e)
 raw_not_cooked CStr y z s e = both_ways false refl (ap second_quote e)
 raw_not_cooked kind y z s e = absurd (cc)
 
-raw_apart : (style : Style) (t u w : List ℕ) → RewritesRaw style t u → RewritesCooked style t w → ⊥
-raw_apart style t u w a b =
+raw_apart : (style : Style) (t w : List ℕ) → WasRaw t → RewritesCooked style t w → ⊥
+raw_apart style t w a b =
     let one = one_strict t a.kind b.kind a.contents b.contents a.suffix b.suffix
     (raw_strict t a.kind a.contents a.suffix a.raw) (cooked_strict t b.kind b.contents b.suffix b.cooked) in
     let h : List ℕ = replicate a.raw.hashes 35 in
@@ -213,8 +263,8 @@ raw_apart style t u w a b =
 clash : (t : List ℕ) (k l : Kind) (v w : Contents) (x y : List ℕ) → Strict t k v x → Strict t l w y → (k ≡ l → ⊥) → ⊥
 clash t k l v w x y a b n = n (one_strict t k l v w x y a b).0
 
-int_raw : (style : Style) (t u w : List ℕ) → RewritesInt style t u → RewritesRaw style t w → ⊥
-int_raw style t u w a b = clash t b.kind Int b.contents a.contents b.suffix a.suffix
+int_raw : (style : Style) (t u : List ℕ) → RewritesInt style t u → WasRaw t → ⊥
+int_raw style t u a b = clash t b.kind Int b.contents a.contents b.suffix a.suffix
     (raw_strict t b.kind b.contents b.suffix b.raw) a.int
     (raw_quoted b.kind (raw_string t b.kind b.contents b.suffix b.raw)).0
 
@@ -222,8 +272,8 @@ int_cooked : (style : Style) (t u w : List ℕ) → RewritesInt style t u → Re
 int_cooked style t u w a b = clash t b.kind Int b.contents a.contents b.suffix a.suffix
     (cooked_strict t b.kind b.contents b.suffix b.cooked) a.int (cooked_quoted b.kind b.cooked.units b.cooked.count).0
 
-float_raw : (style : Style) (t u w : List ℕ) → RewritesFloat style t u → RewritesRaw style t w → ⊥
-float_raw style t u w a b = clash t b.kind Float b.contents a.contents b.suffix a.suffix
+float_raw : (style : Style) (t u : List ℕ) → RewritesFloat style t u → WasRaw t → ⊥
+float_raw style t u a b = clash t b.kind Float b.contents a.contents b.suffix a.suffix
     (raw_strict t b.kind b.contents b.suffix b.raw) a.float
     (raw_quoted b.kind (raw_string t b.kind b.contents b.suffix b.raw)).1
 
@@ -231,8 +281,8 @@ float_cooked : (style : Style) (t u w : List ℕ) → RewritesFloat style t u �
 float_cooked style t u w a b = clash t b.kind Float b.contents a.contents b.suffix a.suffix
     (cooked_strict t b.kind b.contents b.suffix b.cooked) a.float (cooked_quoted b.kind b.cooked.units b.cooked.count).1
 
-truth_raw : (style : Style) (t u w : List ℕ) → KeepsTruth t u → RewritesRaw style t w → ⊥
-truth_raw style t u w a b = clash t b.kind BoolKind b.contents a.contents b.suffix a.suffix
+truth_raw : (t u : List ℕ) → KeepsTruth t u → WasRaw t → ⊥
+truth_raw t u a b = clash t b.kind BoolKind b.contents a.contents b.suffix a.suffix
     (raw_strict t b.kind b.contents b.suffix b.raw) a.truth
     (raw_quoted b.kind (raw_string t b.kind b.contents b.suffix b.raw)).2
 
@@ -249,29 +299,29 @@ int_word style t u w a b = clash t Int BoolKind a.contents b.contents a.suffix b
 float_word : (style : Style) (t u w : List ℕ) → RewritesFloat style t u → KeepsTruth t w → ⊥
 float_word style t u w a b = clash t Float BoolKind a.contents b.contents a.suffix b.suffix a.float b.truth float_truth
 
-pub one_answer : (style : Style) (t u w : List ℕ) → Rewrites style t u → Rewrites style t w → u ≡ w
-one_answer s t u w (inl a) (inl b) = integer_once s t u w a b
-one_answer s t u w (inl a) (inr (inl b)) = absurd (numbers_apart s t u w a b)
-one_answer s t u w (inl a) (inr (inr (inl b))) = absurd (int_raw s t u w a b)
-one_answer s t u w (inl a) (inr (inr (inr (inl b)))) = absurd (int_cooked s t u w a b)
-one_answer s t u w (inl a) (inr (inr (inr (inr b)))) = absurd (int_word s t u w a b)
-one_answer s t u w (inr (inl a)) (inl b) = absurd (numbers_apart s t w u b a)
-one_answer s t u w (inr (inl a)) (inr (inl b)) = float_once s t u w a b
-one_answer s t u w (inr (inl a)) (inr (inr (inl b))) = absurd (float_raw s t u w a b)
-one_answer s t u w (inr (inl a)) (inr (inr (inr (inl b)))) = absurd (float_cooked s t u w a b)
-one_answer s t u w (inr (inl a)) (inr (inr (inr (inr b)))) = absurd (float_word s t u w a b)
-one_answer s t u w (inr (inr (inl a))) (inl b) = absurd (int_raw s t w u b a)
-one_answer s t u w (inr (inr (inl a))) (inr (inl b)) = absurd (float_raw s t w u b a)
-one_answer s t u w (inr (inr (inl a))) (inr (inr (inl b))) = raw_once s t u w a b
-one_answer s t u w (inr (inr (inl a))) (inr (inr (inr (inl b)))) = absurd (raw_apart s t u w a b)
-one_answer s t u w (inr (inr (inl a))) (inr (inr (inr (inr b)))) = absurd (truth_raw s t w u b a)
-one_answer s t u w (inr (inr (inr (inl a)))) (inl b) = absurd (int_cooked s t w u b a)
-one_answer s t u w (inr (inr (inr (inl a)))) (inr (inl b)) = absurd (float_cooked s t w u b a)
-one_answer s t u w (inr (inr (inr (inl a)))) (inr (inr (inl b))) = absurd (raw_apart s t w u b a)
-one_answer s t u w (inr (inr (inr (inl a)))) (inr (inr (inr (inl b)))) = cooked_once s t u w a b
-one_answer s t u w (inr (inr (inr (inl a)))) (inr (inr (inr (inr b)))) = absurd (truth_cooked s t w u b a)
-one_answer s t u w (inr (inr (inr (inr a)))) (inl b) = absurd (int_word s t w u b a)
-one_answer s t u w (inr (inr (inr (inr a)))) (inr (inl b)) = absurd (float_word s t w u b a)
-one_answer s t u w (inr (inr (inr (inr a)))) (inr (inr (inl b))) = absurd (truth_raw s t u w a b)
-one_answer s t u w (inr (inr (inr (inr a)))) (inr (inr (inr (inl b)))) = absurd (truth_cooked s t u w a b)
-one_answer s t u w (inr (inr (inr (inr a)))) (inr (inr (inr (inr b)))) = a.new_is ∙ sym b.new_is
+pub one_answer : (style : Style) (front t u w : List ℕ) → Rewrites style front t u → Rewrites style front t w → u ≡ w
+one_answer s f t u w (inl a) (inl b) = integer_once s t u w a b
+one_answer s f t u w (inl a) (inr (inl b)) = absurd (numbers_apart s t u w a b)
+one_answer s f t u w (inl a) (inr (inr (inl b))) = absurd (int_raw s t u a (was_raw s f t w b))
+one_answer s f t u w (inl a) (inr (inr (inr (inl b)))) = absurd (int_cooked s t u w a b)
+one_answer s f t u w (inl a) (inr (inr (inr (inr b)))) = absurd (int_word s t u w a b)
+one_answer s f t u w (inr (inl a)) (inl b) = absurd (numbers_apart s t w u b a)
+one_answer s f t u w (inr (inl a)) (inr (inl b)) = float_once s t u w a b
+one_answer s f t u w (inr (inl a)) (inr (inr (inl b))) = absurd (float_raw s t u a (was_raw s f t w b))
+one_answer s f t u w (inr (inl a)) (inr (inr (inr (inl b)))) = absurd (float_cooked s t u w a b)
+one_answer s f t u w (inr (inl a)) (inr (inr (inr (inr b)))) = absurd (float_word s t u w a b)
+one_answer s f t u w (inr (inr (inl a))) (inl b) = absurd (int_raw s t w b (was_raw s f t u a))
+one_answer s f t u w (inr (inr (inl a))) (inr (inl b)) = absurd (float_raw s t w b (was_raw s f t u a))
+one_answer s f t u w (inr (inr (inl a))) (inr (inr (inl b))) = raw_once s f t u w a b
+one_answer s f t u w (inr (inr (inl a))) (inr (inr (inr (inl b)))) = absurd (raw_apart s t w (was_raw s f t u a) b)
+one_answer s f t u w (inr (inr (inl a))) (inr (inr (inr (inr b)))) = absurd (truth_raw t w b (was_raw s f t u a))
+one_answer s f t u w (inr (inr (inr (inl a)))) (inl b) = absurd (int_cooked s t w u b a)
+one_answer s f t u w (inr (inr (inr (inl a)))) (inr (inl b)) = absurd (float_cooked s t w u b a)
+one_answer s f t u w (inr (inr (inr (inl a)))) (inr (inr (inl b))) = absurd (raw_apart s t u (was_raw s f t w b) a)
+one_answer s f t u w (inr (inr (inr (inl a)))) (inr (inr (inr (inl b)))) = cooked_once s t u w a b
+one_answer s f t u w (inr (inr (inr (inl a)))) (inr (inr (inr (inr b)))) = absurd (truth_cooked s t w u b a)
+one_answer s f t u w (inr (inr (inr (inr a)))) (inl b) = absurd (int_word s t w u b a)
+one_answer s f t u w (inr (inr (inr (inr a)))) (inr (inl b)) = absurd (float_word s t w u b a)
+one_answer s f t u w (inr (inr (inr (inr a)))) (inr (inr (inl b))) = absurd (truth_raw t u a (was_raw s f t w b))
+one_answer s f t u w (inr (inr (inr (inr a)))) (inr (inr (inr (inl b)))) = absurd (truth_cooked s t u w a b)
+one_answer s f t u w (inr (inr (inr (inr a)))) (inr (inr (inr (inr b)))) = a.new_is ∙ sym b.new_is

@@ -17,7 +17,8 @@ use Rattle.rl_forms.specs.Spelling.{place_value}
 abbrev free : ℕ → ℕ → ℕ → Bool
 free a b c = not (c == a || c == b)
 
-free_from : (test : ℕ → Bool) (a b : ℕ) → test a ≡ false → test b ≡ false → (c : ℕ) → test c ≡ true → free a b c ≡ true
+pub free_from : (test : ℕ → Bool) (a b : ℕ) → test a ≡ false → test b ≡ false → (c : ℕ) → test c ≡ true → free a b c
+    ≡ true
 free_from test a b at_a at_b c h = not_from_false (c == a || c == b)
     (or_from (c == a) (c == b) (apart test c a h at_a) (apart test c b h at_b))
 
@@ -140,16 +141,16 @@ pub record StringKind (k : Kind) : Type 0 where
   pub opens_is : strict_opener k ≡ prefix_text before ++ (34 ∷ [])
   pub ends_is : strict_closer k ≡ 34 ∷ []
 
-blanks_free : (blanks : List ℕ) → list_all is_dropped_blank blanks ≡ true → list_all (free 34 92) blanks ≡ true
+pub blanks_free : (blanks : List ℕ) → list_all is_dropped_blank blanks ≡ true → list_all (free 34 92) blanks ≡ true
 blanks_free = all_weaker is_dropped_blank (free 34 92) (free_from is_dropped_blank 34 92 refl refl)
 
-pub string_kind : StringKind Str
+abbrev pub string_kind : StringKind Str
 string_kind = record { bare = free_from is_bare_in_string 34 92 refl refl; line = blanks_free; before = NoPrefix; opens_is = refl; ends_is = refl }
 
-pub byte_string_kind : StringKind ByteStr
+abbrev pub byte_string_kind : StringKind ByteStr
 byte_string_kind = record { bare = λ c h. free_from is_bare_in_string 34 92 refl refl c (and_parts (nat_lt c 128) (is_bare_in_string c) h).1; line = blanks_free; before = BytePrefix; opens_is = refl; ends_is = refl }
 
-pub c_string_kind : StringKind CStr
+abbrev pub c_string_kind : StringKind CStr
 c_string_kind = record { bare = λ c h. free_from is_bare_in_string 34 92 refl refl c (and_parts (is_bare_in_string c) (not (c == 0)) h).0; line = blanks_free; before = CPrefix; opens_is = refl; ends_is = refl }
 
 abbrev plain_parts : List ℕ → List BodyPart

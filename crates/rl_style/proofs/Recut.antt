@@ -14,11 +14,12 @@ use Rattle.rl_lexer.proofs.LexemeFronts.{among, start_ascii}
 use Rattle.rl_lexer.proofs.LexemeRows.{not_true, not_among, neither_true}
 use Rattle.rl_lexer.proofs.Pieces.{is_equal, stops-from_none}
 use Rattle.rl_lexer.proofs.SourceFronts.{proper_source}
-use Rattle.rl_style.specs.Around.{SameFront, SameEnds}
+use Rattle.rl_style.specs.Around.{SameFront, SameEnds, may_precede_quote}
 use Rattle.rl_style.specs.Recut.{moved, IsSoundToken, IsSound, placed_literal, KeepsTheCut}
 use Rattle.rl_style.proofs.FrontTests.{front_more}
 use Rattle.rl_style.proofs.Stays.{stays_around}
 use Rattle.rl_style.proofs.Ends.{keeps_its_ends}
+use Rattle.rl_style.proofs.Unraws.{unraws_around}
 
 -- ---- nothing is skipped at a token
 
@@ -171,26 +172,58 @@ shifted at from to t (w ∷ ws) r low (after, skipped, is, place, more) =
 
 -- ---- the whole cut
 
--- no token in front tells the texts apart
-abbrev pub Alike : List ℕ → List ℕ → Type 0
-Alike a b = (a ≡ b) ⊎ SameFront a b
+-- what ends with neither a hash nor a dot, ends so without its front
+may_drop : (a b : List ℕ) → may_precede_quote (a ++ b) ≡ true → may_precede_quote b ≡ true
+may_drop [] b h = h
+may_drop (c ∷ []) [] h = refl
+may_drop (c ∷ []) (d ∷ b) h = h
+may_drop (c ∷ e ∷ a) b h = may_drop (e ∷ a) b h
 
-pub alike_more : (s a b : List ℕ) → Alike a b → Alike (s ++ a) (s ++ b)
-alike_more s a b (inl e) = inl (ap (λ z. s ++ z) e)
-alike_more s a b (inr f) = inr (front_more s a b f)
+-- Both begin alike, up to the `r` of a raw string and the quote of one with escapes, which neither a hash nor a dot
+-- stands before where both follow this text.
+pub record Unquoted (lead old new : List ℕ) : Type 0 where
+  pub front : List ℕ
+  pub raw : List ℕ
+  pub quoted : List ℕ
+  pub may : may_precede_quote (lead ++ front) ≡ true
+  pub old_is : old ≡ front ++ (114 ∷ raw)
+  pub new_is : new ≡ front ++ (34 ∷ quoted)
 
-pub alike_stays : (w : SourceLexeme) (a b : List ℕ) → Alike a b → IsProper w a → IsProper w b
-alike_stays w a b (inl e) is = subst (λ (z : List ℕ). IsProper w z) e is
-alike_stays w a b (inr f) is = stays_around w a b f is
+-- no token in front tells the texts apart, where both follow this text
+abbrev pub Begun : List ℕ → List ℕ → List ℕ → Type 0
+Begun lead a b = SameFront a b ⊎ Unquoted lead a b
 
--- the same, and what the tokens in front need to know of it
-pub record Recut (at : ℕ) (t : List ℕ) (before after : List CutSource) (old new : Lexeme) (place : ℕ) (r : List ℕ) :
-    Type 0 where
+abbrev pub Alike : List ℕ → List ℕ → List ℕ → Type 0
+Alike lead a b = (a ≡ b) ⊎ Begun lead a b
+
+pub alike_more : (lead s a b : List ℕ) → Alike (lead ++ s) a b → Alike lead (s ++ a) (s ++ b)
+alike_more lead s a b (inl e) = inl (ap (λ z. s ++ z) e)
+alike_more lead s a b (inr (inl f)) = inr (inl (front_more s a b f))
+alike_more lead s a b (inr (inr u)) = inr (inr (record {
+  front = s ++ u.front;
+  raw = u.raw;
+  quoted = u.quoted;
+  may = ap may_precede_quote (sym (append_assoc lead s u.front)) ∙ u.may;
+  old_is = ap (λ z. s ++ z) u.old_is ∙ sym (append_assoc s u.front (114 ∷ u.raw));
+  new_is = ap (λ z. s ++ z) u.new_is ∙ sym (append_assoc s u.front (34 ∷ u.quoted));
+}))
+
+pub alike_stays : (lead : List ℕ) (w : SourceLexeme) (a b : List ℕ) → Alike lead a b → IsProper w a → IsProper w b
+alike_stays lead w a b (inl e) is = subst (λ (z : List ℕ). IsProper w z) e is
+alike_stays lead w a b (inr (inl f)) is = stays_around w a b f is
+alike_stays lead w a b (inr (inr u)) is =
+    let old : IsProper w (u.front ++ (114 ∷ u.raw)) = subst (λ (z : List ℕ). IsProper w z) u.old_is is in
+    subst (λ (z : List ℕ). IsProper w z) (sym u.new_is)
+    (unraws_around w u.front u.raw u.quoted (may_drop lead u.front u.may) old)
+
+-- the same, and what the tokens in front need to know of it; the text follows the lead
+pub record Recut (lead : List ℕ) (at : ℕ) (t : List ℕ) (before after : List CutSource) (old new : Lexeme) (place : ℕ)
+    (r : List ℕ) : Type 0 where
   pub front : List ℕ
   pub rest : List ℕ
   pub text_is : t ≡ front ++ (lexeme_text old ++ rest)
   pub place_is : place ≡ at + byte_len front
-  pub same_front : Alike (lexeme_text old ++ rest) (lexeme_text new ++ rest)
+  pub same_front : Alike (lead ++ front) (lexeme_text old ++ rest) (lexeme_text new ++ rest)
   pub cuts : SourcesUpTo at (front ++ (lexeme_text new ++ rest)) (before ++ (placed_literal new place
       ∷ moved (place + byte_len (lexeme_text old)) (place + byte_len (lexeme_text new)) after)) r
 
@@ -208,15 +241,19 @@ literal_is at t [] after old place r (rest, skipped, is, place_is, more) = is
 literal_is at t (d ∷ before) after old place r (u, skipped, is, place_is, more) = literal_is (source_end d) u before
     after old place r more
 
--- The new literal is a token where the old one was, and begins as it did.
-abbrev pub Follows : Lexeme → Lexeme → List ℕ → Type 0
-Follows old new rest = IsLexeme new rest × Alike (lexeme_text old ++ rest) (lexeme_text new ++ rest)
+-- The new literal is a token where the old one was, and no token in front tells.
+abbrev pub Follows : List ℕ → ℕ → List ℕ → Lexeme → Lexeme → ℕ → List ℕ → Type 0
+Follows lead at t old new place rest =
+    IsLexeme new rest
+    × ((front : List ℕ) → t ≡ front ++ (lexeme_text old ++ rest) → place ≡ at + byte_len front
+    → Alike (lead ++ front) (lexeme_text old ++ rest) (lexeme_text new ++ rest))
 
-at_literal : (at : ℕ) (t : List ℕ) (after : List CutSource) (old new : Lexeme) (place : ℕ) (r rest : List ℕ)
+at_literal : (lead : List ℕ) (at : ℕ) (t : List ℕ) (after : List CutSource) (old new : Lexeme) (place : ℕ)
+    (r rest : List ℕ)
     → Skipped t (lexeme_text old ++ rest) → place + byte_len (lexeme_text old ++ rest) ≡ at + byte_len t
-    → SourcesUpTo (place + byte_len (lexeme_text old)) rest after r → Follows old new rest
-    → Recut at t [] after old new place r
-at_literal at t after old new place r rest skipped place_is more (new_is, same) =
+    → SourcesUpTo (place + byte_len (lexeme_text old)) rest after r → Follows lead at t old new place rest
+    → Recut lead at t [] after old new place r
+at_literal lead at t after old new place r rest skipped place_is more (new_is, same) =
     let (front, text_is, to) = skips_to t (lexeme_text old ++ rest) (lexeme_full old rest) skipped in
     let here : place ≡ at + byte_len front = place_of at place t front (lexeme_text old ++ rest) text_is place_is in
     let e : ℕ = place + byte_len (lexeme_text old) in
@@ -230,7 +267,7 @@ at_literal at t after old new place r rest skipped place_is more (new_is, same) 
       rest = rest;
       text_is = text_is;
       place_is = here;
-      same_front = same;
+      same_front = same front text_is here;
       cuts = (
         rest,
         to (lexeme_text new ++ rest) (lexeme_piece new rest new_is),
@@ -253,19 +290,22 @@ sound_proper (StrayToken c) t sound is = absurd sound
 pub joined : (a b c d : List ℕ) → (a ++ (b ++ c)) ++ d ≡ a ++ (b ++ (c ++ d))
 joined a b c d = append_assoc a (b ++ c) d ∙ ap (λ z. a ++ z) (append_assoc b c d)
 
-one_more : (at : ℕ) (t : List ℕ) (d : CutSource) (before after : List CutSource) (old new : Lexeme) (place : ℕ)
-    (r u : List ℕ) → IsSoundToken d.token → Skipped t (source_text d.token ++ u) → IsSource d.token u
-    → d.at + byte_len (source_text d.token ++ u) ≡ at + byte_len t
-    → Recut (source_end d) u before after old new place r → Recut at t (d ∷ before) after old new place r
-one_more at t d before after old new place r u sound skipped is place_is more =
+one_more : (lead : List ℕ) (at : ℕ) (t : List ℕ) (d : CutSource) (before after : List CutSource) (old new : Lexeme)
+    (place : ℕ)
+    (r u front : List ℕ) → IsSoundToken d.token → IsSource d.token u
+    → t ≡ front ++ (source_text d.token ++ u) → d.at ≡ at + byte_len front
+    → ((v : List ℕ) → IsProper d.token v → Skipped (front ++ (source_text d.token ++ v)) (source_text d.token ++ v))
+    → Recut (lead ++ (front ++ source_text d.token)) (source_end d) u before after old new place r
+    → Recut lead at t (d ∷ before) after old new place r
+one_more lead at t d before after old new place r u front sound is text_is here to more =
     let s : List ℕ = source_text d.token in
+    let inner : List ℕ = lead ++ (front ++ s) in
     let v : List ℕ = more.front ++ (lexeme_text new ++ more.rest) in
     let w : List ℕ = more.front ++ (lexeme_text old ++ more.rest) in
-    let (front, text_is, to) = skips_to t (s ++ u) (token_full d.token u sound) skipped in
-    let here : d.at ≡ at + byte_len front = place_of at d.at t front (s ++ u) text_is place_is in
     let proper : IsProper d.token w = subst (λ (z : List ℕ). IsProper d.token z) more.text_is (sound_proper d.token u
     sound is) in
-    let stays : IsProper d.token v = alike_stays d.token w v (alike_more more.front (lexeme_text old ++ more.rest)
+    let stays : IsProper d.token v = alike_stays inner d.token w v (alike_more inner more.front
+    (lexeme_text old ++ more.rest)
     (lexeme_text new ++ more.rest) more.same_front) proper in
     let whole : (front ++ (s ++ more.front)) ++ (lexeme_text new ++ more.rest) ≡ front ++ (s ++ v) = joined front s
     more.front (lexeme_text new ++ more.rest) in
@@ -277,7 +317,7 @@ one_more at t d before after old new place r u sound skipped is place_is more =
     let cuts : List CutSource = before ++ (placed_literal new place ∷ moved (place + byte_len (lexeme_text old))
     (place + byte_len (lexeme_text new)) after) in
     let all : SourcesUpTo at (front ++ (s ++ v)) (d ∷ cuts) r =
-    (v, to (s ++ v) (token_piece d.token v stays), proper_source d.token v stays, there, more.cuts) in
+    (v, to v stays, proper_source d.token v stays, there, more.cuts) in
     record {
       front = front ++ (s ++ more.front);
       rest = more.rest;
@@ -291,32 +331,66 @@ one_more at t d before after old new place r u sound skipped is place_is more =
         byte_len-append s
             more.front,
       );
-      same_front = more.same_front;
+      same_front = subst (λ (z : List ℕ). Alike z (lexeme_text old ++ more.rest) (lexeme_text new ++ more.rest))
+          (joined lead front s more.front) more.same_front;
       cuts = subst (λ (z : List ℕ). SourcesUpTo at z (d ∷ cuts) r) (sym whole) all;
     }
 
-pub recut : (at : ℕ) (t : List ℕ) (before after : List CutSource) (old new : Lexeme) (place : ℕ) (r : List ℕ)
-    → (cut : SourcesUpTo at t (before ++ (placed_literal old place ∷ after)) r) → AllByRecursion IsSound before
-    → Follows old new (literal_rest at t before after old place r cut)
-    → Recut at t before after old new place r
-recut at t [] after old new place r (rest, skipped, is, place_is, more) sound follows = at_literal at t after old new
-    place r rest skipped place_is more follows
-recut at t (d ∷ before) after old new place r (u, skipped, is, place_is, more) (first, sound) follows =
-    one_more at t d before after old new place r u first skipped is place_is
-    (recut (source_end d) u before after old new place r more sound follows)
+-- what follows in the whole text follows in what is left after a token
+follows_inner : (lead : List ℕ) (at : ℕ) (t : List ℕ) (d : CutSource) (old new : Lexeme) (place : ℕ)
+    (u rest front : List ℕ) → t ≡ front ++ (source_text d.token ++ u) → d.at ≡ at + byte_len front
+    → Follows lead at t old new place rest
+    → Follows (lead ++ (front ++ source_text d.token)) (source_end d) u old new place rest
+follows_inner lead at t d old new place u rest front text_is here (new_is, same) = (
+  new_is,
+  λ f u_is place_is.
+      let s : List ℕ = source_text d.token in
+      let whole : t ≡ (front ++ (s ++ f)) ++ (lexeme_text old ++ rest) = text_is ∙ ap (λ z. front ++ (s ++ z)) u_is
+      ∙ sym (joined front s f (lexeme_text old ++ rest)) in
+      let k : place ≡ at + byte_len (front ++ (s ++ f)) = omega (
+        arith,
+        here,
+        place_is,
+        byte_len-append front (s ++ f),
+        byte_len-append s f,
+      ) in
+      subst (λ (z : List ℕ). Alike z (lexeme_text old ++ rest) (lexeme_text new ++ rest))
+      (sym (joined lead front s f)) (same (front ++ (s ++ f)) whole k),
+)
 
-ends_follow : (old new : Lexeme) (rest : List ℕ) → SameEnds old new → IsLexeme old rest → Follows old new rest
-ends_follow old new rest ends is = let (new_is, same) = keeps_its_ends old new rest ends is in (new_is, inr same)
+pub recut : (lead : List ℕ) (at : ℕ) (t : List ℕ) (before after : List CutSource) (old new : Lexeme) (place : ℕ)
+    (r : List ℕ)
+    → (cut : SourcesUpTo at t (before ++ (placed_literal old place ∷ after)) r) → AllByRecursion IsSound before
+    → Follows lead at t old new place (literal_rest at t before after old place r cut)
+    → Recut lead at t before after old new place r
+recut lead at t [] after old new place r (rest, skipped, is, place_is, more) sound follows = at_literal lead at t after
+    old new place r rest skipped place_is more follows
+recut lead at t (d ∷ before) after old new place r (u, skipped, is, place_is, more) (first, sound) follows =
+    let s : List ℕ = source_text d.token in
+    let (front, text_is, to) = skips_to t (s ++ u) (token_full d.token u first) skipped in
+    let here : d.at ≡ at + byte_len front = place_of at d.at t front (s ++ u) text_is place_is in
+    one_more lead at t d before after old new place r u front first is text_is here
+    (λ v p. to (s ++ v) (token_piece d.token v p))
+    (recut (lead ++ (front ++ s)) (source_end d) u before after old new place r more sound
+    (follows_inner lead at t d old new place u (literal_rest (source_end d) u before after old place r more) front
+    text_is here follows))
+
+ends_follow : (lead : List ℕ) (at : ℕ) (t : List ℕ) (old new : Lexeme) (place : ℕ) (rest : List ℕ)
+    → SameEnds old new → IsLexeme old rest → Follows lead at t old new place rest
+ends_follow lead at t old new place rest ends is =
+    let (new_is, same) = keeps_its_ends old new rest ends is in (new_is, λ f e k. inr (inl same))
 
 -- a literal with the same ends is one
-pub recut_ends : (at : ℕ) (t : List ℕ) (before after : List CutSource) (old new : Lexeme) (place : ℕ) (r : List ℕ)
+pub recut_ends : (lead : List ℕ) (at : ℕ) (t : List ℕ) (before after : List CutSource) (old new : Lexeme) (place : ℕ)
+    (r : List ℕ)
     → SourcesUpTo at t (before ++ (placed_literal old place ∷ after)) r → AllByRecursion IsSound before
-    → SameEnds old new → Recut at t before after old new place r
-recut_ends at t before after old new place r cut sound ends = recut at t before after old new place r cut sound
-    (ends_follow old new (literal_rest at t before after old place r cut) ends
+    → SameEnds old new → Recut lead at t before after old new place r
+recut_ends lead at t before after old new place r cut sound ends = recut lead at t before after old new place r cut
+    sound
+    (ends_follow lead at t old new place (literal_rest at t before after old place r cut) ends
     (literal_is at t before after old place r cut))
 
 pub keeps_the_cut : KeepsTheCut
 keeps_the_cut at t before after old new place r cut sound ends =
-    let m = recut_ends at t before after old new place r cut sound ends in
+    let m = recut_ends [] at t before after old new place r cut sound ends in
     record { front = m.front; rest = m.rest; text_is = m.text_is; place_is = m.place_is; cuts = m.cuts }

@@ -10,10 +10,13 @@ use Rattle.rl_lexer.specs.Lexemes.{LexemeForm, LiteralPrefix, NoPrefix, BytePref
 use Rattle.rl_lexer.specs.Mirrors.LexemeAt.{after_decimal, after_lexed_exponent, after_suffix, lexeme_at}
 use Rattle.rl_style.specs.declared.style.Style.{Style}
 use Rattle.rl_style.specs.Around.{SameFront}
-use Rattle.rl_style.specs.Rewriting.{Rewrites, RewritesCooked, RewritesFloat, RewritesInt, RewritesRaw}
-use Rattle.rl_style.proofs.Ends.{character_front, quoted_front, raw_front}
+use Rattle.rl_style.specs.Rewriting.{Rewrites, RewritesCooked, RewritesFloat, RewritesInt, RewritesRaw, may_lose_r}
+use Rattle.rl_style.proofs.Ends.{character_front, quoted_front, raw_front, unraw_front}
+use Rattle.rl_style.proofs.LostRaw.{lost}
+use Rattle.rl_style.proofs.Recut.{Begun}
+use Rattle.rl_style.proofs.UnrawCuts.{unquoted}
 use Rattle.rl_style.proofs.Lexings.{DecimalForm, based_goes, character_goes, decimal_ends, decimal_goes, digits_gone, fraction_gone, pointed_power_ends, power_ends, quoted_goes, raw_goes, row_goes_on, suffix_goes_on}
-use Rattle.rl_style.proofs.QuotedLexemes.{SingleKind, StringKind, byte_kind, byte_string_kind, c_string_kind, character_kind, raw_body, single_parts, string_kind, string_parts}
+use Rattle.rl_style.proofs.QuotedLexemes.{SingleKind, StringKind, StringParts, byte_kind, byte_string_kind, c_string_kind, character_kind, raw_body, single_parts, string_kind, string_parts}
 use Rattle.rl_style.proofs.SameFloats.{DotShape, FloatForm, FloatShape, PointShape, PowerShape, same_shape, shape_of}
 use Rattle.rl_style.proofs.SameFloats as floats
 use Rattle.rl_style.proofs.SameIntegers as integers
@@ -260,27 +263,87 @@ floats_replace t u x y v w a b same =
     let e = float_parts u x w b b.form in
     decimals_replace t u y d.form e.form (λ h. e.ends y ∙ ap (λ z. shape_end z (x ++ y)) same ∙ sym (d.ends y) ∙ h)
 
+-- ---- raw literals that become ones with escapes
+
+-- the same, where the text stands after this front
+pub record ReplacesAfter (lead t u y : List ℕ) : Type 0 where
+  pub goes : (f : LexemeForm) → lexeme_at (t ++ y) ≡ Some (f, y) → lexeme_at (u ++ y) ≡ Some (f, y)
+  pub front : (z : List ℕ) → Begun lead (t ++ y) (u ++ z)
+
+replaces_after : (lead t u y : List ℕ) → Replaces t u y → ReplacesAfter lead t u y
+replaces_after lead t u y r = record { goes = r.goes; front = λ z. inl (r.front z) }
+
+lost_goes : (p : LiteralPrefix) (k : Kind) (t u x y : List ℕ) (v : Contents) → (a : StrictRaw t k v x)
+    → t ≡ lexeme_text (RawLexeme p a.hashes a.inside x) → (q : StringParts p u x)
+    → (f : LexemeForm) → lexeme_at (t ++ y) ≡ Some (f, y) → lexeme_at (u ++ y) ≡ Some (f, y)
+lost_goes p k t u x y v a e q f h =
+    let old = ap (λ z. lexeme_at (z ++ y)) e ∙ raw_goes p a.hashes a.inside x y (raw_body a.hashes a.inside
+    a.first_close) in
+    let new = ap (λ z. lexeme_at (z ++ y)) q.text_is ∙ quoted_goes p q.parts x y q.is_body in
+    new ∙ sym old ∙ h
+
+lost_front : (lead : List ℕ) (p : LiteralPrefix) (k : Kind) (t u x y z : List ℕ) (v : Contents)
+    → (a : StrictRaw t k v x)
+    → t ≡ lexeme_text (RawLexeme p a.hashes a.inside x) → (q : StringParts p u x)
+    → Begun lead (lexeme_text (RawLexeme p a.hashes a.inside x) ++ y) (lexeme_text (QuotedLexeme p q.parts x) ++ z)
+    → Begun lead (t ++ y) (u ++ z)
+lost_front lead p k t u x y z v a e q b =
+    subst (λ s. Begun lead (s ++ y) (u ++ z)) (sym e)
+    (subst (λ s. Begun lead (lexeme_text (RawLexeme p a.hashes a.inside x) ++ y) (s ++ z)) (sym q.text_is) b)
+
+lost_replace : (lead : List ℕ) (k : Kind) (t u x y : List ℕ) (v w : Contents) → StrictRaw t k v x
+    → StrictCooked u k w x → may_lose_r k lead ≡ true → ReplacesAfter lead t u y
+lost_replace lead Str t u x y v w a b may =
+    let q : StringParts NoPrefix u x = string_parts Str u x w string_kind b in
+    record {
+      goes = lost_goes NoPrefix Str t u x y v a a.text q;
+      front = λ z. lost_front lead NoPrefix Str t u x y z v a a.text q
+          (inr (unquoted lead a.hashes a.inside x q.parts y z may));
+    }
+lost_replace lead ByteStr t u x y v w a b may =
+    let q : StringParts BytePrefix u x = string_parts ByteStr u x w byte_string_kind b in
+    record {
+      goes = lost_goes BytePrefix ByteStr t u x y v a a.text q;
+      front = λ z. lost_front lead BytePrefix ByteStr t u x y z v a a.text q
+          (inl (unraw_front BytePrefix (λ e. absurd (cc)) a.hashes a.inside q.parts x y z));
+    }
+lost_replace lead CStr t u x y v w a b may =
+    let q : StringParts CPrefix u x = string_parts CStr u x w c_string_kind b in
+    record {
+      goes = lost_goes CPrefix CStr t u x y v a a.text q;
+      front = λ z. lost_front lead CPrefix CStr t u x y z v a a.text q
+          (inl (unraw_front CPrefix (λ e. absurd (cc)) a.hashes a.inside q.parts x y z));
+    }
+lost_replace lead Byte t u x y v w a b may = absurd a.allowed
+lost_replace lead Char t u x y v w a b may = absurd a.allowed
+lost_replace lead Int t u x y v w a b may = absurd a.allowed
+lost_replace lead Float t u x y v w a b may = absurd a.allowed
+lost_replace lead BoolKind t u x y v w a b may = absurd a.allowed
+
 -- ---- any literal but a word
 
-abbrev pub RewritesForm : Style → List ℕ → List ℕ → Type 0
-RewritesForm style t u =
-    RewritesInt style t u ⊎ (RewritesFloat style t u ⊎ (RewritesRaw style t u ⊎ RewritesCooked style t u))
+abbrev pub RewritesForm : Style → List ℕ → List ℕ → List ℕ → Type 0
+RewritesForm style front t u =
+    RewritesInt style t u ⊎ (RewritesFloat style t u ⊎ (RewritesRaw style front t u ⊎ RewritesCooked style t u))
 
-pub replaces : (style : Style) (t u y : List ℕ) → RewritesForm style t u → Replaces t u y
-replaces style t u y (inl c) = integers_replace t u c.suffix y c.contents c.contents c.int
-    (integers.written style t u c.contents c.suffix c.int c.new_is) refl
-replaces style t u y (inr (inl c)) = floats_replace t u c.suffix y c.contents c.contents c.float
-    (floats.written style t u c.contents c.suffix c.float c.new_is)
-    (same_shape style t u c.contents c.suffix c.float c.new_is)
-replaces style t u y (inr (inr (inl c))) = raw_replace c.kind t u c.suffix y c.contents c.contents c.raw
-    (raws.written t u c.kind c.contents c.suffix c.raw c.hashes
-    (raws.hashes_suit style.raw_hashes t c.kind c.contents c.suffix c.raw c.hashes c.hashes_are) c.new_is)
-replaces style t u y (inr (inr (inr c))) = cooked_replace c.kind t u c.suffix y c.contents c.contents c.cooked
-    (units.written style t u c.kind c.contents c.suffix c.cooked c.new_is)
+pub replaces : (style : Style) (front t u y : List ℕ) → RewritesForm style front t u → ReplacesAfter front t u y
+replaces style front t u y (inl c) = replaces_after front t u y (integers_replace t u c.suffix y c.contents c.contents
+    c.int (integers.written style t u c.contents c.suffix c.int c.new_is) refl)
+replaces style front t u y (inr (inl c)) = replaces_after front t u y (floats_replace t u c.suffix y c.contents
+    c.contents c.float (floats.written style t u c.contents c.suffix c.float c.new_is)
+    (same_shape style t u c.contents c.suffix c.float c.new_is))
+replaces style front t u y (inr (inr (inl (inl c)))) = replaces_after front t u y (raw_replace c.kind t u c.suffix y
+    c.contents c.contents c.raw (raws.written t u c.kind c.contents c.suffix c.raw c.hashes
+    (raws.hashes_suit style.raw_hashes t c.kind c.contents c.suffix c.raw c.hashes c.hashes_are) c.new_is))
+replaces style front t u y (inr (inr (inl (inr c)))) = lost_replace front c.kind t u c.suffix y c.contents c.contents
+    c.raw (lost style front t u c) (and_parts (may_lose_r c.kind front) _ c.loses).0
+replaces style front t u y (inr (inr (inr c))) = replaces_after front t u y (cooked_replace c.kind t u c.suffix y
+    c.contents c.contents c.cooked (units.written style t u c.kind c.contents c.suffix c.cooked c.new_is))
 
-pub word_or_form : (style : Style) (t u : List ℕ) → Rewrites style t u → (u ≡ t) ⊎ RewritesForm style t u
-word_or_form style t u (inl c) = inr (inl c)
-word_or_form style t u (inr (inl c)) = inr (inr (inl c))
-word_or_form style t u (inr (inr (inl c))) = inr (inr (inr (inl c)))
-word_or_form style t u (inr (inr (inr (inl c)))) = inr (inr (inr (inr c)))
-word_or_form style t u (inr (inr (inr (inr c)))) = inl c.new_is
+pub word_or_form : (style : Style) (front t u : List ℕ) → Rewrites style front t u
+    → (u ≡ t) ⊎ RewritesForm style front t u
+word_or_form style front t u (inl c) = inr (inl c)
+word_or_form style front t u (inr (inl c)) = inr (inr (inl c))
+word_or_form style front t u (inr (inr (inl c))) = inr (inr (inr (inl c)))
+word_or_form style front t u (inr (inr (inr (inl c)))) = inr (inr (inr (inr c)))
+word_or_form style front t u (inr (inr (inr (inr c)))) = inl c.new_is

@@ -6,6 +6,7 @@ use Rattle.rl_style.specs.declared.style.Style.{Style}
 use Rattle.rl_style.specs.Rewriting.{KeepsTruth, Rewrites, SameLiteral}
 use Rattle.rl_style.proofs.SameFloats.{float_same, float_stays}
 use Rattle.rl_style.proofs.SameIntegers.{integer_same, integer_stays}
+use Rattle.rl_style.proofs.LostRaw.{lost_same, lost_stays}
 use Rattle.rl_style.proofs.SameRaw.{raw_same, raw_stays}
 use Rattle.rl_style.proofs.SameUnits.{cooked_same, cooked_stays}
 
@@ -15,17 +16,19 @@ truth t u c = subst (λ z. StrictBool z c.contents c.suffix) (sym c.new_is) c.tr
 truth_same : (t u : List ℕ) → KeepsTruth t u → SameLiteral t u
 truth_same t u c = record { kind = BoolKind; contents = c.contents; suffix = c.suffix; was = c.truth; is = truth t u c }
 
-pub same : (style : Style) (t u : List ℕ) → Rewrites style t u → SameLiteral t u
-same style t u (inl a) = integer_same style t u a
-same style t u (inr (inl a)) = float_same style t u a
-same style t u (inr (inr (inl a))) = raw_same style t u a
-same style t u (inr (inr (inr (inl a)))) = cooked_same style t u a
-same style t u (inr (inr (inr (inr a)))) = truth_same t u a
+pub same : (style : Style) (front t u : List ℕ) → Rewrites style front t u → SameLiteral t u
+same style front t u (inl a) = integer_same style t u a
+same style front t u (inr (inl a)) = float_same style t u a
+same style front t u (inr (inr (inl (inl a)))) = raw_same style front t u a
+same style front t u (inr (inr (inl (inr a)))) = lost_same style front t u a
+same style front t u (inr (inr (inr (inl a)))) = cooked_same style t u a
+same style front t u (inr (inr (inr (inr a)))) = truth_same t u a
 
-pub stays : (style : Style) (t u : List ℕ) → Rewrites style t u → Rewrites style u u
-stays style t u (inl a) = inl (integer_stays style t u a)
-stays style t u (inr (inl a)) = inr (inl (float_stays style t u a))
-stays style t u (inr (inr (inl a))) = inr (inr (inl (raw_stays style t u a)))
-stays style t u (inr (inr (inr (inl a)))) = inr (inr (inr (inl (cooked_stays style t u a))))
-stays style t u (inr (inr (inr (inr a)))) = inr (inr (inr (inr (record
+pub stays : (style : Style) (front t u : List ℕ) → Rewrites style front t u → Rewrites style front u u
+stays style front t u (inl a) = inl (integer_stays style t u a)
+stays style front t u (inr (inl a)) = inr (inl (float_stays style t u a))
+stays style front t u (inr (inr (inl (inl a)))) = inr (inr (inl (inl (raw_stays style front t u a))))
+stays style front t u (inr (inr (inl (inr a)))) = inr (inr (inr (inl (lost_stays style front t u a))))
+stays style front t u (inr (inr (inr (inl a)))) = inr (inr (inr (inl (cooked_stays style t u a))))
+stays style front t u (inr (inr (inr (inr a)))) = inr (inr (inr (inr (record
     { contents = a.contents; suffix = a.suffix; truth = truth t u a; new_is = refl }))))

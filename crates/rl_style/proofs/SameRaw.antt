@@ -11,7 +11,7 @@ use Rattle.rl_forms.proofs.OneQuoted.{same_tail}
 use Rattle.rl_forms.proofs.StrictNumbers.{same_run}
 use Rattle.rl_writing.specs.RawStrings.{HasFewestHashes, raw_contents, raw_text}
 use Rattle.rl_style.specs.declared.style.Style.{Style}
-use Rattle.rl_style.specs.Rewriting.{HasHashes, RewritesRaw, SameLiteral}
+use Rattle.rl_style.specs.Rewriting.{HasHashes, SameLiteral, StaysRaw}
 
 -- a raw form is strict in its kind
 pub raw_strict : (t : List ℕ) (k : Kind) (v : Contents) (x : List ℕ) → StrictRaw t k v x → Strict t k v x
@@ -139,8 +139,8 @@ written t u k v x s n h e = record {
   contents = s.contents;
 }
 
-pub raw_same : (style : Style) (t u : List ℕ) → RewritesRaw style t u → SameLiteral t u
-raw_same style t u c =
+pub raw_same : (style : Style) (front t u : List ℕ) → StaysRaw style front t u → SameLiteral t u
+raw_same style front t u c =
     let suits = hashes_suit style.raw_hashes t c.kind c.contents c.suffix c.raw c.hashes c.hashes_are in
     record {
       kind = c.kind;
@@ -156,14 +156,15 @@ same_hashes : (fewest : Bool) (k : Kind) (inside : List ℕ) (old new : ℕ) →
 same_hashes true k inside old new h = h
 same_hashes false k inside old new h = refl
 
-pub raw_stays : (style : Style) (t u : List ℕ) → RewritesRaw style t u → RewritesRaw style u u
-raw_stays style t u c =
+pub raw_stays : (style : Style) (front t u : List ℕ) → StaysRaw style front t u → StaysRaw style front u u
+raw_stays style front t u c =
     let suits = hashes_suit style.raw_hashes t c.kind c.contents c.suffix c.raw c.hashes c.hashes_are in
     record {
       kind = c.kind;
       contents = c.contents;
       suffix = c.suffix;
       raw = written t u c.kind c.contents c.suffix c.raw c.hashes suits c.new_is;
+      stays = c.stays;
       hashes = c.hashes;
       hashes_are = same_hashes style.raw_hashes c.kind c.raw.inside c.raw.hashes c.hashes c.hashes_are;
       new_is = c.new_is;

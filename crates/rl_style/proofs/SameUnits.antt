@@ -10,9 +10,10 @@ use Rattle.rl_style.specs.declared.style.Case.{Case}
 use Rattle.rl_style.specs.declared.style.Case.TheVariants.{Lower, Upper}
 use Rattle.rl_style.specs.declared.style.Style.{Style}
 use Rattle.rl_style.specs.Cases.{cased, lower_case, upper_case}
-use Rattle.rl_style.specs.Rewriting.{SameLiteral, RewritesCooked, cased_digit, restyled}
+use Rattle.rl_style.specs.Rewriting.{SameLiteral, RewritesCooked, cased_digit, needs_number, number_escape, reescaped, restyled}
 use Rattle.rl_style.specs.Rewriting.{styled_digits, fewest_digits, has_letter, is_visible, letter_of, respelled, visible_unit}
 use Rattle.rl_style.proofs.CodeDigits.{code_twice, fewest_unicode, fewest_value}
+use Rattle.rl_style.proofs.HiddenUnits.{held_low, number_allowed, number_any, number_contents, quotes_shown, visible_shown}
 use Rattle.rl_style.proofs.CaseLemmas.{none_right, cased_past, cased_value, spelled_cased, twice_cased}
 
 -- ---- digits
@@ -279,16 +280,6 @@ respelled_ends style k n escape us b h =
     (λ v. visible_any (λ u. BlanksEnd (u ∷ us)) k n (λ e. b) (λ e. b) b) (λ e. b) h
 
 -- they stand for the same
-held_low : (k : Kind) (n : ℕ) → n < 128 → strict_content_of k (n ∷ []) ≡ n ∷ []
-held_low CStr n low = append-nil _ ∙ encode_ascii n low
-held_low Str n low = refl
-held_low ByteStr n low = refl
-held_low Byte n low = refl
-held_low Char n low = refl
-held_low Int n low = refl
-held_low Float n low = refl
-held_low BoolKind n low = refl
-
 visible_contents : (k : Kind) (n : ℕ) → is_visible n ≡ true → strict_contents (strict_content_of k) (visible_unit k n)
     ≡ n ∷ []
 visible_contents k n v =
@@ -306,22 +297,53 @@ respelled_contents style k n escape v same h =
     respelled_any (λ u. strict_contents (strict_content_of k) u ≡ v) style k n escape
     (λ e. visible_contents k n e ∙ same (visible_low n e)) (λ e. named_contents n e ∙ same (named_low n e)) h
 
+-- ---- characters that are escaped
+
+-- what holds of the escape, and of the character itself, holds of what it becomes
+pub itself_any : (P : StrictUnit → Type 0) (style : Style) (k : Kind) (c : ℕ)
+    → (needs_number c ≡ true → P (reescaped style k (number_escape k c))) → P (Itself c)
+        → P (restyled style k (Itself c))
+itself_any P style k c escaped other = go (style.hidden && needs_number c) refl
+  where
+    go : (b : Bool) → (style.hidden && needs_number c) ≡ b → P
+        (cond b (reescaped style k (number_escape k c)) (Itself c))
+    go true e = escaped (and_parts style.hidden (needs_number c) e).1
+    go false e = other
+
 -- ---- any unit
+
+ascii_stays : (style : Style) (k : Kind) (us : List StrictUnit) (high low : ℕ) → HasUnits k us
+    → is_strict_unit k (AsciiEscape high low) ≡ true → is_strict_unit k (reescaped style k (AsciiEscape high low))
+        ≡ true
+ascii_stays style k us high low q h = respelled_allowed style k us (place_value 16 (high ∷ low ∷ []))
+    (AsciiEscape (cased style.escape_digits high) (cased style.escape_digits low)) q
+    (ascii_allowed style.escape_digits k high low h)
+
+byte_stays : (style : Style) (k : Kind) (us : List StrictUnit) (high low : ℕ) → HasUnits k us
+    → is_strict_unit k (ByteEscape high low) ≡ true → is_strict_unit k (reescaped style k (ByteEscape high low)) ≡ true
+byte_stays style k us high low q h = respelled_allowed style k us (place_value 16 (high ∷ low ∷ []))
+    (ByteEscape (cased style.escape_digits high) (cased style.escape_digits low)) q
+    (byte_allowed style.escape_digits k high low h)
+
+unicode_stays : (style : Style) (k : Kind) (us : List StrictUnit) (digits : List (ℕ × ℕ)) → HasUnits k us
+    → is_strict_unit k (UnicodeEscape digits) ≡ true → is_strict_unit k (reescaped style k (UnicodeEscape digits))
+        ≡ true
+unicode_stays style k us digits q h = respelled_allowed style k us (spaced_value digits)
+    (UnicodeEscape (styled_digits style digits)) q (code_allowed style k digits h)
 
 unit_allowed : (style : Style) (k : Kind) (us : List StrictUnit) (u : StrictUnit) → HasUnits k us
     → is_strict_unit k u ≡ true → is_strict_unit k (restyled style k u) ≡ true
 unit_allowed style k us (QuoteEscape c) q h = quote_kept (style.quote_escapes && not (c == closer k)) k us c q h
     (not_closer style.quote_escapes k c)
-unit_allowed style k us (Itself c) q h = h
+unit_allowed style k us (Itself c) q h =
+    itself_any (λ u. is_strict_unit k u ≡ true) style k c
+    (λ e. number_any (λ u. is_strict_unit k u ≡ true → is_strict_unit k (reescaped style k u) ≡ true) k c
+    (λ high low. ascii_stays style k us high low q) (λ high low. byte_stays style k us high low q)
+    (λ digits. unicode_stays style k us digits q) (number_allowed k us c q h e)) h
 unit_allowed style k us (PlainEscape c) q h = h
-unit_allowed style k us (AsciiEscape high low) q h = respelled_allowed style k us (place_value 16 (high ∷ low ∷ []))
-    (AsciiEscape (cased style.escape_digits high) (cased style.escape_digits low)) q
-    (ascii_allowed style.escape_digits k high low h)
-unit_allowed style k us (ByteEscape high low) q h = respelled_allowed style k us (place_value 16 (high ∷ low ∷ []))
-    (ByteEscape (cased style.escape_digits high) (cased style.escape_digits low)) q
-    (byte_allowed style.escape_digits k high low h)
-unit_allowed style k us (UnicodeEscape digits) q h = respelled_allowed style k us (spaced_value digits)
-    (UnicodeEscape (styled_digits style digits)) q (code_allowed style k digits h)
+unit_allowed style k us (AsciiEscape high low) q h = ascii_stays style k us high low q h
+unit_allowed style k us (ByteEscape high low) q h = byte_stays style k us high low q h
+unit_allowed style k us (UnicodeEscape digits) q h = unicode_stays style k us digits q h
 unit_allowed style k us (LineBreak blanks) q h = h
 
 pub all_allowed : (style : Style) (k : Kind) (vs us : List StrictUnit) → HasUnits k vs
@@ -356,6 +378,16 @@ quote_front : (b : Bool) (k : Kind) (c : ℕ) (rest : List ℕ) → is_strict_un
 quote_front true k c rest h = no_blank c (quote_of k c h)
 quote_front false k c rest h = refl
 
+hidden_front : (style : Style) (k : Kind) (c : ℕ) (rest : List ℕ)
+    → first_passes is_dropped_blank (strict_text (reescaped style k (number_escape k c)) ++ rest) ≡ false
+hidden_front style k c rest = number_any
+    (λ u. first_passes is_dropped_blank (strict_text (reescaped style k u) ++ rest) ≡ false) k c
+    (λ high low. respelled_front style k (place_value 16 (high ∷ low ∷ []))
+    (AsciiEscape (cased style.escape_digits high) (cased style.escape_digits low)) rest refl)
+    (λ high low. respelled_front style k (place_value 16 (high ∷ low ∷ []))
+    (ByteEscape (cased style.escape_digits high) (cased style.escape_digits low)) rest refl)
+    (λ digits. respelled_front style k (spaced_value digits) (UnicodeEscape (styled_digits style digits)) rest refl)
+
 front_stays : (style : Style) (k : Kind) (us : List StrictUnit) → list_all (is_strict_unit k) us ≡ true
     → first_passes is_dropped_blank (flat_map strict_text us) ≡ false
     → first_passes is_dropped_blank (flat_map strict_text (map (restyled style k) us)) ≡ false
@@ -363,7 +395,9 @@ front_stays style k [] h n = refl
 front_stays style k (QuoteEscape c ∷ us) h n =
     let p = and_parts (is_strict_unit k (QuoteEscape c)) (list_all (is_strict_unit k) us) h in
     quote_front (style.quote_escapes && not (c == closer k)) k c (flat_map strict_text (map (restyled style k) us)) p.0
-front_stays style k (Itself c ∷ us) h n = n
+front_stays style k (Itself c ∷ us) h n = itself_any
+    (λ u. first_passes is_dropped_blank (strict_text u ++ flat_map strict_text (map (restyled style k) us)) ≡ false)
+    style k c (λ e. hidden_front style k c (flat_map strict_text (map (restyled style k) us))) n
 front_stays style k (PlainEscape c ∷ us) h n = refl
 front_stays style k (AsciiEscape high low ∷ us) h n = respelled_front style k (place_value 16 (high ∷ low ∷ []))
     (AsciiEscape (cased style.escape_digits high) (cased style.escape_digits low))
@@ -380,6 +414,15 @@ quote_ends : (b : Bool) (c : ℕ) (us : List StrictUnit) → BlanksEnd us → Bl
 quote_ends true c us e = e
 quote_ends false c us e = e
 
+hidden_ends : (style : Style) (k : Kind) (c : ℕ) (us : List StrictUnit) → BlanksEnd us
+    → BlanksEnd (reescaped style k (number_escape k c) ∷ us)
+hidden_ends style k c us b = number_any (λ u. BlanksEnd (reescaped style k u ∷ us)) k c
+    (λ high low. respelled_ends style k (place_value 16 (high ∷ low ∷ []))
+    (AsciiEscape (cased style.escape_digits high) (cased style.escape_digits low)) us b b)
+    (λ high low. respelled_ends style k (place_value 16 (high ∷ low ∷ []))
+    (ByteEscape (cased style.escape_digits high) (cased style.escape_digits low)) us b b)
+    (λ digits. respelled_ends style k (spaced_value digits) (UnicodeEscape (styled_digits style digits)) us b b)
+
 pub blanks_stay : (style : Style) (k : Kind) (us : List StrictUnit) → list_all (is_strict_unit k) us ≡ true
     → BlanksEnd us
     → BlanksEnd (map (restyled style k) us)
@@ -392,7 +435,8 @@ blanks_stay style k (u ∷ us) h b = go u (and_parts (is_strict_unit k u) (list_
         → BlanksEnd (restyled style k u ∷ map (restyled style k) us)
     go (QuoteEscape c) p b ih = quote_ends (style.quote_escapes && not (c == closer k)) c (map (restyled style k) us)
         (ih p b)
-    go (Itself c) p b ih = ih p b
+    go (Itself c) p b ih = itself_any (λ u. BlanksEnd (u ∷ map (restyled style k) us)) style k c
+        (λ e. hidden_ends style k c (map (restyled style k) us) (ih p b)) (ih p b)
     go (PlainEscape c) p b ih = ih p b
     go (AsciiEscape high low) p b ih = respelled_ends style k (place_value 16 (high ∷ low ∷ []))
         (AsciiEscape (cased style.escape_digits high) (cased style.escape_digits low)) (map (restyled style k) us)
@@ -428,23 +472,42 @@ quote_contents : (b : Bool) (k : Kind) (c : ℕ) → is_strict_unit k (QuoteEsca
 quote_contents true k c h = quote_held k c (quote_of k c h)
 quote_contents false k c h = refl
 
-unit_contents : (style : Style) (k : Kind) (u : StrictUnit) → is_strict_unit k u ≡ true
-    → strict_contents (strict_content_of k) (restyled style k u) ≡ strict_contents (strict_content_of k) u
-unit_contents style k (QuoteEscape c) h = quote_contents (style.quote_escapes && not (c == closer k)) k c h
-unit_contents style k (Itself c) h = refl
-unit_contents style k (PlainEscape c) h = refl
-unit_contents style k (AsciiEscape high low) h = respelled_contents style k (place_value 16 (high ∷ low ∷ []))
+ascii_contents : (style : Style) (k : Kind) (high low : ℕ)
+    → strict_contents (strict_content_of k) (reescaped style k (AsciiEscape high low))
+    ≡ place_value 16 (high ∷ low ∷ []) ∷ []
+ascii_contents style k high low = respelled_contents style k (place_value 16 (high ∷ low ∷ []))
     (AsciiEscape (cased style.escape_digits high) (cased style.escape_digits low)) (place_value 16 (high ∷ low ∷ []) ∷
     [])
     (λ low. refl) (ap (λ n. n ∷ []) (two_cased style.escape_digits high low))
-unit_contents style k (ByteEscape high low) h = respelled_contents style k (place_value 16 (high ∷ low ∷ []))
+
+byte_contents : (style : Style) (k : Kind) (high low : ℕ)
+    → strict_contents (strict_content_of k) (reescaped style k (ByteEscape high low))
+    ≡ place_value 16 (high ∷ low ∷ []) ∷ []
+byte_contents style k high low = respelled_contents style k (place_value 16 (high ∷ low ∷ []))
     (ByteEscape (cased style.escape_digits high) (cased style.escape_digits low)) (place_value 16 (high ∷ low ∷ []) ∷
     [])
     (λ low. refl) (ap (λ n. n ∷ []) (two_cased style.escape_digits high low))
-unit_contents style k (UnicodeEscape digits) h = respelled_contents style k (spaced_value digits)
+
+unicode_contents : (style : Style) (k : Kind) (digits : List (ℕ × ℕ))
+    → strict_contents (strict_content_of k) (reescaped style k (UnicodeEscape digits))
+    ≡ strict_content_of k (spaced_value digits ∷ [])
+unicode_contents style k digits = respelled_contents style k (spaced_value digits)
     (UnicodeEscape (styled_digits style digits)) (strict_content_of k (spaced_value digits ∷ []))
     (λ low. sym (held_low k (spaced_value digits) low)) (ap (λ n. strict_content_of k (n ∷ []))
     (code_value style digits))
+
+unit_contents : (style : Style) (k : Kind) (u : StrictUnit) → is_strict_unit k u ≡ true
+    → strict_contents (strict_content_of k) (restyled style k u) ≡ strict_contents (strict_content_of k) u
+unit_contents style k (QuoteEscape c) h = quote_contents (style.quote_escapes && not (c == closer k)) k c h
+unit_contents style k (Itself c) h =
+    itself_any (λ u. strict_contents (strict_content_of k) u ≡ strict_content_of k (c ∷ [])) style k c
+    (λ e. number_any (λ u. strict_contents (strict_content_of k) (reescaped style k u)
+    ≡ strict_contents (strict_content_of k) u) k c (ascii_contents style k) (byte_contents style k)
+    (unicode_contents style k) ∙ number_contents k c) refl
+unit_contents style k (PlainEscape c) h = refl
+unit_contents style k (AsciiEscape high low) h = ascii_contents style k high low
+unit_contents style k (ByteEscape high low) h = byte_contents style k high low
+unit_contents style k (UnicodeEscape digits) h = unicode_contents style k digits
 unit_contents style k (LineBreak blanks) h = refl
 
 pub all_contents : (style : Style) (k : Kind) (us : List StrictUnit) → list_all (is_strict_unit k) us ≡ true
@@ -495,10 +558,17 @@ cooked_same style t u c = record {
 
 -- ---- once is enough
 
-twice_quote : (b : Bool) (style : Style) (k : Kind) (c : ℕ) → b ≡ (style.quote_escapes && not (c == closer k))
+-- what needs_number nothing stays itself
+pub shown_stays : (style : Style) (k : Kind) (c : ℕ) → needs_number c ≡ false → restyled style k (Itself c) ≡ Itself c
+shown_stays style k c h =
+    ap (λ b. cond (style.hidden && b) (reescaped style k (number_escape k c)) (Itself c)) h
+    ∙ ap (λ b. cond b (reescaped style k (number_escape k c)) (Itself c)) (none_right style.hidden)
+
+twice_quote : (b : Bool) (style : Style) (k : Kind) (c : ℕ) → (c == 39 || c == 34) ≡ true
+    → b ≡ (style.quote_escapes && not (c == closer k))
     → restyled style k (quote_unit b c) ≡ quote_unit b c
-twice_quote true style k c e = refl
-twice_quote false style k c e = ap (λ z. quote_unit z c) (sym e)
+twice_quote true style k c q e = shown_stays style k c (quotes_shown c q)
+twice_quote false style k c q e = ap (λ z. quote_unit z c) (sym e)
 
 -- an escape by number that is written anew again
 twice_respelled : (style : Style) (k : Kind) (n : ℕ) (escape : StrictUnit) → restyled style k escape
@@ -512,17 +582,16 @@ twice_respelled style k n escape h = go (style.ascii_escapes && is_visible n) (s
 
     go : (a b : Bool) → (style.ascii_escapes && is_visible n) ≡ a → (style.named_escapes && has_letter n) ≡ b
         → restyled style k (chosen a b k n escape) ≡ chosen a b k n escape
-    go true b e f = visible_any (λ u. restyled style k u ≡ u) k n quote (λ e. refl) refl
+    go true b e f = visible_any (λ u. restyled style k u ≡ u) k n quote (λ e. refl)
+        (shown_stays style k n (visible_shown n (and_parts style.ascii_escapes (is_visible n) e).1))
     go false true e f = refl
     go false false e f = h
         ∙ ap (λ a. chosen a (style.named_escapes && has_letter n) k n escape) e
         ∙ ap (λ b. chosen false b k n escape) f
 
-twice_unit : (style : Style) (k : Kind) (u : StrictUnit) → restyled style k (restyled style k u) ≡ restyled style k u
-twice_unit style k (QuoteEscape c) = twice_quote (style.quote_escapes && not (c == closer k)) style k c refl
-twice_unit style k (Itself c) = refl
-twice_unit style k (PlainEscape c) = refl
-twice_unit style k (AsciiEscape high low) =
+twice_ascii : (style : Style) (k : Kind) (high low : ℕ) → restyled style k (reescaped style k (AsciiEscape high low))
+    ≡ reescaped style k (AsciiEscape high low)
+twice_ascii style k high low =
     let case : Option Case = style.escape_digits in
     let n : ℕ = place_value 16 (high ∷ low ∷ []) in
     let h : ℕ = cased case high in
@@ -531,7 +600,10 @@ twice_unit style k (AsciiEscape high low) =
     (ap (λ m. respelled style k m (AsciiEscape (cased case h) (cased case l))) (two_cased case high low)
     ∙ ap (λ z. respelled style k n (AsciiEscape z (cased case l))) (twice_cased case high)
     ∙ ap (λ z. respelled style k n (AsciiEscape h z)) (twice_cased case low))
-twice_unit style k (ByteEscape high low) =
+
+twice_byte : (style : Style) (k : Kind) (high low : ℕ) → restyled style k (reescaped style k (ByteEscape high low))
+    ≡ reescaped style k (ByteEscape high low)
+twice_byte style k high low =
     let case : Option Case = style.escape_digits in
     let n : ℕ = place_value 16 (high ∷ low ∷ []) in
     let h : ℕ = cased case high in
@@ -540,18 +612,46 @@ twice_unit style k (ByteEscape high low) =
     (ap (λ m. respelled style k m (ByteEscape (cased case h) (cased case l))) (two_cased case high low)
     ∙ ap (λ z. respelled style k n (ByteEscape z (cased case l))) (twice_cased case high)
     ∙ ap (λ z. respelled style k n (ByteEscape h z)) (twice_cased case low))
-twice_unit style k (UnicodeEscape digits) =
+
+twice_unicode : (style : Style) (k : Kind) (digits : List (ℕ × ℕ))
+    → restyled style k (reescaped style k (UnicodeEscape digits)) ≡ reescaped style k (UnicodeEscape digits)
+twice_unicode style k digits =
     let new : List (ℕ × ℕ) = styled_digits style digits in
     twice_respelled style k (spaced_value digits) (UnicodeEscape new)
     (ap (λ m. respelled style k m (UnicodeEscape (styled_digits style new))) (code_value style digits)
     ∙ ap (λ z. respelled style k (spaced_value digits) (UnicodeEscape z)) (code_twice style digits))
-twice_unit style k (LineBreak blanks) = refl
 
-twice_units : (style : Style) (k : Kind) (us : List StrictUnit) → map (restyled style k) (map (restyled style k) us)
-    ≡ map (restyled style k) us
-twice_units style k [] = refl
-twice_units style k (u ∷ us) = ap (λ z. z ∷ map (restyled style k) (map (restyled style k) us)) (twice_unit style k u)
-    ∙ ap (λ z. restyled style k u ∷ z) (twice_units style k us)
+twice_itself : (style : Style) (k : Kind) (c : ℕ) → restyled style k (restyled style k (Itself c))
+    ≡ restyled style k (Itself c)
+twice_itself style k c = go (style.hidden && needs_number c) refl
+  where
+    escape : StrictUnit
+    escape = reescaped style k (number_escape k c)
+
+    go : (b : Bool) → (style.hidden && needs_number c) ≡ b → restyled style k (cond b escape (Itself c))
+        ≡ cond b escape (Itself c)
+    go true e = number_any (λ u. restyled style k (reescaped style k u) ≡ reescaped style k u) k c
+        (twice_ascii style k) (twice_byte style k) (twice_unicode style k)
+    go false e = ap (λ b. cond b escape (Itself c)) e
+
+twice_unit : (style : Style) (k : Kind) (u : StrictUnit) → is_strict_unit k u ≡ true
+    → restyled style k (restyled style k u) ≡ restyled style k u
+twice_unit style k (QuoteEscape c) h = twice_quote (style.quote_escapes && not (c == closer k)) style k c
+    (quote_of k c h) refl
+twice_unit style k (Itself c) h = twice_itself style k c
+twice_unit style k (PlainEscape c) h = refl
+twice_unit style k (AsciiEscape high low) h = twice_ascii style k high low
+twice_unit style k (ByteEscape high low) h = twice_byte style k high low
+twice_unit style k (UnicodeEscape digits) h = twice_unicode style k digits
+twice_unit style k (LineBreak blanks) h = refl
+
+twice_units : (style : Style) (k : Kind) (us : List StrictUnit) → list_all (is_strict_unit k) us ≡ true
+    → map (restyled style k) (map (restyled style k) us) ≡ map (restyled style k) us
+twice_units style k [] h = refl
+twice_units style k (u ∷ us) h =
+    let p = and_parts (is_strict_unit k u) (list_all (is_strict_unit k) us) h in
+    ap (λ z. z ∷ map (restyled style k) (map (restyled style k) us)) (twice_unit style k u p.0)
+    ∙ ap (λ z. restyled style k u ∷ z) (twice_units style k us p.1)
 
 pub cooked_stays : (style : Style) (t u : List ℕ) → RewritesCooked style t u → RewritesCooked style u u
 cooked_stays style t u c = record {
@@ -560,5 +660,5 @@ cooked_stays style t u c = record {
   suffix = c.suffix;
   cooked = written style t u c.kind c.contents c.suffix c.cooked c.new_is;
   new_is = c.new_is ∙ ap (λ z. strict_opener c.kind ++ (flat_map strict_text z ++ (strict_closer c.kind ++ c.suffix)))
-      (sym (twice_units style c.kind c.cooked.units));
+      (sym (twice_units style c.kind c.cooked.units c.cooked.each));
 }

@@ -1,6 +1,6 @@
 -- Units are taken from a text one at a time, and each is written anew by its text.
 use Rattle.std.proofs.Common.{length-append}
-use Rattle.rl_text.proofs.Common.{length, ◌+◌, ◌≢◌, drop, eqb-true, ◌≡◌, ℕ, ◌<◌, ◌≤◌, inl, inr, arith, nat_lt, lt-ltb, ltb-true, cases_lt, agree_below_at, ◌||◌, ◌&&◌, Bool, true, false, not, ◌==◌, cond, List, [], ◌∷◌, ◌++◌, map, Some, None, refl, sym, ap, subst, ◌∙◌, append_assoc, append-nil, append_cancel_right, and_from, and_parts, or_from, list_all, flat_map, map-append, replicate, zero, suc, scalar, encode_utf8_all, encodes-append, encodes-chars, IsUtf8}
+use Rattle.rl_text.proofs.Common.{length, ◌+◌, ◌≢◌, drop, eqb-true, ◌≡◌, ℕ, ◌<◌, ◌≤◌, inl, inr, arith, nat_lt, lt-ltb, ltb-true, cases_lt, agree_below_at, ◌||◌, ◌&&◌, Bool, true, false, not, ◌==◌, cond, List, [], ◌∷◌, ◌++◌, map, Some, None, refl, sym, ap, subst, ◌∙◌, append_assoc, append-nil, append_cancel_right, and_from, and_parts, or_from, list_all, flat_map, map-append, replicate, zero, suc, scalar, encode_utf8_all, ◌/◌, ◌%◌, encodes-append, encodes-chars, IsUtf8}
 use Rattle.std.specs.Prelude.{Option}
 use Rattle.std.specs.Str.{chars}
 use Rattle.rl_text.proofs.Basics.{apart, false_unless}
@@ -19,11 +19,13 @@ use Rattle.rl_text.specs.Classes.{after_run}
 use Rattle.rl_text.specs.Texts.{begins}
 use Rattle.rl_forms.specs.Spelling.{without_underscores}
 use Rattle.rl_writing.proofs.AsciiLemmas.{encoded_low, low_chars}
-use Rattle.rl_style.specs.Rewriting.{cased_digit, styled_digits, fewest_digits, has_letter, is_visible, letter_of, respelled, restyled, visible_unit}
-use Rattle.rl_style.specs.Mirrors.{AreUnits, ascii_in, digits_text, fewest_text, number_text, zero_closed, restyled_escape, restyled_text, visible_text}
+use Rattle.rl_writing.proofs.UnicodeLemmas.{digits_of, escape_is, escape_text, escape_value}
+use Rattle.rl_style.specs.Rewriting.{cased_digit, styled_digits, fewest_digits, has_letter, needs_number, is_visible, letter_of, lower_digit, number_escape, reescaped, respelled, restyled, hex_escape, visible_unit}
+use Rattle.rl_style.specs.Mirrors.{AreUnits, ascii_in, code_text, digits_text, fewest_text, itself_text, number_text, zero_closed, restyled_escape, restyled_text, visible_text}
 use Rattle.std.proofs.Math.Utf8.{scalars}
 use Rattle.rl_style.proofs.CodeDigits.{fewest_is, hex_of, unicode_hex}
 use Rattle.rl_style.proofs.CaseLemmas.{none_right, scalars_cased}
+use Rattle.rl_style.proofs.HiddenUnits.{hidden_invisible, hidden_scalar, hidden_unnamed, low_escape, low_scalars, low_text, low_value, text_low, wide_escape, wide_text}
 use Rattle.rl_style.proofs.SameUnits.{named_low, quote_of, visible_low}
 use Rattle.rl_style.proofs.WrittenTexts.{scalars_join}
 
@@ -206,9 +208,9 @@ closed_text case ds =
     ∙ ap (λ z. z ++ map (cased case) (125 ∷ [])) (row_text case ds)
     ∙ ap (λ z. flat_map spaced_digit (map (cased_digit case) ds) ++ z) (brace case)
 
-code_text : (style : Style) (ds : List (ℕ × ℕ)) → list_all hex_of ds ≡ true
+code_text_is : (style : Style) (ds : List (ℕ × ℕ)) → list_all hex_of ds ≡ true
     → digits_text style (strict_text (UnicodeEscape ds)) ≡ strict_text (UnicodeEscape (styled_digits style ds))
-code_text style ds h = go style.code_digits
+code_text_is style ds h = go style.code_digits
   where
     inside : List ℕ
     inside = flat_map spaced_digit ds ++ (125 ∷ [])
@@ -235,13 +237,78 @@ hexes Char ds h = unicode_hex ds h
 hexes CStr ds h = unicode_hex ds (and_parts (is_unicode_escape ds) (not (spaced_value ds == 0)) h).0
 hexes kind ds h = absurd (cc)
 
+-- a character that is escaped becomes nothing shorter
+unrespelled : (style : Style) (k : Kind) (n c : ℕ) (escape : StrictUnit) → n ≡ c → needs_number c ≡ true
+    → respelled style k n escape ≡ escape
+unrespelled style k n c escape e h =
+    ap (λ n. respelled style k n escape) e
+    ∙ ap (λ b. cond (style.ascii_escapes && b) (visible_unit k c)
+    (cond (style.named_escapes && has_letter c) (PlainEscape (letter_of c)) escape)) (hidden_invisible c h)
+    ∙ ap (λ b. cond b (visible_unit k c)
+    (cond (style.named_escapes && has_letter c) (PlainEscape (letter_of c)) escape)) (none_right style.ascii_escapes)
+    ∙ ap (λ b. cond (style.named_escapes && b) (PlainEscape (letter_of c)) escape) (hidden_unnamed c h)
+    ∙ ap (λ b. cond b (PlainEscape (letter_of c)) escape) (none_right style.named_escapes)
+
+two_text : (style : Style) (k : Kind) (high low c : ℕ) → place_value 16 (high ∷ low ∷ []) ≡ c → needs_number c ≡ true
+    → strict_text (reescaped style k (hex_escape k high low))
+    ≡ 92 ∷ 120 ∷ map (cased style.escape_digits) (high ∷ low ∷ [])
+two_text style k high low c e h = go k
+  where
+    ascii : (k : Kind) → strict_text (reescaped style k (AsciiEscape high low))
+        ≡ 92 ∷ 120 ∷ map (cased style.escape_digits) (high ∷ low ∷ [])
+    ascii k = ap strict_text (unrespelled style k (place_value 16 (high ∷ low ∷ [])) c
+        (AsciiEscape (cased style.escape_digits high) (cased style.escape_digits low)) e h)
+
+    byte : (k : Kind) → strict_text (reescaped style k (ByteEscape high low))
+        ≡ 92 ∷ 120 ∷ map (cased style.escape_digits) (high ∷ low ∷ [])
+    byte k = ap strict_text (unrespelled style k (place_value 16 (high ∷ low ∷ [])) c
+        (ByteEscape (cased style.escape_digits high) (cased style.escape_digits low)) e h)
+
+    go : (k : Kind) → strict_text (reescaped style k (hex_escape k high low))
+        ≡ 92 ∷ 120 ∷ map (cased style.escape_digits) (high ∷ low ∷ [])
+    go Str = ascii Str
+    go Char = ascii Char
+    go ByteStr = byte ByteStr
+    go CStr = byte CStr
+    go Byte = byte Byte
+    go Int = byte Int
+    go Float = byte Float
+    go BoolKind = byte BoolKind
+
+hidden_text : (style : Style) (k : Kind) (c : ℕ) → needs_number c ≡ true
+    → digits_text style (code_text c) ≡ strict_text (reescaped style k (number_escape k c))
+hidden_text style k c h =
+    elim (cases_lt c 128) [
+      | inl low ↦ ap (digits_text style) (low_text c low)
+          ∙ hex_text style (lower_digit (c / 16)) (lower_digit (c % 16))
+          ∙ sym (ap (λ u. strict_text (reescaped style k u)) (low_escape k c low)
+          ∙ two_text style k (lower_digit (c / 16)) (lower_digit (c % 16)) c (low_value c low) h)
+      | inr wide ↦
+          let ds : List (ℕ × ℕ) = digits_of c in
+          ap (digits_text style) (wide_text c wide ∙ escape_text c)
+          ∙ code_text_is style ds (unicode_hex ds (escape_is c (hidden_scalar c h)))
+          ∙ sym (ap (λ u. strict_text (reescaped style k u)) (wide_escape k c wide)
+          ∙ ap strict_text (unrespelled style k (spaced_value ds) c (UnicodeEscape (styled_digits style ds))
+          (escape_value c) h))
+    ]
+
+pub itself_restyled : (style : Style) (k : Kind) (c : ℕ) → itself_text style c
+    ≡ strict_text (restyled style k (Itself c))
+itself_restyled style k c = go (style.hidden && needs_number c) refl
+  where
+    go : (b : Bool) → (style.hidden && needs_number c) ≡ b → cond b (digits_text style (code_text c)) (c ∷ [])
+        ≡ strict_text (cond b (reescaped style k (number_escape k c)) (Itself c))
+    go true e = hidden_text style k c (and_parts style.hidden (needs_number c) e).1
+    go false e = refl
+
 pub unit_restyled : (style : Style) (k : Kind) (u : StrictUnit) → is_strict_unit k u ≡ true
     → restyled_text style k (ascii_in (strict_contents (strict_content_of k) u)) (strict_text u)
     ≡ strict_text (restyled style k u)
 unfolding restyled_text
 unit_restyled style k (Itself c) h =
     let n : ℕ = ascii_in (strict_contents (strict_content_of k) (Itself c)) in
-    ap (λ b. cond b (restyled_escape style k n []) (c ∷ [])) (bare_front k c h)
+    ap (λ b. cond b (restyled_escape style k n []) (itself_text style c ++ [])) (bare_front k c h)
+    ∙ append-nil (itself_text style c) ∙ itself_restyled style k c
 unit_restyled style k (QuoteEscape c) h =
     let n : ℕ = ascii_in (c ∷ []) in
     ap (λ b. cond b (cond (style.quote_escapes && not (c == closer k)) (c ∷ []) (92 ∷ c ∷ []))
@@ -262,7 +329,7 @@ unit_restyled style k (ByteEscape high low) h =
 unit_restyled style k (UnicodeEscape digits) h =
     let n : ℕ = spaced_value digits in
     number_is style k n (ascii_in (strict_content_of k (n ∷ []))) (strict_text (UnicodeEscape digits))
-    (UnicodeEscape (styled_digits style digits)) (held_of k n) (code_text style digits (hexes k digits h))
+    (UnicodeEscape (styled_digits style digits)) (held_of k n) (code_text_is style digits (hexes k digits h))
 unit_restyled style k (LineBreak blanks) h = refl
 
 -- ---- the bytes that are put
@@ -327,16 +394,24 @@ alone_bytes style k n unit escape u e f =
     let text : chars unit ≡ 92 ∷ [] = e ∙ ap (λ z. 92 ∷ z) f in
     ap encode_utf8_all (at_escape style k n (chars unit) [] text ∙ sym text) ∙ encodes-chars unit u
 
-no_escape : (style : Style) (k : Kind) (n : ℕ) (t : List ℕ) → first_passes (λ c. c == 92) t ≡ false
-    → restyled_text style k n t ≡ t
+-- a character that is no backslash, and what follows it
+pub plain_bytes : (style : Style) (k : Kind) (n c : ℕ) (unit rest at a b : List ℕ) → IsUtf8 rest
+    → chars unit ≡ c ∷ chars rest → first_passes (λ c. c == 92) (chars unit) ≡ false
+    → a ≡ at ++ encode_utf8_all (itself_text style c) → b ≡ a ++ rest
+    → b ≡ at ++ encode_utf8_all (restyled_text style k n (chars unit))
 unfolding restyled_text
-no_escape style k n [] h = refl
-no_escape style k n (c ∷ cs) h = ap (λ b. cond b (restyled_escape style k n cs) (c ∷ cs)) h
+plain_bytes style k n c unit rest at a b u e h f g =
+    let text : restyled_text style k n (chars unit) ≡ itself_text style c ++ chars rest = ap (restyled_text style k n) e
+    ∙ ap (λ b. cond b (restyled_escape style k n (chars rest)) (itself_text style c ++ chars rest))
+    (sym (ap (first_passes (λ c. c == 92)) e) ∙ h) in
+    g ∙ ap (λ z. z ++ rest) f ∙ append_assoc at (encode_utf8_all (itself_text style c)) rest
+    ∙ ap (λ z. at ++ z) (sym (ap encode_utf8_all text ∙ encodes-append (itself_text style c) (chars rest)
+    ∙ ap (λ z. encode_utf8_all (itself_text style c) ++ z) (encodes-chars rest u)))
 
-pub plain_bytes : (style : Style) (k : Kind) (n : ℕ) (unit : List ℕ) → IsUtf8 unit
-    → first_passes (λ c. c == 92) (chars unit) ≡ false
-    → encode_utf8_all (restyled_text style k n (chars unit)) ≡ unit
-plain_bytes style k n unit u h = ap encode_utf8_all (no_escape style k n (chars unit) h) ∙ encodes-chars unit u
+pub empty_bytes : (style : Style) (k : Kind) (n : ℕ) (unit : List ℕ) → chars unit ≡ []
+    → encode_utf8_all (restyled_text style k n (chars unit)) ≡ []
+unfolding restyled_text
+empty_bytes style k n unit e = ap (λ z. encode_utf8_all (restyled_text style k n z)) e
 
 -- ---- an escape by number that is put
 
@@ -547,7 +622,7 @@ scalars_split (c ∷ cs) b h =
     let q = scalars_split cs b p.1 in
     (and_from (scalar c) (scalars cs) p.0 q.0, q.1)
 
-chosen_scalars : (b : Bool) (x y : List ℕ) → scalars x ≡ true → scalars y ≡ true → scalars (cond b x y) ≡ true
+pub chosen_scalars : (b : Bool) (x y : List ℕ) → scalars x ≡ true → scalars y ≡ true → scalars (cond b x y) ≡ true
 chosen_scalars true x y h k = h
 chosen_scalars false x y h k = k
 
@@ -614,13 +689,20 @@ escape_scalars style k n (c ∷ cs) small h =
     (chosen_scalars (c == 120 || c == 117) (number_text style k n (92 ∷ c ∷ cs)) (92 ∷ c ∷ cs)
     (number_scalars style k n (92 ∷ c ∷ cs) small h) h)
 
+pub itself_scalars : (style : Style) (c : ℕ) → scalar c ≡ true → scalars (itself_text style c) ≡ true
+itself_scalars style c h =
+    chosen_scalars (style.hidden && needs_number c) (digits_text style (code_text c)) (c ∷ [])
+    (digits_scalars style (code_text c) (low_scalars (code_text c) (text_low c))) (and_from (scalar c) true h refl)
+
 text_scalars : (style : Style) (k : Kind) (n : ℕ) (t : List ℕ) → n ≤ 128 → scalars t ≡ true
     → scalars (restyled_text style k n t) ≡ true
 unfolding restyled_text
 text_scalars style k n [] small h = refl
 text_scalars style k n (c ∷ cs) small h =
     let p = and_parts (scalar c) (scalars cs) h in
-    chosen_scalars (c == 92) (restyled_escape style k n cs) (c ∷ cs) (escape_scalars style k n cs small p.1) h
+    chosen_scalars (c == 92) (restyled_escape style k n cs) (itself_text style c ++ cs)
+    (escape_scalars style k n cs small p.1)
+    (scalars_join (itself_text style c) cs (itself_scalars style c p.0) p.1)
 
 ascii_small : (v : List ℕ) → ascii_in v ≤ 128
 ascii_small [] = omega arith

@@ -1,4 +1,5 @@
--- A source whose first line is no interpreter's, in which one literal is written anew, is cut as before everywhere else.
+-- A source whose first line is no interpreter's, in which one literal is written anew, is cut as before everywhere
+-- else.
 use Rattle.rl_text.proofs.Common.{◌≡◌, ℕ, ◌+◌, inl, inr, Bool, true, false, not, ◌||◌, ◌==◌, and_parts, both_ways, cond, List, [], ◌∷◌, ◌++◌, refl, sym, ◌∙◌, ap, subst, arith, codes, append_assoc}
 use Rattle.rl_text.specs.Texts.{first_passes, begins, begins_char, byte_len, is_white}
 use Rattle.rl_lexer.specs.Lexemes.{Lexeme, lexeme_text}
@@ -57,15 +58,30 @@ is_code t = not (begins (codes "#!") t) || begins (codes "#![") t
 no_script : (t r : List ℕ) → is_code t ≡ true → IsScriptLine t r → ⊥
 no_script t r h is = no_line (is.line ++ r) (sym (ap is_code is.text_is) ∙ h) is.no_attribute
 
-mark_agrees : (a b : List ℕ) → Alike a b → first_passes is_mark a ≡ first_passes is_mark b
-mark_agrees a b (inl e) = ap (first_passes is_mark) e
-mark_agrees a b (inr f) = same_first is_mark (code_on 65279 refl) a b f
+mark_agrees : (lead a b : List ℕ) → Alike lead a b → first_passes is_mark a ≡ first_passes is_mark b
+mark_agrees lead a b (inl e) = ap (first_passes is_mark) e
+mark_agrees lead a b (inr (inl f)) = same_first is_mark (code_on 65279 refl) a b f
+mark_agrees lead a b (inr (inr u)) = ap (first_passes is_mark) u.old_is ∙ go u.front u.raw u.quoted
+    ∙ ap (first_passes is_mark) (sym u.new_is)
+  where
+    go : (f x y : List ℕ) → first_passes is_mark (f ++ (114 ∷ x)) ≡ first_passes is_mark (f ++ (34 ∷ y))
+    go [] x y = refl
+    go (c ∷ f) x y = refl
 
-code_agrees : (a b : List ℕ) → Alike a b → is_code a ≡ is_code b
-code_agrees a b (inl e) = ap is_code e
-code_agrees a b (inr f) =
+-- neither a raw string nor one with escapes needs_number or shows what a first line begins with
+unquoted_code : (f x y : List ℕ) → is_code (f ++ (114 ∷ x)) ≡ is_code (f ++ (34 ∷ y))
+unquoted_code [] x y = refl
+unquoted_code (c ∷ []) x y = refl
+unquoted_code (c ∷ d ∷ []) x y = refl
+unquoted_code (c ∷ d ∷ e ∷ f) x y = refl
+
+code_agrees : (lead a b : List ℕ) → Alike lead a b → is_code a ≡ is_code b
+code_agrees lead a b (inl e) = ap is_code e
+code_agrees lead a b (inr (inl f)) =
     ap (λ z. not z || begins (codes "#![") a) (same_script a b f)
     ∙ ap (λ z. not (begins (codes "#!") b) || z) (same_attribute a b f)
+code_agrees lead a b (inr (inr u)) = ap is_code u.old_is ∙ unquoted_code u.front u.raw u.quoted
+    ∙ ap is_code (sym u.new_is)
 
 -- the body is what follows the mark
 body_is : (t body : List ℕ) → is_code t ≡ true → IsWithoutLine t body → body ≡ t
@@ -77,9 +93,10 @@ pub record Preamble (t body : List ℕ) (at : ℕ) : Type 0 where
   pub mark : List ℕ
   pub text_is : t ≡ mark ++ body
   pub at_is : at ≡ byte_len mark
-  pub goes : (u : List ℕ) → Alike body u → IsWithoutPreamble (mark ++ u) u
+  pub goes : (u : List ℕ) → Alike mark body u → IsWithoutPreamble (mark ++ u) u
 
-pub preamble : (t : List ℕ) (cuts : List CutSource) (r : List ℕ) → begins_with_code t ≡ true → (cut : IsCutUpTo t cuts r)
+pub preamble : (t : List ℕ) (cuts : List CutSource) (r : List ℕ) → begins_with_code t ≡ true
+    → (cut : IsCutUpTo t cuts r)
     → Preamble t cut.body cut.at
 preamble t cuts r code cut =
     let whole : cut.body ≡ without_mark t = body_is (without_mark t) cut.body code cut.front in
@@ -93,20 +110,19 @@ preamble t cuts r code cut =
       at_is = omega (arith, cut.place, long);
       goes = λ u a.
           let bare : without_mark (k.mark ++ u) ≡ u = k.goes u (ap (first_passes is_mark) (sym whole)
-          ∙ mark_agrees cut.body u a) in
-          let free : begins_with_code (k.mark ++ u) ≡ true = ap is_code bare ∙ sym (code_agrees cut.body u a)
+          ∙ mark_agrees k.mark cut.body u a) in
+          let free : begins_with_code (k.mark ++ u) ≡ true = ap is_code bare ∙ sym (code_agrees k.mark cut.body u a)
           ∙ ap is_code whole ∙ code in
           inr (sym bare, λ s is. no_script (without_mark (k.mark ++ u)) s free is);
     }
 
 pub source_recut : (t : List ℕ) (before after : List CutSource) (old new : Lexeme) (place : ℕ) (r : List ℕ)
-    → begins_with_code t ≡ true → (cut : IsCutUpTo t (before ++ (placed_literal old place ∷ after)) r)
-    → Recut cut.at cut.body before after old new place r → IsRecutSource t before after old new place r
-source_recut t before after old new place r code cut m =
-    let p : Preamble t cut.body cut.at = preamble t (before ++ (placed_literal old place ∷ after)) r code cut in
+    → (cut : IsCutUpTo t (before ++ (placed_literal old place ∷ after)) r) → (p : Preamble t cut.body cut.at)
+    → Recut p.mark cut.at cut.body before after old new place r → IsRecutSource t before after old new place r
+source_recut t before after old new place r cut p m =
     let was : List ℕ = m.front ++ (lexeme_text old ++ m.rest) in
     let body : List ℕ = m.front ++ (lexeme_text new ++ m.rest) in
-    let same : Alike cut.body body = subst (λ z. Alike z body) (sym m.text_is) (alike_more m.front
+    let same : Alike p.mark cut.body body = subst (λ z. Alike p.mark z body) (sym m.text_is) (alike_more p.mark m.front
     (lexeme_text old ++ m.rest) (lexeme_text new ++ m.rest) m.same_front) in
     let text : List ℕ = (p.mark ++ m.front) ++ (lexeme_text new ++ m.rest) in
     let text_is : text ≡ p.mark ++ body = append_assoc p.mark m.front (lexeme_text new ++ m.rest) in
@@ -126,5 +142,7 @@ source_recut t before after old new place r code cut m =
     }
 
 pub keeps_the_source : KeepsTheSource
-keeps_the_source t before after old new place r code cut sound ends = source_recut t before after old new place r
-    code cut (recut_ends cut.at cut.body before after old new place r cut.are_cuts sound ends)
+keeps_the_source t before after old new place r code cut sound ends =
+    let p : Preamble t cut.body cut.at = preamble t (before ++ (placed_literal old place ∷ after)) r code cut in
+    source_recut t before after old new place r cut p (recut_ends p.mark cut.at cut.body before after old new place r
+    cut.are_cuts sound ends)

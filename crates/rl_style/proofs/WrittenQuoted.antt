@@ -11,7 +11,7 @@ use Rattle.rl_writing.specs.RawStrings.{HasFewestHashes, HasNoRaw, raw_contents,
 use Rattle.rl_writing.proofs.AsciiLemmas.{encoded_low, is_low, low_join}
 use Rattle.rl_style.specs.declared.style.Style.{Style}
 use Rattle.rl_style.specs.Mirrors.{AreUnits, CookedParts, RawParts}
-use Rattle.rl_style.specs.Rewriting.{HasHashes, RewritesCooked, RewritesRaw, restyled}
+use Rattle.rl_style.specs.Rewriting.{HasHashes, RewritesCooked, RewritesRaw, loses_raw, restyled, unraw_text}
 use Rattle.rl_style.proofs.SameRaw.{length_hashes, raw_followed, raw_joined, raw_strict}
 use Rattle.rl_style.proofs.UnitTexts.{units_scalars}
 use Rattle.rl_style.proofs.WrittenTexts.{scalars_join, text_of}
@@ -213,7 +213,7 @@ no_more k t i x n p f =
       | inr a ↦ a
     ]
 
-raw_low : (k : Kind) → list_all is_low (strict_raw_opener k) ≡ true
+pub raw_low : (k : Kind) → list_all is_low (strict_raw_opener k) ≡ true
 raw_low Str = refl
 raw_low ByteStr = refl
 raw_low CStr = refl
@@ -223,7 +223,7 @@ raw_low Int = refl
 raw_low Float = refl
 raw_low BoolKind = refl
 
-hashes_low : (n : ℕ) → list_all is_low (replicate n 35) ≡ true
+pub hashes_low : (n : ℕ) → list_all is_low (replicate n 35) ≡ true
 hashes_low zero = refl
 hashes_low (suc n) = hashes_low n
 
@@ -232,6 +232,10 @@ opened_length Str h = omega arith
 opened_length ByteStr h = omega arith
 opened_length CStr h = omega arith
 opened_length kind h = absurd (cc)
+
+pub regrouped : (o h i x : List ℕ) → o ++ (h ++ (34 ∷ (i ++ (34 ∷ (h ++ x)))))
+    ≡ (o ++ (h ++ (34 ∷ []))) ++ (i ++ ((34 ∷ h) ++ x))
+regrouped o h i x = simp append_assoc
 
 -- with the fewest hashes it takes no more than a byte more than the text
 pub raw_room : (k : Kind) (t i s : List ℕ) (n : ℕ) → IsUtf8 t → IsUtf8 i → IsUtf8 s
@@ -252,38 +256,48 @@ raw_room k t i s n ut ui us p f =
     length-append (strict_raw_opener k) (h ++ (34 ∷ [])) in
     let count : length h ≡ p.hashes = length_hashes p.hashes in
     omega (arith, fewer, opened, whole, one, front, count)
-  where
-    regrouped : (o h i x : List ℕ) → o ++ (h ++ (34 ∷ (i ++ (34 ∷ (h ++ x)))))
-        ≡ (o ++ (h ++ (34 ∷ []))) ++ (i ++ ((34 ∷ h) ++ x))
-    regrouped o h i x = simp append_assoc
 
-pub raw_kept : (style : Style) (k : Kind) (t i x new : List ℕ) → RawParts k t i x → style.raw_hashes ≡ false → new ≡ t
-    → RewritesRaw style t new
-raw_kept style k t i x new p rule e =
+pub raw_kept : (style : Style) (k : Kind) (front t i x new : List ℕ) → RawParts k t i x
+    → loses_raw style k front i ≡ false → style.raw_hashes ≡ false → new ≡ t → RewritesRaw style front t new
+raw_kept style k front t i x new p stays rule e =
     let tree = raw_tree k t i x p in
     let Has : Bool → Type 0 = λ b. HasHashes b k i p.hashes p.hashes in
-    record {
+    inl (record {
       kind = k;
       contents = quoted_contents k (strict_content_of k i);
       suffix = x;
       raw = tree;
+      stays = stays;
       hashes = p.hashes;
       hashes_are = subst Has (sym rule) refl;
       new_is = e ∙ tree.text ∙ sym (raw_followed k p.hashes i x (raw_is_string k t i x p));
-    }
+    })
 
-pub raw_trimmed : (style : Style) (k : Kind) (t i suffix written new : List ℕ) (n : ℕ) → IsUtf8 written
-    → RawParts k t i (chars suffix) → style.raw_hashes ≡ true → HasFewestHashes k i n → chars written ≡ raw_text k n i
-    → new ≡ written ++ suffix → RewritesRaw style t (chars new)
-raw_trimmed style k t i suffix written new n uw p rule f w e =
+pub raw_trimmed : (style : Style) (k : Kind) (front t i suffix written new : List ℕ) (n : ℕ) → IsUtf8 written
+    → RawParts k t i (chars suffix) → loses_raw style k front i ≡ false → style.raw_hashes ≡ true
+    → HasFewestHashes k i n → chars written ≡ raw_text k n i
+    → new ≡ written ++ suffix → RewritesRaw style front t (chars new)
+raw_trimmed style k front t i suffix written new n uw p stays rule f w e =
     let tree = raw_tree k t i (chars suffix) p in
     let Has : Bool → Type 0 = λ b. HasHashes b k i p.hashes n in
-    record {
+    inl (record {
       kind = k;
       contents = quoted_contents k (strict_content_of k i);
       suffix = chars suffix;
       raw = tree;
+      stays = stays;
       hashes = n;
       hashes_are = subst Has (sym rule) f;
       new_is = ap chars e ∙ chars-append written suffix uw ∙ ap (λ z. z ++ chars suffix) w;
-    }
+    })
+
+pub raw_lost : (style : Style) (k : Kind) (front t i x new : List ℕ) → RawParts k t i x
+    → loses_raw style k front i ≡ true → new ≡ unraw_text style k i x → RewritesRaw style front t new
+raw_lost style k front t i x new p loses e = inr (record {
+  kind = k;
+  contents = quoted_contents k (strict_content_of k i);
+  suffix = x;
+  raw = raw_tree k t i x p;
+  loses = loses;
+  new_is = e;
+})

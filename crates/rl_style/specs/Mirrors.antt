@@ -1,5 +1,5 @@
 -- Mirrors of the code, for private functions and proofs alone.
-use Rattle.std.specs.Prelude.{◌≡◌, ℕ, ◌<◌, not, ◌&&◌, ◌||◌, ◌==◌, nat_lt, List, [], ◌∷◌, ◌++◌, Option, Some, None, map, replicate, codes, drop, IsTrue, if◌then◌else◌}
+use Rattle.std.specs.Prelude.{◌≡◌, ℕ, ◌<◌, ◌/◌, ◌%◌, not, ◌&&◌, ◌||◌, ◌==◌, nat_lt, List, [], ◌∷◌, ◌++◌, Option, Some, None, map, replicate, codes, drop, IsTrue, if◌then◌else◌}
 use Rattle.std.specs.List.{flat_map, list_all}
 use Prim.Native.Char.{code}
 use Rattle.rl_forms.specs.declared.kind.Kind.{Kind}
@@ -12,7 +12,8 @@ use Rattle.rl_reading.specs.declared.quoted_forms.QuotedForm.{QuotedForm}
 use Rattle.rl_reading.specs.Mirrors.OpenerAt.{found_opener, opener_at}
 use Rattle.rl_style.specs.declared.style.Style.{Style}
 use Rattle.rl_style.specs.Cases.{cased, is_padding}
-use Rattle.rl_style.specs.Rewriting.{has_letter, is_visible, letter_of}
+use Rattle.rl_writing.specs.AsciiStrings.{unicode_escape}
+use Rattle.rl_style.specs.Rewriting.{has_letter, needs_number, is_visible, letter_of, lower_digit, needs_backslash}
 
 -- one or none
 abbrev pub one_or_none : Option ℕ → List ℕ
@@ -91,7 +92,21 @@ restyled_escape style kind n (c ∷ cs) =
     else (if c == code "x" || c == code "u" then number_text style kind n (code "\\" ∷ c ∷ cs)
     else code "\\" ∷ c ∷ cs)
 
+-- the escape of a character by its number, and as the style has it
+abbrev pub code_text : ℕ → List ℕ
+code_text c =
+    if nat_lt c 128 then code "\\" ∷ code "x" ∷ lower_digit (c / 16) ∷ lower_digit (c % 16) ∷ [] else unicode_escape c
+
+-- a character that stands for itself
+abbrev pub itself_text : Style → ℕ → List ℕ
+itself_text style c = if style.hidden && needs_number c then digits_text style (code_text c) else c ∷ []
+
 -- a unit that stands for this, by its text
 unfoldable pub restyled_text : Style → Kind → ℕ → List ℕ → List ℕ
 restyled_text style kind n [] = []
-restyled_text style kind n (c ∷ cs) = if c == code "\\" then restyled_escape style kind n cs else c ∷ cs
+restyled_text style kind n (c ∷ cs) =
+    if c == code "\\" then restyled_escape style kind n cs else itself_text style c ++ cs
+
+-- a character of a raw literal, in one with escapes
+abbrev pub raw_character : Style → ℕ → List ℕ
+raw_character style c = if needs_backslash c then code "\\" ∷ c ∷ [] else itself_text style c

@@ -16,12 +16,19 @@ pub record IsRestyled (at : ℕ) (t : List ℕ) (before after : List CutSource) 
   pub same_form : form_of new ≡ form_of old
   pub recut : IsRecut at t before after old new place r
 
+-- In the text, which begins at a byte, the literal at this place stands after this front.
+pub record StandsAfter (at : ℕ) (t : List ℕ) (literal : Lexeme) (place : ℕ) (front : List ℕ) : Type 0 where
+  pub rest : List ℕ
+  pub text_is : t ≡ front ++ (lexeme_text literal ++ rest)
+  pub place_is : place ≡ at + byte_len front
+
 -- What a style makes of a literal leaves the text cut as before everywhere else.
 abbrev pub KeepsTheRestyledCut : Type 0
 KeepsTheRestyledCut =
-    (style : Style) (at : ℕ) (t : List ℕ) (before after : List CutSource) (old : Lexeme) (written : List ℕ) (place : ℕ)
-    (r : List ℕ) → SourcesUpTo at t (before ++ (placed_literal old place ∷ after)) r → AllByRecursion IsSound before
-    → Rewrites style (lexeme_text old) written → IsRestyled at t before after old written place r
+    (style : Style) (at : ℕ) (t : List ℕ) (before after : List CutSource) (old : Lexeme) (front written : List ℕ)
+    (place : ℕ) (r : List ℕ) → SourcesUpTo at t (before ++ (placed_literal old place ∷ after)) r
+    → AllByRecursion IsSound before → StandsAfter at t old place front
+    → Rewrites style front (lexeme_text old) written → IsRestyled at t before after old written place r
 
 -- the same of a whole source
 pub record IsRestyledSource (t : List ℕ) (before after : List CutSource) (old : Lexeme) (written : List ℕ) (place : ℕ)
@@ -34,10 +41,11 @@ pub record IsRestyledSource (t : List ℕ) (before after : List CutSource) (old 
 -- The same of a source whose first line is no interpreter's.
 abbrev pub KeepsTheRestyledSource : Type 0
 KeepsTheRestyledSource =
-    (style : Style) (t : List ℕ) (before after : List CutSource) (old : Lexeme) (written : List ℕ) (place : ℕ)
+    (style : Style) (t : List ℕ) (before after : List CutSource) (old : Lexeme) (front written : List ℕ) (place : ℕ)
     (r : List ℕ) → IsTrue (begins_with_code t)
     → IsCutUpTo t (before ++ (placed_literal old place ∷ after)) r → AllByRecursion IsSound before
-    → Rewrites style (lexeme_text old) written → IsRestyledSource t before after old written place r
+    → StandsAfter 0 t old place front
+    → Rewrites style front (lexeme_text old) written → IsRestyledSource t before after old written place r
 
 -- ---- several literals
 
@@ -54,16 +62,17 @@ IsEdited at old (w ∷ ws) (e ∷ es) new =
     × (new ≡ gap ++ (edited_text e w.token ++ new_after)) × IsEdited (source_end w) after ws es new_after
 IsEdited at old _ _ new = ⊥
 
--- what is written in the place of a token is what the style makes of it
-abbrev pub IsInStyle : Style → SourceLexeme → Option (List ℕ) → Type 0
-IsInStyle style token None = ⊤
-IsInStyle style token (Some written) =
-    (literal : Lexeme) × (token ≡ PlainToken literal) × Rewrites style (lexeme_text literal) written
+-- what is written in the place of a token of a text, which begins at a byte, is what the style makes of it there
+abbrev pub IsInStyle : Style → ℕ → List ℕ → CutSource → Option (List ℕ) → Type 0
+IsInStyle style at t w None = ⊤
+IsInStyle style at t w (Some written) =
+    (literal : Lexeme) × (front : List ℕ) × (w.token ≡ PlainToken literal) × StandsAfter at t literal w.at front
+    × Rewrites style front (lexeme_text literal) written
 
-abbrev pub AreInStyle : Style → List CutSource → List (Option (List ℕ)) → Type 0
-AreInStyle style [] [] = ⊤
-AreInStyle style (w ∷ ws) (e ∷ es) = IsInStyle style w.token e × AreInStyle style ws es
-AreInStyle style _ _ = ⊥
+abbrev pub AreInStyle : Style → ℕ → List ℕ → List CutSource → List (Option (List ℕ)) → Type 0
+AreInStyle style at t [] [] = ⊤
+AreInStyle style at t (w ∷ ws) (e ∷ es) = IsInStyle style at t w e × AreInStyle style at t ws es
+AreInStyle style at t _ _ = ⊥
 
 -- the same token, or one of its kind that is what was written
 abbrev pub IsTokenOf : Option (List ℕ) → SourceLexeme → SourceLexeme → Type 0
@@ -87,7 +96,7 @@ abbrev pub KeepsTheEditedCut : Type 0
 KeepsTheEditedCut =
     (style : Style) (at : ℕ) (old : List ℕ) (cuts : List CutSource) (edits : List (Option (List ℕ))) (new r : List ℕ)
     → SourcesUpTo at old cuts r → AllByRecursion IsSound cuts → IsEdited at old cuts edits new
-    → AreInStyle style cuts edits → IsCutEdited at new cuts edits r
+    → AreInStyle style at old cuts edits → IsCutEdited at new cuts edits r
 
 -- the same of a whole source
 pub record IsEditedSource (new : List ℕ) (cuts : List CutSource) (edits : List (Option (List ℕ))) (r : List ℕ) : Type
@@ -101,4 +110,4 @@ abbrev pub KeepsTheEditedSource : Type 0
 KeepsTheEditedSource =
     (style : Style) (old : List ℕ) (cuts : List CutSource) (edits : List (Option (List ℕ))) (new r : List ℕ)
     → IsTrue (begins_with_code old) → IsCutUpTo old cuts r → AllByRecursion IsSound cuts
-    → IsEdited 0 old cuts edits new → AreInStyle style cuts edits → IsEditedSource new cuts edits r
+    → IsEdited 0 old cuts edits new → AreInStyle style 0 old cuts edits → IsEditedSource new cuts edits r

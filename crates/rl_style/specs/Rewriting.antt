@@ -1,13 +1,17 @@
 -- Literals written anew: what a style makes of a strict text, and what every style keeps. A character is its code.
-use Rattle.std.specs.Prelude.{◌≡◌, ◌⊎◌, ℕ, Bool, true, false, not, ◌&&◌, ◌||◌, ◌==◌, nat_le, List, [], ◌∷◌, ◌++◌, Option, None, map, if◌then◌else◌}
-use Rattle.std.specs.List.{flat_map}
+use Rattle.std.specs.Prelude.{◌≡◌, ◌⊎◌, ℕ, ◌+◌, ◌-◌, ◌/◌, ◌%◌, Bool, true, false, not, ◌&&◌, ◌||◌, ◌==◌, nat_le, nat_lt, List, [], ◌∷◌, ◌++◌, Option, None, map, if◌then◌else◌, IsTrue, IsFalse}
+use Rattle.std.specs.List.{flat_map, list_all, list_any}
 use Prim.Native.Char.{code}
+use Rattle.rl_text.specs.Hiding.{needs_escape}
 use Rattle.rl_forms.specs.declared.kind.Kind.{Kind}
+use Rattle.rl_forms.specs.declared.kind.Kind.TheVariants.{Str, Char}
 use Rattle.rl_forms.specs.Reading.{Contents}
 use Rattle.rl_forms.specs.Written.{closer}
 use Rattle.rl_forms.specs.Strict.{StrictUnit, Itself, QuoteEscape, PlainEscape, AsciiEscape, ByteEscape, UnicodeEscape, spaced_value, strict_text, strict_opener, strict_closer, StrictBool, StrictCooked, StrictFloat, StrictInt, StrictRaw, Strict}
 use Rattle.rl_forms.specs.Spelling.{place_value}
+use Rattle.rl_writing.specs.Integers.{numeral}
 use Rattle.rl_writing.specs.RawStrings.{raw_text, HasFewestHashes}
+use Rattle.rl_style.specs.Around.{may_precede_quote}
 use Rattle.rl_style.specs.declared.style.Case.{Case}
 use Rattle.rl_style.specs.declared.style.Style.{Style}
 use Rattle.rl_style.specs.Cases.{cased, drops_underscores, kept_digits, kept_row, number_character, separator}
@@ -42,23 +46,6 @@ pub record RewritesFloat (style : Style) (old new : List ℕ) : Type 0 where
   pub float : StrictFloat old contents suffix
   pub new_is : new ≡ flat_map (number_character style (drops_underscores style suffix) false)
       (kept_row style suffix float.numeral) ++ (separator style suffix ++ suffix)
-
--- ---- raw literals
-
--- so many hashes: the fewest that the text inside needs, or as many as there were
-abbrev pub HasHashes : Bool → Kind → List ℕ → ℕ → ℕ → Type 0
-HasHashes true kind inside old new = HasFewestHashes kind inside new
-HasHashes false kind inside old new = new ≡ old
-
--- The old text is a raw literal; the new one has the same text inside, the style's hashes, and the suffix.
-pub record RewritesRaw (style : Style) (old new : List ℕ) : Type 0 where
-  pub kind : Kind
-  pub contents : Contents
-  pub suffix : List ℕ
-  pub raw : StrictRaw old kind contents suffix
-  pub hashes : ℕ
-  pub hashes_are : HasHashes style.raw_hashes kind raw.inside raw.hashes hashes
-  pub new_is : new ≡ raw_text kind hashes raw.inside ++ suffix
 
 -- ---- literals with escapes
 
@@ -100,20 +87,51 @@ respelled style kind c escape =
     if style.ascii_escapes && is_visible c then visible_unit kind c
     else (if style.named_escapes && has_letter c then PlainEscape (letter_of c) else escape)
 
--- what a unit becomes: a quote that doesn't close the literal stands for itself, and so does a visible character that
+-- what an escape becomes: a quote that doesn't close the literal stands for itself, and so does a visible character
+-- that
 -- is spelled by its number; other escapes by number have their digits in one case
-abbrev pub restyled : Style → Kind → StrictUnit → StrictUnit
-restyled style kind (QuoteEscape c) =
+abbrev pub reescaped : Style → Kind → StrictUnit → StrictUnit
+reescaped style kind (QuoteEscape c) =
     if style.quote_escapes && not (c == closer kind) then Itself c else QuoteEscape c
-restyled style kind (AsciiEscape high low) =
+reescaped style kind (AsciiEscape high low) =
     respelled style kind (place_value 16 (high ∷ low ∷ []))
     (AsciiEscape (cased style.escape_digits high) (cased style.escape_digits low))
-restyled style kind (ByteEscape high low) =
+reescaped style kind (ByteEscape high low) =
     respelled style kind (place_value 16 (high ∷ low ∷ []))
     (ByteEscape (cased style.escape_digits high) (cased style.escape_digits low))
-restyled style kind (UnicodeEscape digits) =
+reescaped style kind (UnicodeEscape digits) =
     respelled style kind (spaced_value digits) (UnicodeEscape (styled_digits style digits))
-restyled style kind unit = unit
+reescaped style kind unit = unit
+
+-- a character that turns or hides text, but for those that have letters
+abbrev pub needs_number : ℕ → Bool
+needs_number c = needs_escape c && not (has_letter c)
+
+-- a digit of base 16, in lower case
+abbrev pub lower_digit : ℕ → ℕ
+lower_digit n = if nat_lt n 10 then code "0" + n else code "a" + (n - 10)
+
+-- `\x` and two digits
+abbrev pub hex_escape : Kind → ℕ → ℕ → StrictUnit
+hex_escape Str high low = AsciiEscape high low
+hex_escape Char high low = AsciiEscape high low
+hex_escape _ high low = ByteEscape high low
+
+-- the escape by its number: `\x` in ASCII, else `\u{..}` with the fewest digits
+abbrev pub number_escape : Kind → ℕ → StrictUnit
+number_escape kind c =
+    if nat_lt c 128 then hex_escape kind (lower_digit (c / 16)) (lower_digit (c % 16))
+    else UnicodeEscape (map (λ d. (d, 0)) (numeral 16 false c))
+
+-- what a unit becomes: a character that turns or hides text is the escape by its number
+abbrev pub restyled : Style → Kind → StrictUnit → StrictUnit
+restyled style kind (Itself c) =
+    if style.hidden && needs_number c then reescaped style kind (number_escape kind c) else Itself c
+restyled style kind unit = reescaped style kind unit
+
+-- what stands inside a literal, each unit as the style makes it
+abbrev pub restyled_inside : Style → Kind → List StrictUnit → List ℕ
+restyled_inside style kind units = flat_map strict_text (map (restyled style kind) units)
 
 -- The old text is a literal with escapes; in the new one each unit is what the style makes of it.
 pub record RewritesCooked (style : Style) (old new : List ℕ) : Type 0 where
@@ -122,7 +140,62 @@ pub record RewritesCooked (style : Style) (old new : List ℕ) : Type 0 where
   pub suffix : List ℕ
   pub cooked : StrictCooked old kind contents suffix
   pub new_is : new ≡ strict_opener kind
-      ++ (flat_map strict_text (map (restyled style kind) cooked.units) ++ (strict_closer kind ++ suffix))
+      ++ (restyled_inside style kind cooked.units ++ (strict_closer kind ++ suffix))
+
+-- ---- raw literals
+
+-- so many hashes: the fewest that the text inside needs, or as many as there were
+abbrev pub HasHashes : Bool → Kind → List ℕ → ℕ → ℕ → Type 0
+HasHashes true kind inside old new = HasFewestHashes kind inside new
+HasHashes false kind inside old new = new ≡ old
+
+-- A literal may begin with its quote after this text, where it began with `r`. `br` and `cr` keep a letter in front.
+abbrev pub may_lose_r : Kind → List ℕ → Bool
+may_lose_r Str front = may_precede_quote front
+may_lose_r _ front = true
+
+abbrev pub needs_backslash : ℕ → Bool
+needs_backslash c = c == code "\"" || c == code "\\"
+
+-- A raw literal after this text, with that inside, becomes one with escapes: its text needs none, or holds characters
+-- that get some.
+abbrev pub loses_raw : Style → Kind → List ℕ → List ℕ → Bool
+loses_raw style kind front inside =
+    may_lose_r kind front
+    && ((style.raw && list_all (λ c. not (needs_backslash c)) inside) || (style.hidden && list_any needs_number inside))
+
+-- what a character of a raw literal is in one with escapes
+abbrev pub raw_unit : ℕ → StrictUnit
+raw_unit c = if c == code "\"" then QuoteEscape c else (if c == code "\\" then PlainEscape c else Itself c)
+
+-- the literal with escapes of the kind that holds this text, and has this suffix
+abbrev pub unraw_text : Style → Kind → List ℕ → List ℕ → List ℕ
+unraw_text style kind inside suffix =
+    strict_opener kind ++ (restyled_inside style kind (map raw_unit inside) ++ (strict_closer kind ++ suffix))
+
+-- The old text is a raw literal and stays one: the new one has the same text inside, the style's hashes, and the
+-- suffix.
+pub record StaysRaw (style : Style) (front old new : List ℕ) : Type 0 where
+  pub kind : Kind
+  pub contents : Contents
+  pub suffix : List ℕ
+  pub raw : StrictRaw old kind contents suffix
+  pub stays : IsFalse (loses_raw style kind front raw.inside)
+  pub hashes : ℕ
+  pub hashes_are : HasHashes style.raw_hashes kind raw.inside raw.hashes hashes
+  pub new_is : new ≡ raw_text kind hashes raw.inside ++ suffix
+
+-- The old text is a raw literal; the new one is what the style makes of the literal with escapes that holds the same.
+pub record LosesRaw (style : Style) (front old new : List ℕ) : Type 0 where
+  pub kind : Kind
+  pub contents : Contents
+  pub suffix : List ℕ
+  pub raw : StrictRaw old kind contents suffix
+  pub loses : IsTrue (loses_raw style kind front raw.inside)
+  pub new_is : new ≡ unraw_text style kind raw.inside suffix
+
+abbrev pub RewritesRaw : Style → List ℕ → List ℕ → List ℕ → Type 0
+RewritesRaw style front old new = StaysRaw style front old new ⊎ LosesRaw style front old new
 
 -- ---- any literal
 
@@ -133,12 +206,12 @@ pub record KeepsTruth (old new : List ℕ) : Type 0 where
   pub truth : StrictBool old contents suffix
   pub new_is : new ≡ old
 
--- The new text is the old one, which is a literal, in this style.
-abbrev pub Rewrites : Style → List ℕ → List ℕ → Type 0
-Rewrites style old new =
+-- The new text is the old one, which is a literal, in this style; the first text stands in front of it.
+abbrev pub Rewrites : Style → List ℕ → List ℕ → List ℕ → Type 0
+Rewrites style front old new =
     RewritesInt style old new
     ⊎ (RewritesFloat style old new
-    ⊎ (RewritesRaw style old new ⊎ (RewritesCooked style old new ⊎ KeepsTruth old new)))
+    ⊎ (RewritesRaw style front old new ⊎ (RewritesCooked style old new ⊎ KeepsTruth old new)))
 
 -- The style has no rule.
 pub record HasNoRule (style : Style) : Type 0 where
@@ -154,3 +227,5 @@ pub record HasNoRule (style : Style) : Type 0 where
   pub named_escapes : style.named_escapes ≡ false
   pub quote_escapes : style.quote_escapes ≡ false
   pub raw_hashes : style.raw_hashes ≡ false
+  pub raw : style.raw ≡ false
+  pub hidden : style.hidden ≡ false

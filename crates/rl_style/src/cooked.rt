@@ -1,16 +1,16 @@
 //! Literals with escapes written anew, unit by unit.
 
-ghost use Rattle.std.specs.Prelude.{◌≡◌, ◌<◌, ◌≤◌, ◌+◌, ◌++◌, ◌∷◌, [], ◌||◌, ◌&&◌, ◌==◌, not, nat_lt, if◌then◌else◌, List, length, map, take, encode_utf8_all};
-ghost use Rattle.std.specs.List.{flat_map};
+ghost use Rattle.std.specs.Prelude.{◌≡◌, ◌<◌, ◌≤◌, ◌+◌, ◌*◌, ◌++◌, ◌∷◌, [], ◌||◌, ◌&&◌, ◌==◌, not, nat_lt, if◌then◌else◌, List, length, take, encode_utf8_all, IsFalse};
 ghost use Rattle.std.specs.Str.{chars, IsUtf8};
-ghost use Rattle.rl_text.specs.Texts.{code};
-ghost use Rattle.rl_forms.specs.Strict.{StrictUnit, strict_text};
+ghost use Rattle.rl_text.specs.Texts.{code, first_passes};
+ghost use Rattle.rl_forms.specs.Strict.{StrictUnit};
 ghost use Rattle.rl_forms.specs.Written.{closer};
 ghost use Rattle.rl_reading.specs.Mirrors.UnitAt.{piece_value};
 ghost use Rattle.rl_style.specs.Mirrors.{AreUnits, CookedParts, ascii_in, number_text, restyled_text, visible_text};
-ghost use Rattle.rl_style.specs.Rewriting.{RewritesCooked, has_letter, is_visible, letter_of, restyled};
+ghost use Rattle.rl_style.specs.Rewriting.{RewritesCooked, has_letter, is_visible, letter_of, restyled_inside};
 
 use crate::codes::put_digits;
+use crate::hidden::put_itself;
 use crate::style::Style;
 use rl_forms::Kind;
 use rl_forms::written_unit::closer;
@@ -86,7 +86,7 @@ fn letter_of(byte: u8) -> u8
 }
 
 /// Puts a backslash and a character.
-fn put_pair(out: &mut [u8], at: usize, byte: u8) -> usize
+pub(crate) fn put_pair(out: &mut [u8], at: usize, byte: u8) -> usize
     requires room { at + 2 ≤ length out.old }
     requires ascii { byte < 128 }
     ensures end { result ≡ at + 2 }
@@ -164,27 +164,45 @@ fn put_escape(
     put_text(out, at, unit)
 }
 
-/// Puts a unit, written anew, that stands for this character or byte of ASCII, or 128.
+/// Puts a unit that is no escape, written anew.
+fn put_plain(out: &mut [u8], at: usize, kind: Kind, style: Style, unit: &str, byte: u8) -> usize
+    requires room { at + 4 * length unit.now ≤ length out.old }
+    requires plain { IsFalse (first_passes (λ c. c == code "\\") (chars unit.now)) }
+    ensures end { result ≤ at + 4 * length unit.now }
+    ensures bytes { take result out.new
+        ≡ take at out.old ++ encode_utf8_all (restyled_text style kind byte (chars unit.now)) }
+    ensures len { length out.new ≡ length out.old }
+{
+    match split_char(unit) {
+        Some((c, rest)) => {
+            let end = put_itself(out, at, style, c);
+            put_text(out, end, rest)
+        }
+        None => at,
+    }
+}
+
+/// Puts a unit, written anew, that stands for this character or byte of ASCII, or 128: at most four bytes for each of its own.
 fn put_unit(out: &mut [u8], at: usize, kind: Kind, style: Style, unit: &str, byte: u8) -> usize
-    requires room { at + length unit.now ≤ length out.old }
+    requires room { at + 4 * length unit.now ≤ length out.old }
     requires small { byte ≤ 128 }
-    ensures end { result ≤ at + length unit.now }
+    ensures end { result ≤ at + 4 * length unit.now }
     ensures bytes { take result out.new
         ≡ take at out.old ++ encode_utf8_all (restyled_text style kind byte (chars unit.now)) }
     ensures len { length out.new ≡ length out.old }
 {
     match strip_byte(unit, b'\\') {
         Some(escape) => put_escape(out, at, kind, style, unit, escape, byte),
-        None => put_text(out, at, unit),
+        None => put_plain(out, at, kind, style, unit, byte),
     }
 }
 
 /// Puts what stands inside a literal, each unit written anew.
 fn put_units(out: &mut [u8], at: usize, kind: Kind, style: Style, inside: &str) -> usize
-    requires { at + length inside.now ≤ length out.old }
-    ensures end { result ≤ at + length inside.now }
+    requires { at + 4 * length inside.now ≤ length out.old }
+    ensures end { result ≤ at + 4 * length inside.now }
     ensures bytes { (us : List StrictUnit) → AreUnits kind us (chars inside.now) → take result out.new
-        ≡ take at out.old ++ encode_utf8_all (flat_map strict_text (map (restyled style kind) us)) }
+        ≡ take at out.old ++ encode_utf8_all (restyled_inside style kind us) }
     ensures len { length out.new ≡ length out.old }
 {
     let mut end = at;
@@ -207,10 +225,10 @@ pub(crate) fn write_cooked(
     out: &mut [u8],
 ) -> usize
     requires parts { CookedParts kind (chars text.now) (chars inside.now) (chars suffix.now) }
-    requires room { length text.now ≤ length out.old }
+    requires room { 4 * length text.now ≤ length out.old }
     ensures written { RewritesCooked style (chars text.now) (chars (take result out.new)) }
     ensures utf8 { IsUtf8 (take result out.new) }
-    ensures within { result ≤ length text.now }
+    ensures within { result ≤ 4 * length text.now }
 {
     let at = put_text(out, 0, kind.opener());
     let at = put_units(out, at, kind, style, inside);

@@ -9,22 +9,22 @@ ghost use Rattle.rl_style.specs.Rewriting.{HasNoRule, SameLiteral, Rewrites};
 
 /// A literal that is written anew is the same literal: its kind, its contents and its suffix are what they were.
 pub fn a_rewritten_literal_is_the_same()
-    ensures { (style : Style) (t u : List ℕ) → Rewrites style t u → SameLiteral t u }
+    ensures { (style : Style) (front t u : List ℕ) → Rewrites style front t u → SameLiteral t u }
 {}
 
 /// What was written in a style, that style leaves as it is.
 pub fn what_was_written_stays()
-    ensures { (style : Style) (t u : List ℕ) → Rewrites style t u → Rewrites style u u }
+    ensures { (style : Style) (front t u : List ℕ) → Rewrites style front t u → Rewrites style front u u }
 {}
 
 /// A literal is one text in a style: whatever is the literal in the style is what [`rewrite_into`](crate::rewrite_into) writes.
 pub fn a_literal_has_one_text_in_a_style()
-    ensures { (style : Style) (t u w : List ℕ) → Rewrites style t u → Rewrites style t w → u ≡ w }
+    ensures { (style : Style) (front t u w : List ℕ) → Rewrites style front t u → Rewrites style front t w → u ≡ w }
 {}
 
 /// A style without rules changes nothing.
 pub fn no_rule_changes_nothing()
-    ensures { (style : Style) (t u : List ℕ) → HasNoRule style → Rewrites style t u → u ≡ t }
+    ensures { (style : Style) (front t u : List ℕ) → HasNoRule style → Rewrites style front t u → u ≡ t }
 {}
 
 /// A token of a source stays one before a literal that begins as the old one did. Bad quotes and stray characters aside: no source

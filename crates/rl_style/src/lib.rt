@@ -5,6 +5,7 @@
 mod case;
 mod codes;
 mod cooked;
+mod hidden;
 pub mod laws;
 mod numbers;
 mod raw;

@@ -1,6 +1,6 @@
 //! Numbers written anew.
 
-ghost use Rattle.std.specs.Prelude.{◌≡◌, ◌≤◌, ◌+◌, ◌++◌, Bool, [], codes, if◌then◌else◌, length, take, encode_utf8, encode_utf8_all, IfSome, IsTrue};
+ghost use Rattle.std.specs.Prelude.{◌≡◌, ◌≤◌, ◌+◌, ◌++◌, ℕ, List, Bool, [], codes, if◌then◌else◌, length, take, encode_utf8, encode_utf8_all, IfSome, IsTrue};
 ghost use Rattle.std.specs.List.{flat_map};
 ghost use Rattle.std.specs.Str.{chars, IsUtf8};
 ghost use Rattle.rl_text.specs.Texts.{IsTail, first_passes};
@@ -222,7 +222,7 @@ pub(crate) fn write_number(text: &str, number: Number<'_>, style: Style, out: &m
     requires number { IsNumberRead (chars text.now) number }
     requires following { IsTail text.now (suffix_of number) }
     requires room { length text.now + 1 ≤ length out.old }
-    ensures written { Rewrites style (chars text.now) (chars (take result out.new)) }
+    ensures written { (front : List ℕ) → Rewrites style front (chars text.now) (chars (take result out.new)) }
     ensures utf8 { IsUtf8 (take result out.new) }
     ensures within { result ≤ length text.now + 1 }
 {

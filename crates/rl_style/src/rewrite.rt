@@ -1,6 +1,6 @@
 //! Any literal written anew.
 
-ghost use Rattle.std.specs.Prelude.{◌≡◌, ◌≤◌, ◌+◌, length, take, IfOk, IfErr, IsTrue};
+ghost use Rattle.std.specs.Prelude.{◌≡◌, ◌≤◌, ◌+◌, ◌*◌, ℕ, List, length, take, IfOk, IfErr, IsTrue};
 ghost use Rattle.std.specs.Char.{is_ascii_digit};
 ghost use Rattle.std.specs.Str.{chars, IsUtf8};
 ghost use Rattle.rl_text.specs.Texts.{first_passes};
@@ -38,8 +38,9 @@ fn body_of(text: &str, form: QuotedForm, kind: Kind, reading: Reading) -> Body
     }
 }
 
-/// Writes the quoted literal anew that begins so, by its reading.
+/// Writes the quoted literal anew that begins so and stands after this front, by its reading.
 fn write_quoted(
+    front: &str,
     text: &str,
     form: QuotedForm,
     kind: Kind,
@@ -50,16 +51,16 @@ fn write_quoted(
     requires token { IsToken (chars text.now) }
     requires begins { OpensAs form kind (chars text.now) }
     requires reads { IsStrictReading text.now reading }
-    requires room { length text.now + 1 ≤ length out.old }
-    ensures written { Rewrites style (chars text.now) (chars (take result out.new)) }
+    requires room { 4 * length text.now + 1 ≤ length out.old }
+    ensures written { Rewrites style (chars front.now) (chars text.now) (chars (take result out.new)) }
     ensures utf8 { IsUtf8 (take result out.new) }
-    ensures within { result ≤ length text.now + 1 }
+    ensures within { result ≤ 4 * length text.now + 1 }
 {
     let body = body_of(text, form, kind, reading);
     let inside = &text[body.lo..body.hi];
     let suffix = &text[body.suffix_at..];
     match form {
-        QuotedForm::Raw => write_raw(text, kind, style, inside, suffix, out),
+        QuotedForm::Raw => write_raw(front, text, kind, style, inside, suffix, out),
         _ => write_cooked(text, kind, style, inside, suffix, out),
     }
 }
@@ -68,7 +69,7 @@ fn write_quoted(
 fn rewrite_number(text: &str, style: Style, out: &mut [u8]) -> Result<usize, Flaw>
     requires digit { IsTrue (first_passes is_ascii_digit (chars text.now)) }
     requires room { length text.now + 1 ≤ length out.old }
-    ensures written { IfOk result (λ n. Rewrites style (chars text.now) (chars (take n out.new))) }
+    ensures written { IfOk result (λ n. (front : List ℕ) → Rewrites style front (chars text.now) (chars (take n out.new))) }
     ensures utf8 { IfOk result (λ n. IsUtf8 (take n out.new)) }
     ensures within { IfOk result (λ n. n ≤ length text.now + 1) }
     ensures flaw { IfErr result (ExplainsStrictly (chars text.now)) }
@@ -82,17 +83,21 @@ fn rewrite_number(text: &str, style: Style, out: &mut [u8]) -> Result<usize, Fla
     }
 }
 
-/// Writes the literal token anew in the style, to the front of `out`, and returns how many bytes it is long: at most one more than the
-/// text. Kind, contents and suffix are the same, and what the style has no rule for stays as it is.
+/// Writes the literal token anew in the style, to the front of `out`, and returns how many bytes it is long: at most four for each byte
+/// of the text, and one. Kind, contents and suffix are the same, and what the style has no rule for stays as it is.
+///
+/// The first text is what stands in front of the literal, of which the last character counts: after a hash or a dot no raw string loses
+/// its `r`. It is empty where nothing stands there.
 ///
 /// # Errors
 ///
 /// The text is no token: the flaw is that of [`explain`](rl_reasons::explain).
-pub fn rewrite_into(text: &str, style: Style, out: &mut [u8]) -> Result<usize, Flaw>
-    requires { length text.now + 1 ≤ length out.old }
-    ensures written { IfOk result (λ n. Rewrites style (chars text.now) (chars (take n out.new))) }
+pub fn rewrite_into(front: &str, text: &str, style: Style, out: &mut [u8]) -> Result<usize, Flaw>
+    requires { 4 * length text.now + 1 ≤ length out.old }
+    ensures written { IfOk result
+        (λ n. Rewrites style (chars front.now) (chars text.now) (chars (take n out.new))) }
     ensures utf8 { IfOk result (λ n. IsUtf8 (take n out.new)) }
-    ensures within { IfOk result (λ n. n ≤ length text.now + 1) }
+    ensures within { IfOk result (λ n. n ≤ 4 * length text.now + 1) }
     ensures flaw { IfErr result (ExplainsStrictly (chars text.now)) }
 {
     if begins_digit(text) {
@@ -100,7 +105,7 @@ pub fn rewrite_into(text: &str, style: Style, out: &mut [u8]) -> Result<usize, F
     }
     let reading = read(text)?;
     match split_opener(text) {
-        Some((form, kind, _)) => Ok(write_quoted(text, form, kind, reading, style, out)),
+        Some((form, kind, _)) => Ok(write_quoted(front, text, form, kind, reading, style, out)),
         None => Ok(put_text(out, 0, text)),
     }
 }

@@ -14,7 +14,7 @@ use rl_text::text::split_char;
 
 /// Puts `\u{..}` after the first `at` bytes of the slice, with the number of the character in base 16, in lower case, and
 /// returns where it ends.
-fn put_unicode(out: &mut [u8], at: usize, c: char) -> usize
+pub fn put_unicode(out: &mut [u8], at: usize, c: char) -> usize
     requires { at + length (unicode_escape c) ≤ length out.old }
     ensures end { result ≡ at + length (unicode_escape c) }
     ensures bytes { take result out.new ≡ take at out.old ++ unicode_escape c }

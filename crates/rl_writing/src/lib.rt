@@ -10,7 +10,7 @@ pub mod laws;
 mod numerals;
 mod raw_strings;
 
-pub use crate::ascii::{write_char_ascii_into, write_str_ascii_into};
+pub use crate::ascii::{put_unicode, write_char_ascii_into, write_str_ascii_into};
 pub use crate::base::Base;
 pub use crate::integer_type::IntegerType;
 pub use crate::integers::{IntegerStyle, write_integer_into};

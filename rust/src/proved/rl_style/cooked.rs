@@ -2,6 +2,7 @@
 //! Literals with escapes written anew, unit by unit.
 
 use crate::rl_style::codes::put_digits;
+use crate::rl_style::hidden::put_itself;
 use crate::rl_style::style::Style;
 use crate::rl_forms::Kind;
 use crate::rl_forms::written_unit::closer;
@@ -58,7 +59,7 @@ fn letter_of(byte: u8) -> u8 {
 }
 
 /// Puts a backslash and a character.
-fn put_pair(out: &mut [u8], at: usize, byte: u8) -> usize {
+pub(crate) fn put_pair(out: &mut [u8], at: usize, byte: u8) -> usize {
     let end = put_byte(out, at, b'\\');
     put_byte(out, end, byte)
 }
@@ -107,11 +108,22 @@ fn put_escape(
     put_text(out, at, unit)
 }
 
-/// Puts a unit, written anew, that stands for this character or byte of ASCII, or 128.
+/// Puts a unit that is no escape, written anew.
+fn put_plain(out: &mut [u8], at: usize, kind: Kind, style: Style, unit: &str, byte: u8) -> usize {
+    match split_char(unit) {
+        Some((c, rest)) => {
+            let end = put_itself(out, at, style, c);
+            put_text(out, end, rest)
+        }
+        None => at,
+    }
+}
+
+/// Puts a unit, written anew, that stands for this character or byte of ASCII, or 128: at most four bytes for each of its own.
 fn put_unit(out: &mut [u8], at: usize, kind: Kind, style: Style, unit: &str, byte: u8) -> usize {
     match strip_byte(unit, b'\\') {
         Some(escape) => put_escape(out, at, kind, style, unit, escape, byte),
-        None => put_text(out, at, unit),
+        None => put_plain(out, at, kind, style, unit, byte),
     }
 }
 

@@ -5,6 +5,7 @@
 mod case;
 mod codes;
 mod cooked;
+mod hidden;
 mod numbers;
 mod raw;
 mod restylable;

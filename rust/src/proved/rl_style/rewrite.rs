@@ -22,8 +22,9 @@ fn body_of(text: &str, form: QuotedForm, kind: Kind, reading: Reading) -> Body {
     }
 }
 
-/// Writes the quoted literal anew that begins so, by its reading.
+/// Writes the quoted literal anew that begins so and stands after this front, by its reading.
 fn write_quoted(
+    front: &str,
     text: &str,
     form: QuotedForm,
     kind: Kind,
@@ -35,7 +36,7 @@ fn write_quoted(
     let inside = &text[body.lo..body.hi];
     let suffix = &text[body.suffix_at..];
     match form {
-        QuotedForm::Raw => write_raw(text, kind, style, inside, suffix, out),
+        QuotedForm::Raw => write_raw(front, text, kind, style, inside, suffix, out),
         _ => write_cooked(text, kind, style, inside, suffix, out),
     }
 }
@@ -51,19 +52,22 @@ fn rewrite_number(text: &str, style: Style, out: &mut [u8]) -> Result<usize, Fla
     }
 }
 
-/// Writes the literal token anew in the style, to the front of `out`, and returns how many bytes it is long: at most one more than the
-/// text. Kind, contents and suffix are the same, and what the style has no rule for stays as it is.
+/// Writes the literal token anew in the style, to the front of `out`, and returns how many bytes it is long: at most four for each byte
+/// of the text, and one. Kind, contents and suffix are the same, and what the style has no rule for stays as it is.
+///
+/// The first text is what stands in front of the literal, of which the last character counts: after a hash or a dot no raw string loses
+/// its `r`. It is empty where nothing stands there.
 ///
 /// # Errors
 ///
 /// The text is no token: the flaw is that of [`explain`](crate::rl_reasons::explain).
-pub fn rewrite_into(text: &str, style: Style, out: &mut [u8]) -> Result<usize, Flaw> {
+pub fn rewrite_into(front: &str, text: &str, style: Style, out: &mut [u8]) -> Result<usize, Flaw> {
     if begins_digit(text) {
         return rewrite_number(text, style, out);
     }
     let reading = read(text)?;
     match split_opener(text) {
-        Some((form, kind, _)) => Ok(write_quoted(text, form, kind, reading, style, out)),
+        Some((form, kind, _)) => Ok(write_quoted(front, text, form, kind, reading, style, out)),
         None => Ok(put_text(out, 0, text)),
     }
 }

@@ -46,4 +46,11 @@ pub struct Style {
     pub quote_escapes: bool,
     /// Whether a raw string has the fewest hashes that its text needs.
     pub raw_hashes: bool,
+    /// Whether a raw string that holds neither a backslash nor a quote is one with escapes: `"a"` for `r"a"`. One without `b` or `c`
+    /// stays raw after a hash or a dot: `1.r"a"` are three tokens, and `1."a"` are two.
+    pub raw: bool,
+    /// Whether a character that turns or hides text is the escape by its number: a control character but LF and TAB, as `\x1b`, and
+    /// what turns the direction of text or has no width, as `\u{202e}`. A raw string that holds one is then one with escapes, with
+    /// the same exception.
+    pub hidden: bool,
 }

@@ -9,7 +9,7 @@ use crate::rl_text::text::split_char;
 
 /// Puts `\u{..}` after the first `at` bytes of the slice, with the number of the character in base 16, in lower case, and
 /// returns where it ends.
-fn put_unicode(out: &mut [u8], at: usize, c: char) -> usize {
+pub fn put_unicode(out: &mut [u8], at: usize, c: char) -> usize {
     let mut room = [0; 21];
     let count = put_reversed(u128::from(c), 16, false, &mut room);
     let at = put(out, at, b"\\u{");

@@ -9,7 +9,7 @@ mod integers;
 mod numerals;
 mod raw_strings;
 
-pub use crate::rl_writing::ascii::{write_char_ascii_into, write_str_ascii_into};
+pub use crate::rl_writing::ascii::{put_unicode, write_char_ascii_into, write_str_ascii_into};
 pub use crate::rl_writing::base::Base;
 pub use crate::rl_writing::integer_type::IntegerType;
 pub use crate::rl_writing::integers::{IntegerStyle, write_integer_into};

@@ -1,5 +1,5 @@
 -- The units that were passed stand in the slice, written anew, and the rest has room after them.
-use Rattle.rl_text.proofs.Common.{◌≡◌, ◌≤◌, ◌+◌, List, take, length}
+use Rattle.rl_text.proofs.Common.{◌≡◌, ◌≤◌, ◌+◌, ◌*◌, List, take, length}
 use denote.Text.{Utf8}
 use denote.Shadow.{shadow}
 use Rattle.std.specs.Str.{chars}
@@ -13,7 +13,7 @@ invariant-loop-piece l = record {
   utf8 : shadow (Utf8 l.rest);
   passed : (us : List StrictUnit) → AreUnits l.kind us (chars l.inside)
       → UnitsPassed l.style l.kind us (chars l.rest) (take l.end l.out) (take l.fn.at l.initial.out);
-  room : l.end + length l.rest ≤ l.fn.at + length l.inside;
+  room : l.end + 4 * length l.rest ≤ l.fn.at + 4 * length l.inside;
   len : length l.out ≡ length l.initial.out;
 }
 

@@ -12,7 +12,7 @@ write_float-requires-clause-float c = float_of (chars c.args.text.now) c.args.nu
     c.in-Float.is
 
 pub returns-in-Integer-clause-written : goal.returns-in-Integer-clause-written
-returns-in-Integer-clause-written c = inl c.write_integer.ensures.written
+returns-in-Integer-clause-written c = λ front. inl c.write_integer.ensures.written
 
 pub returns-in-Float-clause-written : goal.returns-in-Float-clause-written
-returns-in-Float-clause-written c = inr (inl c.write_float.ensures.written)
+returns-in-Float-clause-written c = λ front. inr (inl c.write_float.ensures.written)

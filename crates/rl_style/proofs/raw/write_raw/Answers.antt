@@ -1,13 +1,20 @@
-use Rattle.rl_text.proofs.Common.{◌≡◌, ap, arith, not-true, not, Bool, true, false, refl}
+use Rattle.rl_text.proofs.Common.{◌≡◌, ◌∙◌, sym, ap, arith, not-true, not, Bool, true, false, refl}
 use Rattle.std.specs.Str.{chars}
-use Rattle.rl_style.proofs.WrittenQuoted.{raw_kept, raw_room, raw_stands, raw_trimmed}
+use Rattle.rl_style.proofs.WrittenQuoted.{raw_kept, raw_lost, raw_room, raw_stands, raw_trimmed}
 use Rattle.rl_style.proofs.raw.write_raw.Goals as goal
 
 pub returns-then-not-style-clause-written : goal.returns-then-not-style-clause-written
-returns-then-not-style-clause-written c = raw_kept c.args.style c.args.kind (chars c.args.text.now)
+returns-then-not-style-clause-written c = raw_kept c.args.style c.args.kind (chars c.args.front.now)
+    (chars c.args.text.now)
     (chars c.args.inside.now)
-    (chars c.args.suffix.now) _ c.requires.parts (not-true c.args.style.raw_hashes c.if-not-style.true)
+    (chars c.args.suffix.now) _ c.requires.parts (sym c.loses_raw.ensures ∙ c.if-loses_raw.false)
+        (not-true c.args.style.raw_hashes c.if-not-style.true)
     (ap chars c.put_text.ensures.bytes)
+
+pub returns-then-loses_raw-clause-written : goal.returns-then-loses_raw-clause-written
+returns-then-loses_raw-clause-written c = raw_lost c.args.style c.args.kind (chars c.args.front.now)
+    (chars c.args.text.now) (chars c.args.inside.now) (chars c.args.suffix.now) _ c.requires.parts
+    (sym c.loses_raw.ensures ∙ c.if-loses_raw.true) c.write_unraw.ensures.written
 
 pub unreachable-requires : goal.unreachable-requires
 unreachable-requires c = raw_stands c.args.kind (chars c.args.text.now) (chars c.args.inside.now)
@@ -27,8 +34,10 @@ put_text-requires-2 c =
     omega (arith, room, c.requires.room, c.write_raw_into-at.ensures.within, c.write_raw_into-at.auto.out)
 
 pub returns-clause-written : goal.returns-clause-written
-returns-clause-written c = raw_trimmed c.args.style c.args.kind (chars c.args.text.now) (chars c.args.inside.now)
+returns-clause-written c = raw_trimmed c.args.style c.args.kind (chars c.args.front.now) (chars c.args.text.now)
+    (chars c.args.inside.now)
     c.args.suffix.now _ _ c.in-Some.hashes c.write_raw_into-at.ensures.utf8 c.requires.parts
+    (sym c.loses_raw.ensures ∙ c.if-loses_raw.false)
     (not-false c.args.style.raw_hashes c.if-not-style.false) c.in-Some.ensures.some c.write_raw_into-at.ensures.written
     c.put_text-2.ensures.bytes
   where

@@ -12,5 +12,6 @@ pub use crate::rl_files::glob::is_excluded;
 pub use crate::rl_files::host::{Host, LONGEST};
 pub use crate::rl_files::memory::{MemoryDirectory, MemoryFile, MemoryTree};
 pub use crate::rl_files::tree::{PathError, Tree};
-pub use crate::rl_files::visible::{is_hiding, make_visible, needs_escape, push_visible};
+pub use crate::rl_files::visible::{make_visible, push_visible};
 pub use crate::rl_files::walk::{Pending, Selection, Visit, Walk, WalkError};
+pub use crate::rl_text::hiding::{is_hiding, needs_escape};

@@ -2,35 +2,8 @@
 //! Text as it is printed, with what turns or hides text as escapes.
 
 use crate::rattle_std::prelude::{String};
+use crate::rl_text::hiding::needs_escape;
 use crate::rattle_std::alloc::{AllocError, Allocator};
-
-/// Whether a character turns the direction of text or has no width, so that what is shown isn't what is there.
-pub fn is_hiding(c: char) -> bool {
-    matches!(
-        c,
-        '\u{ad}'
-            | '\u{34f}'
-            | '\u{61c}'
-            | '\u{115f}'..='\u{1160}'
-            | '\u{17b4}'..='\u{17b5}'
-            | '\u{180b}'..='\u{180f}'
-            | '\u{200b}'..='\u{200f}'
-            | '\u{2028}'..='\u{202e}'
-            | '\u{2060}'..='\u{206f}'
-            | '\u{3164}'
-            | '\u{feff}'
-            | '\u{ffa0}'
-            | '\u{fff0}'..='\u{fffb}'
-            | '\u{1bca0}'..='\u{1bca3}'
-            | '\u{1d173}'..='\u{1d17a}'
-            | '\u{e0000}'..='\u{e0fff}'
-    )
-}
-
-/// Whether a character is printed as an escape: a control character, and one that turns or hides text.
-pub fn needs_escape(c: char) -> bool {
-    c.is_control() || is_hiding(c)
-}
 
 /// Appends an escape of a character: `\n`, `\r`, `\t`, or its number, as `\u{202e}`.
 fn push_escape<A: Allocator>(out: &mut String<A>, c: char) -> Result<(), AllocError> {

@@ -1,0 +1,102 @@
+-- Raw literals as they are written with escapes.
+use Rattle.rl_text.proofs.Common.{◌≡◌, ℕ, ◌+◌, ◌*◌, ◌≤◌, true, List, [], ◌∷◌, ◌++◌, length, map, replicate, refl, sym, ap, ◌∙◌, arith, append_assoc, append-nil, and_from, and_parts, list_all, flat_map, encode_utf8_all, encodes-append, encodes-chars, length-append, scalar, IsUtf8}
+use Rattle.std.specs.Str.{chars}
+use Rattle.std.proofs.Math.Utf8.{scalars}
+use Rattle.std.proofs.lemmas.Str.{scalars-chars}
+use Rattle.rl_reading.proofs.Names.{flat_map-append, Kind, Str, ByteStr, CStr, is_string, opener}
+use Rattle.rl_forms.specs.Strict.{strict_closer, strict_opener, strict_raw_opener, strict_text}
+use Rattle.rl_forms.proofs.StrictQuoted.{between}
+use Rattle.rl_writing.proofs.AsciiLemmas.{encoded_low, is_low, low_join}
+use Rattle.rl_style.specs.declared.style.Style.{Style}
+use Rattle.rl_style.specs.Mirrors.{RawParts, itself_text, raw_character}
+use Rattle.rl_style.specs.Rewriting.{needs_backslash, raw_unit, restyled, unraw_text}
+use Rattle.rl_style.proofs.LostRaw.{raw_texts}
+use Rattle.rl_style.proofs.UnitTexts.{chosen_scalars, itself_scalars}
+use Rattle.rl_style.proofs.WrittenQuoted.{hashes_low, opens_so, parts_length, raw_is_string, raw_low, regrouped}
+use Rattle.rl_style.proofs.WrittenTexts.{scalars_join, text_of}
+
+opener_is : (k : Kind) → is_string k ≡ true → (length (opener k) ≡ length (strict_raw_opener k))
+    × (list_all is_low (strict_opener k) ≡ true) × (scalars (strict_opener k) ≡ true) × (strict_closer k ≡ 34 ∷ [])
+opener_is Str h = (refl, refl, refl, refl)
+opener_is ByteStr h = (refl, refl, refl, refl)
+opener_is CStr h = (refl, refl, refl, refl)
+opener_is kind h = absurd (cc)
+
+-- four bytes for each that stands inside, and no more hashes
+pub unraw_room : (k : Kind) (t i s : List ℕ) → IsUtf8 t → IsUtf8 i → IsUtf8 s
+    → RawParts k (chars t) (chars i) (chars s) → length (opener k) + 4 * length i + 1 + length s ≤ 4 * length t
+unraw_room k t i s ut ui us p =
+    let h : List ℕ = replicate p.hashes 35 in
+    let a : List ℕ = strict_raw_opener k ++ (h ++ (34 ∷ [])) in
+    let la = low_join (strict_raw_opener k) (h ++ (34 ∷ [])) (raw_low k)
+    (low_join h (34 ∷ []) (hashes_low p.hashes) refl) in
+    let whole = parts_length t i s a (34 ∷ h) ut ui us la (hashes_low p.hashes) (p.text_is
+    ∙ regrouped (strict_raw_opener k) h (chars i) (chars s)) in
+    let front : length a ≡ length (strict_raw_opener k) + length (h ++ (34 ∷ [])) =
+    length-append (strict_raw_opener k) (h ++ (34 ∷ [])) in
+    let same = (opener_is k (raw_is_string k (chars t) (chars i) (chars s) p)).0 in
+    omega (arith, whole, front, same)
+
+raw_scalars : (style : Style) (cs : List ℕ) → scalars cs ≡ true → scalars (flat_map (raw_character style) cs) ≡ true
+raw_scalars style [] h = refl
+raw_scalars style (c ∷ cs) h =
+    let p = and_parts (scalar c) (scalars cs) h in
+    scalars_join (raw_character style c) (flat_map (raw_character style) cs)
+    (chosen_scalars (needs_backslash c) (92 ∷ c ∷ []) (itself_text style c) (and_from (scalar c) true p.0 refl)
+    (itself_scalars style c p.0)) (raw_scalars style cs p.1)
+
+pub unraw_written : (style : Style) (k : Kind) (t inside suffix new : List ℕ) → IsUtf8 inside → IsUtf8 suffix
+    → RawParts k t (chars inside) (chars suffix)
+    → new ≡ ((opener k ++ encode_utf8_all (flat_map (raw_character style) (chars inside))) ++ (34 ∷ [])) ++ suffix
+    → IsUtf8 new × (chars new ≡ unraw_text style k (chars inside) (chars suffix))
+unraw_written style k t inside suffix new ui us p w =
+    let is = raw_is_string k t (chars inside) (chars suffix) p in
+    let o = opener_is k is in
+    let mid : List ℕ = flat_map (raw_character style) (chars inside) in
+    let end : List ℕ = 34 ∷ chars suffix in
+    let whole : encode_utf8_all (strict_opener k ++ (mid ++ end)) ≡ opener k
+    ++ (encode_utf8_all mid ++ ((34 ∷ []) ++ suffix)) =
+    encodes-append (strict_opener k) (mid ++ end)
+    ∙ ap (λ z. z ++ encode_utf8_all (mid ++ end)) (encoded_low (strict_opener k) o.1 ∙ sym (opens_so k))
+    ∙ ap (λ z. opener k ++ z) (encodes-append mid end
+    ∙ ap (λ z. encode_utf8_all mid ++ z) (encodes-append (34 ∷ []) (chars suffix)
+    ∙ ap (λ z. z ++ encode_utf8_all (chars suffix)) (encoded_low (34 ∷ []) refl)
+    ∙ ap (λ z. (34 ∷ []) ++ z) (encodes-chars suffix us))) in
+    let written = text_of new (strict_opener k ++ (mid ++ end))
+    (scalars_join (strict_opener k) (mid ++ end) o.2 (scalars_join mid end
+    (raw_scalars style (chars inside) (scalars-chars inside ui))
+    (and_from (scalar 34) (scalars (chars suffix)) refl (scalars-chars suffix us))))
+    (w ∙ between (opener k) (encode_utf8_all mid) (34 ∷ []) suffix ∙ sym whole) in (
+      written.0,
+      written.1 ∙ ap (λ z. strict_opener k ++ (z ++ end)) (raw_texts style k (chars inside) is)
+          ∙ ap (λ z. strict_opener k ++ (flat_map strict_text (map (restyled style k) (map raw_unit (chars inside)))
+          ++ (z ++ chars suffix))) (sym o.3),
+    )
+
+-- ---- one character after another
+
+pub raw_more : (style : Style) (front a b xs : List ℕ) (c : ℕ)
+    → a ≡ front ++ encode_utf8_all (flat_map (raw_character style) xs) → b ≡ a
+        ++ encode_utf8_all (raw_character style c)
+    → b ≡ front ++ encode_utf8_all (flat_map (raw_character style) (xs ++ (c ∷ [])))
+raw_more style front a b xs c e f =
+    let old : List ℕ = flat_map (raw_character style) xs in
+    let one : List ℕ = raw_character style c in
+    let all : flat_map (raw_character style) (xs ++ (c ∷ [])) ≡ old ++ one =
+    flat_map-append (raw_character style) xs (c ∷ []) ∙ ap (λ z. old ++ z) (append-nil one) in
+    f ∙ ap (λ z. z ++ encode_utf8_all one) e ∙ append_assoc front (encode_utf8_all old) (encode_utf8_all one)
+    ∙ ap (λ z. front ++ z) (sym (encodes-append old one) ∙ ap encode_utf8_all (sym all))
+
+pub raw_all : (style : Style) (front a xs all rest : List ℕ) → all ≡ xs ++ rest → rest ≡ []
+    → a ≡ front ++ encode_utf8_all (flat_map (raw_character style) xs)
+    → a ≡ front ++ encode_utf8_all (flat_map (raw_character style) all)
+raw_all style front a xs all rest cut none e =
+    e ∙ ap (λ z. front ++ encode_utf8_all (flat_map (raw_character style) z))
+    (sym (cut ∙ ap (λ z. xs ++ z) none ∙ append-nil xs))
+
+-- ---- the pieces
+
+pub unraw_pieces : (a b c d o mid x : List ℕ) → d ≡ c ++ x → c ≡ b ++ (34 ∷ []) → b ≡ a ++ mid → a ≡ o
+    → d ≡ ((o ++ mid) ++ (34 ∷ [])) ++ x
+unraw_pieces a b c d o mid x e f g h =
+    e ∙ ap (λ z. z ++ x) (f ∙ ap (λ z. z ++ (34 ∷ [])) (g ∙ ap (λ z. z ++ mid) h))

@@ -1,0 +1,17 @@
+-- Some character turns or hides text where one of those that are left does.
+use Rattle.rl_text.proofs.Common.{◌≡◌, length}
+use Rattle.std.specs.List.{list_any}
+use denote.Text.{Utf8}
+use denote.Shadow.{shadow}
+use Rattle.std.specs.Str.{chars}
+use Rattle.rl_style.specs.Rewriting.{needs_number}
+use Rattle.rl_style.proofs.hidden.holds_hidden.Given as goal
+
+abbrev pub invariant-loop-c : goal.invariant-loop-c
+invariant-loop-c l = record {
+  utf8 : shadow (Utf8 l.rest);
+  same : list_any needs_number (chars l.text) ≡ list_any needs_number (chars l.rest);
+}
+
+abbrev pub decreases-loop-c : goal.decreases-loop-c
+decreases-loop-c l = length l.rest

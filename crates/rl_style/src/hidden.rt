@@ -1,0 +1,107 @@
+//! Characters that turn or hide text, as escapes by their numbers.
+
+ghost use Rattle.std.specs.Prelude.{◌≡◌, ◌<◌, ◌≤◌, ◌+◌, ◌*◌, ◌/◌, ◌%◌, ◌++◌, ◌∷◌, [], ◌&&◌, length, take, encode_utf8, encode_utf8_all};
+ghost use Rattle.std.specs.List.{list_any};
+ghost use Rattle.std.specs.Str.{chars};
+ghost use Rattle.rl_text.specs.Texts.{code};
+ghost use Rattle.rl_style.specs.Mirrors.{code_text, digits_text, itself_text};
+ghost use Rattle.rl_style.specs.Rewriting.{needs_number as wants_number, lower_digit};
+
+use crate::codes::put_digits;
+use crate::style::Style;
+use rl_text::hiding::needs_escape;
+use rl_text::room::{put_byte, put_char};
+use rl_text::text::split_char;
+use rl_writing::put_unicode;
+
+/// Whether the character turns or hides text, and has no letter.
+fn needs_number(c: char) -> bool
+    ensures { result ≡ wants_number c }
+{
+    needs_escape(c) && !matches!(c, '\n' | '\r' | '\t')
+}
+
+/// Whether a character of the text does.
+pub(crate) fn holds_hidden(text: &str) -> bool
+    ensures { result ≡ list_any wants_number (chars text.now) }
+{
+    let mut rest = text;
+    while let Some((c, after)) = split_char(rest) {
+        if needs_number(c) {
+            return true;
+        }
+        rest = after;
+    }
+    false
+}
+
+/// A digit of base 16, in lower case.
+fn lower_digit(digit: u32) -> u8
+    requires { digit < 16 }
+    ensures value { result ≡ lower_digit digit }
+    ensures ascii { result < 128 }
+{
+    let digit = digit as u8;
+    if digit < 10 {
+        b'0' + digit
+    } else {
+        b'a' + (digit - 10)
+    }
+}
+
+/// Puts `\x` and the two digits of a character of ASCII.
+fn put_two(out: &mut [u8], at: usize, c: char) -> usize
+    requires room { at + 4 ≤ length out.old }
+    requires ascii { c < 128 }
+    ensures end { result ≡ at + 4 }
+    ensures bytes { take result out.new
+        ≡ take at out.old ++ code "\\" ∷ code "x" ∷ lower_digit (c / 16) ∷ lower_digit (c % 16) ∷ [] }
+    ensures len { length out.new ≡ length out.old }
+{
+    let number = c as u32;
+    let end = put_byte(out, at, b'\\');
+    let end = put_byte(out, end, b'x');
+    let end = put_byte(out, end, lower_digit(number / 16));
+    put_byte(out, end, lower_digit(number % 16))
+}
+
+/// Puts the escape of a character by its number, with the fewest digits, in lower case.
+fn put_code(out: &mut [u8], at: usize, c: char) -> usize
+    requires { at + length (code_text c) ≤ length out.old }
+    ensures end { result ≡ at + length (code_text c) }
+    ensures bytes { take result out.new ≡ take at out.old ++ code_text c }
+    ensures len { length out.new ≡ length out.old }
+{
+    if c < '\u{80}' {
+        return put_two(out, at, c);
+    }
+    put_unicode(out, at, c)
+}
+
+/// Puts the escape of a character by its number, its digits in the style.
+fn put_hidden(out: &mut [u8], at: usize, style: Style, c: char) -> usize
+    requires { at + 4 * length (encode_utf8 c) ≤ length out.old }
+    ensures end { result ≤ at + 4 * length (encode_utf8 c) }
+    ensures bytes { take result out.new ≡ take at out.old ++ encode_utf8_all (digits_text style (code_text c)) }
+    ensures len { length out.new ≡ length out.old }
+{
+    let mut room = [0; 10];
+    let end = put_code(&mut room, 0, c);
+    match std::str::from_utf8(&room[..end]) {
+        Ok(escape) => put_digits(out, at, style, escape),
+        Err(_) => unreachable!(),
+    }
+}
+
+/// Puts a character that stands for itself, written anew: at most four bytes for each of its own.
+pub(crate) fn put_itself(out: &mut [u8], at: usize, style: Style, c: char) -> usize
+    requires { at + 4 * length (encode_utf8 c) ≤ length out.old }
+    ensures end { result ≤ at + 4 * length (encode_utf8 c) }
+    ensures bytes { take result out.new ≡ take at out.old ++ encode_utf8_all (itself_text style c) }
+    ensures len { length out.new ≡ length out.old }
+{
+    if style.hidden && needs_number(c) {
+        return put_hidden(out, at, style, c);
+    }
+    put_char(out, at, c)
+}

@@ -1,0 +1,30 @@
+// Rendered from crates/rl_text/src/hiding.rt by tools/render, which erases contracts: change that file, and render anew.
+//! Characters that turn or hide text.
+
+/// Whether a character turns the direction of text or has no width, so that what is shown isn't what is there.
+pub fn is_hiding(c: char) -> bool {
+    matches!(
+        c,
+        '\u{ad}'
+            | '\u{34f}'
+            | '\u{61c}'
+            | '\u{115f}'..='\u{1160}'
+            | '\u{17b4}'..='\u{17b5}'
+            | '\u{180b}'..='\u{180f}'
+            | '\u{200b}'..='\u{200f}'
+            | '\u{2028}'..='\u{202e}'
+            | '\u{2060}'..='\u{206f}'
+            | '\u{3164}'
+            | '\u{feff}'
+            | '\u{ffa0}'
+            | '\u{fff0}'..='\u{fffb}'
+            | '\u{1bca0}'..='\u{1bca3}'
+            | '\u{1d173}'..='\u{1d17a}'
+            | '\u{e0000}'..='\u{e0fff}'
+    )
+}
+
+/// Whether a character is printed as an escape: a control character, and one that turns or hides text.
+pub fn needs_escape(c: char) -> bool {
+    c.is_control() || is_hiding(c)
+}
