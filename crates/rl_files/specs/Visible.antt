@@ -1,6 +1,6 @@
 -- Text as it is printed: what turns or hides text stands there as an escape. Texts are lists of
 -- characters.
-pub use Rattle.rl_text.specs.Hiding.{is_hiding, needs_escape}
+pub use Rattle.rl_writing.specs.Hiding.{is_hiding, needs_escape}
 use Rattle.std.specs.Prelude.{ℕ, ◌==◌, Bool, ◌||◌, ◌&&◌, nat_le, nat_lt, cond, List, [], ◌∷◌}
 use Prim.Native.Char.{code}
 use Rattle.std.specs.Char.Escape.{escape_default}

@@ -14,4 +14,4 @@ pub use crate::memory::{MemoryDirectory, MemoryFile, MemoryTree};
 pub use crate::tree::{PathError, Tree};
 pub use crate::visible::{make_visible, push_visible};
 pub use crate::walk::{Pending, Selection, Visit, Walk, WalkError};
-pub use rl_text::hiding::{is_hiding, needs_escape};
+pub use rl_writing::{is_hiding, needs_escape};

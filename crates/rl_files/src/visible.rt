@@ -6,7 +6,7 @@ ghost use Rattle.std.specs.Str.{chars, IsCharBoundary};
 ghost use Rattle.std.specs.Char.Escape.{escape_default};
 ghost use Rattle.rl_files.specs.Visible.{visible_char, visible, visible_in_line, visible_lines, is_plain_byte};
 
-use rl_text::hiding::needs_escape;
+use rl_writing::needs_escape;
 use std::alloc::{AllocError, Allocator};
 
 /// Appends an escape of a character: `\n`, `\r`, `\t`, or its number, as `\u{202e}`.

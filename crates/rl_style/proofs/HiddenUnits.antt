@@ -5,7 +5,7 @@ use Rattle.std.specs.Str.{IsUtf8, chars}
 use Rattle.std.proofs.lemmas.Bool.{le-ltb}
 use Rattle.std.proofs.Math.Utf8.{scalars}
 use Rattle.rl_text.proofs.Basics.{all_weaker, false_unless}
-use Rattle.rl_text.specs.Hiding.{needs_escape}
+use Rattle.rl_writing.specs.Hiding.{needs_escape}
 use Rattle.rl_reading.proofs.Names.{Kind, Str, ByteStr, CStr, Byte, Char, Int, Float, BoolKind, StrictUnit, Itself, AsciiEscape, ByteEscape, UnicodeEscape, strict_contents, strict_content_of, is_strict_unit, place_value}
 use Rattle.rl_forms.specs.Strict.{HasUnits, is_bare_in_string, is_octal, is_unicode_escape, spaced_value}
 use Rattle.rl_writing.specs.AsciiStrings.{unicode_escape}

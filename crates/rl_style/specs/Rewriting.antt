@@ -2,7 +2,7 @@
 use Rattle.std.specs.Prelude.{◌≡◌, ◌⊎◌, ℕ, ◌+◌, ◌-◌, ◌/◌, ◌%◌, Bool, true, false, not, ◌&&◌, ◌||◌, ◌==◌, nat_le, nat_lt, List, [], ◌∷◌, ◌++◌, Option, None, map, if◌then◌else◌, IsTrue, IsFalse}
 use Rattle.std.specs.List.{flat_map, list_all, list_any}
 use Prim.Native.Char.{code}
-use Rattle.rl_text.specs.Hiding.{needs_escape}
+use Rattle.rl_writing.specs.Hiding.{needs_escape}
 use Rattle.rl_forms.specs.declared.kind.Kind.{Kind}
 use Rattle.rl_forms.specs.declared.kind.Kind.TheVariants.{Str, Char}
 use Rattle.rl_forms.specs.Reading.{Contents}

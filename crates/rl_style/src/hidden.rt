@@ -9,10 +9,9 @@ ghost use Rattle.rl_style.specs.Rewriting.{needs_number as wants_number, lower_d
 
 use crate::codes::put_digits;
 use crate::style::Style;
-use rl_text::hiding::needs_escape;
 use rl_text::room::{put_byte, put_char};
 use rl_text::text::split_char;
-use rl_writing::put_unicode;
+use rl_writing::{needs_escape, put_unicode};
 
 /// Whether the character turns or hides text, and has no letter.
 fn needs_number(c: char) -> bool

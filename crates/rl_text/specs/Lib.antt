@@ -3,4 +3,3 @@ pub mod Texts
 pub mod Classes
 pub mod Scanning
 pub mod Mirrors
-pub mod Hiding

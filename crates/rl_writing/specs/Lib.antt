@@ -1,4 +1,5 @@
 pub mod AsciiStrings
+pub mod Hiding
 pub mod Integers
 pub mod Mirrors
 pub mod RawStrings

@@ -3,10 +3,9 @@
 
 use crate::rl_style::codes::put_digits;
 use crate::rl_style::style::Style;
-use crate::rl_text::hiding::needs_escape;
 use crate::rl_text::room::{put_byte, put_char};
 use crate::rl_text::text::split_char;
-use crate::rl_writing::put_unicode;
+use crate::rl_writing::{needs_escape, put_unicode};
 
 /// Whether the character turns or hides text, and has no letter.
 fn needs_number(c: char) -> bool {

@@ -4,7 +4,6 @@
 
 pub mod characters;
 pub mod classes;
-pub mod hiding;
 pub mod ident;
 pub mod lanes;
 pub mod lines;

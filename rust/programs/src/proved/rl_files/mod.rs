@@ -14,4 +14,4 @@ pub use crate::rl_files::memory::{MemoryDirectory, MemoryFile, MemoryTree};
 pub use crate::rl_files::tree::{PathError, Tree};
 pub use crate::rl_files::visible::{make_visible, push_visible};
 pub use crate::rl_files::walk::{Pending, Selection, Visit, Walk, WalkError};
-pub use crate::rl_text::hiding::{is_hiding, needs_escape};
+pub use crate::rl_writing::{is_hiding, needs_escape};

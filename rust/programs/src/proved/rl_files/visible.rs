@@ -2,7 +2,7 @@
 //! Text as it is printed, with what turns or hides text as escapes.
 
 use crate::rattle_std::prelude::{String};
-use crate::rl_text::hiding::needs_escape;
+use crate::rl_writing::needs_escape;
 use crate::rattle_std::alloc::{AllocError, Allocator};
 
 /// Appends an escape of a character: `\n`, `\r`, `\t`, or its number, as `\u{202e}`.

@@ -1,4 +1,4 @@
-// Rendered from crates/rl_text/src/hiding.rt by tools/render, which erases contracts: change that file, and render anew.
+// Rendered from crates/rl_writing/src/hiding.rt by tools/render, which erases contracts: change that file, and render anew.
 //! Characters that turn or hide text.
 
 /// Whether a character turns the direction of text or has no width, so that what is shown isn't what is there.

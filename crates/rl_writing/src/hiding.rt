@@ -1,7 +1,7 @@
 //! Characters that turn or hide text.
 
 ghost use Rattle.std.specs.Prelude.{◌≡◌};
-ghost use Rattle.rl_text.specs.Hiding.{is_hiding as hiding, needs_escape as escaped};
+ghost use Rattle.rl_writing.specs.Hiding.{is_hiding as hiding, needs_escape as escaped};
 
 /// Whether a character turns the direction of text or has no width, so that what is shown isn't what is there.
 pub fn is_hiding(c: char) -> bool
