@@ -7,8 +7,8 @@
 
 A literal is taken apart by the token grammar of the Rust Reference, each part is mapped by itself, and the parts are put together
 again. Nothing of the repository is asked. A style is a word of letters: `x` and `X` hexadecimal digits in lower and in upper case,
-`u` no underscores in numbers, `z` no zeros in front of integers of base ten, `s` nothing and `S` an underscore before a suffix, `e`
-and `E` the exponent's letter, `d` and `D` the digits of escapes, `c` the fewest of `\\u{..}`, `a` visible characters of ASCII and `n`
+`u` no underscores in numbers, `z` no zeros in front of integers of base ten, `s` nothing and `S` an underscore before a suffix, `g`
+and `G` digits in the groups of GROUPS, `e` and `E` the exponent's letter, `d` and `D` the digits of escapes, `c` the fewest of `\\u{..}`, `a` visible characters of ASCII and `n`
 letters for LF, CR and TAB where escapes by number spell them, `p` no plus, `q` no needless backslash before a quote, `h` the fewest
 hashes. A row is a style, a text and what it becomes, both in hexadecimal: `=` stands for the text itself, and `!` for what is no
 literal.
@@ -29,7 +29,9 @@ HEX = '0123456789abcdefABCDEF'
 OPENERS = {'Str': '"', 'ByteStr': 'b"', 'CStr': 'c"', 'Byte': "b'", 'Char': "'"}
 RAW_OPENERS = {'Str': 'r', 'ByteStr': 'br', 'CStr': 'cr'}
 LETTERS = {'n': 10, 'r': 13, 't': 9, '\\': 92, '0': 0}
-RULES = ['x', 'X', 'u', 'z', 's', 'S', 'e', 'E', 'd', 'D', 'c', 'a', 'n', 'p', 'q', 'h']
+RULES = ['x', 'X', 'u', 'z', 's', 'S', 'g', 'G', 'e', 'E', 'd', 'D', 'c', 'a', 'n', 'p', 'q', 'h']
+# By the letter: how many digits of a base stand in a group, and how many a row has at least that is grouped.
+GROUPS = {'g': ({2: 4, 8: 0, 10: 3, 16: 4}, 5), 'G': ({2: 8, 8: 3, 10: 2, 16: 1}, 0)}
 NAMES = {10: '\\n', 13: '\\r', 9: '\\t'}
 
 
@@ -224,6 +226,27 @@ def fewest_hashes(inside):
     return max([0] + [len(match[1]) + 1 for match in re.finditer('"(#*)', inside)])
 
 
+def in_groups(style, base, suffix, row, from_first=False):
+    """The digits of a row in groups, and the underscores at its end."""
+    sizes, least = next((GROUPS[letter] for letter in GROUPS if letter in style), ({}, 0))
+    size = sizes.get(base, 0)
+    # `0_b1` with other underscores may begin as another base does.
+    if size == 0 or suffix[:1] in ('b', 'o', 'x'):
+        return row
+    digits, end = row.replace('_', ''), row[len(row.rstrip('_')):]
+    if len(digits) < least:
+        return digits + end
+    first = 0 if from_first else len(digits) % size
+    parts = [digits[:first]] + [digits[at:at + size] for at in range(first, len(digits), size)]
+    return '_'.join(part for part in parts if part) + end
+
+
+def numeral_in_groups(style, suffix, numeral):
+    """The same of a float's whole part and of its fraction."""
+    whole, dot, fraction, power = re.fullmatch(r'([0-9_]+)(\.?)([0-9_]*)(.*)', numeral).groups()
+    return in_groups(style, 10, suffix, whole) + dot + in_groups(style, 10, suffix, fraction, True) + power
+
+
 def rewrite(style, text):
     """What the literal is in the style; None where the text is none."""
     it = literal(text)
@@ -243,6 +266,10 @@ def rewrite(style, text):
     if it.form == 'float':
         numeral = parts['numeral'].replace('+', '') if 'p' in style else parts['numeral']
         parts['numeral'] = cased(style, 'e', 'E', numeral)
+    if it.form == 'int':
+        parts['row'] = in_groups(style, parts['base'], it.suffix, parts['row'])
+    if it.form == 'float':
+        parts['numeral'] = numeral_in_groups(style, it.suffix, parts['numeral'])
     if last and 'S' in style and it.suffix:
         parts[last] += '_'
     if it.form == 'escapes':
@@ -285,7 +312,8 @@ def long_texts(dice, count):
         suffix = dice.choice(SUFFIXES + [''] * 8)
         way = dice.randrange(4)
         if way == 0:
-            yield '0x' + some(HEX + '_', 20) + suffix
+            prefix, digits = dice.choice([('0x', HEX), ('0x', HEX), ('0o', '01234567'), ('0b', '01')])
+            yield prefix + some(digits + '_', 20) + suffix
         elif way == 1:
             fraction = dice.choice(['', '.', '.' + some('0123456789_', 9)])
             power = dice.choice(['', dice.choice('eE') + dice.choice(['', '+', '-']) + some('0123456789_', 6)])
@@ -301,9 +329,9 @@ def long_texts(dice, count):
 
 
 def styles():
-    for x, s, e, d in itertools.product(['', 'x', 'X'], ['', 's', 'S'], ['', 'e', 'E'], ['', 'd', 'D']):
+    for x, s, g, e, d in itertools.product(*(['', low, low.upper()] for low in 'xsged')):
         for letters in itertools.product(*(['', letter] for letter in 'uzcanpqh')):
-            yield x + s + e + d + ''.join(letters)
+            yield x + s + g + e + d + ''.join(letters)
 
 
 def broken(style, text):
@@ -317,14 +345,14 @@ def broken(style, text):
             return name
     if rewrite(style, written) != written:
         return 'it changes again'
-    return 'longer' if len(written) > len(text) + ('S' in style) else None
+    return 'longer' if len(written) > (2 if 'g' in style.lower() else 1) * len(text) + ('S' in style) else None
 
 
 def check_laws(dice):
     texts = {text for text in itertools.chain(short_texts(), long_texts(dice, 40000)) if literal(text)}
     every, changed = sorted(texts), 0
     for style in styles():
-        for text in every if style in RULES else dice.sample(every, 20):
+        for text in every if style in RULES else dice.sample(every, 8):
             changed += rewrite(style, text) != text
             law = broken(style, text)
             if law:

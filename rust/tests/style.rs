@@ -1,9 +1,20 @@
 //! Literals written anew, held against the rows of `style.txt`, which `tools/style_model.py` writes of a model's answers.
 
-use navyspindle::{is_token, rewrite, Case, FlawKind, Lit, Separator, Style};
+use navyspindle::{is_token, rewrite, Case, DigitGroups, FlawKind, Lit, Separator, Style};
 use std::borrow::Cow;
 
 const ROWS: &str = include_str!("style.txt");
+
+const GROUPS: DigitGroups = DigitGroups::new()
+    .binary(4)
+    .decimal(3)
+    .hexadecimal(4)
+    .least(5);
+const ALL_GROUPS: DigitGroups = DigitGroups::new()
+    .binary(8)
+    .octal(3)
+    .decimal(2)
+    .hexadecimal(1);
 
 /// The style that the letters name.
 fn style_of(letters: &str) -> Style {
@@ -18,6 +29,8 @@ fn style_of(letters: &str) -> Style {
         'z' => style.drop_leading_zeros(true),
         's' => style.suffix_separator(Separator::Nothing),
         'S' => style.suffix_separator(Separator::Underscore),
+        'g' => style.digit_groups(GROUPS),
+        'G' => style.digit_groups(ALL_GROUPS),
         'p' => style.drop_exponent_plus(true),
         'c' => style.fewest_escape_digits(true),
         'a' => style.drop_ascii_escapes(true),
@@ -81,10 +94,17 @@ fn read_alike(old: &str, new: &str) -> bool {
 fn what_is_written_reads_alike() {
     for row in ROWS.lines() {
         let text = decoded(row.split(' ').nth(1).unwrap());
-        for (letters, more) in [("xuzsepdcanqh", 0), ("zSepdcanqh", 1)] {
+        for (letters, times, more) in [
+            ("xuzsepdcanqh", 1, 0),
+            ("zSepdcanqh", 1, 1),
+            ("zSGepdcanqh", 2, 1),
+        ] {
             if let Ok(written) = rewrite(&text, style_of(letters)) {
                 assert!(read_alike(&text, &written), "{text} {written}");
-                assert!(written.len() <= text.len() + more, "{text} {written}");
+                assert!(
+                    written.len() <= times * text.len() + more,
+                    "{text} {written}"
+                );
             }
         }
     }

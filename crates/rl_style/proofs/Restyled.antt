@@ -14,7 +14,8 @@ use Rattle.rl_style.specs.Rewriting.{Rewrites, RewritesCooked, RewritesFloat, Re
 use Rattle.rl_style.proofs.Ends.{character_front, quoted_front, raw_front}
 use Rattle.rl_style.proofs.Lexings.{DecimalForm, based_goes, character_goes, decimal_ends, decimal_goes, digits_gone, fraction_gone, pointed_power_ends, power_ends, quoted_goes, raw_goes, row_goes_on, suffix_goes_on}
 use Rattle.rl_style.proofs.QuotedLexemes.{SingleKind, StringKind, byte_kind, byte_string_kind, c_string_kind, character_kind, raw_body, single_parts, string_kind, string_parts}
-use Rattle.rl_style.proofs.SameFloats.{DotShape, FloatForm, FloatShape, PointShape, PowerShape, same_shape, shape_of}
+use Rattle.rl_style.proofs.FloatForms.{DotShape, FloatForm, FloatShape, PointShape, PowerShape, shape_of}
+use Rattle.rl_style.proofs.SameFloats.{same_shape}
 use Rattle.rl_style.proofs.SameFloats as floats
 use Rattle.rl_style.proofs.SameIntegers as integers
 use Rattle.rl_style.proofs.SameRaw as raws

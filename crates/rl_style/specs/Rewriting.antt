@@ -11,6 +11,7 @@ use Rattle.rl_writing.specs.RawStrings.{raw_text, HasFewestHashes}
 use Rattle.rl_style.specs.declared.style.Case.{Case}
 use Rattle.rl_style.specs.declared.style.Style.{Style}
 use Rattle.rl_style.specs.Cases.{cased, drops_underscores, kept_digits, kept_row, number_character, separator}
+use Rattle.rl_style.specs.Groups.{float_in_groups, grouped_row}
 
 -- Both texts are strict literals of one kind, with the same contents and the same suffix. By the laws of both grammars
 -- they then read alike.
@@ -23,25 +24,34 @@ pub record SameLiteral (old new : List ℕ) : Type 0 where
 
 -- ---- numbers
 
--- The old text is an integer; the new one has its prefix, its digits, perhaps without the zeros in front and the
--- underscores at the end, what the style puts before the suffix, and the suffix; each character in front of that is
--- what
--- the style makes of it.
+-- what the style makes of the digits of an integer in the base, with this suffix
+abbrev pub styled_row : Style → ℕ → List ℕ → List ℕ → List ℕ
+styled_row style base suffix row =
+    grouped_row false style base suffix
+    (flat_map (number_character style (drops_underscores style suffix) (base == 16))
+    (kept_digits style base suffix (kept_row style suffix row)))
+
+-- The old text is an integer; the new one has its prefix, its digits, and its suffix. The digits lose the underscores
+-- at their end and the zeros in front, where the style says so, then each character becomes what the style makes of it,
+-- then they are grouped, and then stands what the style puts before the suffix.
 pub record RewritesInt (style : Style) (old new : List ℕ) : Type 0 where
   pub contents : Contents
   pub suffix : List ℕ
   pub int : StrictInt old contents suffix
-  pub new_is : new ≡ flat_map (number_character style (drops_underscores style suffix) (int.base == 16))
-      (int.prefix ++ kept_digits style int.base suffix (kept_row style suffix int.row))
-      ++ (separator style suffix ++ suffix)
+  pub new_is : new ≡ int.prefix ++ (styled_row style int.base suffix int.row ++ (separator style suffix ++ suffix))
+
+-- what the style makes of a float's numeral, with this suffix
+abbrev pub styled_numeral : Style → List ℕ → List ℕ → List ℕ
+styled_numeral style suffix numeral =
+    float_in_groups (number_character style (drops_underscores style suffix) false)
+    (λ from_first. grouped_row from_first style 10 suffix) (kept_row style suffix numeral)
 
 -- The same of a float, but for the zeros.
 pub record RewritesFloat (style : Style) (old new : List ℕ) : Type 0 where
   pub contents : Contents
   pub suffix : List ℕ
   pub float : StrictFloat old contents suffix
-  pub new_is : new ≡ flat_map (number_character style (drops_underscores style suffix) false)
-      (kept_row style suffix float.numeral) ++ (separator style suffix ++ suffix)
+  pub new_is : new ≡ styled_numeral style suffix float.numeral ++ (separator style suffix ++ suffix)
 
 -- ---- raw literals
 
@@ -146,6 +156,7 @@ pub record HasNoRule (style : Style) : Type 0 where
   pub underscores : style.underscores ≡ false
   pub leading_zeros : style.leading_zeros ≡ false
   pub suffix_separator : style.suffix_separator ≡ None
+  pub digit_groups : style.digit_groups ≡ None
   pub exponent_letter : style.exponent_letter ≡ None
   pub exponent_plus : style.exponent_plus ≡ false
   pub escape_digits : style.escape_digits ≡ None

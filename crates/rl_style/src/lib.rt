@@ -3,8 +3,10 @@
 #![tactic(auto)]
 
 mod case;
+mod characters;
 mod codes;
 mod cooked;
+mod groups;
 pub mod laws;
 mod numbers;
 mod raw;
@@ -15,5 +17,5 @@ mod whole;
 
 pub use crate::restylable::{Restylable, Restylables};
 pub use crate::rewrite::rewrite_into;
-pub use crate::style::{Case, Separator, Style};
+pub use crate::style::{Case, DigitGroups, Separator, Style};
 pub use crate::whole::may_restyle;

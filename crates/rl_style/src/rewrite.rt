@@ -1,6 +1,6 @@
 //! Any literal written anew.
 
-ghost use Rattle.std.specs.Prelude.{◌≡◌, ◌≤◌, ◌+◌, length, take, IfOk, IfErr, IsTrue};
+ghost use Rattle.std.specs.Prelude.{◌≡◌, ◌≤◌, ◌+◌, ◌*◌, length, take, IfOk, IfErr, IsTrue};
 ghost use Rattle.std.specs.Char.{is_ascii_digit};
 ghost use Rattle.std.specs.Str.{chars, IsUtf8};
 ghost use Rattle.rl_text.specs.Texts.{first_passes};
@@ -50,10 +50,10 @@ fn write_quoted(
     requires token { IsToken (chars text.now) }
     requires begins { OpensAs form kind (chars text.now) }
     requires reads { IsStrictReading text.now reading }
-    requires room { length text.now + 1 ≤ length out.old }
+    requires room { 4 * length text.now + 1 ≤ length out.old }
     ensures written { Rewrites style (chars text.now) (chars (take result out.new)) }
     ensures utf8 { IsUtf8 (take result out.new) }
-    ensures within { result ≤ length text.now + 1 }
+    ensures within { result ≤ 4 * length text.now + 1 }
 {
     let body = body_of(text, form, kind, reading);
     let inside = &text[body.lo..body.hi];
@@ -67,10 +67,10 @@ fn write_quoted(
 /// Writes the number anew that the text is.
 fn rewrite_number(text: &str, style: Style, out: &mut [u8]) -> Result<usize, Flaw>
     requires digit { IsTrue (first_passes is_ascii_digit (chars text.now)) }
-    requires room { length text.now + 1 ≤ length out.old }
+    requires room { 4 * length text.now + 1 ≤ length out.old }
     ensures written { IfOk result (λ n. Rewrites style (chars text.now) (chars (take n out.new))) }
     ensures utf8 { IfOk result (λ n. IsUtf8 (take n out.new)) }
-    ensures within { IfOk result (λ n. n ≤ length text.now + 1) }
+    ensures within { IfOk result (λ n. n ≤ 4 * length text.now + 1) }
     ensures flaw { IfErr result (ExplainsStrictly (chars text.now)) }
 {
     match read_number(text) {
@@ -82,17 +82,17 @@ fn rewrite_number(text: &str, style: Style, out: &mut [u8]) -> Result<usize, Fla
     }
 }
 
-/// Writes the literal token anew in the style, to the front of `out`, and returns how many bytes it is long: at most one more than the
-/// text. Kind, contents and suffix are the same, and what the style has no rule for stays as it is.
+/// Writes the literal token anew in the style, to the front of `out`, and returns how many bytes it is long: at most one more than four
+/// times the text. Kind, contents and suffix are the same, and what the style has no rule for stays as it is.
 ///
 /// # Errors
 ///
 /// The text is no token: the flaw is that of [`explain`](rl_reasons::explain).
 pub fn rewrite_into(text: &str, style: Style, out: &mut [u8]) -> Result<usize, Flaw>
-    requires { length text.now + 1 ≤ length out.old }
+    requires { 4 * length text.now + 1 ≤ length out.old }
     ensures written { IfOk result (λ n. Rewrites style (chars text.now) (chars (take n out.new))) }
     ensures utf8 { IfOk result (λ n. IsUtf8 (take n out.new)) }
-    ensures within { IfOk result (λ n. n ≤ length text.now + 1) }
+    ensures within { IfOk result (λ n. n ≤ 4 * length text.now + 1) }
     ensures flaw { IfErr result (ExplainsStrictly (chars text.now)) }
 {
     if begins_digit(text) {

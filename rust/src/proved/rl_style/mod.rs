@@ -3,8 +3,10 @@
 //! taken.
 
 mod case;
+mod characters;
 mod codes;
 mod cooked;
+mod groups;
 mod numbers;
 mod raw;
 mod restylable;
@@ -14,5 +16,5 @@ mod whole;
 
 pub use crate::rl_style::restylable::{Restylable, Restylables};
 pub use crate::rl_style::rewrite::rewrite_into;
-pub use crate::rl_style::style::{Case, Separator, Style};
+pub use crate::rl_style::style::{Case, DigitGroups, Separator, Style};
 pub use crate::rl_style::whole::may_restyle;
