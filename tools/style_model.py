@@ -8,13 +8,13 @@
 A literal is taken apart by the token grammar of the Rust Reference, each part is mapped by itself, and the parts are put together
 again. Nothing of the repository is asked. A style is a word of letters: `x` and `X` hexadecimal digits in lower and in upper case,
 `u` no underscores in numbers, `z` no zeros in front of integers of base ten, `s` nothing and `S` an underscore before a suffix, `g`
-and `G` digits in the groups of GROUPS, `e` and `E` the exponent's letter, `d` and `D` the digits of escapes, `c` the fewest of `\\u{..}`, `a` visible characters of ASCII and `n`
+and `G` digits in the groups of GROUPS, `f` a zero after a float's last dot, `e` and `E` the exponent's letter, `d` and `D` the digits of escapes, `c` the fewest of `\\u{..}`, `a` visible characters of ASCII and `n`
 letters for LF, CR and TAB where escapes by number spell them, `p` no plus, `q` no needless backslash before a quote, `h` the fewest
 hashes. A row is a style, a text and what it becomes, both in hexadecimal: `=` stands for the text itself, and `!` for what is no
 literal.
 
-The laws: what is written is a literal of the same kind, with the same contents and the same suffix, and the style leaves it as it
-is."""
+The laws: what is written is a literal of the same kind, with the same contents, but for that zero, and the same suffix, and the
+style leaves it as it is."""
 import argparse
 import itertools
 import random
@@ -29,7 +29,7 @@ HEX = '0123456789abcdefABCDEF'
 OPENERS = {'Str': '"', 'ByteStr': 'b"', 'CStr': 'c"', 'Byte': "b'", 'Char': "'"}
 RAW_OPENERS = {'Str': 'r', 'ByteStr': 'br', 'CStr': 'cr'}
 LETTERS = {'n': 10, 'r': 13, 't': 9, '\\': 92, '0': 0}
-RULES = ['x', 'X', 'u', 'z', 's', 'S', 'g', 'G', 'e', 'E', 'd', 'D', 'c', 'a', 'n', 'p', 'q', 'h']
+RULES = ['x', 'X', 'u', 'z', 's', 'S', 'g', 'G', 'f', 'e', 'E', 'd', 'D', 'c', 'a', 'n', 'p', 'q', 'h']
 # By the letter: how many digits of a base stand in a group, and how many a row has at least that is grouped.
 GROUPS = {'g': ({2: 4, 8: 0, 10: 3, 16: 4}, 5), 'G': ({2: 8, 8: 3, 10: 2, 16: 1}, 0)}
 NAMES = {10: '\\n', 13: '\\r', 9: '\\t'}
@@ -270,6 +270,8 @@ def rewrite(style, text):
         parts['row'] = in_groups(style, parts['base'], it.suffix, parts['row'])
     if it.form == 'float':
         parts['numeral'] = numeral_in_groups(style, it.suffix, parts['numeral'])
+        if 'f' in style and parts['numeral'].endswith('.'):
+            parts['numeral'] += '0'
     if last and 'S' in style and it.suffix:
         parts[last] += '_'
     if it.form == 'escapes':
@@ -330,7 +332,7 @@ def long_texts(dice, count):
 
 def styles():
     for x, s, g, e, d in itertools.product(*(['', low, low.upper()] for low in 'xsged')):
-        for letters in itertools.product(*(['', letter] for letter in 'uzcanpqh')):
+        for letters in itertools.product(*(['', letter] for letter in 'uzfcanpqh')):
             yield x + s + g + e + d + ''.join(letters)
 
 
@@ -340,19 +342,23 @@ def broken(style, text):
     new = literal(written)
     if new is None:
         return 'no literal'
-    for name, part in (('kind', lambda it: it.kind), ('contents', contents), ('suffix', lambda it: it.suffix)):
+    for name, part in (('kind', lambda it: it.kind), ('suffix', lambda it: it.suffix)):
         if part(old) != part(new):
             return name
+    # What ends with a dot may have got a zero.
+    closed = 'f' in style and old.kind == 'Float' and contents(old).endswith('.')
+    if contents(new) != (contents(old) + '0' if closed else contents(old)):
+        return 'contents'
     if rewrite(style, written) != written:
         return 'it changes again'
-    return 'longer' if len(written) > (2 if 'g' in style.lower() else 1) * len(text) + ('S' in style) else None
+    return 'longer' if len(written) > (2 if 'g' in style.lower() else 1) * len(text) + ('S' in style or 'f' in style) else None
 
 
 def check_laws(dice):
     texts = {text for text in itertools.chain(short_texts(), long_texts(dice, 40000)) if literal(text)}
     every, changed = sorted(texts), 0
     for style in styles():
-        for text in every if style in RULES else dice.sample(every, 8):
+        for text in every if style in RULES else dice.sample(every, 6):
             changed += rewrite(style, text) != text
             law = broken(style, text)
             if law:

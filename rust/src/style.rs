@@ -1,5 +1,5 @@
 //! Literals written anew in another style. Each is a token of the Rust Reference again, of the same kind, with the same contents and
-//! the same suffix.
+//! the same suffix; but `1.` may become `1.0`.
 
 use crate::parse_error::ParseError;
 use crate::rl_style::{self, rewrite_into};
@@ -226,6 +226,7 @@ pub struct Style {
     leading_zeros: bool,
     suffix_separator: Option<Separator>,
     digit_groups: Option<DigitGroups>,
+    float_zero: bool,
     exponent_letter: Option<Case>,
     exponent_plus: bool,
     escape_digits: Option<Case>,
@@ -253,6 +254,7 @@ impl Style {
             leading_zeros: false,
             suffix_separator: None,
             digit_groups: None,
+            float_zero: false,
             exponent_letter: None,
             exponent_plus: false,
             escape_digits: None,
@@ -362,6 +364,25 @@ impl Style {
     pub const fn digit_groups(self, groups: DigitGroups) -> Self {
         Style {
             digit_groups: Some(groups),
+            ..self
+        }
+    }
+
+    /// The same with a zero after the dot that a float ends with, or with what stands there. It is the same number, but `concat!` makes
+    /// another text of it.
+    ///
+    /// ```
+    /// use navyspindle::{rewrite, Style};
+    ///
+    /// let style = Style::new().float_zero(true);
+    /// assert_eq!(rewrite("1.", style)?, "1.0");
+    /// assert_eq!(rewrite("1e5", style)?, "1e5");
+    /// # Ok::<(), navyspindle::ParseError>(())
+    /// ```
+    #[must_use]
+    pub const fn float_zero(self, closed: bool) -> Self {
+        Style {
+            float_zero: closed,
             ..self
         }
     }
@@ -513,6 +534,7 @@ impl Style {
             leading_zeros: self.leading_zeros,
             suffix_separator: self.suffix_separator.map(Separator::proved),
             digit_groups: self.digit_groups.map(DigitGroups::proved),
+            float_zero: self.float_zero,
             exponent_letter: self.exponent_letter.map(Case::proved),
             exponent_plus: self.exponent_plus,
             escape_digits: self.escape_digits.map(Case::proved),
@@ -532,7 +554,8 @@ impl Default for Style {
     }
 }
 
-/// The literal in the style: of the same kind, with the same contents and the same suffix. Borrowed where nothing changes.
+/// The literal in the style: of the same kind, with the same suffix and, but for [`Style::float_zero`], the same contents. Borrowed
+/// where nothing changes.
 ///
 /// A text that was written so, the same style leaves as it is. What looks at a token's text and not at its value sees the change:
 /// `stringify!`, an arm of `macro_rules!` that names a literal, `concat!` of floats.

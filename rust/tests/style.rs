@@ -31,6 +31,7 @@ fn style_of(letters: &str) -> Style {
         'S' => style.suffix_separator(Separator::Underscore),
         'g' => style.digit_groups(GROUPS),
         'G' => style.digit_groups(ALL_GROUPS),
+        'f' => style.float_zero(true),
         'p' => style.drop_exponent_plus(true),
         'c' => style.fewest_escape_digits(true),
         'a' => style.drop_ascii_escapes(true),
@@ -108,6 +109,27 @@ fn what_is_written_reads_alike() {
             }
         }
     }
+}
+
+#[test]
+fn a_zero_closes_a_float_alone() {
+    let style = style_of("fSuxg");
+    for (text, written) in [
+        ("1.", "1.0"),
+        ("1_000000.", "1_000_000.0"),
+        ("1.0", "1.0"),
+        ("1f32", "1_f32"),
+        ("1.f32", "!"),
+        ("1.5f32", "1.5_f32"),
+        ("1.e5", "!"),
+        ("1e5", "1e5"),
+    ] {
+        let answer = rewrite(text, style);
+        assert_eq!(answer.as_deref().unwrap_or("!"), written, "{text}");
+    }
+    // The number is the same.
+    let closed = rewrite("1234567.", style).unwrap();
+    assert_eq!(closed.replace('_', "").parse(), "1234567.".parse::<f64>());
 }
 
 #[test]

@@ -9,9 +9,9 @@ use Rattle.rl_lexer.specs.Lexemes.{is_base_letter}
 use Rattle.rl_style.specs.declared.style.Case.{Case}
 use Rattle.rl_style.specs.declared.style.Case.TheVariants.{Lower, Upper}
 use Rattle.rl_text.specs.Classes.{after_run}
-use Rattle.rl_style.specs.Groups.{digit_run, fraction_in_groups, float_in_groups, regrouped}
+use Rattle.rl_style.specs.Groups.{after_dot, digit_run, fraction_in_groups, float_in_groups, regrouped}
 use Rattle.rl_style.proofs.Decimals.{letter_out}
-use Rattle.rl_style.proofs.Regrouped.{grouped_digits, grouped_none}
+use Rattle.rl_style.proofs.Regrouped.{grouped_digits}
 use Rattle.rl_style.proofs.NumberCharacters.{becomes, digits_each, digits_some, digits_stay, row_stays, stays}
 
 -- ---- rows
@@ -178,36 +178,53 @@ digits_past (d ∷ row) x h n =
     )
 
 -- a whole part, and what follows it
-numeral_at : (f : ℕ → List ℕ) (size least : ℕ) (numeral d z : List ℕ) → IsDigits d
+numeral_at : (f : ℕ → List ℕ) (closes : Bool) (size least : ℕ) (numeral d z : List ℕ) → IsDigits d
     → first_passes (is_row_part is_ascii_digit) z ≡ false → numeral ≡ d ++ z
-    → float_in_groups f (Groups size least) numeral
-    ≡ Groups size least false (flat_map f d) ++ fraction_in_groups f (Groups size least true) z
-numeral_at f size least numeral d z h n e =
+    → float_in_groups closes f (Groups size least) numeral
+    ≡ Groups size least false (flat_map f d) ++ fraction_in_groups closes f (Groups size least true) z
+numeral_at f closes size least numeral d z h n e =
     let p = digits_past d z h.1 n in
-    ap (float_in_groups f (Groups size least)) e
+    ap (float_in_groups closes f (Groups size least)) e
     ∙ ap (λ y. Groups size least false (flat_map f y)
-    ++ fraction_in_groups f (Groups size least true) (after_run (is_row_part is_ascii_digit) (d ++ z))) p.0
-    ∙ ap (λ y. Groups size least false (flat_map f d) ++ fraction_in_groups f (Groups size least true) y) p.1
+    ++ fraction_in_groups closes f (Groups size least true) (after_run (is_row_part is_ascii_digit) (d ++ z))) p.0
+    ∙ ap (λ y. Groups size least false (flat_map f d) ++ fraction_in_groups closes f (Groups size least true) y) p.1
 
-pub at_dot : (f : ℕ → List ℕ) (size least : ℕ) (numeral d : List ℕ) → IsDigits d → numeral ≡ d ++ (46 ∷ [])
-    → float_in_groups f (Groups size least) numeral ≡ Groups size least false (flat_map f d) ++ (46 ∷ [])
-at_dot f size least numeral d h e =
-    numeral_at f size least numeral d (46 ∷ []) h refl e
-    ∙ ap (λ y. Groups size least false (flat_map f d) ++ (46 ∷ (y ++ []))) (grouped_none true size least)
+-- a zero, or nothing
+abbrev pub Closing : Bool → List ℕ
+Closing closes = cond closes (48 ∷ []) []
 
-pub at_point : (f : ℕ → List ℕ) (size least : ℕ) (numeral d z : List ℕ) → IsDigits d
-    → list_all (is_row_part is_ascii_digit) z ≡ true → numeral ≡ d ++ (46 ∷ z)
-    → float_in_groups f (Groups size least) numeral
+pub at_dot : (f : ℕ → List ℕ) (closes : Bool) (size least : ℕ) (numeral d : List ℕ) → IsDigits d
+    → numeral ≡ d ++ (46 ∷ [])
+    → float_in_groups closes f (Groups size least) numeral
+    ≡ Groups size least false (flat_map f d) ++ (46 ∷ Closing closes)
+at_dot f closes size least numeral d h e = numeral_at f closes size least numeral d (46 ∷ []) h refl e
+
+-- where digits follow a dot, there is no zero to be put
+dot_some : (f : ℕ → List ℕ) (closes : Bool) (g : List ℕ → List ℕ) (z e : List ℕ) → IsDigits z
+    → after_dot closes f g (z ++ e)
+    ≡ g (flat_map f (digit_run (z ++ e))) ++ flat_map f (after_run (is_row_part is_ascii_digit) (z ++ e))
+dot_some f closes g [] e h = absurd (let n : false ≡ true = h.0 in cc)
+dot_some f closes g (c ∷ z) e h = refl
+
+dot_digits : (f : ℕ → List ℕ) (closes : Bool) (g : List ℕ → List ℕ) (z e : List ℕ) → IsDigits z
+    → first_passes (is_row_part is_ascii_digit) e ≡ false
+    → after_dot closes f g (z ++ e) ≡ g (flat_map f z) ++ flat_map f e
+dot_digits f closes g z e h n =
+    let p = digits_past z e h.1 n in
+    dot_some f closes g z e h
+    ∙ ap (λ y. g (flat_map f y) ++ flat_map f (after_run (is_row_part is_ascii_digit) (z ++ e))) p.0
+    ∙ ap (λ y. g (flat_map f z) ++ flat_map f y) p.1
+
+pub at_point : (f : ℕ → List ℕ) (closes : Bool) (size least : ℕ) (numeral d z : List ℕ) → IsDigits d → IsDigits z
+    → numeral ≡ d ++ (46 ∷ z)
+    → float_in_groups closes f (Groups size least) numeral
     ≡ Groups size least false (flat_map f d) ++ (46 ∷ Groups size least true (flat_map f z))
-at_point f size least numeral d z h k e =
-    let p = digits_past z [] k refl in
+at_point f closes size least numeral d z h k e =
     let whole : List ℕ = Groups size least false (flat_map f d) in
-    let rest : after_run (is_row_part is_ascii_digit) z ≡ [] =
-    ap (after_run (is_row_part is_ascii_digit)) (sym (append-nil z)) ∙ p.1 in
-    numeral_at f size least numeral d (46 ∷ z) h refl e
-    ∙ ap (λ y. whole ++ (46 ∷ (Groups size least true (flat_map f (digit_run z)) ++ flat_map f y))) rest
-    ∙ ap (λ y. whole ++ (46 ∷ y)) (append-nil (Groups size least true (flat_map f (digit_run z))))
-    ∙ ap (λ y. whole ++ (46 ∷ Groups size least true (flat_map f y))) (ap digit_run (sym (append-nil z)) ∙ p.0)
+    let g : List ℕ → List ℕ = Groups size least true in
+    numeral_at f closes size least numeral d (46 ∷ z) h refl e
+    ∙ ap (λ y. whole ++ (46 ∷ after_dot closes f g y)) (sym (append-nil z))
+    ∙ ap (λ y. whole ++ (46 ∷ y)) (dot_digits f closes g z [] k refl ∙ append-nil (g (flat_map f z)))
 
 -- no digit begins an exponent, nor does a dot
 exponent_begins : (e : List ℕ) → IsStrictExponent e → first_passes (is_row_part is_ascii_digit) e ≡ false
@@ -216,32 +233,36 @@ exponent_begins e s = ap (first_passes (is_row_part is_ascii_digit)) s.text
     (letter_out is_ascii_digit s.letter s.is_letter refl refl)
     (letter_out (λ c. c == 95) s.letter s.is_letter refl refl)
 
-power_fraction : (f : ℕ → List ℕ) (size least : ℕ) (e : List ℕ) → IsStrictExponent e
-    → fraction_in_groups f (Groups size least true) e ≡ flat_map f e
-power_fraction f size least e s =
+power_fraction : (f : ℕ → List ℕ) (closes : Bool) (size least : ℕ) (e : List ℕ) → IsStrictExponent e
+    → fraction_in_groups closes f (Groups size least true) e ≡ flat_map f e
+power_fraction f closes size least e s =
     let rest : List ℕ = s.sign ++ s.row in
-    ap (fraction_in_groups f (Groups size least true)) s.text
-    ∙ ap (λ b. cond b (s.letter ∷ (Groups size least true (flat_map f (digit_run rest))
-    ++ flat_map f (after_run (is_row_part is_ascii_digit) rest))) (flat_map f (s.letter ∷ rest)))
+    ap (fraction_in_groups closes f (Groups size least true)) s.text
+    ∙ ap (λ b. cond b (s.letter ∷ after_dot closes f (Groups size least true) rest) (flat_map f (s.letter ∷ rest)))
     (letter_out (λ c. c == 46) s.letter s.is_letter refl refl) ∙ ap (flat_map f) (sym s.text)
 
-pub at_power : (f : ℕ → List ℕ) (size least : ℕ) (numeral d e : List ℕ) → IsDigits d → IsStrictExponent e
+pub at_power : (f : ℕ → List ℕ) (closes : Bool) (size least : ℕ) (numeral d e : List ℕ) → IsDigits d
+    → IsStrictExponent e
     → numeral ≡ d ++ e
-    → float_in_groups f (Groups size least) numeral ≡ Groups size least false (flat_map f d) ++ flat_map f e
-at_power f size least numeral d e h s n = numeral_at f size least numeral d e h (exponent_begins e s) n
-    ∙ ap (λ y. Groups size least false (flat_map f d) ++ y) (power_fraction f size least e s)
+    → float_in_groups closes f (Groups size least) numeral ≡ Groups size least false (flat_map f d) ++ flat_map f e
+at_power f closes size least numeral d e h s n = numeral_at f closes size least numeral d e h (exponent_begins e s) n
+    ∙ ap (λ y. Groups size least false (flat_map f d) ++ y) (power_fraction f closes size least e s)
 
-pub at_point_power : (f : ℕ → List ℕ) (size least : ℕ) (numeral d z e : List ℕ) → IsDigits d
-    → list_all (is_row_part is_ascii_digit) z ≡ true → IsStrictExponent e → numeral ≡ d ++ (46 ∷ (z ++ e))
-    → float_in_groups f (Groups size least) numeral
+pub at_point_power : (f : ℕ → List ℕ) (closes : Bool) (size least : ℕ) (numeral d z e : List ℕ) → IsDigits d
+    → IsDigits z → IsStrictExponent e → numeral ≡ d ++ (46 ∷ (z ++ e))
+    → float_in_groups closes f (Groups size least) numeral
     ≡ Groups size least false (flat_map f d) ++ (46 ∷ (Groups size least true (flat_map f z) ++ flat_map f e))
-at_point_power f size least numeral d z e h k s n =
-    let p = digits_past z e k (exponent_begins e s) in
-    let whole : List ℕ = Groups size least false (flat_map f d) in
-    numeral_at f size least numeral d (46 ∷ (z ++ e)) h refl n
-    ∙ ap (λ y. whole ++ (46 ∷ (Groups size least true (flat_map f y)
-    ++ flat_map f (after_run (is_row_part is_ascii_digit) (z ++ e))))) p.0
-    ∙ ap (λ y. whole ++ (46 ∷ (Groups size least true (flat_map f z) ++ flat_map f y))) p.1
+at_point_power f closes size least numeral d z e h k s n =
+    numeral_at f closes size least numeral d (46 ∷ (z ++ e)) h refl n
+    ∙ ap (λ y. Groups size least false (flat_map f d) ++ (46 ∷ y))
+    (dot_digits f closes (Groups size least true) z e k (exponent_begins e s))
+
+-- a dot alone becomes a dot and a zero
+abbrev pub closed_shape : FloatShape → Bool → FloatShape
+closed_shape DotShape true = PointShape
+closed_shape DotShape false = DotShape
+closed_shape PointShape closes = PointShape
+closed_shape PowerShape closes = PowerShape
 
 -- the numeral, by its whole part and what follows
 pub record Numeral (numeral x : List ℕ) (shape : FloatShape) : Type 0 where
@@ -260,13 +281,33 @@ pub row_is : (drops plus : Bool) (digits letter : Option Case) (from_first : Boo
 row_is drops plus digits letter from_first size least d h = grouped_digits from_first size least
     (flat_map (becomes drops false plus digits letter) d) (digits_are drops plus digits letter d h)
 
-pub form_is : (drops plus : Bool) (digits letter : Option Case) (size least : ℕ) (numeral x : List ℕ)
+pub form_is : (drops plus : Bool) (digits letter : Option Case) (closes : Bool) (size least : ℕ) (numeral x : List ℕ)
     → (form : FloatForm numeral x)
-    → Numeral (float_in_groups (becomes drops false plus digits letter) (Groups size least) numeral) x
-    (shape_of numeral x form)
-form_is drops plus digits letter size least numeral x (inl (d, h, e, n)) =
+    → Numeral (float_in_groups closes (becomes drops false plus digits letter) (Groups size least) numeral) x
+    (closed_shape (shape_of numeral x form) closes)
+form_is drops plus digits letter true size least numeral x (inl (d, h, e, n)) =
     let f : ℕ → List ℕ = becomes drops false plus digits letter in
-    let is = at_dot f size least numeral d h e in
+    let is = at_dot f true size least numeral d h e in
+    let whole = row_is drops plus digits letter false size least d h in
+    record {
+      whole = Groups size least false (flat_map f d);
+      new = 46 ∷ 48 ∷ [];
+      are_digits = whole;
+      new_is = is;
+      follows = λ y. refl;
+      form = inr (inl (
+        Groups size least false (flat_map f d),
+        48 ∷ [],
+        whole,
+        (refl, refl),
+        is,
+        ap (first_passes (λ c. c == 101 || c == 69)) n,
+      ));
+      same_shape = refl;
+    }
+form_is drops plus digits letter false size least numeral x (inl (d, h, e, n)) =
+    let f : ℕ → List ℕ = becomes drops false plus digits letter in
+    let is = at_dot f false size least numeral d h e in
     let whole = row_is drops plus digits letter false size least d h in
     record {
       whole = Groups size least false (flat_map f d);
@@ -277,9 +318,9 @@ form_is drops plus digits letter size least numeral x (inl (d, h, e, n)) =
       form = inl (Groups size least false (flat_map f d), whole, is, n);
       same_shape = refl;
     }
-form_is drops plus digits letter size least numeral x (inr (inl (d, z, h, k, e, n))) =
+form_is drops plus digits letter closes size least numeral x (inr (inl (d, z, h, k, e, n))) =
     let f : ℕ → List ℕ = becomes drops false plus digits letter in
-    let is = at_point f size least numeral d z h k.1 e in
+    let is = at_point f closes size least numeral d z h k e in
     let whole = row_is drops plus digits letter false size least d h in
     let fraction : List ℕ = Groups size least true (flat_map f z) in
     record {
@@ -298,11 +339,11 @@ form_is drops plus digits letter size least numeral x (inr (inl (d, z, h, k, e, 
       ));
       same_shape = refl;
     }
-form_is drops plus digits letter size least numeral x (inr (inr (d, e, h, s, inl n))) =
+form_is drops plus digits letter closes size least numeral x (inr (inr (d, e, h, s, inl n))) =
     let f : ℕ → List ℕ = becomes drops false plus digits letter in
     let p = exponent_is drops plus digits letter e s in
     let whole = row_is drops plus digits letter false size least d h in
-    let is = at_power f size least numeral d e h s n in
+    let is = at_power f closes size least numeral d e h s n in
     record {
       whole = Groups size least false (flat_map f d);
       new = flat_map f e;
@@ -312,12 +353,12 @@ form_is drops plus digits letter size least numeral x (inr (inr (d, e, h, s, inl
       form = inr (inr (Groups size least false (flat_map f d), flat_map f e, whole, p.exponent, inl is));
       same_shape = refl;
     }
-form_is drops plus digits letter size least numeral x (inr (inr (d, e, h, s, inr (z, k, n)))) =
+form_is drops plus digits letter closes size least numeral x (inr (inr (d, e, h, s, inr (z, k, n)))) =
     let f : ℕ → List ℕ = becomes drops false plus digits letter in
     let p = exponent_is drops plus digits letter e s in
     let whole = row_is drops plus digits letter false size least d h in
     let fraction : List ℕ = Groups size least true (flat_map f z) in
-    let is = at_point_power f size least numeral d z e h k.1 s (n ∙ append_assoc d (46 ∷ z) e) in
+    let is = at_point_power f closes size least numeral d z e h k s (n ∙ append_assoc d (46 ∷ z) e) in
     record {
       whole = Groups size least false (flat_map f d);
       new = 46 ∷ (fraction ++ flat_map f e);

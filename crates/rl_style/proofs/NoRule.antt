@@ -8,7 +8,7 @@ use Rattle.rl_forms.proofs.StrictQuoted.{between}
 use Rattle.rl_writing.specs.RawStrings.{raw_text}
 use Rattle.rl_style.specs.declared.style.Style.{Style}
 use Rattle.rl_style.specs.Cases.{cased, drops_underscores, exponent_letter, kept_digits, kept_row, number_character, separator, separator_by, significant, trimmed, trims_by}
-use Rattle.rl_style.specs.Groups.{digit_run, fraction_in_groups, grouped_row, least_by, regrouped, size_by}
+use Rattle.rl_style.specs.Groups.{after_dot, digit_run, fraction_in_groups, grouped_row, least_by, regrouped, size_by}
 use Rattle.rl_text.specs.Classes.{after_run}
 use Rattle.rl_style.specs.Rewriting.{HasHashes, HasNoRule, Rewrites, RewritesCooked, RewritesFloat, RewritesInt, RewritesRaw, cased_digit, styled_digits, styled_numeral, styled_row, fewest_digits, has_letter, is_visible, letter_of, respelled, restyled, visible_unit}
 use Rattle.rl_text.specs.Texts.{first_passes, is_row_part}
@@ -69,17 +69,21 @@ row_same style base x row n =
     ∙ numeral_kept style (drops_underscores style x) (base == 16) kept n (none_dropped style x n)
     ∙ zeros_kept style base x (kept_row style x row) n ∙ untrimmed style x row n
 
+dot_same : (f : ℕ → List ℕ) (g : List ℕ → List ℕ) (cs : List ℕ) → ((row : List ℕ) → flat_map f row ≡ row)
+    → ((row : List ℕ) → g row ≡ row) → after_dot false f g cs ≡ cs
+dot_same f g [] k h = refl
+dot_same f g (c ∷ cs) k h =
+    let rest : List ℕ = after_run (is_row_part is_ascii_digit) (c ∷ cs) in
+    ap (λ z. z ++ flat_map f rest) (h (flat_map f (digit_run (c ∷ cs))) ∙ k (digit_run (c ∷ cs)))
+    ∙ ap (λ z. digit_run (c ∷ cs) ++ z) (k rest) ∙ run_joined (c ∷ cs)
+
 fraction_same : (f : ℕ → List ℕ) (g : List ℕ → List ℕ) (cs : List ℕ) → ((row : List ℕ) → flat_map f row ≡ row)
-    → ((row : List ℕ) → g row ≡ row) → fraction_in_groups f g cs ≡ cs
+    → ((row : List ℕ) → g row ≡ row) → fraction_in_groups false f g cs ≡ cs
 fraction_same f g [] k h = refl
 fraction_same f g (c ∷ cs) k h = go (c == 46)
   where
-    go : (b : Bool) → cond b (c ∷ (g (flat_map f (digit_run cs))
-        ++ flat_map f (after_run (is_row_part is_ascii_digit) cs))) (flat_map f (c ∷ cs)) ≡ c ∷ cs
-    go true = ap (λ z. c ∷ (z ++ flat_map f (after_run (is_row_part is_ascii_digit) cs)))
-        (h (flat_map f (digit_run cs)) ∙ k (digit_run cs))
-        ∙ ap (λ z. c ∷ (digit_run cs ++ z)) (k (after_run (is_row_part is_ascii_digit) cs))
-        ∙ ap (λ z. c ∷ z) (run_joined cs)
+    go : (b : Bool) → cond b (c ∷ after_dot false f g cs) (flat_map f (c ∷ cs)) ≡ c ∷ cs
+    go true = ap (λ z. c ∷ z) (dot_same f g cs k h)
     go false = k (c ∷ cs)
 
 numeral_same : (style : Style) (x numeral : List ℕ) → HasNoRule style → styled_numeral style x numeral ≡ numeral
@@ -89,7 +93,9 @@ numeral_same style x numeral n =
     let rest : List ℕ = after_run (is_row_part is_ascii_digit) kept in
     let same : (row : List ℕ) → flat_map f row ≡ row =
     λ row. numeral_kept style (drops_underscores style x) false row n (none_dropped style x n) in
-    ap (λ z. z ++ fraction_in_groups f (grouped_row true style 10 x) rest)
+    ap (λ b. grouped_row false style 10 x (flat_map f (digit_run kept))
+    ++ fraction_in_groups b f (grouped_row true style 10 x) rest) n.float_zero
+    ∙ ap (λ z. z ++ fraction_in_groups false f (grouped_row true style 10 x) rest)
     (ungrouped style false 10 x (flat_map f (digit_run kept)) n ∙ same (digit_run kept))
     ∙ ap (λ z. digit_run kept ++ z) (fraction_same f (grouped_row true style 10 x) rest same
     (λ row. ungrouped style true 10 x row n))

@@ -1,5 +1,5 @@
 -- A float written anew is the same literal.
-use Rattle.rl_text.proofs.Common.{◌≡◌, ℕ, ◌||◌, Bool, true, false, not, ◌==◌, cond, List, [], ◌∷◌, ◌++◌, map, refl, sym, ap, subst, ◌∙◌, inl, inr, ◌&&◌, append_assoc, append-nil, append_cancel_right, map-append, list_all, list_any, list_all-append, and_from, or_cases, eqb-true, is_ascii_digit, flat_map, Some, None}
+use Rattle.rl_text.proofs.Common.{◌≡◌, ◌⊎◌, ℕ, ◌||◌, Bool, true, false, not, ◌==◌, cond, List, [], ◌∷◌, ◌++◌, map, refl, sym, ap, subst, ◌∙◌, inl, inr, ◌&&◌, append_assoc, append-nil, cases_Bool, append_cancel_right, map-append, list_all, list_any, list_all-append, and_from, or_cases, eqb-true, is_ascii_digit, flat_map, Some, None}
 use Rattle.std.specs.Prelude.{Option, filter}
 use Rattle.std.proofs.lemmas.List.Elements.{filter-append}
 use Rattle.rl_text.specs.Texts.{is_row_part}
@@ -15,15 +15,15 @@ use Rattle.rl_style.specs.declared.style.Separator.{Separator}
 use Rattle.rl_style.specs.declared.style.Separator.TheVariants.{Nothing, Underscore}
 use Rattle.rl_style.specs.Cases.{drops_underscores, kept_row, number_character, separator, separator_by, trimmed, trims_by}
 use Rattle.rl_text.specs.Classes.{after_run}
-use Rattle.rl_style.specs.Groups.{digit_run, fraction_in_groups, float_in_groups, least_by, size_by}
-use Rattle.rl_style.specs.Rewriting.{SameLiteral, RewritesFloat, styled_numeral}
+use Rattle.rl_style.specs.Groups.{digit_run, float_in_groups, least_by, size_by}
+use Rattle.rl_style.specs.Rewriting.{GetsZero, SameLiteral, SameNumber, RewritesFloat, styled_numeral}
 use Rattle.rl_forms.proofs.OneQuoted.{same_tail}
 use Rattle.rl_lexer.proofs.LexemeRows.{not_among}
 use Rattle.rl_style.proofs.GroupRows.{plus_free}
-use Rattle.rl_style.proofs.Regrouped.{again_grouped, grouped_kept, grouped_trim, plain_of}
+use Rattle.rl_style.proofs.Regrouped.{again_grouped, grouped_kept, grouped_one, grouped_trim, plain_of}
 use Rattle.rl_style.proofs.NumberCharacters.{becomes, by_character, decimal_by, digits_some, keeps_of, row_stays, stays, twice}
 use Rattle.rl_style.proofs.Trimmed.{IsTrim, any_left, digits_join, mapped_trim, only, only_join, row_again, separator_all, separator_gone, some_not_only, trimmed_again, trimmed_all, trimmed_digits, trimmed_filter, trimmed_join, trimmed_some}
-use Rattle.rl_style.proofs.FloatForms.{Letter, lower_e, upper_e, exponent_is, FloatForm, FloatShape, shape_of, Groups, at_dot, at_point, at_power, at_point_power, Numeral, row_is, form_is}
+use Rattle.rl_style.proofs.FloatForms.{Letter, lower_e, upper_e, exponent_is, DotShape, PointShape, PowerShape, FloatForm, FloatShape, shape_of, closed_shape, Groups, at_dot, at_point, at_power, at_point_power, Numeral, row_is, form_is}
 
 -- ---- without the underscores at the end, and with one before a suffix
 
@@ -269,37 +269,61 @@ spelled_row drops plus digits letter from_first size least cs =
     ap (map (λ c. cond (c == 69) 101 c)) (grouped_kept (λ c. not (c == 95 || c == 43)) from_first size least
     (flat_map (becomes drops false plus digits letter) cs) refl) ∙ spelled_same drops plus digits letter cs
 
-spelled_fraction : (drops plus : Bool) (digits letter : Option Case) (size least : ℕ) (cs : List ℕ)
-    → spelled (fraction_in_groups (becomes drops false plus digits letter) (Groups size least true) cs) ≡ spelled cs
-spelled_fraction drops plus digits letter size least [] = refl
-spelled_fraction drops plus digits letter size least (c ∷ cs) = go (c == 46)
-  where
-    f : ℕ → List ℕ
-    f = becomes drops false plus digits letter
+-- what a dot alone gets
+abbrev pub added : FloatShape → Bool → List ℕ
+added DotShape true = 48 ∷ []
+added DotShape false = []
+added PointShape closes = []
+added PowerShape closes = []
 
-    rest : List ℕ
-    rest = after_run (is_row_part is_ascii_digit) cs
+added_none : (shape : FloatShape) → added shape false ≡ []
+added_none DotShape = refl
+added_none PointShape = refl
+added_none PowerShape = refl
 
-    go : (b : Bool) → spelled (cond b (c ∷ (Groups size least true (flat_map f (digit_run cs)) ++ flat_map f rest))
-        (flat_map f (c ∷ cs))) ≡ spelled (c ∷ cs)
-    go true = spelled_more c (Groups size least true (flat_map f (digit_run cs)) ++ flat_map f rest) cs
-        (spelled_join (Groups size least true (flat_map f (digit_run cs))) (flat_map f rest)
-        ∙ ap (λ z. z ++ spelled (flat_map f rest)) (spelled_row drops plus digits letter true size least (digit_run cs))
-        ∙ ap (λ z. spelled (digit_run cs) ++ z) (spelled_same drops plus digits letter rest)
-        ∙ sym (spelled_join (digit_run cs) rest) ∙ ap spelled (run_joined cs))
-    go false = spelled_same drops plus digits letter (c ∷ cs)
+-- a whole part, and what follows it
+spelled_at : (drops plus : Bool) (digits letter : Option Case) (size least : ℕ) (numeral new d z w extra : List ℕ)
+    → new ≡ Groups size least false (flat_map (becomes drops false plus digits letter) d) ++ w → numeral ≡ d ++ z
+    → spelled w ≡ spelled z ++ extra → spelled new ≡ spelled numeral ++ extra
+spelled_at drops plus digits letter size least numeral new d z w extra is e same =
+    let whole : List ℕ = Groups size least false (flat_map (becomes drops false plus digits letter) d) in
+    ap spelled is ∙ spelled_join whole w
+    ∙ ap (λ y. y ++ spelled w) (spelled_row drops plus digits letter false size least d)
+    ∙ ap (λ y. spelled d ++ y) same ∙ sym (append_assoc (spelled d) (spelled z) extra)
+    ∙ ap (λ y. y ++ extra) (sym (spelled_join d z) ∙ ap spelled (sym e))
 
-spelled_numeral : (drops plus : Bool) (digits letter : Option Case) (size least : ℕ) (cs : List ℕ)
-    → spelled (float_in_groups (becomes drops false plus digits letter) (Groups size least) cs) ≡ spelled cs
-spelled_numeral drops plus digits letter size least cs =
+spelled_numeral : (drops plus : Bool) (digits letter : Option Case) (closes : Bool) (size least : ℕ)
+    (numeral x : List ℕ) (form : FloatForm numeral x)
+    → spelled (float_in_groups closes (becomes drops false plus digits letter) (Groups size least) numeral)
+    ≡ spelled numeral ++ added (shape_of numeral x form) closes
+spelled_numeral drops plus digits letter true size least numeral x (inl (d, h, e, n)) =
+    spelled_at drops plus digits letter size least numeral _ d (46 ∷ []) (46 ∷ 48 ∷ []) (48 ∷ [])
+    (at_dot (becomes drops false plus digits letter) true size least numeral d h e) e refl
+spelled_numeral drops plus digits letter false size least numeral x (inl (d, h, e, n)) =
+    spelled_at drops plus digits letter size least numeral _ d (46 ∷ []) (46 ∷ []) []
+    (at_dot (becomes drops false plus digits letter) false size least numeral d h e) e refl
+spelled_numeral drops plus digits letter closes size least numeral x (inr (inl (d, z, h, k, e, n))) =
     let f : ℕ → List ℕ = becomes drops false plus digits letter in
-    let rest : List ℕ = after_run (is_row_part is_ascii_digit) cs in
-    spelled_join (Groups size least false (flat_map f (digit_run cs)))
-    (fraction_in_groups f (Groups size least true) rest)
-    ∙ ap (λ z. z ++ spelled (fraction_in_groups f (Groups size least true) rest))
-    (spelled_row drops plus digits letter false size least (digit_run cs))
-    ∙ ap (λ z. spelled (digit_run cs) ++ z) (spelled_fraction drops plus digits letter size least rest)
-    ∙ sym (spelled_join (digit_run cs) rest) ∙ ap spelled (run_joined cs)
+    let fraction : List ℕ = Groups size least true (flat_map f z) in
+    spelled_at drops plus digits letter size least numeral _ d (46 ∷ z) (46 ∷ fraction) []
+    (at_point f closes size least numeral d z h k e) e
+    (spelled_more 46 fraction z (spelled_row drops plus digits letter true size least z)
+    ∙ sym (append-nil (spelled (46 ∷ z))))
+spelled_numeral drops plus digits letter closes size least numeral x (inr (inr (d, e, h, s, inl n))) =
+    let f : ℕ → List ℕ = becomes drops false plus digits letter in
+    spelled_at drops plus digits letter size least numeral _ d e (flat_map f e) []
+    (at_power f closes size least numeral d e h s n) n
+    (spelled_same drops plus digits letter e ∙ sym (append-nil (spelled e)))
+spelled_numeral drops plus digits letter closes size least numeral x (inr (inr (d, e, h, s, inr (z, k, n)))) =
+    let f : ℕ → List ℕ = becomes drops false plus digits letter in
+    let fraction : List ℕ = Groups size least true (flat_map f z) in
+    let cut : numeral ≡ d ++ (46 ∷ (z ++ e)) = n ∙ append_assoc d (46 ∷ z) e in
+    spelled_at drops plus digits letter size least numeral _ d (46 ∷ (z ++ e)) (46 ∷ (fraction ++ flat_map f e)) []
+    (at_point_power f closes size least numeral d z e h k s cut) cut
+    (spelled_more 46 (fraction ++ flat_map f e) (z ++ e) (spelled_join fraction (flat_map f e)
+    ∙ ap (λ y. y ++ spelled (flat_map f e)) (spelled_row drops plus digits letter true size least z)
+    ∙ ap (λ y. spelled z ++ y) (spelled_same drops plus digits letter e) ∙ sym (spelled_join z e))
+    ∙ sym (append-nil (spelled (46 ∷ (z ++ e)))))
 
 -- ---- the literal
 
@@ -312,20 +336,22 @@ Least style = least_by style.digit_groups
 -- as the kept one is written
 pub kept_numeral : (style : Style) (numeral x : List ℕ) (form : FloatForm numeral x)
     → Numeral (styled_numeral style x numeral) x
-    (shape_of (kept_row style x numeral) x (kept_form style numeral x form).form)
+    (closed_shape (shape_of (kept_row style x numeral) x (kept_form style numeral x form).form) style.float_zero)
 kept_numeral style numeral x form = form_is (drops_underscores style x) style.exponent_plus style.hex_digits
-    style.exponent_letter (Size style x) (Least style) (kept_row style x numeral) x
+    style.exponent_letter style.float_zero (Size style x) (Least style) (kept_row style x numeral) x
     (kept_form style numeral x form).form
 
 pub new_form : (style : Style) (numeral x : List ℕ) (form : FloatForm numeral x)
-    → Shaped (styled_numeral style x numeral ++ separator style x) x (shape_of numeral x form)
+    → Shaped (styled_numeral style x numeral ++ separator style x) x
+    (closed_shape (shape_of numeral x form) style.float_zero)
 new_form style numeral x form =
     let n = kept_numeral style numeral x form in
     let m = more_form (styled_numeral style x numeral) x (separator style x) n.form
     (separator_all is_ascii_digit style.suffix_separator x) (no_separator style.suffix_separator x) in
     record {
       form = m.form;
-      same_shape = m.same_shape ∙ n.same_shape ∙ (kept_form style numeral x form).same_shape;
+      same_shape = m.same_shape ∙ n.same_shape
+          ∙ ap (λ shape. closed_shape shape style.float_zero) (kept_form style numeral x form).same_shape;
     }
 
 spelled_kept : (style : Style) (x numeral : List ℕ) → spelled (kept_row style x numeral) ≡ spelled numeral
@@ -335,13 +361,21 @@ spelled_kept style x numeral = go (trims_by style.suffix_separator x)
     go true = ap (map (λ c. cond (c == 69) 101 c)) (trimmed_filter (λ c. not (c == 95 || c == 43)) numeral refl)
     go false = refl
 
-pub new_spelled : (style : Style) (x numeral : List ℕ) → spelled (styled_numeral style x numeral ++ separator style x)
-    ≡ spelled numeral
-new_spelled style x numeral =
+-- what is spelled then
+abbrev pub new_digits : Style → (numeral x : List ℕ) → FloatForm numeral x → List ℕ
+new_digits style numeral x form = spelled numeral ++ added (shape_of numeral x form) style.float_zero
+
+pub new_spelled : (style : Style) (numeral x : List ℕ) (form : FloatForm numeral x)
+    → spelled (styled_numeral style x numeral ++ separator style x) ≡ new_digits style numeral x form
+new_spelled style numeral x form =
+    let kept = kept_form style numeral x form in
     ap (map (λ c. cond (c == 69) 101 c)) (separator_gone (λ c. not (c == 95 || c == 43)) style.suffix_separator x
     (styled_numeral style x numeral) refl)
     ∙ spelled_numeral (drops_underscores style x) style.exponent_plus style.hex_digits style.exponent_letter
-    (Size style x) (Least style) (kept_row style x numeral) ∙ spelled_kept style x numeral
+    style.float_zero (Size style x) (Least style) (kept_row style x numeral) x kept.form
+    ∙ ap (λ y. y ++ added (shape_of (kept_row style x numeral) x kept.form) style.float_zero)
+    (spelled_kept style x numeral)
+    ∙ ap (λ shape. spelled numeral ++ added shape style.float_zero) kept.same_shape
 
 pub new_decimal : (style : Style) (numeral x : List ℕ) (form : FloatForm numeral x)
     → IsDecimalText (styled_numeral style x numeral ++ (separator style x ++ x))
@@ -352,23 +386,67 @@ new_decimal style numeral x form =
     (decimal_by n.whole (n.new ++ end) n.are_digits (n.follows end))
 
 abbrev pub written : (style : Style) (t u : List ℕ) (v : Contents) (x : List ℕ) (s : StrictFloat t v x)
-    → u ≡ styled_numeral style x s.numeral ++ (separator style x ++ x) → StrictFloat u v x
+    → u ≡ styled_numeral style x s.numeral ++ (separator style x ++ x)
+    → StrictFloat u (Digits (new_digits style s.numeral x s.form)) x
 written style t u v x s e = record {
   numeral = styled_numeral style x s.numeral ++ separator style x;
   form = (new_form style s.numeral x s.form).form;
   no_prefix = subst IsDecimalText (sym e) (new_decimal style s.numeral x s.form);
   suffix = s.suffix;
   text = e ∙ sym (append_assoc (styled_numeral style x s.numeral) (separator style x) x);
-  contents = s.contents ∙ ap Digits (sym (new_spelled style x s.numeral));
+  contents = ap Digits (sym (new_spelled style s.numeral x s.form));
 }
 
-pub float_same : (style : Style) (t u : List ℕ) → RewritesFloat style t u → SameLiteral t u
-float_same style t u c = record {
+-- the contents, without a zero put after them
+digits_kept : (style : Style) (numeral x : List ℕ) (form : FloatForm numeral x) → style.float_zero ≡ false
+    → new_digits style numeral x form ≡ spelled numeral
+digits_kept style numeral x form off = ap (λ b. spelled numeral ++ added (shape_of numeral x form) b) off
+    ∙ ap (λ z. spelled numeral ++ z) (added_none (shape_of numeral x form)) ∙ append-nil (spelled numeral)
+
+pub float_same : (style : Style) (t u : List ℕ) → style.float_zero ≡ false → RewritesFloat style t u → SameLiteral t u
+float_same style t u off c =
+    let same : Digits (new_digits style c.float.numeral c.suffix c.float.form) ≡ c.contents =
+    ap Digits (digits_kept style c.float.numeral c.suffix c.float.form off) ∙ sym c.float.contents in
+    record {
+      kind = Float;
+      contents = c.contents;
+      suffix = c.suffix;
+      was = c.float;
+      is = subst (λ v. StrictFloat u v c.suffix) same (written style t u c.contents c.suffix c.float c.new_is);
+    }
+
+-- and with one
+contents_kept : (style : Style) (v : Contents) (numeral x : List ℕ) (form : FloatForm numeral x)
+    → v ≡ Digits (spelled numeral)
+    → (Digits (new_digits style numeral x form) ≡ v)
+    ⊎ ((Float ≡ Float) × GetsZero style v (Digits (new_digits style numeral x form)))
+contents_kept style v numeral x (inl (d, h, e, n)) is =
+    let cut : spelled numeral ≡ spelled d ++ (46 ∷ []) = ap spelled e ∙ spelled_join d (46 ∷ []) in
+    elim (cases_Bool style.float_zero) [
+      | inl on ↦ inr (
+        refl,
+        record {
+          float_zero = on;
+          digits = spelled d;
+          old_is = is ∙ ap Digits cut;
+          new_is = ap (λ b. Digits (spelled numeral ++ added DotShape b)) on
+              ∙ ap (λ z. Digits (z ++ (48 ∷ []))) cut ∙ ap Digits (append_assoc (spelled d) (46 ∷ []) (48 ∷ []));
+        },
+      )
+      | inr off ↦ inl (ap Digits (digits_kept style numeral x (inl (d, h, e, n)) off) ∙ sym is)
+    ]
+contents_kept style v numeral x (inr (inl a)) is = inl (ap Digits (append-nil (spelled numeral)) ∙ sym is)
+contents_kept style v numeral x (inr (inr a)) is = inl (ap Digits (append-nil (spelled numeral)) ∙ sym is)
+
+pub float_number : (style : Style) (t u : List ℕ) → RewritesFloat style t u → SameNumber style t u
+float_number style t u c = record {
   kind = Float;
   contents = c.contents;
+  new_contents = Digits (new_digits style c.float.numeral c.suffix c.float.form);
   suffix = c.suffix;
   was = c.float;
   is = written style t u c.contents c.suffix c.float c.new_is;
+  keeps = contents_kept style c.contents c.float.numeral c.suffix c.float.form c.float.contents;
 }
 
 -- ---- once is enough
@@ -414,35 +492,40 @@ row_trims : (drops plus : Bool) (digits letter : Option Case) (from_first : Bool
 row_trims drops plus digits letter from_first size least row each h = grouped_trim from_first size least
     (flat_map (becomes drops false plus digits letter) row) (row_mapped drops plus digits letter row each h)
 
-form_trims : (drops plus : Bool) (digits letter : Option Case) (size least : ℕ) (numeral x : List ℕ)
+form_trims : (drops plus : Bool) (digits letter : Option Case) (closes : Bool) (size least : ℕ) (numeral x : List ℕ)
     → FloatForm numeral x
-    → IsTrim numeral → IsTrim (float_in_groups (becomes drops false plus digits letter) (Groups size least) numeral)
-form_trims drops plus digits letter size least numeral x (inl (d, h, e, n)) t =
+    → IsTrim numeral → IsTrim (float_in_groups closes (becomes drops false plus digits letter) (Groups size least)
+    numeral)
+form_trims drops plus digits letter true size least numeral x (inl (d, h, e, n)) t =
     let f : ℕ → List ℕ = becomes drops false plus digits letter in
-    let is = at_dot f size least numeral d h e in
+    let is = at_dot f true size least numeral d h e in
+    ap trimmed is ∙ trimmed_join (Groups size least false (flat_map f d)) (46 ∷ 48 ∷ []) refl ∙ sym is
+form_trims drops plus digits letter false size least numeral x (inl (d, h, e, n)) t =
+    let f : ℕ → List ℕ = becomes drops false plus digits letter in
+    let is = at_dot f false size least numeral d h e in
     ap trimmed is ∙ trimmed_join (Groups size least false (flat_map f d)) (46 ∷ []) refl ∙ sym is
-form_trims drops plus digits letter size least numeral x (inr (inl (d, z, h, k, e, n))) t =
+form_trims drops plus digits letter closes size least numeral x (inr (inl (d, z, h, k, e, n))) t =
     let f : ℕ → List ℕ = becomes drops false plus digits letter in
-    let is = at_point f size least numeral d z h k.1 e in
+    let is = at_point f closes size least numeral d z h k e in
     let last : IsTrim z = tail_trims (46 ∷ []) z (digits_some_only z k) (tail_trims d (46 ∷ z) refl (subst IsTrim e t))
     in
     ap trimmed is
     ∙ trimmed_join (Groups size least false (flat_map f d)) (46 ∷ Groups size least true (flat_map f z)) refl
     ∙ ap (λ y. Groups size least false (flat_map f d) ++ (46 ∷ y))
     (row_trims drops plus digits letter true size least z k.1 last) ∙ sym is
-form_trims drops plus digits letter size least numeral x (inr (inr (d, e, h, s, inl n))) t =
+form_trims drops plus digits letter closes size least numeral x (inr (inr (d, e, h, s, inl n))) t =
     let f : ℕ → List ℕ = becomes drops false plus digits letter in
     let m = exponent_mapped drops plus digits letter e s (tail_trims d e (exponent_only e s) (subst IsTrim n t)) in
     let whole : List ℕ = Groups size least false (flat_map f d) in
-    let is = at_power f size least numeral d e h s n in
+    let is = at_power f closes size least numeral d e h s n in
     ap trimmed is ∙ trimmed_join whole (flat_map f e) m.1 ∙ ap (λ y. whole ++ y) m.0 ∙ sym is
-form_trims drops plus digits letter size least numeral x (inr (inr (d, e, h, s, inr (z, k, n)))) t =
+form_trims drops plus digits letter closes size least numeral x (inr (inr (d, e, h, s, inr (z, k, n)))) t =
     let f : ℕ → List ℕ = becomes drops false plus digits letter in
     let m = exponent_mapped drops plus digits letter e s (tail_trims (d ++ (46 ∷ z)) e (exponent_only e s)
     (subst IsTrim n t)) in
     let front : List ℕ = Groups size least false (flat_map f d) ++ (46 ∷ Groups size least true (flat_map f z)) in
-    let is : float_in_groups f (Groups size least) numeral ≡ front ++ flat_map f e =
-    at_point_power f size least numeral d z e h k.1 s (n ∙ append_assoc d (46 ∷ z) e)
+    let is : float_in_groups closes f (Groups size least) numeral ≡ front ++ flat_map f e =
+    at_point_power f closes size least numeral d z e h k s (n ∙ append_assoc d (46 ∷ z) e)
     ∙ sym (append_assoc (Groups size least false (flat_map f d)) (46 ∷ Groups size least true (flat_map f z))
     (flat_map f e)) in
     ap trimmed is ∙ trimmed_join front (flat_map f e) m.1 ∙ ap (λ y. front ++ y) m.0 ∙ sym is
@@ -453,8 +536,8 @@ numeral_trims style x numeral form h =
     let kept : List ℕ = kept_row style x numeral in
     let short : IsTrim kept = subst IsTrim (sym (ap (λ b. cond b (trimmed numeral) numeral) h)) (trimmed_again numeral)
     in
-    form_trims (drops_underscores style x) style.exponent_plus style.hex_digits style.exponent_letter (Size style x)
-    (Least style) kept x (kept_form style numeral x form).form short
+    form_trims (drops_underscores style x) style.exponent_plus style.hex_digits style.exponent_letter style.float_zero
+    (Size style x) (Least style) kept x (kept_form style numeral x form).form short
 
 -- a row that was written
 row_stays_so : (drops plus : Bool) (digits letter : Option Case) (from_first : Bool) (size least : ℕ) (d : List ℕ)
@@ -470,42 +553,52 @@ row_stays_so drops plus digits letter from_first size least d h =
     (plain_of f new (keeps_of f new (row_stays (is_row_part is_ascii_digit) drops plus digits letter new refl refl refl
     (row_is drops plus digits letter from_first size least d h).1)))
 
-numeral_stays : (drops plus : Bool) (digits letter : Option Case) (size least : ℕ) (numeral x : List ℕ)
+numeral_stays : (drops plus : Bool) (digits letter : Option Case) (closes : Bool) (size least : ℕ) (numeral x : List ℕ)
     → FloatForm numeral x
-    → float_in_groups (becomes drops false plus digits letter) (Groups size least)
-    (float_in_groups (becomes drops false plus digits letter) (Groups size least) numeral)
-    ≡ float_in_groups (becomes drops false plus digits letter) (Groups size least) numeral
-numeral_stays drops plus digits letter size least numeral x (inl (d, h, e, n)) =
+    → float_in_groups closes (becomes drops false plus digits letter) (Groups size least)
+    (float_in_groups closes (becomes drops false plus digits letter) (Groups size least) numeral)
+    ≡ float_in_groups closes (becomes drops false plus digits letter) (Groups size least) numeral
+numeral_stays drops plus digits letter true size least numeral x (inl (d, h, e, n)) =
     let f : ℕ → List ℕ = becomes drops false plus digits letter in
     let whole : List ℕ = Groups size least false (flat_map f d) in
-    let is = at_dot f size least numeral d h e in
-    at_dot f size least _ whole (row_is drops plus digits letter false size least d h) is
+    let is = at_dot f true size least numeral d h e in
+    at_point f true size least _ whole (48 ∷ []) (row_is drops plus digits letter false size least d h) (refl, refl) is
+    ∙ ap (λ y. y ++ (46 ∷ Groups size least true (flat_map f (48 ∷ []))))
+    (row_stays_so drops plus digits letter false size least d h)
+    ∙ ap (λ y. whole ++ (46 ∷ Groups size least true (y ++ []))) (stays drops plus digits letter 48 refl refl refl refl)
+    ∙ ap (λ y. whole ++ (46 ∷ y)) (grouped_one true size least 48 refl) ∙ sym is
+numeral_stays drops plus digits letter false size least numeral x (inl (d, h, e, n)) =
+    let f : ℕ → List ℕ = becomes drops false plus digits letter in
+    let whole : List ℕ = Groups size least false (flat_map f d) in
+    let is = at_dot f false size least numeral d h e in
+    at_dot f false size least _ whole (row_is drops plus digits letter false size least d h) is
     ∙ ap (λ y. y ++ (46 ∷ [])) (row_stays_so drops plus digits letter false size least d h) ∙ sym is
-numeral_stays drops plus digits letter size least numeral x (inr (inl (d, z, h, k, e, n))) =
+numeral_stays drops plus digits letter closes size least numeral x (inr (inl (d, z, h, k, e, n))) =
     let f : ℕ → List ℕ = becomes drops false plus digits letter in
     let whole : List ℕ = Groups size least false (flat_map f d) in
     let fraction : List ℕ = Groups size least true (flat_map f z) in
-    let is = at_point f size least numeral d z h k.1 e in
-    at_point f size least _ whole fraction (row_is drops plus digits letter false size least d h)
-    (row_is drops plus digits letter true size least z k).1 is
+    let is = at_point f closes size least numeral d z h k e in
+    at_point f closes size least _ whole fraction (row_is drops plus digits letter false size least d h)
+    (row_is drops plus digits letter true size least z k) is
     ∙ ap (λ y. y ++ (46 ∷ Groups size least true (flat_map f fraction)))
     (row_stays_so drops plus digits letter false size least d h)
     ∙ ap (λ y. whole ++ (46 ∷ y)) (row_stays_so drops plus digits letter true size least z k) ∙ sym is
-numeral_stays drops plus digits letter size least numeral x (inr (inr (d, e, h, s, inl n))) =
+numeral_stays drops plus digits letter closes size least numeral x (inr (inr (d, e, h, s, inl n))) =
     let f : ℕ → List ℕ = becomes drops false plus digits letter in
     let whole : List ℕ = Groups size least false (flat_map f d) in
-    let is = at_power f size least numeral d e h s n in
-    at_power f size least _ whole (flat_map f e) (row_is drops plus digits letter false size least d h)
+    let is = at_power f closes size least numeral d e h s n in
+    at_power f closes size least _ whole (flat_map f e) (row_is drops plus digits letter false size least d h)
     (exponent_is drops plus digits letter e s).exponent is
     ∙ ap (λ y. y ++ flat_map f (flat_map f e)) (row_stays_so drops plus digits letter false size least d h)
     ∙ ap (λ y. whole ++ y) (twice drops false plus digits letter e) ∙ sym is
-numeral_stays drops plus digits letter size least numeral x (inr (inr (d, e, h, s, inr (z, k, n)))) =
+numeral_stays drops plus digits letter closes size least numeral x (inr (inr (d, e, h, s, inr (z, k, n)))) =
     let f : ℕ → List ℕ = becomes drops false plus digits letter in
     let whole : List ℕ = Groups size least false (flat_map f d) in
     let fraction : List ℕ = Groups size least true (flat_map f z) in
-    let is = at_point_power f size least numeral d z e h k.1 s (n ∙ append_assoc d (46 ∷ z) e) in
-    at_point_power f size least _ whole fraction (flat_map f e) (row_is drops plus digits letter false size least d h)
-    (row_is drops plus digits letter true size least z k).1 (exponent_is drops plus digits letter e s).exponent is
+    let is = at_point_power f closes size least numeral d z e h k s (n ∙ append_assoc d (46 ∷ z) e) in
+    at_point_power f closes size least _ whole fraction (flat_map f e)
+    (row_is drops plus digits letter false size least d h)
+    (row_is drops plus digits letter true size least z k) (exponent_is drops plus digits letter e s).exponent is
     ∙ ap (λ y. y ++ (46 ∷ (Groups size least true (flat_map f fraction) ++ flat_map f (flat_map f e))))
     (row_stays_so drops plus digits letter false size least d h)
     ∙ ap (λ y. whole ++ (46 ∷ (y ++ flat_map f (flat_map f e))))
@@ -521,20 +614,20 @@ float_stays style t u c =
     let same : kept_row style x (new ++ separator style x) ≡ new = row_again style.suffix_separator x new
     (numeral_trims style x c.float.numeral c.float.form) in
     let again : styled_numeral style x (new ++ separator style x) ≡ new =
-    ap (float_in_groups f (Groups (Size style x) (Least style))) same
+    ap (float_in_groups style.float_zero f (Groups (Size style x) (Least style))) same
     ∙ numeral_stays (drops_underscores style x) style.exponent_plus style.hex_digits style.exponent_letter
-    (Size style x) (Least style) (kept_row style x c.float.numeral) x
+    style.float_zero (Size style x) (Least style) (kept_row style x c.float.numeral) x
     (kept_form style c.float.numeral x c.float.form).form in
     record {
-      contents = c.contents;
+      contents = Digits (new_digits style c.float.numeral x c.float.form);
       suffix = x;
       float = written style t u c.contents x c.float c.new_is;
       new_is = c.new_is ∙ ap (λ z. z ++ end) (sym again);
     }
 
--- it has the shape of the old one
+-- it has the shape of the old one, but for the zero
 pub same_shape : (style : Style) (t u : List ℕ) (v : Contents) (x : List ℕ) (s : StrictFloat t v x)
     → (e : u ≡ styled_numeral style x s.numeral ++ (separator style x ++ x))
     → shape_of (styled_numeral style x s.numeral ++ separator style x) x (written style t u v x s e).form
-    ≡ shape_of s.numeral x s.form
+    ≡ closed_shape (shape_of s.numeral x s.form) style.float_zero
 same_shape style t u v x s e = (new_form style s.numeral x s.form).same_shape

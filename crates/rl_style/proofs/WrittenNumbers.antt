@@ -17,7 +17,7 @@ use Rattle.rl_style.specs.declared.style.Style.{Style}
 use Rattle.rl_style.specs.Cases.{cased, drops_underscores, drops_zeros, exponent_letter, kept_digits, kept_row, number_character, separator, separator_by}
 use Rattle.rl_text.specs.Texts.{first_passes, is_row_part}
 use Rattle.rl_text.proofs.Common.{is_ascii_digit}
-use Rattle.rl_style.specs.Groups.{digit_run, fraction_in_groups, float_in_groups, grouped_row, least_by, regrouped, size_by}
+use Rattle.rl_style.specs.Groups.{after_dot, digit_run, fraction_in_groups, float_in_groups, grouped_row, least_by, regrouped, size_by}
 use Rattle.rl_style.specs.Rewriting.{RewritesFloat, RewritesInt, styled_row}
 use Rattle.rl_text.specs.Classes.{after_run}
 use denote.Bor.{Bor}
@@ -149,40 +149,46 @@ run_scalars (c ∷ cs) h =
     go true k more = (and_from (scalar c) (scalars (digit_run cs)) k more.0, more.1)
     go false k more = (refl, h)
 
-fraction_scalars : (style : Style) (drops : Bool) (size least : ℕ) (cs : List ℕ) → scalars cs ≡ true
-    → scalars (fraction_in_groups (number_character style drops false) (regrouped true size least) cs) ≡ true
-fraction_scalars style drops size least [] h = refl
-fraction_scalars style drops size least (c ∷ cs) h = go (c == 46)
+dot_scalars : (closes : Bool) (style : Style) (drops : Bool) (size least : ℕ) (cs : List ℕ) → scalars cs ≡ true
+    → scalars (after_dot closes (number_character style drops false) (regrouped true size least) cs) ≡ true
+dot_scalars true style drops size least [] h = refl
+dot_scalars false style drops size least [] h = refl
+dot_scalars closes style drops size least (c ∷ cs) h =
+    let f : ℕ → List ℕ = number_character style drops false in
+    let q = run_scalars (c ∷ cs) h in
+    let row : List ℕ = flat_map f (digit_run (c ∷ cs)) in
+    let rest : List ℕ = flat_map f (after_run (is_row_part is_ascii_digit) (c ∷ cs)) in
+    scalars_join (regrouped true size least row) rest
+    (row_scalars true size least row (numeral_scalars style drops false (digit_run (c ∷ cs)) q.0))
+    (numeral_scalars style drops false (after_run (is_row_part is_ascii_digit) (c ∷ cs)) q.1)
+
+fraction_scalars : (closes : Bool) (style : Style) (drops : Bool) (size least : ℕ) (cs : List ℕ) → scalars cs ≡ true
+    → scalars (fraction_in_groups closes (number_character style drops false) (regrouped true size least) cs) ≡ true
+fraction_scalars closes style drops size least [] h = refl
+fraction_scalars closes style drops size least (c ∷ cs) h = go (c == 46)
   where
     f : ℕ → List ℕ
     f = number_character style drops false
 
-    p : (scalar c ≡ true) × (scalars cs ≡ true)
-    p = and_parts (scalar c) (scalars cs) h
-
-    go : (b : Bool) → scalars (cond b (c ∷ (regrouped true size least (flat_map f (digit_run cs))
-        ++ flat_map f (after_run (is_row_part is_ascii_digit) cs))) (flat_map f (c ∷ cs))) ≡ true
+    go : (b : Bool) → scalars (cond b (c ∷ after_dot closes f (regrouped true size least) cs) (flat_map f (c ∷ cs)))
+        ≡ true
     go true =
-        let q = run_scalars cs p.1 in
-        let run : List ℕ = flat_map f (digit_run cs) in
-        let rest : List ℕ = flat_map f (after_run (is_row_part is_ascii_digit) cs) in
-        and_from (scalar c) (scalars (regrouped true size least run ++ rest)) p.0
-        (scalars_join (regrouped true size least run) rest
-        (row_scalars true size least run (numeral_scalars style drops false (digit_run cs) q.0))
-        (numeral_scalars style drops false (after_run (is_row_part is_ascii_digit) cs) q.1))
+        let p = and_parts (scalar c) (scalars cs) h in
+        and_from (scalar c) (scalars (after_dot closes f (regrouped true size least) cs)) p.0
+        (dot_scalars closes style drops size least cs p.1)
     go false = numeral_scalars style drops false (c ∷ cs) h
 
-pub float_scalars : (style : Style) (drops : Bool) (size least : ℕ) (cs : List ℕ) → scalars cs ≡ true
-    → scalars (float_in_groups (number_character style drops false)
+pub float_scalars : (closes : Bool) (style : Style) (drops : Bool) (size least : ℕ) (cs : List ℕ) → scalars cs ≡ true
+    → scalars (float_in_groups closes (number_character style drops false)
     (λ from_first. regrouped from_first size least) cs) ≡ true
-float_scalars style drops size least cs h =
+float_scalars closes style drops size least cs h =
     let q = run_scalars cs h in
-    let run : List ℕ = flat_map (number_character style drops false) (digit_run cs) in
+    let row : List ℕ = flat_map (number_character style drops false) (digit_run cs) in
     let rest : List ℕ = after_run (is_row_part is_ascii_digit) cs in
-    scalars_join (regrouped false size least run)
-    (fraction_in_groups (number_character style drops false) (regrouped true size least) rest)
-    (row_scalars false size least run (numeral_scalars style drops false (digit_run cs) q.0))
-    (fraction_scalars style drops size least rest q.1)
+    scalars_join (regrouped false size least row)
+    (fraction_in_groups closes (number_character style drops false) (regrouped true size least) rest)
+    (row_scalars false size least row (numeral_scalars style drops false (digit_run cs) q.0))
+    (fraction_scalars closes style drops size least rest q.1)
 
 abbrev Written : Style → List ℕ → List ℕ → List ℕ → List ℕ → Type 0
 Written style front middle suffix new = new ≡ (front ++ encode_utf8_all middle) ++ ended style suffix
@@ -300,7 +306,8 @@ row_plus style text digits suffix full whole row base v at cut kept zeros i =
 pub float_written : (style : Style) (text full numeral suffix new : List ℕ) (v : Contents)
     → IsUtf8 numeral → IsUtf8 suffix
     → chars text ≡ chars full ++ chars suffix → chars numeral ≡ kept_row style (chars suffix) (chars full)
-    → Written style [] (float_in_groups (number_character style (drops_underscores style (chars suffix)) false)
+    → Written style [] (float_in_groups style.float_zero (number_character style
+    (drops_underscores style (chars suffix)) false)
     (λ from_first. grouped_row from_first style 10 (chars suffix)) (chars numeral)) suffix new
     → StrictFloat (chars text) v (chars suffix)
     → IsUtf8 new × RewritesFloat style (chars text) (chars new)
@@ -308,9 +315,10 @@ float_written style text full numeral suffix new v un us cut kept e f =
     let x : List ℕ = chars suffix in
     let end : List ℕ = separator style x ++ x in
     let front : chars full ≡ f.numeral = append_cancel_right (chars full) f.numeral x (sym cut ∙ f.text) in
-    let Of : List ℕ → List ℕ = λ z. float_in_groups (number_character style (drops_underscores style x) false)
+    let Of : List ℕ → List ℕ = λ z. float_in_groups style.float_zero
+    (number_character style (drops_underscores style x) false)
     (λ from_first. grouped_row from_first style 10 x) z in
-    let t = number_text style [] (Of (chars numeral)) suffix new empty_utf8 us (float_scalars style
+    let t = number_text style [] (Of (chars numeral)) suffix new empty_utf8 us (float_scalars style.float_zero style
     (drops_underscores style x) (size_by style.digit_groups 10 x) (least_by style.digit_groups) (chars numeral)
     (scalars-chars numeral un)) e in (
       t.0,
@@ -359,36 +367,52 @@ dotted text inside prefix ut ui is e =
     (let n = ap length bytes in omega (arith, n), whole)
 
 -- and one that doesn't
-pub undotted : (f : ℕ → List ℕ) (g : List ℕ → List ℕ) (cs prefix : List ℕ) → prefix ≡ 46 ∷ []
-    → ((x : List ℕ) → cs ≡ chars prefix ++ x → ⊥) → fraction_in_groups f g cs ≡ flat_map f cs
-undotted f g [] prefix is none = refl
-undotted f g (c ∷ cs) prefix is none =
+pub undotted : (closes : Bool) (f : ℕ → List ℕ) (g : List ℕ → List ℕ) (cs prefix : List ℕ) → prefix ≡ 46 ∷ []
+    → ((x : List ℕ) → cs ≡ chars prefix ++ x → ⊥) → fraction_in_groups closes f g cs ≡ flat_map f cs
+undotted closes f g [] prefix is none = refl
+undotted closes f g (c ∷ cs) prefix is none =
     elim (cases_Bool (c == 46)) [
       | inl a ↦ absurd (none cs (ap (λ z. z ∷ cs) (eqb-true c 46 a)
           ∙ ap (λ z. z ++ cs) (sym (ap chars is ∙ low_chars (46 ∷ []) refl))))
-      | inr a ↦ ap (λ b. cond b (c ∷ (g (flat_map f (digit_run cs))
-          ++ flat_map f (after_run (is_row_part is_ascii_digit) cs))) (flat_map f (c ∷ cs))) a
+      | inr a ↦ ap (λ b. cond b (c ∷ after_dot closes f g cs) (flat_map f (c ∷ cs))) a
     ]
 
-joined_bytes : (old dot a b : List ℕ) → ((old ++ dot) ++ a) ++ b ≡ old ++ (dot ++ (a ++ b))
-joined_bytes old dot a b = simp append_assoc
+-- nothing follows the dot, or something does
+pub none_put : (closes : Bool) (f : ℕ → List ℕ) (g : List ℕ → List ℕ) (old new cs : List ℕ)
+    → new ≡ old ++ encode_utf8_all (cond closes (48 ∷ []) []) → cs ≡ []
+    → new ≡ old ++ encode_utf8_all (after_dot closes f g cs)
+none_put closes f g old new cs e is = e ∙ ap (λ z. old ++ encode_utf8_all (after_dot closes f g z)) (sym is)
 
-pub fraction_put : (f : ℕ → List ℕ) (g : List ℕ → List ℕ) (old first second third text cs row rest : List ℕ)
-    → first ≡ old ++ (46 ∷ []) → second ≡ first ++ encode_utf8_all (g (flat_map f row))
+dot_some : (closes : Bool) (f : ℕ → List ℕ) (g : List ℕ → List ℕ) (cs rest : List ℕ) (c : ℕ) → cs ≡ c ∷ rest
+    → after_dot closes f g cs
+    ≡ g (flat_map f (digit_run cs)) ++ flat_map f (after_run (is_row_part is_ascii_digit) cs)
+dot_some closes f g cs rest c e = ap (after_dot closes f g) e
+    ∙ ap (λ z. g (flat_map f (digit_run z)) ++ flat_map f (after_run (is_row_part is_ascii_digit) z)) (sym e)
+
+pub some_put : (closes : Bool) (f : ℕ → List ℕ) (g : List ℕ → List ℕ) (old second third cs row rest more : List ℕ)
+    (c : ℕ) → second ≡ old ++ encode_utf8_all (g (flat_map f row))
     → third ≡ second ++ encode_utf8_all (flat_map f rest) → row ≡ digit_run cs
-    → rest ≡ after_run (is_row_part is_ascii_digit) cs → text ≡ 46 ∷ cs
-    → third ≡ old ++ encode_utf8_all (fraction_in_groups f g text)
-fraction_put f g old first second third text cs row rest a b c r s t =
+    → rest ≡ after_run (is_row_part is_ascii_digit) cs → cs ≡ c ∷ more
+    → third ≡ old ++ encode_utf8_all (after_dot closes f g cs)
+some_put closes f g old second third cs row rest more c b t r s is =
     let part : List ℕ = g (flat_map f (digit_run cs)) in
-    let more : List ℕ = flat_map f (after_run (is_row_part is_ascii_digit) cs) in
-    c ∙ ap (λ z. z ++ encode_utf8_all (flat_map f rest)) (b ∙ ap (λ z. z ++ encode_utf8_all (g (flat_map f row))) a)
-    ∙ joined_bytes old (46 ∷ []) (encode_utf8_all (g (flat_map f row))) (encode_utf8_all (flat_map f rest))
-    ∙ ap (λ z. old ++ (46 ∷ (encode_utf8_all (g (flat_map f z)) ++ encode_utf8_all (flat_map f rest)))) r
-    ∙ ap (λ z. old ++ (46 ∷ (encode_utf8_all part ++ encode_utf8_all (flat_map f z)))) s
-    ∙ ap (λ z. old ++ (46 ∷ z)) (sym (encodes-append part more))
-    ∙ ap (λ z. old ++ (z ++ encode_utf8_all (part ++ more))) (sym (encoded_low (46 ∷ []) refl))
-    ∙ ap (λ z. old ++ z) (sym (encodes-append (46 ∷ []) (part ++ more)))
-    ∙ ap (λ z. old ++ encode_utf8_all (fraction_in_groups f g z)) (sym t)
+    let last : List ℕ = flat_map f (after_run (is_row_part is_ascii_digit) cs) in
+    t ∙ ap (λ z. z ++ encode_utf8_all (flat_map f rest)) b
+    ∙ append_assoc old (encode_utf8_all (g (flat_map f row))) (encode_utf8_all (flat_map f rest))
+    ∙ ap (λ z. old ++ (encode_utf8_all (g (flat_map f z)) ++ encode_utf8_all (flat_map f rest))) r
+    ∙ ap (λ z. old ++ (encode_utf8_all part ++ encode_utf8_all (flat_map f z))) s
+    ∙ ap (λ z. old ++ z) (sym (encodes-append part last))
+    ∙ ap (λ z. old ++ encode_utf8_all z) (sym (dot_some closes f g cs more c is))
+
+pub fraction_put : (closes : Bool) (f : ℕ → List ℕ) (g : List ℕ → List ℕ) (old first second text cs : List ℕ)
+    → first ≡ old ++ (46 ∷ []) → second ≡ first ++ encode_utf8_all (after_dot closes f g cs) → text ≡ 46 ∷ cs
+    → second ≡ old ++ encode_utf8_all (fraction_in_groups closes f g text)
+fraction_put closes f g old first second text cs a b t =
+    let more : List ℕ = after_dot closes f g cs in
+    b ∙ ap (λ z. z ++ encode_utf8_all more) a ∙ append_assoc old (46 ∷ []) (encode_utf8_all more)
+    ∙ ap (λ z. old ++ (z ++ encode_utf8_all more)) (sym (encoded_low (46 ∷ []) refl))
+    ∙ ap (λ z. old ++ z) (sym (encodes-append (46 ∷ []) more))
+    ∙ ap (λ z. old ++ encode_utf8_all (fraction_in_groups closes f g z)) (sym t)
 
 -- ---- in the manner of the style
 
@@ -397,13 +421,16 @@ pub float_put : (style : Style) (manner : Manner) (cs row rest first second thir
     → manner.hex ≡ false → manner.size ≡ size_by style.digit_groups 10 (chars suffix)
     → first ≡ encode_utf8_all (regrouped false manner.size (least_by manner.style.digit_groups)
     (flat_map (number_character manner.style manner.drops manner.hex) row))
-    → second ≡ first ++ encode_utf8_all (fraction_in_groups (number_character manner.style manner.drops manner.hex)
+    → second ≡ first ++ encode_utf8_all (fraction_in_groups manner.style.float_zero
+    (number_character manner.style manner.drops manner.hex)
     (regrouped true manner.size (least_by manner.style.digit_groups)) rest)
     → third ≡ second ++ ended style suffix → row ≡ digit_run cs → rest ≡ after_run (is_row_part is_ascii_digit) cs
-    → Written style [] (float_in_groups (number_character style (drops_underscores style (chars suffix)) false)
+    → Written style [] (float_in_groups style.float_zero (number_character style
+    (drops_underscores style (chars suffix)) false)
     (λ from_first. grouped_row from_first style 10 (chars suffix)) cs) suffix third
 float_put style manner cs row rest first second third suffix e d h z a b c r s =
-    let Of : Style → Bool → Bool → ℕ → List ℕ = λ t drops hex size. float_in_groups (number_character t drops hex)
+    let Of : Style → Bool → Bool → ℕ → List ℕ = λ t drops hex size. float_in_groups t.float_zero
+    (number_character t drops hex)
     (λ from_first. regrouped from_first size (least_by t.digit_groups)) cs in
     let f : ℕ → List ℕ = number_character manner.style manner.drops manner.hex in
     let G : Bool → List ℕ → List ℕ = λ from_first. regrouped from_first manner.size
@@ -414,10 +441,11 @@ float_put style manner cs row rest first second third suffix e d h z a b c r s =
     ∙ ap (λ t. Of style (drops_underscores style (chars suffix)) t manner.size) h
     ∙ ap (Of style (drops_underscores style (chars suffix)) false) z in
     c ∙ ap (λ y. y ++ ended style suffix) (b
-    ∙ ap (λ y. y ++ encode_utf8_all (fraction_in_groups f (G true) rest)) a
-    ∙ sym (encodes-append (G false (flat_map f row)) (fraction_in_groups f (G true) rest))
-    ∙ ap (λ y. encode_utf8_all (G false (flat_map f y) ++ fraction_in_groups f (G true) rest)) r
-    ∙ ap (λ y. encode_utf8_all (G false (flat_map f (digit_run cs)) ++ fraction_in_groups f (G true) y)) s
+    ∙ ap (λ y. y ++ encode_utf8_all (fraction_in_groups manner.style.float_zero f (G true) rest)) a
+    ∙ sym (encodes-append (G false (flat_map f row)) (fraction_in_groups manner.style.float_zero f (G true) rest))
+    ∙ ap (λ y. encode_utf8_all (G false (flat_map f y) ++ fraction_in_groups manner.style.float_zero f (G true) rest)) r
+    ∙ ap (λ y. encode_utf8_all (G false (flat_map f (digit_run cs))
+    ++ fraction_in_groups manner.style.float_zero f (G true) y)) s
     ∙ ap encode_utf8_all same)
 
 pub integer_put : (style : Style) (manner : Manner) (base : ℕ) (row front first second third suffix : List ℕ)

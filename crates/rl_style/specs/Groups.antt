@@ -63,18 +63,23 @@ abbrev pub digit_run : List ℕ → List ℕ
 digit_run [] = []
 digit_run (c ∷ cs) = if is_row_part is_ascii_digit c then c ∷ digit_run cs else []
 
--- What follows a float's whole part, each character written anew: of what follows a dot the digits are in groups, from
--- the first one on.
-abbrev pub fraction_in_groups : (ℕ → List ℕ) → (List ℕ → List ℕ) → List ℕ → List ℕ
-fraction_in_groups character group [] = []
-fraction_in_groups character group (c ∷ cs) =
-    if c == code "."
-    then c ∷ (group (flat_map character (digit_run cs))
-    ++ flat_map character (after_run (is_row_part is_ascii_digit) cs))
-    else flat_map character (c ∷ cs)
+-- what follows a float's dot, each character written anew: digits in groups from the first one on, and an exponent;
+-- where
+-- nothing does, perhaps a zero
+abbrev pub after_dot : Bool → (ℕ → List ℕ) → (List ℕ → List ℕ) → List ℕ → List ℕ
+after_dot closes character group [] = if closes then codes "0" else []
+after_dot closes character group (c ∷ cs) =
+    group (flat_map character (digit_run (c ∷ cs)))
+    ++ flat_map character (after_run (is_row_part is_ascii_digit) (c ∷ cs))
+
+-- what follows a float's whole part
+abbrev pub fraction_in_groups : Bool → (ℕ → List ℕ) → (List ℕ → List ℕ) → List ℕ → List ℕ
+fraction_in_groups closes character group [] = []
+fraction_in_groups closes character group (c ∷ cs) =
+    if c == code "." then c ∷ after_dot closes character group cs else flat_map character (c ∷ cs)
 
 -- a float's numeral, each character written anew, and its digits before an exponent in groups
-abbrev pub float_in_groups : (ℕ → List ℕ) → (Bool → List ℕ → List ℕ) → List ℕ → List ℕ
-float_in_groups character group numeral =
+abbrev pub float_in_groups : Bool → (ℕ → List ℕ) → (Bool → List ℕ → List ℕ) → List ℕ → List ℕ
+float_in_groups closes character group numeral =
     group false (flat_map character (digit_run numeral))
-    ++ fraction_in_groups character (group true) (after_run (is_row_part is_ascii_digit) numeral)
+    ++ fraction_in_groups closes character (group true) (after_run (is_row_part is_ascii_digit) numeral)

@@ -1,9 +1,10 @@
 -- Literals written anew: what a style makes of a strict text, and what every style keeps. A character is its code.
-use Rattle.std.specs.Prelude.{◌≡◌, ◌⊎◌, ℕ, Bool, true, false, not, ◌&&◌, ◌||◌, ◌==◌, nat_le, List, [], ◌∷◌, ◌++◌, Option, None, map, if◌then◌else◌}
+use Rattle.std.specs.Prelude.{◌≡◌, ◌⊎◌, ℕ, Bool, true, false, not, ◌&&◌, ◌||◌, ◌==◌, nat_le, List, [], ◌∷◌, ◌++◌, Option, None, map, codes, IsTrue, if◌then◌else◌}
 use Rattle.std.specs.List.{flat_map}
 use Prim.Native.Char.{code}
 use Rattle.rl_forms.specs.declared.kind.Kind.{Kind}
-use Rattle.rl_forms.specs.Reading.{Contents}
+use Rattle.rl_forms.specs.declared.kind.Kind.TheVariants.{Float}
+use Rattle.rl_forms.specs.Reading.{Contents, Digits}
 use Rattle.rl_forms.specs.Written.{closer}
 use Rattle.rl_forms.specs.Strict.{StrictUnit, Itself, QuoteEscape, PlainEscape, AsciiEscape, ByteEscape, UnicodeEscape, spaced_value, strict_text, strict_opener, strict_closer, StrictBool, StrictCooked, StrictFloat, StrictInt, StrictRaw, Strict}
 use Rattle.rl_forms.specs.Spelling.{place_value}
@@ -21,6 +22,24 @@ pub record SameLiteral (old new : List ℕ) : Type 0 where
   pub suffix : List ℕ
   pub was : Strict old kind contents suffix
   pub is : Strict new kind contents suffix
+
+-- A float's contents get a zero after the dot that they end with, as the style says.
+pub record GetsZero (style : Style) (old new : Contents) : Type 0 where
+  pub float_zero : IsTrue style.float_zero
+  pub digits : List ℕ
+  pub old_is : old ≡ Digits (digits ++ codes ".")
+  pub new_is : new ≡ Digits (digits ++ codes ".0")
+
+-- Both texts are strict literals of one kind, with the same suffix and the same contents, but that a float may get a
+-- zero.
+pub record SameNumber (style : Style) (old new : List ℕ) : Type 0 where
+  pub kind : Kind
+  pub contents : Contents
+  pub new_contents : Contents
+  pub suffix : List ℕ
+  pub was : Strict old kind contents suffix
+  pub is : Strict new kind new_contents suffix
+  pub keeps : (new_contents ≡ contents) ⊎ ((kind ≡ Float) × GetsZero style contents new_contents)
 
 -- ---- numbers
 
@@ -43,7 +62,7 @@ pub record RewritesInt (style : Style) (old new : List ℕ) : Type 0 where
 -- what the style makes of a float's numeral, with this suffix
 abbrev pub styled_numeral : Style → List ℕ → List ℕ → List ℕ
 styled_numeral style suffix numeral =
-    float_in_groups (number_character style (drops_underscores style suffix) false)
+    float_in_groups style.float_zero (number_character style (drops_underscores style suffix) false)
     (λ from_first. grouped_row from_first style 10 suffix) (kept_row style suffix numeral)
 
 -- The same of a float, but for the zeros.
@@ -157,6 +176,7 @@ pub record HasNoRule (style : Style) : Type 0 where
   pub leading_zeros : style.leading_zeros ≡ false
   pub suffix_separator : style.suffix_separator ≡ None
   pub digit_groups : style.digit_groups ≡ None
+  pub float_zero : style.float_zero ≡ false
   pub exponent_letter : style.exponent_letter ≡ None
   pub exponent_plus : style.exponent_plus ≡ false
   pub escape_digits : style.escape_digits ≡ None

@@ -1,5 +1,5 @@
-//! Literals written anew in another style: each has the same kind, the same contents and the same suffix as before. No memory is
-//! taken.
+//! Literals written anew in another style: each has the same kind, the same contents and the same suffix as before, but that `1.` may
+//! become `1.0`. No memory is taken.
 #![tactic(auto)]
 
 mod case;

@@ -9,7 +9,7 @@ ghost use Rattle.rl_reasons.specs.StrictNumbersRead.{IsNumberRead, suffix_of};
 ghost use Rattle.rl_text.specs.Classes.{after_run};
 ghost use Rattle.std.specs.Char.{is_ascii_digit};
 ghost use Rattle.rl_style.specs.Cases.{drops_underscores, drops_zeros, is_padding, kept_digits, kept_row, number_character, separator, significant, trimmed, trims_by};
-ghost use Rattle.rl_style.specs.Groups.{fraction_in_groups, least_by, regrouped, size_by};
+ghost use Rattle.rl_style.specs.Groups.{after_dot, fraction_in_groups, least_by, regrouped, size_by};
 ghost use Rattle.rl_style.specs.Rewriting.{Rewrites, RewritesFloat, RewritesInt};
 
 use crate::characters::{Manner, begins_base_letter, put_numeral};
@@ -170,22 +170,57 @@ fn write_integer(text: &str, suffix: &str, style: Style, out: &mut [u8]) -> usiz
     put_suffix(out, at, style, suffix)
 }
 
+/// Puts the zero that the style has after a float's last dot.
+fn put_zero(out: &mut [u8], at: usize, style: Style) -> usize
+    requires { at + 1 ≤ length out.old }
+    ensures end { result ≤ at + 1 }
+    ensures bytes { take result out.new
+        ≡ take at out.old ++ encode_utf8_all (if style.float_zero then codes "0" else []) }
+    ensures len { length out.new ≡ length out.old }
+{
+    if style.float_zero {
+        return put_byte(out, at, b'0');
+    }
+    at
+}
+
+/// Puts what follows a float's dot, written anew.
+fn put_after_dot(out: &mut [u8], at: usize, manner: Manner, fraction: &str) -> usize
+    requires { at + (2 * length fraction.now + 1) ≤ length out.old }
+    ensures end { result ≤ at + (2 * length fraction.now + 1) }
+    ensures bytes { take result out.new ≡ take at out.old
+        ++ encode_utf8_all (after_dot manner.style.float_zero
+        (number_character manner.style manner.drops manner.hex)
+        (regrouped true manner.size (least_by manner.style.digit_groups)) (chars fraction.now)) }
+    ensures len { length out.new ≡ length out.old }
+{
+    match split_char(fraction) {
+        Some(_) => {
+            let exponent = skip_class(CharClass::Numeral, fraction);
+            let at = put_row(out, at, manner, true, before(fraction, exponent));
+            put_numeral(out, at, manner, exponent)
+        }
+        None => put_zero(out, at, manner.style),
+    }
+}
+
 /// Puts what follows a float's whole part, written anew.
 fn put_fraction(out: &mut [u8], at: usize, manner: Manner, rest: &str) -> usize
     requires { at + 2 * length rest.now ≤ length out.old }
     ensures end { result ≤ at + 2 * length rest.now }
     ensures bytes { take result out.new ≡ take at out.old
-        ++ encode_utf8_all (fraction_in_groups (number_character manner.style manner.drops manner.hex)
+        ++ encode_utf8_all (fraction_in_groups manner.style.float_zero
+        (number_character manner.style manner.drops manner.hex)
         (regrouped true manner.size (least_by manner.style.digit_groups)) (chars rest.now)) }
     ensures len { length out.new ≡ length out.old }
 {
-    let Some(fraction) = after_prefix(".", rest) else {
-        return put_numeral(out, at, manner, rest);
-    };
-    let exponent = skip_class(CharClass::Numeral, fraction);
-    let at = put_byte(out, at, b'.');
-    let at = put_row(out, at, manner, true, before(fraction, exponent));
-    put_numeral(out, at, manner, exponent)
+    match after_prefix(".", rest) {
+        Some(fraction) => {
+            let at = put_byte(out, at, b'.');
+            put_after_dot(out, at, manner, fraction)
+        }
+        None => put_numeral(out, at, manner, rest),
+    }
 }
 
 /// Writes the float anew that has this suffix.

@@ -83,7 +83,7 @@ fn rewrite_number(text: &str, style: Style, out: &mut [u8]) -> Result<usize, Fla
 }
 
 /// Writes the literal token anew in the style, to the front of `out`, and returns how many bytes it is long: at most one more than four
-/// times the text. Kind, contents and suffix are the same, and what the style has no rule for stays as it is.
+/// times the text. Kind and suffix are the same, and but for [`Style::float_zero`] the contents; what the style has no rule for stays.
 ///
 /// # Errors
 ///

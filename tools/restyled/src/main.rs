@@ -19,6 +19,7 @@ fn style_of(case: Case, separator: Separator) -> Style {
         .hex_digits(case)
         .suffix_separator(separator)
         .digit_groups(GROUPS)
+        .float_zero(true)
         .drop_underscores(true)
         .drop_leading_zeros(true)
         .exponent_letter(case)

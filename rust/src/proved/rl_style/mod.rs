@@ -1,6 +1,6 @@
 // Rendered from crates/rl_style/src/lib.rt by tools/render, which erases contracts: change that file, and render anew.
-//! Literals written anew in another style: each has the same kind, the same contents and the same suffix as before. No memory is
-//! taken.
+//! Literals written anew in another style: each has the same kind, the same contents and the same suffix as before, but that `1.` may
+//! become `1.0`. No memory is taken.
 
 mod case;
 mod characters;

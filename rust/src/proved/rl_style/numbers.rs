@@ -115,15 +115,35 @@ fn write_integer(text: &str, suffix: &str, style: Style, out: &mut [u8]) -> usiz
     put_suffix(out, at, style, suffix)
 }
 
+/// Puts the zero that the style has after a float's last dot.
+fn put_zero(out: &mut [u8], at: usize, style: Style) -> usize {
+    if style.float_zero {
+        return put_byte(out, at, b'0');
+    }
+    at
+}
+
+/// Puts what follows a float's dot, written anew.
+fn put_after_dot(out: &mut [u8], at: usize, manner: Manner, fraction: &str) -> usize {
+    match split_char(fraction) {
+        Some(_) => {
+            let exponent = skip_class(CharClass::Numeral, fraction);
+            let at = put_row(out, at, manner, true, before(fraction, exponent));
+            put_numeral(out, at, manner, exponent)
+        }
+        None => put_zero(out, at, manner.style),
+    }
+}
+
 /// Puts what follows a float's whole part, written anew.
 fn put_fraction(out: &mut [u8], at: usize, manner: Manner, rest: &str) -> usize {
-    let Some(fraction) = after_prefix(".", rest) else {
-        return put_numeral(out, at, manner, rest);
-    };
-    let exponent = skip_class(CharClass::Numeral, fraction);
-    let at = put_byte(out, at, b'.');
-    let at = put_row(out, at, manner, true, before(fraction, exponent));
-    put_numeral(out, at, manner, exponent)
+    match after_prefix(".", rest) {
+        Some(fraction) => {
+            let at = put_byte(out, at, b'.');
+            put_after_dot(out, at, manner, fraction)
+        }
+        None => put_numeral(out, at, manner, rest),
+    }
 }
 
 /// Writes the float anew that has this suffix.

@@ -49,6 +49,8 @@ pub struct Style {
     /// grouped. Zeros in front are dropped before, and so are underscores where the style says it: then no others are left than those
     /// between groups. Else those at the end of a row of digits stay. A number whose suffix begins with `b`, `o` or `x` is left alone.
     pub digit_groups: Option<DigitGroups>,
+    /// Whether a float that ends with its dot gets a zero: `1.0` for `1.`. It is the same number, of which `concat!` makes another text.
+    pub float_zero: bool,
     /// The case of the letter before a float's exponent: `1e5` or `1E5`.
     pub exponent_letter: Option<Case>,
     /// Whether a float's exponent loses its `+`: `1e5` for `1e+5`.
