@@ -129,6 +129,8 @@ WRONG = [Wrong(*row) for row in [
      'lower case is upper case'),
     ('style.rs', "exponent_letter: self.exponent_letter.map(Case::proved),", "exponent_letter: self.hex_digits.map(Case::proved),",
      'an exponent has the case of hexadecimal digits'),
+    ('style.rs', "hexadecimal: self.hexadecimal,", "hexadecimal: self.decimal,",
+     'hexadecimal digits stand in groups of decimal ones'),
     ('style.rs', "raw_hashes: self.raw_hashes,", "raw_hashes: self.quote_escapes,",
      'hashes are dropped where backslashes are'),
     ('style.rs', "if room == text.as_bytes() {", "if len == text.len() {",

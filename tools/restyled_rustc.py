@@ -58,8 +58,10 @@ def answers_of(library, pairs, room):
 
 
 def told(it):
-    """What a rule has to keep of a literal."""
-    return it.kind, style_model.contents(it), it.suffix
+    """What a rule has to keep of a literal: of a float that ends with its dot also what it is with a zero."""
+    contents = style_model.contents(it)
+    is_open = it.kind == 'Float' and contents.endswith('.')
+    return it.kind, contents + '0' if is_open else contents, it.suffix
 
 
 def is_same(old, new):

@@ -7,15 +7,15 @@
 
 A literal is taken apart by the token grammar of the Rust Reference, each part is mapped by itself, and the parts are put together
 again. Nothing of the repository is asked. A style is a word of letters: `x` and `X` hexadecimal digits in lower and in upper case,
-`u` no underscores in numbers, `z` no zeros in front of integers of base ten, `s` nothing and `S` an underscore before a suffix, `e`
-and `E` the exponent's letter, `d` and `D` the digits of escapes, `c` the fewest of `\\u{..}`, `a` visible characters of ASCII and `n`
+`u` no underscores in numbers, `z` no zeros in front of integers of base ten, `s` nothing and `S` an underscore before a suffix, `g`
+and `G` digits in the groups of GROUPS, `f` a zero after a float's last dot, `e` and `E` the exponent's letter, `d` and `D` the digits of escapes, `c` the fewest of `\\u{..}`, `a` visible characters of ASCII and `n`
 letters for LF, CR and TAB where escapes by number spell them, `p` no plus, `q` no needless backslash before a quote, `h` the fewest
 hashes, `r` no raw strings that need none, `i` escapes for characters that turn or hide text, by Unicode's table as perl has it. A row
 is a style, the text that stands in front, a text and what it becomes, all three in hexadecimal: `-` stands for no style and for no text,
 `=` for the text itself, and `!` for what is no literal.
 
-The laws: what is written is a literal of the same kind, with the same contents and the same suffix, and the style leaves it as it
-is."""
+The laws: what is written is a literal of the same kind, with the same contents, but for that zero, and the same suffix, and the
+style leaves it as it is."""
 import argparse
 import itertools
 import random
@@ -32,7 +32,9 @@ HEX = '0123456789abcdefABCDEF'
 OPENERS = {'Str': '"', 'ByteStr': 'b"', 'CStr': 'c"', 'Byte': "b'", 'Char': "'"}
 RAW_OPENERS = {'Str': 'r', 'ByteStr': 'br', 'CStr': 'cr'}
 LETTERS = {'n': 10, 'r': 13, 't': 9, '\\': 92, '0': 0}
-RULES = ['x', 'X', 'u', 'z', 's', 'S', 'e', 'E', 'd', 'D', 'c', 'a', 'n', 'p', 'q', 'h', 'r', 'i']
+RULES = ['x', 'X', 'u', 'z', 's', 'S', 'g', 'G', 'f', 'e', 'E', 'd', 'D', 'c', 'a', 'n', 'p', 'q', 'h', 'r', 'i']
+# By the letter: how many digits of a base stand in a group, and how many a row has at least that is grouped.
+GROUPS = {'g': ({2: 4, 8: 0, 10: 3, 16: 4}, 5), 'G': ({2: 8, 8: 3, 10: 2, 16: 1}, 0)}
 NAMES = {10: '\\n', 13: '\\r', 9: '\\t'}
 
 
@@ -248,6 +250,27 @@ def fewest_hashes(inside):
     return max([0] + [len(match[1]) + 1 for match in re.finditer('"(#*)', inside)])
 
 
+def in_groups(style, base, suffix, row, from_first=False):
+    """The digits of a row in groups, and the underscores at its end."""
+    sizes, least = next((GROUPS[letter] for letter in GROUPS if letter in style), ({}, 0))
+    size = sizes.get(base, 0)
+    # `0_b1` with other underscores may begin as another base does.
+    if size == 0 or suffix[:1] in ('b', 'o', 'x'):
+        return row
+    digits, end = row.replace('_', ''), row[len(row.rstrip('_')):]
+    if len(digits) < least:
+        return digits + end
+    first = 0 if from_first else len(digits) % size
+    parts = [digits[:first]] + [digits[at:at + size] for at in range(first, len(digits), size)]
+    return '_'.join(part for part in parts if part) + end
+
+
+def numeral_in_groups(style, suffix, numeral):
+    """The same of a float's whole part and of its fraction."""
+    whole, dot, fraction, power = re.fullmatch(r'([0-9_]+)(\.?)([0-9_]*)(.*)', numeral).groups()
+    return in_groups(style, 10, suffix, whole) + dot + in_groups(style, 10, suffix, fraction, True) + power
+
+
 def rewrite(style, text, front=''):
     """What the literal after this text is in the style; None where the text is none."""
     it = literal(text)
@@ -269,6 +292,12 @@ def rewrite(style, text, front=''):
     if it.form == 'float':
         numeral = parts['numeral'].replace('+', '') if 'p' in style else parts['numeral']
         parts['numeral'] = cased(style, 'e', 'E', numeral)
+    if it.form == 'int':
+        parts['row'] = in_groups(style, parts['base'], it.suffix, parts['row'])
+    if it.form == 'float':
+        parts['numeral'] = numeral_in_groups(style, it.suffix, parts['numeral'])
+        if 'f' in style and parts['numeral'].endswith('.'):
+            parts['numeral'] += '0'
     if last and 'S' in style and it.suffix:
         parts[last] += '_'
     if it.form == 'escapes':
@@ -313,7 +342,8 @@ def long_texts(dice, count):
         suffix = dice.choice(SUFFIXES + [''] * 8)
         way = dice.randrange(4)
         if way == 0:
-            yield '0x' + some(HEX + '_', 20) + suffix
+            prefix, digits = dice.choice([('0x', HEX), ('0x', HEX), ('0o', '01234567'), ('0b', '01')])
+            yield prefix + some(digits + '_', 20) + suffix
         elif way == 1:
             fraction = dice.choice(['', '.', '.' + some('0123456789_', 9)])
             power = dice.choice(['', dice.choice('eE') + dice.choice(['', '+', '-']) + some('0123456789_', 6)])
@@ -329,9 +359,9 @@ def long_texts(dice, count):
 
 
 def styles():
-    for x, s, e, d in itertools.product(['', 'x', 'X'], ['', 's', 'S'], ['', 'e', 'E'], ['', 'd', 'D']):
-        for letters in itertools.product(*(['', letter] for letter in 'uzcanpqhri')):
-            yield x + s + e + d + ''.join(letters)
+    for x, s, g, e, d in itertools.product(*(['', low, low.upper()] for low in 'xsged')):
+        for letters in itertools.product(*(['', letter] for letter in 'uzfcanpqhri')):
+            yield x + s + g + e + d + ''.join(letters)
 
 
 def broken(style, text, front):
@@ -340,21 +370,25 @@ def broken(style, text, front):
     new = literal(written)
     if new is None:
         return 'no literal'
-    for name, part in (('kind', lambda it: it.kind), ('contents', contents), ('suffix', lambda it: it.suffix)):
+    for name, part in (('kind', lambda it: it.kind), ('suffix', lambda it: it.suffix)):
         if part(old) != part(new):
             return name
+    # What ends with a dot may have got a zero.
+    closed = 'f' in style and old.kind == 'Float' and contents(old).endswith('.')
+    if contents(new) != (contents(old) + '0' if closed else contents(old)):
+        return 'contents'
     if rewrite(style, written, front) != written:
         return 'it changes again'
     # An escape takes four bytes for each of a character's at most.
-    long = 4 * len(text.encode()) if 'i' in style else len(text.encode())
-    return 'longer' if len(written.encode()) > long + ('S' in style) else None
+    times = 4 if 'i' in style else 2 if 'g' in style.lower() else 1
+    return 'longer' if len(written.encode()) > times * len(text.encode()) + ('S' in style or 'f' in style) else None
 
 
 def check_laws(dice):
     texts = {text for text in itertools.chain(short_texts(), long_texts(dice, 40000)) if literal(text)}
     every, changed = sorted(texts), 0
     for style in styles():
-        for text in every if style in RULES else dice.sample(every, 5):
+        for text in every if style in RULES else dice.sample(every, 2):
             front = dice.choice(FRONTS)
             changed += rewrite(style, text, front) != text
             law = broken(style, text, front)

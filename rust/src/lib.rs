@@ -163,7 +163,7 @@ pub use settings::{settings, Entry, SettingsSyntaxError};
 pub use source::{source, Recover, Source};
 pub use strings::{LitByteStr, LitCStr, LitStr};
 #[cfg(feature = "style")]
-pub use style::{rewrite, rewrite_after, Case, Separator, Style};
+pub use style::{rewrite, rewrite_after, Case, DigitGroups, Separator, Style};
 pub use value::{Float, Integer, Number, ValueError, ValueErrorKind};
 pub use words::{LitBool, LitVerbatim};
 #[cfg(feature = "writers")]

@@ -1,5 +1,5 @@
 //! Literals written anew in another style. Each is a token of the Rust Reference again, of the same kind, with the same contents and
-//! the same suffix.
+//! the same suffix; but `1.` may become `1.0`.
 
 use crate::parse_error::ParseError;
 use crate::rl_style::{self, rewrite_into};
@@ -59,6 +59,156 @@ impl Separator {
     }
 }
 
+/// How the digits of numbers stand in groups, with an underscore between two. By the base it says how many stand in one, at first 0 for
+/// each: its numbers are left alone.
+///
+/// ```
+/// use navyspindle::{rewrite, DigitGroups, Style};
+///
+/// const GROUPS: DigitGroups = DigitGroups::new().decimal(3).hexadecimal(4).least(5);
+/// let style = Style::new().digit_groups(GROUPS);
+/// assert_eq!(rewrite("1000000u64", style)?, "1_000_000u64");
+/// assert_eq!(rewrite("0xdead_beef", style)?, "0xdead_beef");
+/// assert_eq!(rewrite("10_00", style)?, "1000");
+/// assert_eq!(rewrite("0b11111", style)?, "0b11111");
+/// # Ok::<(), navyspindle::ParseError>(())
+/// ```
+#[derive(Clone, Copy, Debug, PartialEq, Eq, Hash)]
+pub struct DigitGroups {
+    binary: usize,
+    octal: usize,
+    decimal: usize,
+    hexadecimal: usize,
+    least: usize,
+}
+
+impl DigitGroups {
+    /// Of no base.
+    ///
+    /// ```
+    /// use navyspindle::{rewrite, DigitGroups, Style};
+    ///
+    /// let style = Style::new().digit_groups(DigitGroups::new());
+    /// assert_eq!(rewrite("10_00", style)?, "10_00");
+    /// # Ok::<(), navyspindle::ParseError>(())
+    /// ```
+    #[must_use]
+    pub const fn new() -> Self {
+        DigitGroups {
+            binary: 0,
+            octal: 0,
+            decimal: 0,
+            hexadecimal: 0,
+            least: 0,
+        }
+    }
+
+    /// The same with groups of so many digits after `0b`.
+    ///
+    /// ```
+    /// use navyspindle::{rewrite, DigitGroups, Style};
+    ///
+    /// let style = Style::new().digit_groups(DigitGroups::new().binary(8));
+    /// assert_eq!(rewrite("0b1_00000000", style)?, "0b1_00000000");
+    /// # Ok::<(), navyspindle::ParseError>(())
+    /// ```
+    #[must_use]
+    pub const fn binary(self, size: usize) -> Self {
+        DigitGroups {
+            binary: size,
+            ..self
+        }
+    }
+
+    /// The same with groups of so many digits after `0o`.
+    ///
+    /// ```
+    /// use navyspindle::{rewrite, DigitGroups, Style};
+    ///
+    /// let style = Style::new().digit_groups(DigitGroups::new().octal(3));
+    /// assert_eq!(rewrite("0o777777", style)?, "0o777_777");
+    /// # Ok::<(), navyspindle::ParseError>(())
+    /// ```
+    #[must_use]
+    pub const fn octal(self, size: usize) -> Self {
+        DigitGroups {
+            octal: size,
+            ..self
+        }
+    }
+
+    /// The same with groups of so many digits in numbers of base ten, floats among them.
+    ///
+    /// ```
+    /// use navyspindle::{rewrite, DigitGroups, Style};
+    ///
+    /// let style = Style::new().digit_groups(DigitGroups::new().decimal(3));
+    /// assert_eq!(rewrite("12345.67891e1000", style)?, "12_345.678_91e1000");
+    /// # Ok::<(), navyspindle::ParseError>(())
+    /// ```
+    #[must_use]
+    pub const fn decimal(self, size: usize) -> Self {
+        DigitGroups {
+            decimal: size,
+            ..self
+        }
+    }
+
+    /// The same with groups of so many digits after `0x`.
+    ///
+    /// ```
+    /// use navyspindle::{rewrite, DigitGroups, Style};
+    ///
+    /// let style = Style::new().digit_groups(DigitGroups::new().hexadecimal(2));
+    /// assert_eq!(rewrite("0xC0FFEE", style)?, "0xC0_FF_EE");
+    /// # Ok::<(), navyspindle::ParseError>(())
+    /// ```
+    #[must_use]
+    pub const fn hexadecimal(self, size: usize) -> Self {
+        DigitGroups {
+            hexadecimal: size,
+            ..self
+        }
+    }
+
+    /// The same with underscores only among so many digits or more: an integer's, a float's before its dot, or those after it. Fewer
+    /// stand without underscores between them.
+    ///
+    /// ```
+    /// use navyspindle::{rewrite, DigitGroups, Style};
+    ///
+    /// let style = Style::new().digit_groups(DigitGroups::new().decimal(3).least(5));
+    /// assert_eq!(rewrite("1_000", style)?, "1000");
+    /// assert_eq!(rewrite("10000.0001", style)?, "10_000.0001");
+    /// # Ok::<(), navyspindle::ParseError>(())
+    /// ```
+    #[must_use]
+    pub const fn least(self, digits: usize) -> Self {
+        DigitGroups {
+            least: digits,
+            ..self
+        }
+    }
+
+    /// The proved groups.
+    fn proved(self) -> rl_style::DigitGroups {
+        rl_style::DigitGroups {
+            binary: self.binary,
+            octal: self.octal,
+            decimal: self.decimal,
+            hexadecimal: self.hexadecimal,
+            least: self.least,
+        }
+    }
+}
+
+/// As [`DigitGroups::new`].
+impl Default for DigitGroups {
+    fn default() -> Self {
+        DigitGroups::new()
+    }
+}
+
 /// How [`rewrite`] writes literals anew: each rule by itself, and none at first.
 ///
 /// ```
@@ -75,6 +225,8 @@ pub struct Style {
     underscores: bool,
     leading_zeros: bool,
     suffix_separator: Option<Separator>,
+    digit_groups: Option<DigitGroups>,
+    float_zero: bool,
     exponent_letter: Option<Case>,
     exponent_plus: bool,
     escape_digits: Option<Case>,
@@ -103,6 +255,8 @@ impl Style {
             underscores: false,
             leading_zeros: false,
             suffix_separator: None,
+            digit_groups: None,
+            float_zero: false,
             exponent_letter: None,
             exponent_plus: false,
             escape_digits: None,
@@ -192,6 +346,47 @@ impl Style {
     pub const fn suffix_separator(self, separator: Separator) -> Self {
         Style {
             suffix_separator: Some(separator),
+            ..self
+        }
+    }
+
+    /// The same with the digits of numbers in these groups: from the last digit on, of a float's fraction from the first one on. An
+    /// exponent's digits aren't grouped. Zeros in front are dropped before; with [`Style::drop_underscores`] no other underscores are
+    /// left, else those stay that stand at the end of a row of digits, as before a suffix. A number whose suffix begins with `b`, `o`
+    /// or `x` is left alone.
+    ///
+    /// ```
+    /// use navyspindle::{rewrite, DigitGroups, Style};
+    ///
+    /// let style = Style::new().digit_groups(DigitGroups::new().decimal(3));
+    /// assert_eq!(rewrite("1000_u32", style)?, "1_000_u32");
+    /// assert_eq!(rewrite("1000_u32", style.drop_underscores(true))?, "1_000u32");
+    /// assert_eq!(rewrite("0001000", style.drop_leading_zeros(true))?, "1_000");
+    /// # Ok::<(), navyspindle::ParseError>(())
+    /// ```
+    #[must_use]
+    pub const fn digit_groups(self, groups: DigitGroups) -> Self {
+        Style {
+            digit_groups: Some(groups),
+            ..self
+        }
+    }
+
+    /// The same with a zero after the dot that a float ends with, or with what stands there. It is the same number, but `concat!` makes
+    /// another text of it.
+    ///
+    /// ```
+    /// use navyspindle::{rewrite, Style};
+    ///
+    /// let style = Style::new().float_zero(true);
+    /// assert_eq!(rewrite("1.", style)?, "1.0");
+    /// assert_eq!(rewrite("1e5", style)?, "1e5");
+    /// # Ok::<(), navyspindle::ParseError>(())
+    /// ```
+    #[must_use]
+    pub const fn float_zero(self, closed: bool) -> Self {
+        Style {
+            float_zero: closed,
             ..self
         }
     }
@@ -381,6 +576,8 @@ impl Style {
             underscores: self.underscores,
             leading_zeros: self.leading_zeros,
             suffix_separator: self.suffix_separator.map(Separator::proved),
+            digit_groups: self.digit_groups.map(DigitGroups::proved),
+            float_zero: self.float_zero,
             exponent_letter: self.exponent_letter.map(Case::proved),
             exponent_plus: self.exponent_plus,
             escape_digits: self.escape_digits.map(Case::proved),
@@ -402,7 +599,8 @@ impl Default for Style {
     }
 }
 
-/// The literal in the style, where it stands alone or after a space: of the same kind, with the same contents and the same suffix. Borrowed where nothing changes.
+/// The literal in the style, where it stands alone or after a space: of the same kind, with the same suffix and, but for
+/// [`Style::float_zero`], the same contents. Borrowed where nothing changes.
 ///
 /// A text that was written so, the same style leaves as it is. What looks at a token's text and not at its value sees the change:
 /// `stringify!`, an arm of `macro_rules!` that names a literal, `concat!` of floats.
@@ -453,6 +651,7 @@ pub fn rewrite_after<'t>(
     if room == text.as_bytes() {
         return Ok(Cow::Borrowed(text));
     }
+    room.shrink_to_fit();
     let written = String::from_utf8(room);
     Ok(Cow::Owned(written.expect("literals are UTF-8")))
 }

@@ -1,9 +1,22 @@
 //! Literals written anew, held against the rows of `style.txt`, which `tools/style_model.py` writes of a model's answers.
 
-use navyspindle::{is_token, rewrite, rewrite_after, Case, FlawKind, Lit, Separator, Style};
+use navyspindle::{
+    is_token, rewrite, rewrite_after, Case, DigitGroups, FlawKind, Lit, Separator, Style,
+};
 use std::borrow::Cow;
 
 const ROWS: &str = include_str!("style.txt");
+
+const GROUPS: DigitGroups = DigitGroups::new()
+    .binary(4)
+    .decimal(3)
+    .hexadecimal(4)
+    .least(5);
+const ALL_GROUPS: DigitGroups = DigitGroups::new()
+    .binary(8)
+    .octal(3)
+    .decimal(2)
+    .hexadecimal(1);
 
 /// The style that the letters name.
 fn style_of(letters: &str) -> Style {
@@ -18,6 +31,9 @@ fn style_of(letters: &str) -> Style {
         'z' => style.drop_leading_zeros(true),
         's' => style.suffix_separator(Separator::Nothing),
         'S' => style.suffix_separator(Separator::Underscore),
+        'g' => style.digit_groups(GROUPS),
+        'G' => style.digit_groups(ALL_GROUPS),
+        'f' => style.float_zero(true),
         'p' => style.drop_exponent_plus(true),
         'c' => style.fewest_escape_digits(true),
         'a' => style.drop_ascii_escapes(true),
@@ -91,6 +107,7 @@ fn what_is_written_reads_alike() {
         for (letters, most) in [
             ("xuzsepdcanqhr", len),
             ("zSepdcanqh", len + 1),
+            ("zSGepdcanqh", 2 * len + 1),
             ("Sri", 4 * len + 1),
         ] {
             if let Ok(written) = rewrite(&text, style_of(letters)) {
@@ -99,6 +116,27 @@ fn what_is_written_reads_alike() {
             }
         }
     }
+}
+
+#[test]
+fn a_zero_closes_a_float_alone() {
+    let style = style_of("fSuxg");
+    for (text, written) in [
+        ("1.", "1.0"),
+        ("1_000000.", "1_000_000.0"),
+        ("1.0", "1.0"),
+        ("1f32", "1_f32"),
+        ("1.f32", "!"),
+        ("1.5f32", "1.5_f32"),
+        ("1.e5", "!"),
+        ("1e5", "1e5"),
+    ] {
+        let answer = rewrite(text, style);
+        assert_eq!(answer.as_deref().unwrap_or("!"), written, "{text}");
+    }
+    // The number is the same.
+    let closed = rewrite("1234567.", style).unwrap();
+    assert_eq!(closed.replace('_', "").parse(), "1234567.".parse::<f64>());
 }
 
 #[test]

@@ -11,7 +11,7 @@ use Rattle.rl_style.specs.Around.{SameFraction, SamePower}
 abbrev is_part : ℕ → Bool
 is_part c = is_row_part is_ascii_digit c
 
-letter_out : (test : ℕ → Bool) (c : ℕ) → (c == 101 || c == 69) ≡ true → test 101 ≡ false → test 69 ≡ false → test c
+pub letter_out : (test : ℕ → Bool) (c : ℕ) → (c == 101 || c == 69) ≡ true → test 101 ≡ false → test 69 ≡ false → test c
     ≡ false
 letter_out test c is p q = go (c == 101) refl is
   where

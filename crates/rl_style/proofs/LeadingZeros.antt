@@ -16,7 +16,7 @@ pub record Left (row : List ℕ) : Type 0 where
   pub is : after_run is_padding row ≡ first ∷ rest
   pub other : is_padding first ≡ false
 
-left : (row : List ℕ) → (after_run is_padding row ≡ []) ⊎ Left row
+pub left : (row : List ℕ) → (after_run is_padding row ≡ []) ⊎ Left row
 left [] = inl refl
 left (c ∷ cs) =
     elim (cases_Bool (is_padding c)) [
@@ -43,10 +43,10 @@ after_all test (c ∷ cs) h =
     go true k = k
     go false k = h
 
-significant_none : (row : List ℕ) → after_run is_padding row ≡ [] → significant row ≡ 48 ∷ []
+pub significant_none : (row : List ℕ) → after_run is_padding row ≡ [] → significant row ≡ 48 ∷ []
 significant_none row e = ap or_zero e
 
-significant_left : (row : List ℕ) (l : Left row) → significant row ≡ l.first ∷ l.rest
+pub significant_left : (row : List ℕ) (l : Left row) → significant row ≡ l.first ∷ l.rest
 significant_left row l = ap or_zero l.is
 
 pub significant_all : (test : ℕ → Bool) (row : List ℕ) → test 48 ≡ true → list_all test row ≡ true

@@ -3,7 +3,10 @@ pub mod WrittenTexts
 pub mod NumberCharacters
 pub mod LeadingZeros
 pub mod Trimmed
+pub mod GroupRows
+pub mod Regrouped
 pub mod SameIntegers
+pub mod FloatForms
 pub mod SameFloats
 pub mod SameRaw
 pub mod CodeDigits

@@ -9,8 +9,8 @@ use Rattle.rl_forms.proofs.StrictNumbers.{same_run}
 use Rattle.rl_forms.proofs.StrictQuoted.{between}
 use Rattle.rl_writing.specs.RawStrings.{HasFewestHashes, raw_contents, raw_text}
 use Rattle.rl_style.specs.declared.style.Style.{Style}
-use Rattle.rl_style.specs.Cases.{drops_underscores, kept_digits, kept_row, number_character, separator}
-use Rattle.rl_style.specs.Rewriting.{HasHashes, KeepsTruth, LosesRaw, Rewrites, RewritesCooked, RewritesFloat, RewritesInt, RewritesRaw, StaysRaw, loses_raw, restyled, unraw_text}
+use Rattle.rl_style.specs.Cases.{separator}
+use Rattle.rl_style.specs.Rewriting.{HasHashes, KeepsTruth, LosesRaw, Rewrites, RewritesCooked, RewritesFloat, RewritesInt, RewritesRaw, StaysRaw, loses_raw, restyled, unraw_text, styled_numeral, styled_row}
 use Rattle.rl_style.proofs.SameRaw.{first_quote, length_hashes, raw_joined, raw_strict, raw_string, second_quote}
 use Rattle.rl_style.proofs.SameUnits.{cooked_strict}
 use Rattle.rl_style.proofs.UnitTexts.{texts_once}
@@ -37,9 +37,7 @@ prefix_is t v x i =
     ]
 
 abbrev integer_of : Style → ℕ → List ℕ → List ℕ → List ℕ → List ℕ
-integer_of style base prefix row x =
-    flat_map (number_character style (drops_underscores style x) (base == 16))
-    (prefix ++ kept_digits style base x (kept_row style x row)) ++ (separator style x ++ x)
+integer_of style base prefix row x = prefix ++ (styled_row style base x row ++ (separator style x ++ x))
 
 integer_once : (style : Style) (t u w : List ℕ) → RewritesInt style t u → RewritesInt style t w → u ≡ w
 integer_once style t u w a b =
@@ -59,9 +57,7 @@ integer_once style t u w a b =
     ∙ ap (integer_of style b.int.base b.int.prefix b.int.row) suffix ∙ sym b.new_is
 
 abbrev float_of : Style → List ℕ → List ℕ → List ℕ
-float_of style numeral x =
-    flat_map (number_character style (drops_underscores style x) false) (kept_row style x numeral)
-    ++ (separator style x ++ x)
+float_of style numeral x = styled_numeral style x numeral ++ (separator style x ++ x)
 
 float_once : (style : Style) (t u w : List ℕ) → RewritesFloat style t u → RewritesFloat style t w → u ≡ w
 float_once style t u w a b =

@@ -1,6 +1,6 @@
 -- A literal written anew is a token where the old one was, and begins so that no token in front can tell.
-use Rattle.rl_text.proofs.Common.{◌≡◌, ℕ, ◌≤◌, ◌⊎◌, nat_lt, digit_value, ◌||◌, inl, inr, Bool, true, false, List, [], ◌∷◌, ◌++◌, Some, refl, sym, ◌∙◌, ap, subst, arith, append_assoc, and_from, and_parts, codes, list_all, list_all-append, is_ascii_digit}
-use Rattle.rl_text.specs.Texts.{is_among, is_continue, is_row_part}
+use Rattle.rl_text.proofs.Common.{◌≡◌, ℕ, ◌≤◌, ◌⊎◌, nat_lt, digit_value, ◌||◌, inl, inr, Bool, true, false, not, ◌==◌, cond, length, lit<, List, [], ◌∷◌, ◌++◌, Some, refl, sym, ◌∙◌, ap, subst, arith, append_assoc, and_from, and_parts, codes, list_all, list_all-append, is_ascii_digit}
+use Rattle.rl_text.specs.Texts.{first_passes, is_among, is_continue, is_row_part, is_start}
 use Rattle.rl_text.specs.Classes.{after_run}
 use Rattle.rl_forms.specs.declared.kind.Kind.{Kind}
 use Rattle.rl_forms.specs.declared.kind.Kind.TheVariants.{Str, ByteStr, CStr, Byte, Char, Int, Float, Bool as BoolKind}
@@ -15,9 +15,11 @@ use Rattle.rl_style.proofs.Ends.{character_front, quoted_front, raw_front, unraw
 use Rattle.rl_style.proofs.LostRaw.{lost}
 use Rattle.rl_style.proofs.Recut.{Begun}
 use Rattle.rl_style.proofs.UnrawCuts.{unquoted}
+use Rattle.rl_lexer.proofs.LexemeFronts.{start_ascii}
 use Rattle.rl_style.proofs.Lexings.{DecimalForm, based_goes, character_goes, decimal_ends, decimal_goes, digits_gone, fraction_gone, pointed_power_ends, power_ends, quoted_goes, raw_goes, row_goes_on, suffix_goes_on}
 use Rattle.rl_style.proofs.QuotedLexemes.{SingleKind, StringKind, StringParts, byte_kind, byte_string_kind, c_string_kind, character_kind, raw_body, single_parts, string_kind, string_parts}
-use Rattle.rl_style.proofs.SameFloats.{DotShape, FloatForm, FloatShape, PointShape, PowerShape, same_shape, shape_of}
+use Rattle.rl_style.proofs.SameFloats.{same_shape}
+use Rattle.rl_style.proofs.FloatForms.{DotShape, FloatForm, FloatShape, PointShape, PowerShape, closed_shape, shape_of}
 use Rattle.rl_style.proofs.SameFloats as floats
 use Rattle.rl_style.proofs.SameIntegers as integers
 use Rattle.rl_style.proofs.SameRaw as raws
@@ -256,12 +258,37 @@ float_parts t x v s (inr (inr (d, p, h, k, inr (f, g, e)))) =
     grouped : (r f p x y : List ℕ) → (r ++ (46 ∷ f ++ (p ++ x))) ++ y ≡ r ++ (46 ∷ f ++ (p ++ (x ++ y)))
     grouped r f p x y = simp append_assoc
 
-pub floats_replace : (t u x y : List ℕ) (v w : Contents) (a : StrictFloat t v x) (b : StrictFloat u w x)
-    → shape_of b.numeral x b.form ≡ shape_of a.numeral x a.form → Replaces t u y
-floats_replace t u x y v w a b same =
+-- where a dot alone ends a number, a dot and a zero do
+dot_closes : (y : List ℕ) → after_decimal (46 ∷ y) ≡ y → shape_end PointShape y ≡ y
+dot_closes y h = go (first_passes (λ d. d == 46 || is_start d) y) h
+  where
+    go : (b : Bool) → after_suffix (after_lexed_exponent (cond (not b) (after_run (is_row_part is_ascii_digit) y)
+        (46 ∷ y))) ≡ y → shape_end PointShape y ≡ y
+    go false k = k
+    go true k =
+        let start : is_start 46 ≡ false = start_ascii 46 (lit< tt) in
+        let same : 46 ∷ y ≡ y = sym (ap (λ b. cond b (after_run is_continue y) (46 ∷ y)) start) ∙ k in
+        let n = ap length same in
+        absurd (omega (arith, n))
+
+float_closes : (closes : Bool) (numeral x y : List ℕ) (form : FloatForm numeral x)
+    → shape_end (shape_of numeral x form) (x ++ y) ≡ y
+    → shape_end (closed_shape (shape_of numeral x form) closes) (x ++ y) ≡ y
+float_closes true numeral x y (inl (d, h, e, n)) k =
+    let same : x ++ y ≡ y = ap (λ z. z ++ y) n in
+    ap (shape_end PointShape) same ∙ dot_closes y (sym (ap (λ z. after_decimal (46 ∷ z)) same) ∙ k)
+float_closes false numeral x y (inl (d, h, e, n)) k = k
+float_closes closes numeral x y (inr (inl a)) k = k
+float_closes closes numeral x y (inr (inr a)) k = k
+
+pub floats_replace : (closes : Bool) (t u x y : List ℕ) (v w : Contents) (a : StrictFloat t v x)
+    (b : StrictFloat u w x) → shape_of b.numeral x b.form ≡ closed_shape (shape_of a.numeral x a.form) closes
+    → Replaces t u y
+floats_replace closes t u x y v w a b same =
     let d = float_parts t x v a a.form in
     let e = float_parts u x w b b.form in
-    decimals_replace t u y d.form e.form (λ h. e.ends y ∙ ap (λ z. shape_end z (x ++ y)) same ∙ sym (d.ends y) ∙ h)
+    decimals_replace t u y d.form e.form (λ h. e.ends y ∙ ap (λ z. shape_end z (x ++ y)) same
+    ∙ float_closes closes a.numeral x y a.form (sym (d.ends y) ∙ h))
 
 -- ---- raw literals that become ones with escapes
 
@@ -329,8 +356,8 @@ RewritesForm style front t u =
 pub replaces : (style : Style) (front t u y : List ℕ) → RewritesForm style front t u → ReplacesAfter front t u y
 replaces style front t u y (inl c) = replaces_after front t u y (integers_replace t u c.suffix y c.contents c.contents
     c.int (integers.written style t u c.contents c.suffix c.int c.new_is) refl)
-replaces style front t u y (inr (inl c)) = replaces_after front t u y (floats_replace t u c.suffix y c.contents
-    c.contents c.float (floats.written style t u c.contents c.suffix c.float c.new_is)
+replaces style front t u y (inr (inl c)) = replaces_after front t u y (floats_replace style.float_zero t u c.suffix y
+    c.contents _ c.float (floats.written style t u c.contents c.suffix c.float c.new_is)
     (same_shape style t u c.contents c.suffix c.float c.new_is))
 replaces style front t u y (inr (inr (inl (inl c)))) = replaces_after front t u y (raw_replace c.kind t u c.suffix y
     c.contents c.contents c.raw (raws.written t u c.kind c.contents c.suffix c.raw c.hashes

@@ -1,259 +1,29 @@
 -- A float written anew is the same literal.
-use Rattle.rl_text.proofs.Common.{◌≡◌, ℕ, ◌⊎◌, ◌||◌, Bool, true, false, not, ◌==◌, cond, List, [], ◌∷◌, ◌++◌, map, refl, sym, ap, subst, ◌∙◌, inl, inr, ◌&&◌, append_assoc, append-nil, list_all, list_any, list_all-append, and_from, or_from, or_cases, eqb-true, is_ascii_digit, flat_map, Some, None}
+use Rattle.rl_text.proofs.Common.{◌≡◌, ◌⊎◌, ℕ, ◌||◌, Bool, true, false, not, ◌==◌, cond, List, [], ◌∷◌, ◌++◌, map, refl, sym, ap, subst, ◌∙◌, inl, inr, ◌&&◌, append_assoc, append-nil, cases_Bool, append_cancel_right, map-append, list_all, list_any, list_all-append, and_from, or_cases, eqb-true, is_ascii_digit, flat_map, Some, None}
 use Rattle.std.specs.Prelude.{Option, filter}
-use Rattle.rl_text.specs.Texts.{first_passes, is_row_part}
+use Rattle.std.proofs.lemmas.List.Elements.{filter-append}
+use Rattle.rl_text.specs.Texts.{is_row_part}
 use Rattle.rl_text.proofs.Basics.{apart}
 use Rattle.rl_reading.proofs.Names.{flat_map-append}
 use Rattle.rl_forms.specs.declared.kind.Kind.TheVariants.{Float}
 use Rattle.rl_forms.specs.Reading.{Contents, Digits}
-use Rattle.rl_forms.specs.Strict.{IsDecimalText, IsDigits, IsDotAlone, IsPointed, IsScientific, IsStrictExponent, StrictFloat}
-use Rattle.rl_lexer.specs.Lexemes.{is_base_letter}
+use Rattle.rl_forms.specs.Strict.{IsDecimalText, IsDigits, IsStrictExponent, StrictFloat}
 use Rattle.rl_style.specs.declared.style.Case.{Case}
 use Rattle.rl_style.specs.declared.style.Case.TheVariants.{Lower, Upper}
 use Rattle.rl_style.specs.declared.style.Style.{Style}
 use Rattle.rl_style.specs.declared.style.Separator.{Separator}
 use Rattle.rl_style.specs.declared.style.Separator.TheVariants.{Nothing, Underscore}
 use Rattle.rl_style.specs.Cases.{drops_underscores, kept_row, number_character, separator, separator_by, trimmed, trims_by}
-use Rattle.rl_style.specs.Rewriting.{SameLiteral, RewritesFloat}
+use Rattle.rl_text.specs.Classes.{after_run}
+use Rattle.rl_style.specs.Groups.{digit_run, float_in_groups, least_by, size_by}
+use Rattle.rl_style.specs.Rewriting.{GetsZero, SameLiteral, SameNumber, RewritesFloat, styled_numeral}
 use Rattle.rl_forms.proofs.OneQuoted.{same_tail}
 use Rattle.rl_lexer.proofs.LexemeRows.{not_among}
-use Rattle.rl_style.proofs.NumberCharacters.{becomes, by_character, decimal_by, digits_each, digits_some, digits_stay, keeps_of, row_stays, stays, twice}
+use Rattle.rl_style.proofs.GroupRows.{plus_free}
+use Rattle.rl_style.proofs.Regrouped.{again_grouped, grouped_kept, grouped_one, grouped_trim, plain_of}
+use Rattle.rl_style.proofs.NumberCharacters.{becomes, by_character, decimal_by, digits_some, keeps_of, row_stays, stays, twice}
 use Rattle.rl_style.proofs.Trimmed.{IsTrim, any_left, digits_join, mapped_trim, only, only_join, row_again, separator_all, separator_gone, some_not_only, trimmed_again, trimmed_all, trimmed_digits, trimmed_filter, trimmed_join, trimmed_some}
-
--- ---- rows
-
-digits_are : (drops plus : Bool) (digits letter : Option Case) (d : List ℕ) → IsDigits d
-    → IsDigits (flat_map (becomes drops false plus digits letter) d)
-digits_are drops plus digits letter d h = digits_stay (becomes drops false plus digits letter) d
-    (row_stays (is_row_part is_ascii_digit) drops plus digits letter d refl refl refl h.1) h
-
-dot_stays : (drops plus : Bool) (digits letter : Option Case) → becomes drops false plus digits letter 46 ≡ 46 ∷ []
-dot_stays drops plus digits letter = stays drops plus digits letter 46 refl refl refl refl
-
--- ---- exponents
-
--- a letter of an exponent becomes one
-record Letter (drops plus : Bool) (digits letter : Option Case) (c : ℕ) : Type 0 where
-  new : ℕ
-  is : becomes drops false plus digits letter c ≡ new ∷ []
-  is_letter : (new == 101 || new == 69) ≡ true
-
-lower_e : (drops plus : Bool) (digits letter : Option Case) → Letter drops plus digits letter 101
-lower_e true true digits None = record { new = 101; is = refl; is_letter = refl }
-lower_e true true digits (Some Lower) = record { new = 101; is = refl; is_letter = refl }
-lower_e true true digits (Some Upper) = record { new = 69; is = refl; is_letter = refl }
-lower_e true false digits None = record { new = 101; is = refl; is_letter = refl }
-lower_e true false digits (Some Lower) = record { new = 101; is = refl; is_letter = refl }
-lower_e true false digits (Some Upper) = record { new = 69; is = refl; is_letter = refl }
-lower_e false true digits None = record { new = 101; is = refl; is_letter = refl }
-lower_e false true digits (Some Lower) = record { new = 101; is = refl; is_letter = refl }
-lower_e false true digits (Some Upper) = record { new = 69; is = refl; is_letter = refl }
-lower_e false false digits None = record { new = 101; is = refl; is_letter = refl }
-lower_e false false digits (Some Lower) = record { new = 101; is = refl; is_letter = refl }
-lower_e false false digits (Some Upper) = record { new = 69; is = refl; is_letter = refl }
-
-upper_e : (drops plus : Bool) (digits letter : Option Case) → Letter drops plus digits letter 69
-upper_e true true digits None = record { new = 69; is = refl; is_letter = refl }
-upper_e true true digits (Some Lower) = record { new = 101; is = refl; is_letter = refl }
-upper_e true true digits (Some Upper) = record { new = 69; is = refl; is_letter = refl }
-upper_e true false digits None = record { new = 69; is = refl; is_letter = refl }
-upper_e true false digits (Some Lower) = record { new = 101; is = refl; is_letter = refl }
-upper_e true false digits (Some Upper) = record { new = 69; is = refl; is_letter = refl }
-upper_e false true digits None = record { new = 69; is = refl; is_letter = refl }
-upper_e false true digits (Some Lower) = record { new = 101; is = refl; is_letter = refl }
-upper_e false true digits (Some Upper) = record { new = 69; is = refl; is_letter = refl }
-upper_e false false digits None = record { new = 69; is = refl; is_letter = refl }
-upper_e false false digits (Some Lower) = record { new = 101; is = refl; is_letter = refl }
-upper_e false false digits (Some Upper) = record { new = 69; is = refl; is_letter = refl }
-
-letter_is : (drops plus : Bool) (digits letter : Option Case) (c : ℕ) → (c == 101 || c == 69) ≡ true
-    → Letter drops plus digits letter c
-letter_is drops plus digits letter c h =
-    elim (or_cases (c == 101) (c == 69) h) [
-      | inl a ↦ subst (Letter drops plus digits letter) (sym (eqb-true c 101 a)) (lower_e drops plus digits letter)
-      | inr a ↦ subst (Letter drops plus digits letter) (sym (eqb-true c 69 a)) (upper_e drops plus digits letter)
-    ]
-
-abbrev IsSign : List ℕ → Type 0
-IsSign sign = (sign ≡ []) ⊎ ((sign ≡ 43 ∷ []) ⊎ (sign ≡ 45 ∷ []))
-
-plus_sign : (drops plus : Bool) (digits letter : Option Case)
-    → IsSign (flat_map (becomes drops false plus digits letter) (43 ∷ []))
-plus_sign true true digits letter = inl refl
-plus_sign false true digits letter = inl refl
-plus_sign true false digits None = inr (inl refl)
-plus_sign true false digits (Some Lower) = inr (inl refl)
-plus_sign true false digits (Some Upper) = inr (inl refl)
-plus_sign false false digits None = inr (inl refl)
-plus_sign false false digits (Some Lower) = inr (inl refl)
-plus_sign false false digits (Some Upper) = inr (inl refl)
-
-minus_sign : (drops plus : Bool) (digits letter : Option Case)
-    → IsSign (flat_map (becomes drops false plus digits letter) (45 ∷ []))
-minus_sign drops plus digits letter = inr (inr (ap (λ z. z ++ [])
-    (stays drops plus digits letter 45 refl refl refl refl)))
-
-sign_is : (drops plus : Bool) (digits letter : Option Case) (sign : List ℕ) → IsSign sign
-    → IsSign (flat_map (becomes drops false plus digits letter) sign)
-sign_is drops plus digits letter sign h =
-    let At : List ℕ → Type 0 = λ z. IsSign (flat_map (becomes drops false plus digits letter) z) in
-    elim h [
-      | inl a ↦ subst At (sym a) (inl refl)
-      | inr b ↦ elim b [
-        | inl a ↦ subst At (sym a) (plus_sign drops plus digits letter)
-        | inr a ↦ subst At (sym a) (minus_sign drops plus digits letter)
-      ]
-    ]
-
-record Exponent (drops plus : Bool) (digits letter : Option Case) (e : List ℕ) : Type 0 where
-  first : ℕ
-  rest : List ℕ
-  is : flat_map (becomes drops false plus digits letter) e ≡ first ∷ rest
-  is_letter : (first == 101 || first == 69) ≡ true
-  exponent : IsStrictExponent (flat_map (becomes drops false plus digits letter) e)
-
-exponent_is : (drops plus : Bool) (digits letter : Option Case) (e : List ℕ) → IsStrictExponent e
-    → Exponent drops plus digits letter e
-exponent_is drops plus digits letter e s =
-    let f : ℕ → List ℕ = becomes drops false plus digits letter in
-    let l = letter_is drops plus digits letter s.letter s.is_letter in
-    let sign : List ℕ = flat_map f s.sign in
-    let row : List ℕ = flat_map f s.row in
-    let stay = row_stays (is_row_part is_ascii_digit) drops plus digits letter s.row refl refl refl s.each in
-    let is : flat_map f e ≡ l.new ∷ (sign ++ row) =
-    ap (flat_map f) s.text ∙ ap (λ z. z ++ flat_map f (s.sign ++ s.row)) l.is
-    ∙ ap (λ z. l.new ∷ z) (flat_map-append f s.sign s.row) in
-    record {
-      first = l.new;
-      rest = sign ++ row;
-      is = is;
-      is_letter = l.is_letter;
-      exponent = record {
-        letter = l.new;
-        sign = sign;
-        row = row;
-        is_letter = l.is_letter;
-        is_sign = sign_is drops plus digits letter s.sign s.is_sign;
-        each = digits_each f s.row stay s.each;
-        some = digits_some f s.row stay ∙ s.some;
-        text = is;
-      };
-    }
-
--- after the whole part stands a dot, or the letter of an exponent
-letter_follows : (z x : List ℕ) (d : ℕ) (ds : List ℕ) → z ≡ d ∷ ds → (d == 101 || d == 69) ≡ true
-    → first_passes is_base_letter (z ++ x) ≡ false
-letter_follows z x d ds e h =
-    let test : ℕ → Bool = λ c. c == 101 || c == 69 in
-    ap (λ y. first_passes is_base_letter (y ++ x)) e
-    ∙ or_from (d == 120 || d == 111) (d == 98) (or_from (d == 120) (d == 111) (apart test d 120 h refl)
-    (apart test d 111 h refl)) (apart test d 98 h refl)
-
--- ---- the forms
-
-abbrev pub FloatForm : List ℕ → List ℕ → Type 0
-FloatForm numeral x = IsDotAlone numeral x ⊎ (IsPointed numeral x ⊎ IsScientific numeral x)
-
--- with a dot alone, with digits after it, or with an exponent
-pub data FloatShape : Type 0 where
-  DotShape : FloatShape
-  PointShape : FloatShape
-  PowerShape : FloatShape
-
-abbrev pub shape_of : (numeral x : List ℕ) → FloatForm numeral x → FloatShape
-shape_of numeral x (inl a) = DotShape
-shape_of numeral x (inr (inl a)) = PointShape
-shape_of numeral x (inr (inr a)) = PowerShape
-
--- the numeral, by its whole part and what follows
-pub record Numeral (f : ℕ → List ℕ) (numeral x : List ℕ) (shape : FloatShape) : Type 0 where
-  pub whole : List ℕ
-  pub new : List ℕ
-  pub are_digits : IsDigits whole
-  pub new_is : flat_map f numeral ≡ whole ++ new
-  pub follows : (y : List ℕ) → first_passes is_base_letter (new ++ y) ≡ false
-  pub form : FloatForm (flat_map f numeral) x
-  pub same_shape : shape_of (flat_map f numeral) x form ≡ shape
-
--- a whole part, a dot and what follows it
-pointed_is : (drops plus : Bool) (digits letter : Option Case) (numeral d z : List ℕ) → numeral ≡ d ++ (46 ∷ z)
-    → flat_map (becomes drops false plus digits letter) numeral
-    ≡ flat_map (becomes drops false plus digits letter) d ++ (46 ∷ flat_map (becomes drops false plus digits letter) z)
-pointed_is drops plus digits letter numeral d z e =
-    let f : ℕ → List ℕ = becomes drops false plus digits letter in
-    ap (flat_map f) e ∙ flat_map-append f d (46 ∷ z)
-    ∙ ap (λ y. flat_map f d ++ (y ++ flat_map f z)) (dot_stays drops plus digits letter)
-
-pub form_is : (drops plus : Bool) (digits letter : Option Case) (numeral x : List ℕ) → (form : FloatForm numeral x)
-    → Numeral (becomes drops false plus digits letter) numeral x (shape_of numeral x form)
-form_is drops plus digits letter numeral x (inl (d, h, e, n)) =
-    let f : ℕ → List ℕ = becomes drops false plus digits letter in
-    let is = pointed_is drops plus digits letter numeral d [] e in
-    let whole = digits_are drops plus digits letter d h in
-    record {
-      whole = flat_map f d;
-      new = 46 ∷ [];
-      are_digits = whole;
-      new_is = is;
-      follows = λ y. refl;
-      form = inl (flat_map f d, whole, is, n);
-      same_shape = refl;
-    }
-form_is drops plus digits letter numeral x (inr (inl (d, z, h, k, e, n))) =
-    let f : ℕ → List ℕ = becomes drops false plus digits letter in
-    let is = pointed_is drops plus digits letter numeral d z e in
-    let whole = digits_are drops plus digits letter d h in
-    record {
-      whole = flat_map f d;
-      new = 46 ∷ flat_map f z;
-      are_digits = whole;
-      new_is = is;
-      follows = λ y. refl;
-      form = inr (inl (flat_map f d, flat_map f z, whole, digits_are drops plus digits letter z k, is, n));
-      same_shape = refl;
-    }
-form_is drops plus digits letter numeral x (inr (inr (d, e, h, s, inl n))) =
-    let f : ℕ → List ℕ = becomes drops false plus digits letter in
-    let p = exponent_is drops plus digits letter e s in
-    let whole = digits_are drops plus digits letter d h in
-    let is : flat_map f numeral ≡ flat_map f d ++ flat_map f e = ap (flat_map f) n ∙ flat_map-append f d e in
-    record {
-      whole = flat_map f d;
-      new = flat_map f e;
-      are_digits = whole;
-      new_is = is;
-      follows = λ y. letter_follows (flat_map f e) y p.first p.rest p.is p.is_letter;
-      form = inr (inr (flat_map f d, flat_map f e, whole, p.exponent, inl is));
-      same_shape = refl;
-    }
-form_is drops plus digits letter numeral x (inr (inr (d, e, h, s, inr (z, k, n)))) =
-    let f : ℕ → List ℕ = becomes drops false plus digits letter in
-    let p = exponent_is drops plus digits letter e s in
-    let whole = digits_are drops plus digits letter d h in
-    let fraction = digits_are drops plus digits letter z k in
-    let is : flat_map f numeral ≡ flat_map f d ++ (46 ∷ (flat_map f z ++ flat_map f e)) =
-    pointed_is drops plus digits letter numeral d (z ++ e) (n ∙ append_assoc d (46 ∷ z) e)
-    ∙ ap (λ y. flat_map f d ++ (46 ∷ y)) (flat_map-append f z e) in
-    record {
-      whole = flat_map f d;
-      new = 46 ∷ (flat_map f z ++ flat_map f e);
-      are_digits = whole;
-      new_is = is;
-      follows = λ y. refl;
-      form = inr (inr (
-        flat_map f d,
-        flat_map f e,
-        whole,
-        p.exponent,
-        inr (
-          flat_map f z,
-          fraction,
-          is
-              ∙ sym (append_assoc (flat_map f d) (46 ∷ flat_map f z) (flat_map f e)),
-        ),
-      ));
-      same_shape = refl;
-    }
+use Rattle.rl_style.proofs.FloatForms.{Letter, lower_e, upper_e, exponent_is, DotShape, PointShape, PowerShape, FloatForm, FloatShape, shape_of, closed_shape, Groups, at_dot, at_point, at_power, at_point_power, Numeral, row_is, form_is}
 
 -- ---- without the underscores at the end, and with one before a suffix
 
@@ -455,29 +225,133 @@ spelled_same drops plus digits letter (c ∷ cs) =
     (more_letter drops plus digits letter 101 a cs refl (lower_e drops plus digits letter) same)
     (λ n p u l. more drops plus digits letter c a cs (stays drops plus digits letter c n p u l) same)
 
+spelled_join : (a b : List ℕ) → spelled (a ++ b) ≡ spelled a ++ spelled b
+spelled_join a b = ap (map (λ c. cond (c == 69) 101 c)) (filter-append (λ c. not (c == 95 || c == 43)) a b)
+    ∙ map-append (λ c. cond (c == 69) 101 c) (filter (λ c. not (c == 95 || c == 43)) a)
+    (filter (λ c. not (c == 95 || c == 43)) b)
+
+spelled_more : (c : ℕ) (a b : List ℕ) → spelled a ≡ spelled b → spelled (c ∷ a) ≡ spelled (c ∷ b)
+spelled_more c a b same = spelled_join (c ∷ []) a ∙ ap (λ z. spelled (c ∷ []) ++ z) same ∙ sym (spelled_join (c ∷ []) b)
+
+pub run_joined : (cs : List ℕ) → digit_run cs ++ after_run (is_row_part is_ascii_digit) cs ≡ cs
+run_joined [] = refl
+run_joined (c ∷ cs) = go (is_row_part is_ascii_digit c) (run_joined cs)
+  where
+    go : (b : Bool) → digit_run cs ++ after_run (is_row_part is_ascii_digit) cs ≡ cs
+        → cond b (c ∷ digit_run cs) [] ++ cond b (after_run (is_row_part is_ascii_digit) cs) (c ∷ cs) ≡ c ∷ cs
+    go true h = ap (λ z. c ∷ z) h
+    go false h = refl
+
+run_digits : (cs : List ℕ) → list_all (is_row_part is_ascii_digit) (digit_run cs) ≡ true
+run_digits [] = refl
+run_digits (c ∷ cs) = go (is_row_part is_ascii_digit c) refl (run_digits cs)
+  where
+    go : (b : Bool) → is_row_part is_ascii_digit c ≡ b → list_all (is_row_part is_ascii_digit) (digit_run cs) ≡ true
+        → list_all (is_row_part is_ascii_digit) (cond b (c ∷ digit_run cs) []) ≡ true
+    go true h more = and_from (is_row_part is_ascii_digit c) (list_all (is_row_part is_ascii_digit) (digit_run cs)) h
+        more
+    go false h more = refl
+
+-- the text before what follows its digits
+pub run_cut : (cs front rest : List ℕ) → cs ≡ front ++ rest → rest ≡ after_run (is_row_part is_ascii_digit) cs
+    → (front ≡ digit_run cs) × (list_all (λ c. not (c == 43)) front ≡ true)
+run_cut cs front rest cut is =
+    let same : front ≡ digit_run cs = append_cancel_right front (digit_run cs) rest
+    (sym cut ∙ sym (run_joined cs) ∙ ap (λ z. digit_run cs ++ z) (sym is)) in (
+      same,
+      plus_free (is_row_part is_ascii_digit) front refl
+          (ap (list_all (is_row_part is_ascii_digit)) same ∙ run_digits cs),
+    )
+
+spelled_row : (drops plus : Bool) (digits letter : Option Case) (from_first : Bool) (size least : ℕ) (cs : List ℕ)
+    → spelled (Groups size least from_first (flat_map (becomes drops false plus digits letter) cs)) ≡ spelled cs
+spelled_row drops plus digits letter from_first size least cs =
+    ap (map (λ c. cond (c == 69) 101 c)) (grouped_kept (λ c. not (c == 95 || c == 43)) from_first size least
+    (flat_map (becomes drops false plus digits letter) cs) refl) ∙ spelled_same drops plus digits letter cs
+
+-- what a dot alone gets
+abbrev pub added : FloatShape → Bool → List ℕ
+added DotShape true = 48 ∷ []
+added DotShape false = []
+added PointShape closes = []
+added PowerShape closes = []
+
+added_none : (shape : FloatShape) → added shape false ≡ []
+added_none DotShape = refl
+added_none PointShape = refl
+added_none PowerShape = refl
+
+-- a whole part, and what follows it
+spelled_at : (drops plus : Bool) (digits letter : Option Case) (size least : ℕ) (numeral new d z w extra : List ℕ)
+    → new ≡ Groups size least false (flat_map (becomes drops false plus digits letter) d) ++ w → numeral ≡ d ++ z
+    → spelled w ≡ spelled z ++ extra → spelled new ≡ spelled numeral ++ extra
+spelled_at drops plus digits letter size least numeral new d z w extra is e same =
+    let whole : List ℕ = Groups size least false (flat_map (becomes drops false plus digits letter) d) in
+    ap spelled is ∙ spelled_join whole w
+    ∙ ap (λ y. y ++ spelled w) (spelled_row drops plus digits letter false size least d)
+    ∙ ap (λ y. spelled d ++ y) same ∙ sym (append_assoc (spelled d) (spelled z) extra)
+    ∙ ap (λ y. y ++ extra) (sym (spelled_join d z) ∙ ap spelled (sym e))
+
+spelled_numeral : (drops plus : Bool) (digits letter : Option Case) (closes : Bool) (size least : ℕ)
+    (numeral x : List ℕ) (form : FloatForm numeral x)
+    → spelled (float_in_groups closes (becomes drops false plus digits letter) (Groups size least) numeral)
+    ≡ spelled numeral ++ added (shape_of numeral x form) closes
+spelled_numeral drops plus digits letter true size least numeral x (inl (d, h, e, n)) =
+    spelled_at drops plus digits letter size least numeral _ d (46 ∷ []) (46 ∷ 48 ∷ []) (48 ∷ [])
+    (at_dot (becomes drops false plus digits letter) true size least numeral d h e) e refl
+spelled_numeral drops plus digits letter false size least numeral x (inl (d, h, e, n)) =
+    spelled_at drops plus digits letter size least numeral _ d (46 ∷ []) (46 ∷ []) []
+    (at_dot (becomes drops false plus digits letter) false size least numeral d h e) e refl
+spelled_numeral drops plus digits letter closes size least numeral x (inr (inl (d, z, h, k, e, n))) =
+    let f : ℕ → List ℕ = becomes drops false plus digits letter in
+    let fraction : List ℕ = Groups size least true (flat_map f z) in
+    spelled_at drops plus digits letter size least numeral _ d (46 ∷ z) (46 ∷ fraction) []
+    (at_point f closes size least numeral d z h k e) e
+    (spelled_more 46 fraction z (spelled_row drops plus digits letter true size least z)
+    ∙ sym (append-nil (spelled (46 ∷ z))))
+spelled_numeral drops plus digits letter closes size least numeral x (inr (inr (d, e, h, s, inl n))) =
+    let f : ℕ → List ℕ = becomes drops false plus digits letter in
+    spelled_at drops plus digits letter size least numeral _ d e (flat_map f e) []
+    (at_power f closes size least numeral d e h s n) n
+    (spelled_same drops plus digits letter e ∙ sym (append-nil (spelled e)))
+spelled_numeral drops plus digits letter closes size least numeral x (inr (inr (d, e, h, s, inr (z, k, n)))) =
+    let f : ℕ → List ℕ = becomes drops false plus digits letter in
+    let fraction : List ℕ = Groups size least true (flat_map f z) in
+    let cut : numeral ≡ d ++ (46 ∷ (z ++ e)) = n ∙ append_assoc d (46 ∷ z) e in
+    spelled_at drops plus digits letter size least numeral _ d (46 ∷ (z ++ e)) (46 ∷ (fraction ++ flat_map f e)) []
+    (at_point_power f closes size least numeral d z e h k s cut) cut
+    (spelled_more 46 (fraction ++ flat_map f e) (z ++ e) (spelled_join fraction (flat_map f e)
+    ∙ ap (λ y. y ++ spelled (flat_map f e)) (spelled_row drops plus digits letter true size least z)
+    ∙ ap (λ y. spelled z ++ y) (spelled_same drops plus digits letter e) ∙ sym (spelled_join z e))
+    ∙ sym (append-nil (spelled (46 ∷ (z ++ e)))))
+
 -- ---- the literal
 
--- what the numeral becomes, in front of the separator
-abbrev pub new_numeral : Style → List ℕ → List ℕ → List ℕ
-new_numeral style x numeral = flat_map (number_character style (drops_underscores style x) false)
-    (kept_row style x numeral)
+abbrev Size : Style → List ℕ → ℕ
+Size style x = size_by style.digit_groups 10 x
+
+abbrev Least : Style → ℕ
+Least style = least_by style.digit_groups
 
 -- as the kept one is written
 pub kept_numeral : (style : Style) (numeral x : List ℕ) (form : FloatForm numeral x)
-    → Numeral (number_character style (drops_underscores style x) false) (kept_row style x numeral) x
-    (shape_of (kept_row style x numeral) x (kept_form style numeral x form).form)
+    → Numeral (styled_numeral style x numeral) x
+    (closed_shape (shape_of (kept_row style x numeral) x (kept_form style numeral x form).form) style.float_zero)
 kept_numeral style numeral x form = form_is (drops_underscores style x) style.exponent_plus style.hex_digits
-    style.exponent_letter (kept_row style x numeral) x (kept_form style numeral x form).form
+    style.exponent_letter style.float_zero (Size style x) (Least style) (kept_row style x numeral) x
+    (kept_form style numeral x form).form
 
 pub new_form : (style : Style) (numeral x : List ℕ) (form : FloatForm numeral x)
-    → Shaped (new_numeral style x numeral ++ separator style x) x (shape_of numeral x form)
+    → Shaped (styled_numeral style x numeral ++ separator style x) x
+    (closed_shape (shape_of numeral x form) style.float_zero)
 new_form style numeral x form =
     let n = kept_numeral style numeral x form in
-    let m = more_form (new_numeral style x numeral) x (separator style x) n.form
+    let m = more_form (styled_numeral style x numeral) x (separator style x) n.form
     (separator_all is_ascii_digit style.suffix_separator x) (no_separator style.suffix_separator x) in
     record {
       form = m.form;
-      same_shape = m.same_shape ∙ n.same_shape ∙ (kept_form style numeral x form).same_shape;
+      same_shape = m.same_shape ∙ n.same_shape
+          ∙ ap (λ shape. closed_shape shape style.float_zero) (kept_form style numeral x form).same_shape;
     }
 
 spelled_kept : (style : Style) (x numeral : List ℕ) → spelled (kept_row style x numeral) ≡ spelled numeral
@@ -487,16 +361,24 @@ spelled_kept style x numeral = go (trims_by style.suffix_separator x)
     go true = ap (map (λ c. cond (c == 69) 101 c)) (trimmed_filter (λ c. not (c == 95 || c == 43)) numeral refl)
     go false = refl
 
-pub new_spelled : (style : Style) (x numeral : List ℕ) → spelled (new_numeral style x numeral ++ separator style x)
-    ≡ spelled numeral
-new_spelled style x numeral =
+-- what is spelled then
+abbrev pub new_digits : Style → (numeral x : List ℕ) → FloatForm numeral x → List ℕ
+new_digits style numeral x form = spelled numeral ++ added (shape_of numeral x form) style.float_zero
+
+pub new_spelled : (style : Style) (numeral x : List ℕ) (form : FloatForm numeral x)
+    → spelled (styled_numeral style x numeral ++ separator style x) ≡ new_digits style numeral x form
+new_spelled style numeral x form =
+    let kept = kept_form style numeral x form in
     ap (map (λ c. cond (c == 69) 101 c)) (separator_gone (λ c. not (c == 95 || c == 43)) style.suffix_separator x
-    (new_numeral style x numeral) refl)
-    ∙ spelled_same (drops_underscores style x) style.exponent_plus style.hex_digits style.exponent_letter
-    (kept_row style x numeral) ∙ spelled_kept style x numeral
+    (styled_numeral style x numeral) refl)
+    ∙ spelled_numeral (drops_underscores style x) style.exponent_plus style.hex_digits style.exponent_letter
+    style.float_zero (Size style x) (Least style) (kept_row style x numeral) x kept.form
+    ∙ ap (λ y. y ++ added (shape_of (kept_row style x numeral) x kept.form) style.float_zero)
+    (spelled_kept style x numeral)
+    ∙ ap (λ shape. spelled numeral ++ added shape style.float_zero) kept.same_shape
 
 pub new_decimal : (style : Style) (numeral x : List ℕ) (form : FloatForm numeral x)
-    → IsDecimalText (new_numeral style x numeral ++ (separator style x ++ x))
+    → IsDecimalText (styled_numeral style x numeral ++ (separator style x ++ x))
 new_decimal style numeral x form =
     let n = kept_numeral style numeral x form in
     let end : List ℕ = separator style x ++ x in
@@ -504,23 +386,67 @@ new_decimal style numeral x form =
     (decimal_by n.whole (n.new ++ end) n.are_digits (n.follows end))
 
 abbrev pub written : (style : Style) (t u : List ℕ) (v : Contents) (x : List ℕ) (s : StrictFloat t v x)
-    → u ≡ new_numeral style x s.numeral ++ (separator style x ++ x) → StrictFloat u v x
+    → u ≡ styled_numeral style x s.numeral ++ (separator style x ++ x)
+    → StrictFloat u (Digits (new_digits style s.numeral x s.form)) x
 written style t u v x s e = record {
-  numeral = new_numeral style x s.numeral ++ separator style x;
+  numeral = styled_numeral style x s.numeral ++ separator style x;
   form = (new_form style s.numeral x s.form).form;
   no_prefix = subst IsDecimalText (sym e) (new_decimal style s.numeral x s.form);
   suffix = s.suffix;
-  text = e ∙ sym (append_assoc (new_numeral style x s.numeral) (separator style x) x);
-  contents = s.contents ∙ ap Digits (sym (new_spelled style x s.numeral));
+  text = e ∙ sym (append_assoc (styled_numeral style x s.numeral) (separator style x) x);
+  contents = ap Digits (sym (new_spelled style s.numeral x s.form));
 }
 
-pub float_same : (style : Style) (t u : List ℕ) → RewritesFloat style t u → SameLiteral t u
-float_same style t u c = record {
+-- the contents, without a zero put after them
+digits_kept : (style : Style) (numeral x : List ℕ) (form : FloatForm numeral x) → style.float_zero ≡ false
+    → new_digits style numeral x form ≡ spelled numeral
+digits_kept style numeral x form off = ap (λ b. spelled numeral ++ added (shape_of numeral x form) b) off
+    ∙ ap (λ z. spelled numeral ++ z) (added_none (shape_of numeral x form)) ∙ append-nil (spelled numeral)
+
+pub float_same : (style : Style) (t u : List ℕ) → style.float_zero ≡ false → RewritesFloat style t u → SameLiteral t u
+float_same style t u off c =
+    let same : Digits (new_digits style c.float.numeral c.suffix c.float.form) ≡ c.contents =
+    ap Digits (digits_kept style c.float.numeral c.suffix c.float.form off) ∙ sym c.float.contents in
+    record {
+      kind = Float;
+      contents = c.contents;
+      suffix = c.suffix;
+      was = c.float;
+      is = subst (λ v. StrictFloat u v c.suffix) same (written style t u c.contents c.suffix c.float c.new_is);
+    }
+
+-- and with one
+contents_kept : (style : Style) (v : Contents) (numeral x : List ℕ) (form : FloatForm numeral x)
+    → v ≡ Digits (spelled numeral)
+    → (Digits (new_digits style numeral x form) ≡ v)
+    ⊎ ((Float ≡ Float) × GetsZero style v (Digits (new_digits style numeral x form)))
+contents_kept style v numeral x (inl (d, h, e, n)) is =
+    let cut : spelled numeral ≡ spelled d ++ (46 ∷ []) = ap spelled e ∙ spelled_join d (46 ∷ []) in
+    elim (cases_Bool style.float_zero) [
+      | inl on ↦ inr (
+        refl,
+        record {
+          float_zero = on;
+          digits = spelled d;
+          old_is = is ∙ ap Digits cut;
+          new_is = ap (λ b. Digits (spelled numeral ++ added DotShape b)) on
+              ∙ ap (λ z. Digits (z ++ (48 ∷ []))) cut ∙ ap Digits (append_assoc (spelled d) (46 ∷ []) (48 ∷ []));
+        },
+      )
+      | inr off ↦ inl (ap Digits (digits_kept style numeral x (inl (d, h, e, n)) off) ∙ sym is)
+    ]
+contents_kept style v numeral x (inr (inl a)) is = inl (ap Digits (append-nil (spelled numeral)) ∙ sym is)
+contents_kept style v numeral x (inr (inr a)) is = inl (ap Digits (append-nil (spelled numeral)) ∙ sym is)
+
+pub float_number : (style : Style) (t u : List ℕ) → RewritesFloat style t u → SameNumber style t u
+float_number style t u c = record {
   kind = Float;
   contents = c.contents;
+  new_contents = Digits (new_digits style c.float.numeral c.suffix c.float.form);
   suffix = c.suffix;
   was = c.float;
   is = written style t u c.contents c.suffix c.float c.new_is;
+  keeps = contents_kept style c.contents c.float.numeral c.suffix c.float.form c.float.contents;
 }
 
 -- ---- once is enough
@@ -560,59 +486,148 @@ exponent_mapped drops plus digits letter e s h =
       ap only is ∙ only_join (flat_map f front) (flat_map f s.row) some,
     )
 
-form_trims : (drops plus : Bool) (digits letter : Option Case) (numeral x : List ℕ) → FloatForm numeral x
-    → IsTrim numeral → IsTrim (flat_map (becomes drops false plus digits letter) numeral)
-form_trims drops plus digits letter numeral x (inl (d, h, e, n)) t =
+row_trims : (drops plus : Bool) (digits letter : Option Case) (from_first : Bool) (size least : ℕ) (row : List ℕ)
+    → list_all (is_row_part is_ascii_digit) row ≡ true → IsTrim row
+    → IsTrim (Groups size least from_first (flat_map (becomes drops false plus digits letter) row))
+row_trims drops plus digits letter from_first size least row each h = grouped_trim from_first size least
+    (flat_map (becomes drops false plus digits letter) row) (row_mapped drops plus digits letter row each h)
+
+form_trims : (drops plus : Bool) (digits letter : Option Case) (closes : Bool) (size least : ℕ) (numeral x : List ℕ)
+    → FloatForm numeral x
+    → IsTrim numeral → IsTrim (float_in_groups closes (becomes drops false plus digits letter) (Groups size least)
+    numeral)
+form_trims drops plus digits letter true size least numeral x (inl (d, h, e, n)) t =
     let f : ℕ → List ℕ = becomes drops false plus digits letter in
-    let is = pointed_is drops plus digits letter numeral d [] e in
-    ap trimmed is ∙ trimmed_join (flat_map f d) (46 ∷ []) refl ∙ sym is
-form_trims drops plus digits letter numeral x (inr (inl (d, z, h, k, e, n))) t =
+    let is = at_dot f true size least numeral d h e in
+    ap trimmed is ∙ trimmed_join (Groups size least false (flat_map f d)) (46 ∷ 48 ∷ []) refl ∙ sym is
+form_trims drops plus digits letter false size least numeral x (inl (d, h, e, n)) t =
     let f : ℕ → List ℕ = becomes drops false plus digits letter in
-    let is = pointed_is drops plus digits letter numeral d z e in
+    let is = at_dot f false size least numeral d h e in
+    ap trimmed is ∙ trimmed_join (Groups size least false (flat_map f d)) (46 ∷ []) refl ∙ sym is
+form_trims drops plus digits letter closes size least numeral x (inr (inl (d, z, h, k, e, n))) t =
+    let f : ℕ → List ℕ = becomes drops false plus digits letter in
+    let is = at_point f closes size least numeral d z h k e in
     let last : IsTrim z = tail_trims (46 ∷ []) z (digits_some_only z k) (tail_trims d (46 ∷ z) refl (subst IsTrim e t))
     in
-    ap trimmed is ∙ trimmed_join (flat_map f d) (46 ∷ flat_map f z) refl
-    ∙ ap (λ y. flat_map f d ++ (46 ∷ y)) (row_mapped drops plus digits letter z k.1 last) ∙ sym is
-form_trims drops plus digits letter numeral x (inr (inr (d, e, h, s, inl n))) t =
+    ap trimmed is
+    ∙ trimmed_join (Groups size least false (flat_map f d)) (46 ∷ Groups size least true (flat_map f z)) refl
+    ∙ ap (λ y. Groups size least false (flat_map f d) ++ (46 ∷ y))
+    (row_trims drops plus digits letter true size least z k.1 last) ∙ sym is
+form_trims drops plus digits letter closes size least numeral x (inr (inr (d, e, h, s, inl n))) t =
     let f : ℕ → List ℕ = becomes drops false plus digits letter in
     let m = exponent_mapped drops plus digits letter e s (tail_trims d e (exponent_only e s) (subst IsTrim n t)) in
-    let is : flat_map f numeral ≡ flat_map f d ++ flat_map f e = ap (flat_map f) n ∙ flat_map-append f d e in
-    ap trimmed is ∙ trimmed_join (flat_map f d) (flat_map f e) m.1 ∙ ap (λ y. flat_map f d ++ y) m.0 ∙ sym is
-form_trims drops plus digits letter numeral x (inr (inr (d, e, h, s, inr (z, k, n)))) t =
+    let whole : List ℕ = Groups size least false (flat_map f d) in
+    let is = at_power f closes size least numeral d e h s n in
+    ap trimmed is ∙ trimmed_join whole (flat_map f e) m.1 ∙ ap (λ y. whole ++ y) m.0 ∙ sym is
+form_trims drops plus digits letter closes size least numeral x (inr (inr (d, e, h, s, inr (z, k, n)))) t =
     let f : ℕ → List ℕ = becomes drops false plus digits letter in
-    let front : List ℕ = d ++ (46 ∷ z) in
-    let m = exponent_mapped drops plus digits letter e s (tail_trims front e (exponent_only e s) (subst IsTrim n t)) in
-    let is : flat_map f numeral ≡ flat_map f front ++ flat_map f e = ap (flat_map f) n ∙ flat_map-append f front e in
-    ap trimmed is ∙ trimmed_join (flat_map f front) (flat_map f e) m.1 ∙ ap (λ y. flat_map f front ++ y) m.0 ∙ sym is
+    let m = exponent_mapped drops plus digits letter e s (tail_trims (d ++ (46 ∷ z)) e (exponent_only e s)
+    (subst IsTrim n t)) in
+    let front : List ℕ = Groups size least false (flat_map f d) ++ (46 ∷ Groups size least true (flat_map f z)) in
+    let is : float_in_groups closes f (Groups size least) numeral ≡ front ++ flat_map f e =
+    at_point_power f closes size least numeral d z e h k s (n ∙ append_assoc d (46 ∷ z) e)
+    ∙ sym (append_assoc (Groups size least false (flat_map f d)) (46 ∷ Groups size least true (flat_map f z))
+    (flat_map f e)) in
+    ap trimmed is ∙ trimmed_join front (flat_map f e) m.1 ∙ ap (λ y. front ++ y) m.0 ∙ sym is
 
 numeral_trims : (style : Style) (x numeral : List ℕ) → FloatForm numeral x → trims_by style.suffix_separator x ≡ true
-    → IsTrim (new_numeral style x numeral)
+    → IsTrim (styled_numeral style x numeral)
 numeral_trims style x numeral form h =
     let kept : List ℕ = kept_row style x numeral in
     let short : IsTrim kept = subst IsTrim (sym (ap (λ b. cond b (trimmed numeral) numeral) h)) (trimmed_again numeral)
     in
-    form_trims (drops_underscores style x) style.exponent_plus style.hex_digits style.exponent_letter kept x
-    (kept_form style numeral x form).form short
+    form_trims (drops_underscores style x) style.exponent_plus style.hex_digits style.exponent_letter style.float_zero
+    (Size style x) (Least style) kept x (kept_form style numeral x form).form short
+
+-- a row that was written
+row_stays_so : (drops plus : Bool) (digits letter : Option Case) (from_first : Bool) (size least : ℕ) (d : List ℕ)
+    → IsDigits d
+    → Groups size least from_first (flat_map (becomes drops false plus digits letter)
+    (Groups size least from_first (flat_map (becomes drops false plus digits letter) d)))
+    ≡ Groups size least from_first (flat_map (becomes drops false plus digits letter) d)
+row_stays_so drops plus digits letter from_first size least d h =
+    let f : ℕ → List ℕ = becomes drops false plus digits letter in
+    let new : List ℕ = Groups size least from_first (flat_map f d) in
+    again_grouped drops false plus digits letter from_first size least (flat_map f d)
+    (twice drops false plus digits letter d)
+    (plain_of f new (keeps_of f new (row_stays (is_row_part is_ascii_digit) drops plus digits letter new refl refl refl
+    (row_is drops plus digits letter from_first size least d h).1)))
+
+numeral_stays : (drops plus : Bool) (digits letter : Option Case) (closes : Bool) (size least : ℕ) (numeral x : List ℕ)
+    → FloatForm numeral x
+    → float_in_groups closes (becomes drops false plus digits letter) (Groups size least)
+    (float_in_groups closes (becomes drops false plus digits letter) (Groups size least) numeral)
+    ≡ float_in_groups closes (becomes drops false plus digits letter) (Groups size least) numeral
+numeral_stays drops plus digits letter true size least numeral x (inl (d, h, e, n)) =
+    let f : ℕ → List ℕ = becomes drops false plus digits letter in
+    let whole : List ℕ = Groups size least false (flat_map f d) in
+    let is = at_dot f true size least numeral d h e in
+    at_point f true size least _ whole (48 ∷ []) (row_is drops plus digits letter false size least d h) (refl, refl) is
+    ∙ ap (λ y. y ++ (46 ∷ Groups size least true (flat_map f (48 ∷ []))))
+    (row_stays_so drops plus digits letter false size least d h)
+    ∙ ap (λ y. whole ++ (46 ∷ Groups size least true (y ++ []))) (stays drops plus digits letter 48 refl refl refl refl)
+    ∙ ap (λ y. whole ++ (46 ∷ y)) (grouped_one true size least 48 refl) ∙ sym is
+numeral_stays drops plus digits letter false size least numeral x (inl (d, h, e, n)) =
+    let f : ℕ → List ℕ = becomes drops false plus digits letter in
+    let whole : List ℕ = Groups size least false (flat_map f d) in
+    let is = at_dot f false size least numeral d h e in
+    at_dot f false size least _ whole (row_is drops plus digits letter false size least d h) is
+    ∙ ap (λ y. y ++ (46 ∷ [])) (row_stays_so drops plus digits letter false size least d h) ∙ sym is
+numeral_stays drops plus digits letter closes size least numeral x (inr (inl (d, z, h, k, e, n))) =
+    let f : ℕ → List ℕ = becomes drops false plus digits letter in
+    let whole : List ℕ = Groups size least false (flat_map f d) in
+    let fraction : List ℕ = Groups size least true (flat_map f z) in
+    let is = at_point f closes size least numeral d z h k e in
+    at_point f closes size least _ whole fraction (row_is drops plus digits letter false size least d h)
+    (row_is drops plus digits letter true size least z k) is
+    ∙ ap (λ y. y ++ (46 ∷ Groups size least true (flat_map f fraction)))
+    (row_stays_so drops plus digits letter false size least d h)
+    ∙ ap (λ y. whole ++ (46 ∷ y)) (row_stays_so drops plus digits letter true size least z k) ∙ sym is
+numeral_stays drops plus digits letter closes size least numeral x (inr (inr (d, e, h, s, inl n))) =
+    let f : ℕ → List ℕ = becomes drops false plus digits letter in
+    let whole : List ℕ = Groups size least false (flat_map f d) in
+    let is = at_power f closes size least numeral d e h s n in
+    at_power f closes size least _ whole (flat_map f e) (row_is drops plus digits letter false size least d h)
+    (exponent_is drops plus digits letter e s).exponent is
+    ∙ ap (λ y. y ++ flat_map f (flat_map f e)) (row_stays_so drops plus digits letter false size least d h)
+    ∙ ap (λ y. whole ++ y) (twice drops false plus digits letter e) ∙ sym is
+numeral_stays drops plus digits letter closes size least numeral x (inr (inr (d, e, h, s, inr (z, k, n)))) =
+    let f : ℕ → List ℕ = becomes drops false plus digits letter in
+    let whole : List ℕ = Groups size least false (flat_map f d) in
+    let fraction : List ℕ = Groups size least true (flat_map f z) in
+    let is = at_point_power f closes size least numeral d z e h k s (n ∙ append_assoc d (46 ∷ z) e) in
+    at_point_power f closes size least _ whole fraction (flat_map f e)
+    (row_is drops plus digits letter false size least d h)
+    (row_is drops plus digits letter true size least z k) (exponent_is drops plus digits letter e s).exponent is
+    ∙ ap (λ y. y ++ (46 ∷ (Groups size least true (flat_map f fraction) ++ flat_map f (flat_map f e))))
+    (row_stays_so drops plus digits letter false size least d h)
+    ∙ ap (λ y. whole ++ (46 ∷ (y ++ flat_map f (flat_map f e))))
+    (row_stays_so drops plus digits letter true size least z k)
+    ∙ ap (λ y. whole ++ (46 ∷ (fraction ++ y))) (twice drops false plus digits letter e) ∙ sym is
 
 pub float_stays : (style : Style) (t u : List ℕ) → RewritesFloat style t u → RewritesFloat style u u
 float_stays style t u c =
     let x : List ℕ = c.suffix in
     let f : ℕ → List ℕ = number_character style (drops_underscores style x) false in
     let end : List ℕ = separator style x ++ x in
-    let new : List ℕ = new_numeral style x c.float.numeral in
+    let new : List ℕ = styled_numeral style x c.float.numeral in
     let same : kept_row style x (new ++ separator style x) ≡ new = row_again style.suffix_separator x new
     (numeral_trims style x c.float.numeral c.float.form) in
+    let again : styled_numeral style x (new ++ separator style x) ≡ new =
+    ap (float_in_groups style.float_zero f (Groups (Size style x) (Least style))) same
+    ∙ numeral_stays (drops_underscores style x) style.exponent_plus style.hex_digits style.exponent_letter
+    style.float_zero (Size style x) (Least style) (kept_row style x c.float.numeral) x
+    (kept_form style c.float.numeral x c.float.form).form in
     record {
-      contents = c.contents;
+      contents = Digits (new_digits style c.float.numeral x c.float.form);
       suffix = x;
       float = written style t u c.contents x c.float c.new_is;
-      new_is = c.new_is ∙ ap (λ z. z ++ end) (sym (ap (flat_map f) same ∙ twice (drops_underscores style x) false
-          style.exponent_plus style.hex_digits style.exponent_letter (kept_row style x c.float.numeral)));
+      new_is = c.new_is ∙ ap (λ z. z ++ end) (sym again);
     }
 
--- it has the shape of the old one
+-- it has the shape of the old one, but for the zero
 pub same_shape : (style : Style) (t u : List ℕ) (v : Contents) (x : List ℕ) (s : StrictFloat t v x)
-    → (e : u ≡ new_numeral style x s.numeral ++ (separator style x ++ x))
-    → shape_of (new_numeral style x s.numeral ++ separator style x) x (written style t u v x s e).form
-    ≡ shape_of s.numeral x s.form
+    → (e : u ≡ styled_numeral style x s.numeral ++ (separator style x ++ x))
+    → shape_of (styled_numeral style x s.numeral ++ separator style x) x (written style t u v x s e).form
+    ≡ closed_shape (shape_of s.numeral x s.form) style.float_zero
 same_shape style t u v x s e = (new_form style s.numeral x s.form).same_shape

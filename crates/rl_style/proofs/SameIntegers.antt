@@ -1,41 +1,24 @@
 -- An integer written anew is the same literal.
-use Rattle.rl_text.proofs.Common.{◌≡◌, ℕ, ◌⊎◌, Bool, true, false, not, ◌==◌, ◌&&◌, cond, nat_lt, List, [], ◌∷◌, ◌++◌, refl, sym, ap, subst, ◌∙◌, inl, inr, append_assoc, append-nil, list_all-append, and_from, and_parts, cases_Bool, digit_value, eqb-true, is_ascii_digit, list_all, list_any, flat_map, Some, None}
+use Rattle.rl_text.proofs.Common.{◌≡◌, ℕ, ◌⊎◌, Bool, true, false, not, ◌==◌, ◌&&◌, ◌||◌, cond, nat_lt, List, [], ◌∷◌, ◌++◌, refl, sym, ap, subst, ◌∙◌, inl, inr, append_assoc, append-nil, list_all-append, and_from, and_parts, cases_Bool, digit_value, eqb-true, or_parts, is_ascii_digit, list_all, list_any, flat_map, Some, None}
 use Rattle.std.specs.Prelude.{Option}
 use Rattle.rl_text.specs.Texts.{first_passes, is_row_part}
-use Rattle.rl_reading.proofs.Names.{flat_map-append}
 use Rattle.rl_forms.specs.declared.kind.Kind.TheVariants.{Int}
 use Rattle.rl_forms.specs.Reading.{Contents, Digits}
 use Rattle.rl_forms.specs.Strict.{BasedPrefix, IsDecimalText, IsDigits, StrictInt, dec}
 use Rattle.rl_lexer.specs.Lexemes.{is_base_letter}
-use Rattle.rl_style.specs.declared.style.Case.{Case}
-use Rattle.rl_style.specs.declared.style.Case.TheVariants.{Lower, Upper}
 use Rattle.rl_style.specs.declared.style.Style.{Style}
-use Rattle.rl_style.specs.Cases.{drops_underscores, drops_zeros, kept_digits, kept_row, number_character, separator, significant, trimmed, trims_by}
-use Rattle.rl_style.specs.Rewriting.{SameLiteral, RewritesInt}
+use Rattle.rl_style.specs.Cases.{drops_underscores, drops_zeros, is_padding, kept_digits, kept_row, number_character, or_zero, separator, significant, trimmed, trims_by}
+use Rattle.rl_text.specs.Classes.{after_run}
+use Rattle.rl_style.specs.declared.style.DigitGroups.{DigitGroups}
+use Rattle.rl_style.specs.Groups.{base_group, grouped_row, least_by, regrouped, size_by}
+use Rattle.rl_style.specs.Rewriting.{SameLiteral, RewritesInt, styled_row}
 use Rattle.rl_forms.specs.Spelling.{place_value, without_underscores}
-use Rattle.rl_style.proofs.LeadingZeros.{significant_again, significant_all, significant_digits, significant_number, significant_some}
+use Rattle.rl_style.proofs.LeadingZeros.{left, significant_again, significant_all, significant_digits, significant_left, significant_none, significant_number, significant_some}
 use Rattle.rl_style.proofs.CaseLemmas.{none_right}
+use Rattle.rl_style.proofs.GroupRows.{plus_free}
+use Rattle.rl_style.proofs.Regrouped.{again_grouped, grouped_all, grouped_digits, grouped_first, grouped_kept, grouped_one, grouped_some, grouped_trim, plain_of, ungrouped}
 use Rattle.rl_style.proofs.Trimmed.{IsTrim, any_left, base_kept, digits_join, mapped_trim, row_again, separator_all, separator_gone, significant_trim, trimmed_again, trimmed_all, trimmed_digits, trimmed_filter, trimmed_some}
-use Rattle.rl_style.proofs.NumberCharacters.{RowKeeps, RowStays, becomes, decimal_by, digits_stay, each_kept, hex_keeps, keeps_of, number_kept, of_base, row_kept, row_stays, some_kept, stays, twice}
-
--- ---- the prefix
-
-hex_prefix : (drops plus : Bool) (digits letter : Option Case)
-    → flat_map (becomes drops true plus digits letter) (48 ∷ 120 ∷ []) ≡ 48 ∷ 120 ∷ []
-hex_prefix true plus None letter = refl
-hex_prefix true plus (Some Lower) letter = refl
-hex_prefix true plus (Some Upper) letter = refl
-hex_prefix false plus None letter = refl
-hex_prefix false plus (Some Lower) letter = refl
-hex_prefix false plus (Some Upper) letter = refl
-
-other_prefix : (drops plus : Bool) (digits letter : Option Case) (c : ℕ) → (c == 95) ≡ false → (c == 43) ≡ false
-    → (c == 69) ≡ false → (c == 101) ≡ false
-    → flat_map (becomes drops false plus digits letter) (48 ∷ c ∷ []) ≡ 48 ∷ c ∷ []
-other_prefix drops plus digits letter c n p u l =
-    ap (λ z. z ++ flat_map (becomes drops false plus digits letter) (c ∷ []))
-    (stays drops plus digits letter 48 refl refl refl refl)
-    ∙ ap (λ z. 48 ∷ (z ++ [])) (stays drops plus digits letter c n p u l)
+use Rattle.rl_style.proofs.NumberCharacters.{RowKeeps, RowStays, decimal_by, digits_stay, each_kept, hex_keeps, keeps_of, number_kept, of_base, row_kept, row_stays, some_kept, stays, twice}
 
 -- ---- digits without the zeros in front
 
@@ -97,10 +80,9 @@ zero_facts style base x row h some = go (drops_zeros style base x) refl
 abbrev pub kept_of_row : Style → ℕ → List ℕ → List ℕ → List ℕ
 kept_of_row style base x row = kept_digits style base x (kept_row style x row)
 
--- ---- prefix and digits by the base
+-- ---- digits by the base
 
-pub record IntegerFacts (style : Style) (drops : Bool) (base : ℕ) (prefix row : List ℕ) : Type 0 where
-  pub prefix_is : flat_map (number_character style drops (base == 16)) prefix ≡ prefix
+pub record IntegerFacts (style : Style) (drops : Bool) (base : ℕ) (row : List ℕ) : Type 0 where
   pub keeps : RowKeeps (number_character style drops (base == 16)) row
   pub underscore : nat_lt (digit_value 95) base ≡ false
 
@@ -112,37 +94,28 @@ small_row style drops base row p u l h = row_stays (is_row_part (of_base base)) 
     style.exponent_letter row p u l h
 
 pub integer_facts : (style : Style) (drops : Bool) (t : List ℕ) (v : Contents) (x row : List ℕ) → (i : StrictInt t v x)
-    → row_of i.base row → IntegerFacts style drops i.base i.prefix row
+    → row_of i.base row → IntegerFacts style drops i.base row
 integer_facts style drops t v x row i each = go i.is_front
   where
-    of : (b : ℕ) → i.base ≡ b → (row_of b row → IntegerFacts style drops b i.prefix row)
-        → IntegerFacts style drops i.base i.prefix row
-    of b e f = subst (λ z. IntegerFacts style drops z i.prefix row) (sym e) (f (subst (λ z. row_of z row) e each))
+    of : (b : ℕ) → i.base ≡ b → (row_of b row → IntegerFacts style drops b row)
+        → IntegerFacts style drops i.base row
+    of b e f = subst (λ z. IntegerFacts style drops z row) (sym e) (f (subst (λ z. row_of z row) e each))
 
     go : ((i.prefix ≡ []) × (i.base ≡ 10) × IsDigits i.row × IsDecimalText t) ⊎ BasedPrefix i.prefix i.base
-        → IntegerFacts style drops i.base i.prefix row
+        → IntegerFacts style drops i.base row
     go (inl f) = of 10 f.1 (λ h. record {
-      prefix_is = ap (flat_map (number_character style drops false)) f.0 ∙ sym f.0;
       keeps = keeps_of (number_character style drops false) row (small_row style drops 10 row refl refl refl h);
       underscore = refl;
     })
     go (inr (inl b)) = of 2 b.1 (λ h. record {
-      prefix_is = ap (flat_map (number_character style drops false)) b.0
-          ∙ other_prefix drops style.exponent_plus style.hex_digits style.exponent_letter 98 refl refl refl refl
-          ∙ sym b.0;
       keeps = keeps_of (number_character style drops false) row (small_row style drops 2 row refl refl refl h);
       underscore = refl;
     })
     go (inr (inr (inl b))) = of 8 b.1 (λ h. record {
-      prefix_is = ap (flat_map (number_character style drops false)) b.0
-          ∙ other_prefix drops style.exponent_plus style.hex_digits style.exponent_letter 111 refl refl refl refl
-          ∙ sym b.0;
       keeps = keeps_of (number_character style drops false) row (small_row style drops 8 row refl refl refl h);
       underscore = refl;
     })
     go (inr (inr (inr b))) = of 16 b.1 (λ h. record {
-      prefix_is = ap (flat_map (number_character style drops true)) b.0
-          ∙ hex_prefix drops style.exponent_plus style.hex_digits style.exponent_letter ∙ sym b.0;
       keeps = hex_keeps drops style.exponent_plus style.hex_digits style.exponent_letter row;
       underscore = refl;
     })
@@ -155,15 +128,50 @@ row_facts style t v x i =
     facts_then i.base i.row (kept_row style x i.row) (kept_of_row style i.base x i.row) kept
     (zero_facts style i.base x (kept_row style x i.row) kept.each kept.some)
 
--- prefix and digits, apart
-pub parts_apart : (style : Style) (t : List ℕ) (v : Contents) (x row : List ℕ) → (i : StrictInt t v x)
-    → row_of i.base row
-    → flat_map (number_character style (drops_underscores style x) (i.base == 16)) (i.prefix ++ row)
-    ≡ i.prefix ++ flat_map (number_character style (drops_underscores style x) (i.base == 16)) row
-parts_apart style t v x row i each =
-    let f : ℕ → List ℕ = number_character style (drops_underscores style x) (i.base == 16) in
-    flat_map-append f i.prefix row
-    ∙ ap (λ z. z ++ flat_map f row) (integer_facts style (drops_underscores style x) t v x row i each).prefix_is
+-- the digits that are kept, written anew
+abbrev pub new_row : Style → Bool → ℕ → List ℕ → List ℕ → List ℕ
+new_row style hex base x row = flat_map (number_character style (drops_underscores style x) hex)
+    (kept_of_row style base x row)
+
+-- no plus stands in a row
+pub integer_plus : (t : List ℕ) (v : Contents) (x row : List ℕ) → (i : StrictInt t v x) → row_of i.base row
+    → list_all (λ c. not (c == 43)) row ≡ true
+integer_plus t v x row i each = go i.is_front
+  where
+    of : (b : ℕ) → i.base ≡ b → is_row_part (of_base b) 43 ≡ false → list_all (λ c. not (c == 43)) row ≡ true
+    of b e n = plus_free (is_row_part (of_base b)) row n (subst (λ z. row_of z row) e each)
+
+    go : ((i.prefix ≡ []) × (i.base ≡ 10) × IsDigits i.row × IsDecimalText t) ⊎ BasedPrefix i.prefix i.base
+        → list_all (λ c. not (c == 43)) row ≡ true
+    go (inl f) = of 10 f.1 refl
+    go (inr (inl b)) = of 2 b.1 refl
+    go (inr (inr (inl b))) = of 8 b.1 refl
+    go (inr (inr (inr b))) = of 16 b.1 refl
+
+-- ---- in groups
+
+-- what groups keep of a row
+pub in_row_facts : (style : Style) (base : ℕ) (x row : List ℕ) → of_base base 95 ≡ false → row_of base row
+    → list_any (of_base base) row ≡ true → RowFacts base row (grouped_row false style base x row)
+in_row_facts style base x row n h some =
+    let size : ℕ = size_by style.digit_groups base x in
+    let least : ℕ = least_by style.digit_groups in
+    record {
+      each = grouped_all (is_row_part (of_base base)) false size least row (or_true (of_base base 95)) h;
+      some = grouped_some (of_base base) false size least row n some;
+      number = ap (place_value base) (grouped_kept (λ c. not (c == 95)) false size least row refl);
+      digits = grouped_digits false size least row;
+    }
+  where
+    or_true : (b : Bool) → (b || true) ≡ true
+    or_true true = refl
+    or_true false = refl
+
+-- in front of a base's letter there are none
+no_groups : (groups : Option DigitGroups) (base : ℕ) (x : List ℕ) → first_passes is_base_letter x ≡ true
+    → size_by groups base x ≡ 0
+no_groups None base x h = refl
+no_groups (Some groups) base x h = ap (λ b. cond b 0 (base_group groups base)) h
 
 -- ---- of base ten
 
@@ -178,20 +186,22 @@ kept_zeros style base x h = ap (λ b. (style.leading_zeros && base == 10) && not
 
 pub decimal_front : (style : Style) (t : List ℕ) (v : Contents) (x : List ℕ) → (i : StrictInt t v x) → i.prefix ≡ []
     → IsDigits i.row → IsDecimalText t
-    → IsDigits (flat_map (number_character style (drops_underscores style x) false) (kept_of_row style i.base x i.row)
-    ++ separator style x)
-    × IsDecimalText ((flat_map (number_character style (drops_underscores style x) false)
-    (kept_of_row style i.base x i.row) ++ separator style x) ++ x)
+    → IsDigits (grouped_row false style i.base x (new_row style false i.base x i.row) ++ separator style x)
+    × IsDecimalText ((grouped_row false style i.base x (new_row style false i.base x i.row) ++ separator style x) ++ x)
 decimal_front style t v x i e d h =
     let drops : Bool = drops_underscores style x in
     let row : List ℕ = kept_of_row style i.base x i.row in
     let sep : List ℕ = separator style x in
+    let size : ℕ = size_by style.digit_groups i.base x in
+    let least : ℕ = least_by style.digit_groups in
     let kept : IsDigits row = (row_facts style t v x i).digits d in
     let stay = row_stays (is_row_part is_ascii_digit) drops style.exponent_plus style.hex_digits style.exponent_letter
     row
     refl refl refl kept.1 in
-    let new : List ℕ = flat_map (number_character style drops false) row in
-    let digits = digits_stay (number_character style drops false) row stay kept in (
+    let bare : List ℕ = flat_map (number_character style drops false) row in
+    let new : List ℕ = grouped_row false style i.base x bare in
+    let digits = grouped_digits false size least bare (digits_stay (number_character style drops false) row stay kept)
+    in (
       digits_join new sep digits (separator_all is_ascii_digit style.suffix_separator x),
       elim (cases_Bool (first_passes is_base_letter (sep ++ x))) [
         | inl a ↦
@@ -201,7 +211,8 @@ decimal_front style t v x i e d h =
             let whole : row ≡ i.row = ap (λ b. cond b (significant (kept_row style x i.row)) (kept_row style x i.row))
             (kept_zeros style i.base x base.2) ∙ untrimmed in
             let same : new ≡ i.row =
-            ap (λ b. flat_map (number_character style b false) row) none
+            ungrouped false size least bare (no_groups style.digit_groups i.base x base.2)
+            ∙ ap (λ b. flat_map (number_character style b false) row) none
             ∙ row_kept (is_row_part is_ascii_digit) style.exponent_plus style.hex_digits style.exponent_letter row refl
             refl
             refl kept.1 ∙ whole in
@@ -215,12 +226,11 @@ decimal_front style t v x i e d h =
 
 -- ---- the literal
 
-pub regrouped : (p r s x : List ℕ) → (p ++ r) ++ (s ++ x) ≡ (p ++ (r ++ s)) ++ x
-regrouped p r s x = simp append_assoc
+pub regrouped_text : (p r s x : List ℕ) → p ++ (r ++ (s ++ x)) ≡ (p ++ (r ++ s)) ++ x
+regrouped_text p r s x = simp append_assoc
 
 abbrev pub written : (style : Style) (t u : List ℕ) (v : Contents) (x : List ℕ) (i : StrictInt t v x) → u
-    ≡ flat_map (number_character style (drops_underscores style x) (i.base == 16))
-    (i.prefix ++ kept_of_row style i.base x i.row) ++ (separator style x ++ x) → StrictInt u v x
+    ≡ i.prefix ++ (styled_row style i.base x i.row ++ (separator style x ++ x)) → StrictInt u v x
 written style t u v x i e =
     let drops : Bool = drops_underscores style x in
     let row : List ℕ = kept_of_row style i.base x i.row in
@@ -228,35 +238,34 @@ written style t u v x i e =
     let f : ℕ → List ℕ = number_character style drops (i.base == 16) in
     let kept = row_facts style t v x i in
     let facts = integer_facts style drops t v x row i kept.each in
-    let text : u ≡ (i.prefix ++ (flat_map f row ++ sep)) ++ x = e
-    ∙ ap (λ z. z ++ (sep ++ x)) (parts_apart style t v x row i kept.each)
-    ∙ regrouped i.prefix (flat_map f row) sep x in
+    let new : List ℕ = styled_row style i.base x i.row in
+    let groups = in_row_facts style i.base x (flat_map f row) facts.underscore
+    (each_kept f i.base row facts.keeps kept.each) (some_kept f i.base row facts.keeps facts.underscore ∙ kept.some) in
+    let text : u ≡ (i.prefix ++ (new ++ sep)) ++ x = e ∙ regrouped_text i.prefix new sep x in
     record {
       prefix = i.prefix;
       base = i.base;
-      row = flat_map f row ++ sep;
+      row = new ++ sep;
       is_front = elim i.is_front [
         | inl g ↦
             let front = decimal_front style t v x i g.0 g.2 g.3 in
             let hex : (i.base == 16) ≡ false = ap (λ z. z == 16) g.1 in
-            let Row : Bool → List ℕ = λ b. flat_map (number_character style drops b) row ++ sep in
+            let Row : Bool → List ℕ = λ b. grouped_row false style i.base x (new_row style b i.base x i.row) ++ sep in
             let is : u ≡ Row false ++ x = text ∙ ap (λ z. (z ++ Row (i.base == 16)) ++ x) g.0
             ∙ ap (λ b. Row b ++ x) hex in
             inl (g.0, g.1, subst (λ b. IsDigits (Row b)) (sym hex) front.0, subst IsDecimalText (sym is) front.1)
         | inr g ↦ inr g
       ];
-      each = list_all-append (is_row_part (of_base i.base)) (flat_map f row) sep
-          ∙ and_from _ _ (each_kept f i.base row facts.keeps kept.each)
-          (separator_all (of_base i.base) style.suffix_separator x);
-      some = any_left (of_base i.base) (flat_map f row) sep
-          (some_kept f i.base row facts.keeps facts.underscore ∙ kept.some);
+      each = list_all-append (is_row_part (of_base i.base)) new sep
+          ∙ and_from _ _ groups.each (separator_all (of_base i.base) style.suffix_separator x);
+      some = any_left (of_base i.base) new sep groups.some;
       suffix = i.suffix;
       no_exponent = i.no_exponent;
       no_digit = i.no_digit;
       text = text;
       contents = i.contents ∙ ap (λ n. Digits (dec n)) (sym (ap (place_value i.base)
-          (separator_gone (λ c. not (c == 95)) style.suffix_separator x (flat_map f row) refl)
-          ∙ number_kept f i.base row facts.keeps ∙ kept.number));
+          (separator_gone (λ c. not (c == 95)) style.suffix_separator x new refl)
+          ∙ groups.number ∙ number_kept f i.base row facts.keeps ∙ kept.number));
     }
 
 pub integer_same : (style : Style) (t u : List ℕ) → RewritesInt style t u → SameLiteral t u
@@ -314,6 +323,34 @@ row_trims style t v x i h =
     go true = significant_trim short short_trims
     go false = short_trims
 
+-- nor in front of groups
+significant_groups : (size least : ℕ) (row : List ℕ) → significant row ≡ row
+    → significant (regrouped false size least row) ≡ regrouped false size least row
+significant_groups size least row same =
+    elim (left row) [
+      | inl e ↦
+          let is : row ≡ 48 ∷ [] = sym same ∙ significant_none row e in
+          let new : regrouped false size least row ≡ 48 ∷ [] = ap (regrouped false size least) is
+          ∙ grouped_one false size least 48 refl in
+          ap significant new ∙ sym new
+      | inr l ↦
+          let is : row ≡ l.first ∷ l.rest = sym same ∙ significant_left row l in
+          let b = grouped_first false size least l.first l.rest (or_parts (l.first == 48) (l.first == 95) l.other).1 in
+          let new : regrouped false size least row ≡ l.first ∷ b.rest = ap (regrouped false size least) is ∙ b.is in
+          ap significant new
+          ∙ ap (λ k. or_zero (cond k (after_run is_padding b.rest) (l.first ∷ b.rest))) l.other ∙ sym new
+    ]
+
+zeros_groups : (style : Style) (base : ℕ) (x row : List ℕ) → kept_digits style base x row ≡ row
+    → kept_digits style base x (grouped_row false style base x row) ≡ grouped_row false style base x row
+zeros_groups style base x row same = go (drops_zeros style base x) same
+  where
+    go : (b : Bool) → cond b (significant row) row ≡ row
+        → cond b (significant (grouped_row false style base x row)) (grouped_row false style base x row)
+        ≡ grouped_row false style base x row
+    go true h = significant_groups (size_by style.digit_groups base x) (least_by style.digit_groups) row h
+    go false h = refl
+
 pub integer_stays : (style : Style) (t u : List ℕ) → RewritesInt style t u → RewritesInt style u u
 integer_stays style t u c =
     let i = c.int in
@@ -323,23 +360,31 @@ integer_stays style t u c =
     let f : ℕ → List ℕ = number_character style drops (i.base == 16) in
     let short : List ℕ = kept_row style x i.row in
     let row : List ℕ = kept_of_row style i.base x i.row in
-    let new : List ℕ = flat_map f row in
-    let whole : List ℕ = i.prefix ++ row in
+    let bare : List ℕ = flat_map f row in
+    let new : List ℕ = styled_row style i.base x i.row in
+    let size : ℕ = size_by style.digit_groups i.base x in
+    let least : ℕ = least_by style.digit_groups in
     let facts = row_facts style t c.contents x i in
-    let front : flat_map f whole ≡ i.prefix ++ new = parts_apart style t c.contents x row i facts.each in
-    let again : flat_map f (i.prefix ++ new) ≡ flat_map f whole =
-    ap (flat_map f) (sym front) ∙ twice drops (i.base == 16) style.exponent_plus style.hex_digits
-    style.exponent_letter whole in
+    let of_row = integer_facts style drops t c.contents x row i facts.each in
+    let groups = in_row_facts style i.base x bare of_row.underscore (each_kept f i.base row of_row.keeps facts.each)
+    (some_kept f i.base row of_row.keeps of_row.underscore ∙ facts.some) in
     let kept : kept_row style x (new ++ sep) ≡ new = row_again style.suffix_separator x new
-    (row_trims style t c.contents x i) in
+    (λ h. grouped_trim false size least bare (row_trims style t c.contents x i h)) in
     let each : row_of i.base short = (kept_facts style i.base x i.row i.each i.some
     (integer_facts style false t c.contents x i.row i i.each).underscore).each in
-    let same : kept_of_row style i.base x (new ++ sep) ≡ new = ap (kept_digits style i.base x) kept
-    ∙ zeros_again style drops i.base x short each in
+    let zeros : kept_digits style i.base x new ≡ new = zeros_groups style i.base x bare
+    (zeros_again style drops i.base x short each) in
+    let same : bare ≡ flat_map f bare = sym (twice drops (i.base == 16) style.exponent_plus style.hex_digits
+    style.exponent_letter row) in
+    let again : grouped_row false style i.base x (flat_map f new) ≡ new = again_grouped drops (i.base == 16)
+    style.exponent_plus style.hex_digits style.exponent_letter false size least bare (sym same)
+    (plain_of f new (integer_facts style drops t c.contents x new i groups.each).keeps) in
+    let whole : styled_row style i.base x (new ++ sep) ≡ new =
+    ap (λ z. grouped_row false style i.base x (flat_map f (kept_digits style i.base x z))) kept
+    ∙ ap (λ z. grouped_row false style i.base x (flat_map f z)) zeros ∙ again in
     record {
       contents = c.contents;
       suffix = x;
       int = written style t u c.contents x i c.new_is;
-      new_is = c.new_is ∙ ap (λ z. z ++ (sep ++ x)) (sym again)
-          ∙ ap (λ z. flat_map f (i.prefix ++ z) ++ (sep ++ x)) (sym same);
+      new_is = c.new_is ∙ ap (λ z. i.prefix ++ (z ++ (sep ++ x))) (sym whole);
     }

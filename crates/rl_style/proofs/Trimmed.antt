@@ -52,7 +52,7 @@ trimmed_some test (c ∷ cs) n = go (only (c ∷ cs)) refl (trimmed_some test cs
 abbrev pub kept_of : (ℕ → Bool) → List ℕ → List ℕ
 kept_of test cs = filter test cs
 
-none_of : (test : ℕ → Bool) (cs : List ℕ) → test 95 ≡ false → only cs ≡ true → kept_of test cs ≡ []
+pub none_of : (test : ℕ → Bool) (cs : List ℕ) → test 95 ≡ false → only cs ≡ true → kept_of test cs ≡ []
 none_of test [] n h = refl
 none_of test (c ∷ cs) n h =
     let p = and_parts (c == 95) (only cs) h in
@@ -101,14 +101,14 @@ some_not_only test cs n h =
 abbrev pub IsTrim : List ℕ → Type 0
 IsTrim cs = trimmed cs ≡ cs
 
-none_trim : (c : ℕ) (cs : List ℕ) → IsTrim (c ∷ cs) → only (c ∷ cs) ≡ false
+pub none_trim : (c : ℕ) (cs : List ℕ) → IsTrim (c ∷ cs) → only (c ∷ cs) ≡ false
 none_trim c cs h =
     elim (cases_Bool (only (c ∷ cs))) [
       | inl a ↦ absurd (let e : [] ≡ c ∷ cs = sym (ap (λ b. cond b [] (c ∷ trimmed cs)) a) ∙ h in cc)
       | inr a ↦ a
     ]
 
-trim_tail : (c : ℕ) (cs : List ℕ) → IsTrim (c ∷ cs) → IsTrim cs
+pub trim_tail : (c : ℕ) (cs : List ℕ) → IsTrim (c ∷ cs) → IsTrim cs
 trim_tail c cs h =
     let e : c ∷ trimmed cs ≡ c ∷ cs = sym (ap (λ b. cond b [] (c ∷ trimmed cs)) (none_trim c cs h)) ∙ h in
     cc

@@ -1,10 +1,10 @@
 -- Numbers as they were written.
-use Rattle.rl_text.proofs.Common.{◌≡◌, ℕ, ◌||◌, ◌&&◌, Bool, true, false, not, ◌==◌, cond, List, [], ◌∷◌, ◌++◌, Some, None, refl, sym, ap, subst, ◌∙◌, inl, inr, arith, append_assoc, append-nil, append_cancel_right, and_from, and_parts, flat_map, scalar, encode_utf8_all, encodes-append, encodes-chars, IsUtf8}
+use Rattle.rl_text.proofs.Common.{◌≡◌, ℕ, ◌||◌, ◌&&◌, Bool, true, false, not, ◌==◌, cond, List, [], ◌∷◌, ◌++◌, ◌+◌, length, eqb-true, cases_Bool, Some, None, refl, sym, ap, subst, ◌∙◌, inl, inr, arith, append_assoc, append_cancel_right, and_from, and_parts, flat_map, list_all, scalar, encode_utf8_all, encodes-append, encodes-chars, IsUtf8}
 use Rattle.std.specs.Prelude.{Option}
 use Rattle.std.specs.Str.{chars}
 use Rattle.std.proofs.Math.Utf8.{scalars}
 use Rattle.std.proofs.lemmas.Str.{scalars-chars}
-use Rattle.rl_reading.proofs.Names.{flat_map-append, Binary, Hexadecimal, Octal}
+use Rattle.rl_reading.proofs.Names.{Binary, Hexadecimal, Octal}
 use Rattle.rl_forms.specs.Reading.{Contents}
 use Rattle.rl_forms.specs.Strict.{StrictFloat, StrictInt}
 use Rattle.rl_reading.specs.Mirrors.NumberAt.{radix_at}
@@ -14,19 +14,23 @@ use Rattle.rl_style.specs.declared.style.Case.TheVariants.{Lower, Upper}
 use Rattle.rl_style.specs.declared.style.Separator.{Separator}
 use Rattle.rl_style.specs.declared.style.Separator.TheVariants.{Nothing, Underscore}
 use Rattle.rl_style.specs.declared.style.Style.{Style}
-use Rattle.rl_style.specs.Cases.{cased, drops_underscores, drops_zeros, exponent_letter, kept_digits, kept_row, number_character, separator, separator_by, significant}
-use Rattle.rl_text.specs.Texts.{first_passes}
+use Rattle.rl_style.specs.Cases.{cased, drops_underscores, drops_zeros, exponent_letter, kept_digits, kept_row, number_character, separator, separator_by}
+use Rattle.rl_text.specs.Texts.{first_passes, is_row_part}
 use Rattle.rl_text.proofs.Common.{is_ascii_digit}
-use Rattle.rl_style.specs.Rewriting.{RewritesFloat, RewritesInt}
+use Rattle.rl_style.specs.Groups.{after_dot, digit_run, fraction_in_groups, float_in_groups, grouped_row, least_by, regrouped, size_by}
+use Rattle.rl_style.specs.Rewriting.{RewritesFloat, RewritesInt, styled_row}
+use Rattle.rl_text.specs.Classes.{after_run}
 use denote.Bor.{Bor}
 use Rattle.rl_reasons.specs.declared.read_numbers.Number.{Number}
 use Rattle.rl_reasons.specs.declared.read_numbers.Number.TheVariants.{Integer, Float}
 use Rattle.rl_reasons.specs.StrictNumbersRead.{IsNumberRead}
 use Rattle.rl_style.proofs.CaseLemmas.{cased_scalar}
-use Rattle.rl_style.proofs.NumberCharacters.{of_base}
-use Rattle.rl_style.proofs.SameIntegers.{integer_facts, zeros_ten}
-use Rattle.rl_style.proofs.Trimmed.{kept_join, only, some_not_only}
-use Rattle.rl_style.proofs.WrittenTexts.{scalars_join, text_of}
+use Rattle.rl_style.proofs.SameIntegers.{integer_plus, kept_of_row, row_facts, zeros_ten}
+use Rattle.rl_style.proofs.Trimmed.{kept_first}
+use Rattle.rl_style.proofs.Regrouped.{grouped_all}
+use Rattle.rl_style.proofs.WrittenTexts.{between_texts, scalars_join, text_of}
+use Rattle.rl_writing.proofs.AsciiLemmas.{encoded_low, low_chars}
+use Rattle.rl_style.specs.declared.characters.Manner.{Manner}
 
 -- ---- the base
 
@@ -48,6 +52,23 @@ base_found t v x i =
           | inr b ↦ ap radix_of (text ∙ ap (λ z. z ++ w) b.0) ∙ ap (λ (p : ℕ × List ℕ). p.0)
               (radix_past Hexadecimal w tt).0
               ∙ sym b.1
+        ]
+      ]
+    ]
+
+pub digits_found : (t : List ℕ) (v : Contents) (x : List ℕ) (i : StrictInt t v x) → (radix_at t).1 ≡ i.row ++ x
+digits_found t v x i =
+    let w : List ℕ = i.row ++ x in
+    let text : t ≡ i.prefix ++ w = i.text ∙ append_assoc i.prefix i.row x in
+    let after : List ℕ → List ℕ = λ z. (radix_at z).1 in
+    elim i.is_front [
+      | inl f ↦ ap (λ (p : ℕ × List ℕ). p.1) (not_based t f.3) ∙ text ∙ ap (λ z. z ++ w) f.0
+      | inr f ↦ elim f [
+        | inl g ↦ ap after (text ∙ ap (λ z. z ++ w) g.0) ∙ ap (λ (p : ℕ × List ℕ). p.1) (radix_past Binary w tt).0
+        | inr g ↦ elim g [
+          | inl b ↦ ap after (text ∙ ap (λ z. z ++ w) b.0) ∙ ap (λ (p : ℕ × List ℕ). p.1) (radix_past Octal w tt).0
+          | inr b ↦ ap after (text ∙ ap (λ z. z ++ w) b.0)
+              ∙ ap (λ (p : ℕ × List ℕ). p.1) (radix_past Hexadecimal w tt).0
         ]
       ]
     ]
@@ -101,25 +122,89 @@ separator_scalars (Some Underscore) (c ∷ cs) = refl
 abbrev pub ended : Style → List ℕ → List ℕ
 ended style suffix = encode_utf8_all (separator style (chars suffix)) ++ suffix
 
-abbrev Written : Style → List ℕ → List ℕ → List ℕ → Bool → Bool → Type 0
-Written style numeral suffix new drops hex =
-    new ≡ encode_utf8_all (flat_map (number_character style drops hex) (chars numeral)) ++ ended style suffix
+scalars_all : (cs : List ℕ) → scalars cs ≡ list_all scalar cs
+scalars_all [] = refl
+scalars_all (c ∷ cs) = ap (λ b. scalar c && b) (scalars_all cs)
 
-number_text : (style : Style) (numeral suffix new : List ℕ) (drops hex : Bool) → IsUtf8 numeral → IsUtf8 suffix
-    → Written style numeral suffix new drops hex
-    → IsUtf8 new × (chars new ≡ flat_map (number_character style drops hex) (chars numeral)
-    ++ (separator style (chars suffix) ++ chars suffix))
-number_text style numeral suffix new drops hex un us e =
-    let front : List ℕ = flat_map (number_character style drops hex) (chars numeral) in
+row_scalars : (from_first : Bool) (size least : ℕ) (cs : List ℕ) → scalars cs ≡ true
+    → scalars (regrouped from_first size least cs) ≡ true
+row_scalars from_first size least cs h = scalars_all (regrouped from_first size least cs)
+    ∙ grouped_all scalar from_first size least cs refl (sym (scalars_all cs) ∙ h)
+
+pub integer_scalars : (style : Style) (drops hex : Bool) (size least : ℕ) (cs : List ℕ) → scalars cs ≡ true
+    → scalars (regrouped false size least (flat_map (number_character style drops hex) cs)) ≡ true
+integer_scalars style drops hex size least cs h = row_scalars false size least _ (numeral_scalars style drops hex cs h)
+
+run_scalars : (cs : List ℕ) → scalars cs ≡ true → (scalars (digit_run cs) ≡ true)
+    × (scalars (after_run (is_row_part is_ascii_digit) cs) ≡ true)
+run_scalars [] h = (refl, refl)
+run_scalars (c ∷ cs) h =
+    let p = and_parts (scalar c) (scalars cs) h in
+    go (is_row_part is_ascii_digit c) p.0 (run_scalars cs p.1)
+  where
+    go : (b : Bool) → scalar c ≡ true
+        → (scalars (digit_run cs) ≡ true) × (scalars (after_run (is_row_part is_ascii_digit) cs) ≡ true)
+        → (scalars (cond b (c ∷ digit_run cs) []) ≡ true)
+        × (scalars (cond b (after_run (is_row_part is_ascii_digit) cs) (c ∷ cs)) ≡ true)
+    go true k more = (and_from (scalar c) (scalars (digit_run cs)) k more.0, more.1)
+    go false k more = (refl, h)
+
+dot_scalars : (closes : Bool) (style : Style) (drops : Bool) (size least : ℕ) (cs : List ℕ) → scalars cs ≡ true
+    → scalars (after_dot closes (number_character style drops false) (regrouped true size least) cs) ≡ true
+dot_scalars true style drops size least [] h = refl
+dot_scalars false style drops size least [] h = refl
+dot_scalars closes style drops size least (c ∷ cs) h =
+    let f : ℕ → List ℕ = number_character style drops false in
+    let q = run_scalars (c ∷ cs) h in
+    let row : List ℕ = flat_map f (digit_run (c ∷ cs)) in
+    let rest : List ℕ = flat_map f (after_run (is_row_part is_ascii_digit) (c ∷ cs)) in
+    scalars_join (regrouped true size least row) rest
+    (row_scalars true size least row (numeral_scalars style drops false (digit_run (c ∷ cs)) q.0))
+    (numeral_scalars style drops false (after_run (is_row_part is_ascii_digit) (c ∷ cs)) q.1)
+
+fraction_scalars : (closes : Bool) (style : Style) (drops : Bool) (size least : ℕ) (cs : List ℕ) → scalars cs ≡ true
+    → scalars (fraction_in_groups closes (number_character style drops false) (regrouped true size least) cs) ≡ true
+fraction_scalars closes style drops size least [] h = refl
+fraction_scalars closes style drops size least (c ∷ cs) h = go (c == 46)
+  where
+    f : ℕ → List ℕ
+    f = number_character style drops false
+
+    go : (b : Bool) → scalars (cond b (c ∷ after_dot closes f (regrouped true size least) cs) (flat_map f (c ∷ cs)))
+        ≡ true
+    go true =
+        let p = and_parts (scalar c) (scalars cs) h in
+        and_from (scalar c) (scalars (after_dot closes f (regrouped true size least) cs)) p.0
+        (dot_scalars closes style drops size least cs p.1)
+    go false = numeral_scalars style drops false (c ∷ cs) h
+
+pub float_scalars : (closes : Bool) (style : Style) (drops : Bool) (size least : ℕ) (cs : List ℕ) → scalars cs ≡ true
+    → scalars (float_in_groups closes (number_character style drops false)
+    (λ from_first. regrouped from_first size least) cs) ≡ true
+float_scalars closes style drops size least cs h =
+    let q = run_scalars cs h in
+    let row : List ℕ = flat_map (number_character style drops false) (digit_run cs) in
+    let rest : List ℕ = after_run (is_row_part is_ascii_digit) cs in
+    scalars_join (regrouped false size least row)
+    (fraction_in_groups closes (number_character style drops false) (regrouped true size least) rest)
+    (row_scalars false size least row (numeral_scalars style drops false (digit_run cs) q.0))
+    (fraction_scalars closes style drops size least rest q.1)
+
+abbrev Written : Style → List ℕ → List ℕ → List ℕ → List ℕ → Type 0
+Written style front middle suffix new = new ≡ (front ++ encode_utf8_all middle) ++ ended style suffix
+
+number_text : (style : Style) (front middle suffix new : List ℕ) → IsUtf8 front → IsUtf8 suffix → scalars middle ≡ true
+    → Written style front middle suffix new
+    → IsUtf8 new × (chars new ≡ chars front ++ (middle ++ (separator style (chars suffix) ++ chars suffix)))
+number_text style front middle suffix new u us h e =
     let end = followed (separator style (chars suffix)) suffix (ended style suffix) us
     (separator_scalars style.suffix_separator (chars suffix)) refl in
-    let whole = followed front (ended style suffix) new end.0
-    (numeral_scalars style drops hex (chars numeral) (scalars-chars numeral un)) e in
-    (whole.0, whole.1 ∙ ap (λ z. front ++ z) end.1)
+    let whole = between_texts front middle (ended style suffix) new u end.0 h e in
+    (whole.0, whole.1 ∙ ap (λ z. chars front ++ (middle ++ z)) end.1)
 
-pub number_utf8 : (style : Style) (numeral suffix new : List ℕ) (drops hex : Bool) → IsUtf8 numeral → IsUtf8 suffix
-    → Written style numeral suffix new drops hex → IsUtf8 new
-number_utf8 style numeral suffix new drops hex un us e = (number_text style numeral suffix new drops hex un us e).0
+pub number_utf8 : (style : Style) (front middle suffix new : List ℕ) → IsUtf8 front → IsUtf8 suffix
+    → scalars middle ≡ true → Written style front middle suffix new → IsUtf8 new
+number_utf8 style front middle suffix new u us h e = (number_text style front middle suffix new u us h e).0
 
 -- what stands before the suffix, of base ten
 ten_prefix : (t : List ℕ) (v : Contents) (x : List ℕ) (i : StrictInt t v x) → i.base ≡ 10 → i.prefix ≡ []
@@ -135,84 +220,56 @@ ten_prefix t v x i h =
       ]
     ]
 
--- prefix and digits, without what the style drops at the end
-kept_numeral : (style : Style) (t : List ℕ) (v : Contents) (x full numeral : List ℕ) (i : StrictInt t v x)
-    → t ≡ full ++ x → numeral ≡ kept_row style x full → numeral ≡ i.prefix ++ kept_row style x i.row
-kept_numeral style t v x full numeral i cut kept =
-    let front : full ≡ i.prefix ++ i.row = append_cancel_right full (i.prefix ++ i.row) x (sym cut ∙ i.text) in
-    let some : only i.row ≡ false = some_not_only (of_base i.base) i.row
-    (integer_facts style false t v x i.row i i.each).underscore i.some in
-    kept ∙ ap (kept_row style x) front ∙ kept_join style x i.prefix i.row some
+-- where the digits of an integer stand
+pub digits_cut : (text digits suffix full : List ℕ) (base : ℕ) (v : Contents)
+    → ◌≡◌ {A = ℕ × List ℕ} (base, chars digits) (radix_at (chars text))
+    → chars digits ≡ chars full ++ chars suffix → (i : StrictInt (chars text) v (chars suffix))
+    → (base ≡ i.base) × (chars full ≡ i.row)
+digits_cut text digits suffix full base v at cut i = (
+  ap (λ (p : ℕ × List ℕ). p.0) at ∙ base_found (chars text) v (chars suffix) i,
+  append_cancel_right (chars full) i.row (chars suffix)
+      (sym cut ∙ ap (λ (p : ℕ × List ℕ). p.1) at ∙ digits_found (chars text) v (chars suffix) i),
+)
 
--- the digits are kept, or they are without the zeros in front
-pub integer_whole : (style : Style) (text full numeral suffix new : List ℕ) (base : ℕ) (drops : Bool) (v : Contents)
-    → IsUtf8 numeral → IsUtf8 suffix → base ≡ radix_of (chars text) → drops ≡ drops_underscores style (chars suffix)
-    → drops_zeros style base (chars suffix) ≡ false → chars text ≡ chars full ++ chars suffix
-    → chars numeral ≡ kept_row style (chars suffix) (chars full)
-    → Written style numeral suffix new drops (base == 16) → StrictInt (chars text) v (chars suffix)
-    → RewritesInt style (chars text) (chars new)
-integer_whole style text full numeral suffix new base drops v un us b d zeros cut kept e i =
-    let base_is : base ≡ i.base = b ∙ base_found (chars text) v (chars suffix) i in
+pub integer_written : (style : Style) (text digits suffix full whole row front new : List ℕ) (base : ℕ) (v : Contents)
+    → IsUtf8 front → IsUtf8 suffix → IsUtf8 row → ◌≡◌ {A = ℕ × List ℕ} (base, chars digits) (radix_at (chars text))
+    → chars digits ≡ chars full ++ chars suffix → chars whole ≡ kept_row style (chars suffix) (chars full)
+    → chars row ≡ kept_digits style base (chars suffix) (chars whole) → chars text ≡ chars front ++ chars digits
+    → Written style front (grouped_row false style base (chars suffix)
+    (flat_map (number_character style (drops_underscores style (chars suffix)) (base == 16)) (chars row))) suffix new
+    → StrictInt (chars text) v (chars suffix) → IsUtf8 new × RewritesInt style (chars text) (chars new)
+integer_written style text digits suffix full whole row front new base v u us ur at cut kept zeros before e i =
     let x : List ℕ = chars suffix in
-    let short : List ℕ = kept_row style x i.row in
+    let p = digits_cut text digits suffix full base v at cut i in
     let end : List ℕ = separator style x ++ x in
-    let none : drops_zeros style i.base x ≡ false = ap (λ z. drops_zeros style z x) (sym base_is) ∙ zeros in
-    let same : short ≡ kept_digits style i.base x short = sym (ap (λ z. cond z (significant short) short) none) in
-    let front : chars numeral ≡ i.prefix ++ short = kept_numeral style (chars text) v x (chars full) (chars numeral) i
-    cut kept in
-    record {
-      contents = v;
-      suffix = x;
-      int = i;
-      new_is = (number_text style numeral suffix new drops (base == 16) un us e).1
-          ∙ ap (λ z. flat_map (number_character style drops (base == 16)) z ++ end) front
-          ∙ ap (λ z. flat_map (number_character style drops (z == 16)) (i.prefix ++ short) ++ end) base_is
-          ∙ ap (λ z. flat_map (number_character style z (i.base == 16)) (i.prefix ++ short) ++ end) d
-          ∙ ap (λ z. flat_map (number_character style (drops_underscores style x) (i.base == 16)) (i.prefix ++ z)
-          ++ end) same;
-    }
+    let Of : ℕ → List ℕ → List ℕ = λ b z. grouped_row false style b x
+    (flat_map (number_character style (drops_underscores style x) (b == 16)) z) in
+    let t = number_text style front (Of base (chars row)) suffix new u us (integer_scalars style
+    (drops_underscores style x) (base == 16) (size_by style.digit_groups base x) (least_by style.digit_groups)
+    (chars row) (scalars-chars row ur)) e in
+    let row_is : chars row ≡ kept_digits style base x (kept_row style x i.row) = zeros
+    ∙ ap (kept_digits style base x) (kept ∙ ap (kept_row style x) p.1) in
+    let front_is : chars front ≡ i.prefix = append_cancel_right (chars front) i.prefix (i.row ++ x)
+    (ap (λ z. chars front ++ z) (sym (cut ∙ ap (λ z. z ++ x) p.1)) ∙ sym before ∙ i.text
+    ∙ append_assoc i.prefix i.row x) in (
+      t.0,
+      record {
+        contents = v;
+        suffix = x;
+        int = i;
+        new_is = t.1 ∙ ap (λ z. z ++ (Of base (chars row) ++ end)) front_is
+            ∙ ap (λ z. i.prefix ++ (Of base z ++ end)) row_is
+            ∙ ap (λ b. i.prefix ++ (styled_row style b x i.row ++ end)) p.0;
+      },
+    )
 
-pub integer_trimmed : (style : Style) (text full numeral digits suffix new : List ℕ) (base : ℕ) (drops : Bool)
-    (v : Contents)
-    → IsUtf8 digits → IsUtf8 suffix → base ≡ radix_of (chars text) → drops ≡ drops_underscores style (chars suffix)
-    → drops_zeros style base (chars suffix) ≡ true → chars text ≡ chars full ++ chars suffix
-    → chars numeral ≡ kept_row style (chars suffix) (chars full)
-    → chars digits ≡ significant (chars numeral) → Written style digits suffix new drops false
-    → StrictInt (chars text) v (chars suffix) → RewritesInt style (chars text) (chars new)
-integer_trimmed style text full numeral digits suffix new base drops v ud us b d zeros cut kept short e i =
-    let base_is : base ≡ i.base = b ∙ base_found (chars text) v (chars suffix) i in
-    let x : List ℕ = chars suffix in
-    let end : List ℕ = separator style x ++ x in
-    let row : List ℕ = kept_row style x i.row in
-    let all : drops_zeros style i.base x ≡ true = ap (λ z. drops_zeros style z x) (sym base_is) ∙ zeros in
-    let ten : i.base ≡ 10 = zeros_ten style i.base x all in
-    let none = ten_prefix (chars text) v x i ten in
-    let front : chars numeral ≡ row = kept_numeral style (chars text) v x (chars full) (chars numeral) i cut kept
-    ∙ ap (λ z. z ++ row) none in
-    let is : chars digits ≡ i.prefix ++ kept_digits style i.base x row =
-    short ∙ ap significant front ∙ sym (ap (λ z. cond z (significant row) row) all)
-    ∙ ap (λ z. z ++ kept_digits style i.base x row) (sym none) in
-    let Of : Bool → Bool → List ℕ = λ a h. flat_map (number_character style a h)
-    (i.prefix ++ kept_digits style i.base x row) ++ end in
-    record {
-      contents = v;
-      suffix = x;
-      int = i;
-      new_is = (number_text style digits suffix new drops false ud us e).1
-          ∙ ap (λ z. flat_map (number_character style drops false) z ++ end) is
-          ∙ ap (λ z. Of drops (z == 16)) (sym ten) ∙ ap (λ z. Of z (i.base == 16)) d;
-    }
-
--- an integer's numeral begins with a digit
-pub integer_digit : (t : List ℕ) (numeral x : List ℕ) (v : Contents) → StrictInt t v x → t ≡ numeral ++ x
-    → (radix_at t).0 ≡ 10 → first_passes is_ascii_digit numeral ≡ true
-integer_digit t numeral x v i cut b =
-    let ten : i.base ≡ 10 = sym (base_found t v x i) ∙ b in
-    let none = ten_prefix t v x i ten in
-    let front : numeral ≡ i.row = append_cancel_right numeral i.row x
-    (sym cut ∙ i.text ∙ ap (λ z. (z ++ i.row) ++ x) none) in
+-- the digits of an integer of base ten begin with one
+integer_digit : (style : Style) (t : List ℕ) (base : ℕ) (x : List ℕ) (v : Contents) (i : StrictInt t v x)
+    → base ≡ i.base → drops_zeros style base x ≡ true → first_passes is_ascii_digit i.row ≡ true
+integer_digit style t base x v i is h =
+    let ten : i.base ≡ 10 = sym is ∙ zeros_ten style base x h in
     elim i.is_front [
-      | inl f ↦ ap (first_passes is_ascii_digit) front ∙ f.2.0
+      | inl f ↦ f.2.0
       | inr f ↦ elim f [
         | inl g ↦ absurd (let c = g.1 in omega (arith, c, ten))
         | inr g ↦ elim g [
@@ -222,34 +279,195 @@ integer_digit t numeral x v i cut b =
       ]
     ]
 
-pub float_written : (style : Style) (text full numeral suffix new : List ℕ) (drops : Bool) (v : Contents)
-    → IsUtf8 numeral → IsUtf8 suffix → drops ≡ drops_underscores style (chars suffix)
+pub whole_digit : (style : Style) (text digits suffix full whole : List ℕ) (base : ℕ) (v : Contents)
+    → ◌≡◌ {A = ℕ × List ℕ} (base, chars digits) (radix_at (chars text)) → chars digits ≡ chars full ++ chars suffix
+    → chars whole ≡ kept_row style (chars suffix) (chars full) → StrictInt (chars text) v (chars suffix)
+    → drops_zeros style base (chars suffix) ≡ true → first_passes is_ascii_digit (chars whole) ≡ true
+whole_digit style text digits suffix full whole base v at cut kept i h =
+    let p = digits_cut text digits suffix full base v at cut i in
+    ap (first_passes is_ascii_digit) (kept ∙ ap (kept_row style (chars suffix)) p.1)
+    ∙ kept_first style (chars suffix) i.row (integer_digit style (chars text) base (chars suffix) v i p.0 h)
+
+-- no plus stands in them
+pub row_plus : (style : Style) (text digits suffix full whole row : List ℕ) (base : ℕ) (v : Contents)
+    → ◌≡◌ {A = ℕ × List ℕ} (base, chars digits) (radix_at (chars text)) → chars digits ≡ chars full ++ chars suffix
+    → chars whole ≡ kept_row style (chars suffix) (chars full)
+    → chars row ≡ kept_digits style base (chars suffix) (chars whole) → StrictInt (chars text) v (chars suffix)
+    → list_all (λ c. not (c == 43)) (chars row) ≡ true
+row_plus style text digits suffix full whole row base v at cut kept zeros i =
+    let x : List ℕ = chars suffix in
+    let p = digits_cut text digits suffix full base v at cut i in
+    let is : chars row ≡ kept_of_row style i.base x i.row = zeros
+    ∙ ap (kept_digits style base x) (kept ∙ ap (kept_row style x) p.1)
+    ∙ ap (λ b. kept_digits style b x (kept_row style x i.row)) p.0 in
+    ap (list_all (λ c. not (c == 43))) is
+    ∙ integer_plus (chars text) v x (kept_of_row style i.base x i.row) i (row_facts style (chars text) v x i).each
+
+pub float_written : (style : Style) (text full numeral suffix new : List ℕ) (v : Contents)
+    → IsUtf8 numeral → IsUtf8 suffix
     → chars text ≡ chars full ++ chars suffix → chars numeral ≡ kept_row style (chars suffix) (chars full)
-    → Written style numeral suffix new drops false → StrictFloat (chars text) v (chars suffix)
-    → RewritesFloat style (chars text) (chars new)
-float_written style text full numeral suffix new drops v un us d cut kept e f =
+    → Written style [] (float_in_groups style.float_zero (number_character style
+    (drops_underscores style (chars suffix)) false)
+    (λ from_first. grouped_row from_first style 10 (chars suffix)) (chars numeral)) suffix new
+    → StrictFloat (chars text) v (chars suffix)
+    → IsUtf8 new × RewritesFloat style (chars text) (chars new)
+float_written style text full numeral suffix new v un us cut kept e f =
     let x : List ℕ = chars suffix in
     let end : List ℕ = separator style x ++ x in
     let front : chars full ≡ f.numeral = append_cancel_right (chars full) f.numeral x (sym cut ∙ f.text) in
-    record {
-      contents = v;
-      suffix = x;
-      float = f;
-      new_is = (number_text style numeral suffix new drops false un us e).1
-          ∙ ap (λ z. flat_map (number_character style drops false) z ++ end) (kept ∙ ap (kept_row style x) front)
-          ∙ ap (λ z. flat_map (number_character style z false) (kept_row style x f.numeral) ++ end) d;
-    }
+    let Of : List ℕ → List ℕ = λ z. float_in_groups style.float_zero
+    (number_character style (drops_underscores style x) false)
+    (λ from_first. grouped_row from_first style 10 x) z in
+    let t = number_text style [] (Of (chars numeral)) suffix new empty_utf8 us (float_scalars style.float_zero style
+    (drops_underscores style x) (size_by style.digit_groups 10 x) (least_by style.digit_groups) (chars numeral)
+    (scalars-chars numeral un)) e in (
+      t.0,
+      record {
+        contents = v;
+        suffix = x;
+        float = f;
+        new_is = t.1 ∙ ap (λ z. z ++ (Of (chars numeral) ++ end)) (low_chars [] refl)
+            ∙ ap (λ z. Of z ++ end) (kept ∙ ap (kept_row style x) front);
+      },
+    )
+  where
+    empty_utf8 : IsUtf8 []
+    empty_utf8 = ([], (refl, refl))
 
--- one character more
-pub numeral_more : (style : Style) (drops hex : Bool) (a b one xs : List ℕ) (c : ℕ) → a
-    ≡ encode_utf8_all (flat_map (number_character style drops hex) xs)
-    → one ≡ encode_utf8_all (number_character style drops hex c) → b ≡ a ++ one
-    → b ≡ encode_utf8_all (flat_map (number_character style drops hex) (xs ++ (c ∷ [])))
-numeral_more style drops hex a b one xs c e h w =
-    let f : ℕ → List ℕ = number_character style drops hex in
-    let all : List ℕ = flat_map f xs in
-    w ∙ ap (λ z. z ++ one) e ∙ ap (λ z. encode_utf8_all all ++ z) h ∙ sym (encodes-append all (f c))
-    ∙ ap encode_utf8_all (sym (flat_map-append f xs (c ∷ []) ∙ ap (λ z. all ++ z) (append-nil (f c))))
+-- ---- put into a slice, one after the other
+
+-- what is left to be put, and what was put
+pub one_more : (whole taken new one rest : List ℕ) → whole ≡ taken ++ encode_utf8_all (one ++ rest)
+    → new ≡ taken ++ encode_utf8_all one → whole ≡ new ++ encode_utf8_all rest
+one_more whole taken new one rest e h =
+    e ∙ ap (λ z. taken ++ z) (encodes-append one rest)
+    ∙ sym (append_assoc taken (encode_utf8_all one) (encode_utf8_all rest))
+    ∙ ap (λ z. z ++ encode_utf8_all rest) (sym h)
+
+-- a digit, and an underscore after it
+pub digit_marked : (old first new one : List ℕ) (b : Bool) → first ≡ old ++ encode_utf8_all one
+    → new ≡ first ++ (95 ∷ []) → b ≡ true → new ≡ old ++ encode_utf8_all (one ++ cond b (95 ∷ []) [])
+digit_marked old first new one b e h is =
+    h ∙ ap (λ z. z ++ (95 ∷ [])) e ∙ append_assoc old (encode_utf8_all one) (95 ∷ [])
+    ∙ ap (λ z. old ++ (encode_utf8_all one ++ z)) (sym (encoded_low (95 ∷ []) refl))
+    ∙ ap (λ z. old ++ z) (sym (encodes-append one (95 ∷ [])))
+    ∙ ap (λ z. old ++ encode_utf8_all (one ++ cond z (95 ∷ []) [])) (sym is)
+
+-- a text that begins with a dot
+pub dotted : (text inside prefix : List ℕ) → IsUtf8 text → IsUtf8 inside → prefix ≡ 46 ∷ []
+    → chars text ≡ chars prefix ++ chars inside
+    → (length text ≡ 1 + length inside) × (chars text ≡ 46 ∷ chars inside)
+dotted text inside prefix ut ui is e =
+    let whole : chars text ≡ 46 ∷ chars inside = e
+    ∙ ap (λ z. z ++ chars inside) (ap chars is ∙ low_chars (46 ∷ []) refl) in
+    let bytes : text ≡ 46 ∷ inside = sym (encodes-chars text ut) ∙ ap encode_utf8_all whole
+    ∙ encodes-append (46 ∷ []) (chars inside)
+    ∙ ap (λ z. z ++ encode_utf8_all (chars inside)) (encoded_low (46 ∷ []) refl)
+    ∙ ap (λ z. 46 ∷ z) (encodes-chars inside ui) in
+    (let n = ap length bytes in omega (arith, n), whole)
+
+-- and one that doesn't
+pub undotted : (closes : Bool) (f : ℕ → List ℕ) (g : List ℕ → List ℕ) (cs prefix : List ℕ) → prefix ≡ 46 ∷ []
+    → ((x : List ℕ) → cs ≡ chars prefix ++ x → ⊥) → fraction_in_groups closes f g cs ≡ flat_map f cs
+undotted closes f g [] prefix is none = refl
+undotted closes f g (c ∷ cs) prefix is none =
+    elim (cases_Bool (c == 46)) [
+      | inl a ↦ absurd (none cs (ap (λ z. z ∷ cs) (eqb-true c 46 a)
+          ∙ ap (λ z. z ++ cs) (sym (ap chars is ∙ low_chars (46 ∷ []) refl))))
+      | inr a ↦ ap (λ b. cond b (c ∷ after_dot closes f g cs) (flat_map f (c ∷ cs))) a
+    ]
+
+-- nothing follows the dot, or something does
+pub none_put : (closes : Bool) (f : ℕ → List ℕ) (g : List ℕ → List ℕ) (old new cs : List ℕ)
+    → new ≡ old ++ encode_utf8_all (cond closes (48 ∷ []) []) → cs ≡ []
+    → new ≡ old ++ encode_utf8_all (after_dot closes f g cs)
+none_put closes f g old new cs e is = e ∙ ap (λ z. old ++ encode_utf8_all (after_dot closes f g z)) (sym is)
+
+dot_some : (closes : Bool) (f : ℕ → List ℕ) (g : List ℕ → List ℕ) (cs rest : List ℕ) (c : ℕ) → cs ≡ c ∷ rest
+    → after_dot closes f g cs
+    ≡ g (flat_map f (digit_run cs)) ++ flat_map f (after_run (is_row_part is_ascii_digit) cs)
+dot_some closes f g cs rest c e = ap (after_dot closes f g) e
+    ∙ ap (λ z. g (flat_map f (digit_run z)) ++ flat_map f (after_run (is_row_part is_ascii_digit) z)) (sym e)
+
+pub some_put : (closes : Bool) (f : ℕ → List ℕ) (g : List ℕ → List ℕ) (old second third cs row rest more : List ℕ)
+    (c : ℕ) → second ≡ old ++ encode_utf8_all (g (flat_map f row))
+    → third ≡ second ++ encode_utf8_all (flat_map f rest) → row ≡ digit_run cs
+    → rest ≡ after_run (is_row_part is_ascii_digit) cs → cs ≡ c ∷ more
+    → third ≡ old ++ encode_utf8_all (after_dot closes f g cs)
+some_put closes f g old second third cs row rest more c b t r s is =
+    let part : List ℕ = g (flat_map f (digit_run cs)) in
+    let last : List ℕ = flat_map f (after_run (is_row_part is_ascii_digit) cs) in
+    t ∙ ap (λ z. z ++ encode_utf8_all (flat_map f rest)) b
+    ∙ append_assoc old (encode_utf8_all (g (flat_map f row))) (encode_utf8_all (flat_map f rest))
+    ∙ ap (λ z. old ++ (encode_utf8_all (g (flat_map f z)) ++ encode_utf8_all (flat_map f rest))) r
+    ∙ ap (λ z. old ++ (encode_utf8_all part ++ encode_utf8_all (flat_map f z))) s
+    ∙ ap (λ z. old ++ z) (sym (encodes-append part last))
+    ∙ ap (λ z. old ++ encode_utf8_all z) (sym (dot_some closes f g cs more c is))
+
+pub fraction_put : (closes : Bool) (f : ℕ → List ℕ) (g : List ℕ → List ℕ) (old first second text cs : List ℕ)
+    → first ≡ old ++ (46 ∷ []) → second ≡ first ++ encode_utf8_all (after_dot closes f g cs) → text ≡ 46 ∷ cs
+    → second ≡ old ++ encode_utf8_all (fraction_in_groups closes f g text)
+fraction_put closes f g old first second text cs a b t =
+    let more : List ℕ = after_dot closes f g cs in
+    b ∙ ap (λ z. z ++ encode_utf8_all more) a ∙ append_assoc old (46 ∷ []) (encode_utf8_all more)
+    ∙ ap (λ z. old ++ (z ++ encode_utf8_all more)) (sym (encoded_low (46 ∷ []) refl))
+    ∙ ap (λ z. old ++ z) (sym (encodes-append (46 ∷ []) more))
+    ∙ ap (λ z. old ++ encode_utf8_all (fraction_in_groups closes f g z)) (sym t)
+
+-- ---- in the manner of the style
+
+pub float_put : (style : Style) (manner : Manner) (cs row rest first second third suffix : List ℕ)
+    → manner.style ≡ style → manner.drops ≡ drops_underscores style (chars suffix)
+    → manner.hex ≡ false → manner.size ≡ size_by style.digit_groups 10 (chars suffix)
+    → first ≡ encode_utf8_all (regrouped false manner.size (least_by manner.style.digit_groups)
+    (flat_map (number_character manner.style manner.drops manner.hex) row))
+    → second ≡ first ++ encode_utf8_all (fraction_in_groups manner.style.float_zero
+    (number_character manner.style manner.drops manner.hex)
+    (regrouped true manner.size (least_by manner.style.digit_groups)) rest)
+    → third ≡ second ++ ended style suffix → row ≡ digit_run cs → rest ≡ after_run (is_row_part is_ascii_digit) cs
+    → Written style [] (float_in_groups style.float_zero (number_character style
+    (drops_underscores style (chars suffix)) false)
+    (λ from_first. grouped_row from_first style 10 (chars suffix)) cs) suffix third
+float_put style manner cs row rest first second third suffix e d h z a b c r s =
+    let Of : Style → Bool → Bool → ℕ → List ℕ = λ t drops hex size. float_in_groups t.float_zero
+    (number_character t drops hex)
+    (λ from_first. regrouped from_first size (least_by t.digit_groups)) cs in
+    let f : ℕ → List ℕ = number_character manner.style manner.drops manner.hex in
+    let G : Bool → List ℕ → List ℕ = λ from_first. regrouped from_first manner.size
+    (least_by manner.style.digit_groups) in
+    let same : Of manner.style manner.drops manner.hex manner.size ≡ Of style (drops_underscores style (chars suffix))
+    false (size_by style.digit_groups 10 (chars suffix)) =
+    ap (λ t. Of t manner.drops manner.hex manner.size) e ∙ ap (λ t. Of style t manner.hex manner.size) d
+    ∙ ap (λ t. Of style (drops_underscores style (chars suffix)) t manner.size) h
+    ∙ ap (Of style (drops_underscores style (chars suffix)) false) z in
+    c ∙ ap (λ y. y ++ ended style suffix) (b
+    ∙ ap (λ y. y ++ encode_utf8_all (fraction_in_groups manner.style.float_zero f (G true) rest)) a
+    ∙ sym (encodes-append (G false (flat_map f row)) (fraction_in_groups manner.style.float_zero f (G true) rest))
+    ∙ ap (λ y. encode_utf8_all (G false (flat_map f y) ++ fraction_in_groups manner.style.float_zero f (G true) rest)) r
+    ∙ ap (λ y. encode_utf8_all (G false (flat_map f (digit_run cs))
+    ++ fraction_in_groups manner.style.float_zero f (G true) y)) s
+    ∙ ap encode_utf8_all same)
+
+pub integer_put : (style : Style) (manner : Manner) (base : ℕ) (row front first second third suffix : List ℕ)
+    → manner.style ≡ style → manner.drops ≡ drops_underscores style (chars suffix)
+    → manner.hex ≡ (base == 16) → manner.size ≡ size_by style.digit_groups base (chars suffix)
+    → first ≡ front
+    → second ≡ first ++ encode_utf8_all (regrouped false manner.size (least_by manner.style.digit_groups)
+    (flat_map (number_character manner.style manner.drops manner.hex) row))
+    → third ≡ second ++ ended style suffix
+    → Written style front (grouped_row false style base (chars suffix)
+    (flat_map (number_character style (drops_underscores style (chars suffix)) (base == 16)) row)) suffix third
+integer_put style manner base row front first second third suffix e d h z a b c =
+    let Of : Style → Bool → Bool → ℕ → List ℕ = λ t drops hex size. regrouped false size (least_by t.digit_groups)
+    (flat_map (number_character t drops hex) row) in
+    let same : Of manner.style manner.drops manner.hex manner.size ≡ Of style (drops_underscores style (chars suffix))
+    (base == 16) (size_by style.digit_groups base (chars suffix)) =
+    ap (λ t. Of t manner.drops manner.hex manner.size) e ∙ ap (λ t. Of style t manner.hex manner.size) d
+    ∙ ap (λ t. Of style (drops_underscores style (chars suffix)) t manner.size) h
+    ∙ ap (Of style (drops_underscores style (chars suffix)) (base == 16)) z in
+    c ∙ ap (λ y. y ++ ended style suffix) (b
+    ∙ ap (λ y. y ++ encode_utf8_all (Of manner.style manner.drops manner.hex manner.size)) a
+    ∙ ap (λ y. front ++ encode_utf8_all y) same)
 
 -- ---- what was read
 

@@ -1,5 +1,5 @@
 -- Mirrors of the code, for private functions and proofs alone.
-use Rattle.std.specs.Prelude.{◌≡◌, ℕ, ◌<◌, ◌/◌, ◌%◌, not, ◌&&◌, ◌||◌, ◌==◌, nat_lt, List, [], ◌∷◌, ◌++◌, Option, Some, None, map, replicate, codes, drop, IsTrue, if◌then◌else◌}
+use Rattle.std.specs.Prelude.{◌≡◌, ℕ, ◌<◌, ◌/◌, ◌%◌, not, ◌&&◌, ◌||◌, ◌==◌, nat_lt, List, [], ◌∷◌, ◌++◌, Option, Some, None, map, replicate, codes, drop, IsTrue, if◌then◌else◌, Bool, length}
 use Rattle.std.specs.List.{flat_map, list_all}
 use Prim.Native.Char.{code}
 use Rattle.rl_forms.specs.declared.kind.Kind.{Kind}
@@ -7,7 +7,7 @@ use Rattle.rl_forms.specs.Strict.{BlanksEnd, HasUnits, IsRawInside, IsStrictSuff
 use Rattle.rl_forms.specs.Spelling.{without_underscores}
 use Rattle.rl_forms.specs.Written.{closer}
 use Rattle.rl_text.specs.Classes.{after_run}
-use Rattle.rl_text.specs.Texts.{begins}
+use Rattle.rl_text.specs.Texts.{begins, is_underscore}
 use Rattle.rl_reading.specs.declared.quoted_forms.QuotedForm.{QuotedForm}
 use Rattle.rl_reading.specs.Mirrors.OpenerAt.{found_opener, opener_at}
 use Rattle.rl_style.specs.declared.style.Style.{Style}
@@ -19,6 +19,16 @@ use Rattle.rl_style.specs.Rewriting.{has_letter, needs_number, is_visible, lette
 abbrev pub one_or_none : Option ℕ → List ℕ
 one_or_none None = []
 one_or_none (Some c) = c ∷ []
+
+-- a row written anew, each digit with an underscore after it where the test says so of how many are left; of the
+-- underscores those at the end
+abbrev pub row_placed : (ℕ → List ℕ) → (ℕ → Bool) → List ℕ → List ℕ
+row_placed character test [] = []
+row_placed character test (c ∷ cs) =
+    if c == code "_" then (if list_all is_underscore cs then character (code "_") else [])
+    ++ row_placed character test cs
+    else (character c ++ (if test (length (without_underscores cs)) then codes "_" else []))
+    ++ row_placed character test cs
 
 -- the text opens as a literal of the form and the kind
 abbrev pub OpensAs : QuotedForm → Kind → List ℕ → Type 0

@@ -1,11 +1,11 @@
 -- Literals written anew: what a style makes of a strict text, and what every style keeps. A character is its code.
-use Rattle.std.specs.Prelude.{◌≡◌, ◌⊎◌, ℕ, ◌+◌, ◌-◌, ◌/◌, ◌%◌, Bool, true, false, not, ◌&&◌, ◌||◌, ◌==◌, nat_le, nat_lt, List, [], ◌∷◌, ◌++◌, Option, None, map, if◌then◌else◌, IsTrue, IsFalse}
+use Rattle.std.specs.Prelude.{◌≡◌, ◌⊎◌, ℕ, ◌+◌, ◌-◌, ◌/◌, ◌%◌, Bool, true, false, not, ◌&&◌, ◌||◌, ◌==◌, nat_le, nat_lt, List, [], ◌∷◌, ◌++◌, Option, None, map, if◌then◌else◌, IsTrue, IsFalse, codes}
 use Rattle.std.specs.List.{flat_map, list_all, list_any}
 use Prim.Native.Char.{code}
 use Rattle.rl_writing.specs.Hiding.{needs_escape}
 use Rattle.rl_forms.specs.declared.kind.Kind.{Kind}
-use Rattle.rl_forms.specs.declared.kind.Kind.TheVariants.{Str, Char}
-use Rattle.rl_forms.specs.Reading.{Contents}
+use Rattle.rl_forms.specs.declared.kind.Kind.TheVariants.{Str, Char, Float}
+use Rattle.rl_forms.specs.Reading.{Contents, Digits}
 use Rattle.rl_forms.specs.Written.{closer}
 use Rattle.rl_forms.specs.Strict.{StrictUnit, Itself, QuoteEscape, PlainEscape, AsciiEscape, ByteEscape, UnicodeEscape, spaced_value, strict_text, strict_opener, strict_closer, StrictBool, StrictCooked, StrictFloat, StrictInt, StrictRaw, Strict}
 use Rattle.rl_forms.specs.Spelling.{place_value}
@@ -15,6 +15,7 @@ use Rattle.rl_style.specs.Around.{may_precede_quote}
 use Rattle.rl_style.specs.declared.style.Case.{Case}
 use Rattle.rl_style.specs.declared.style.Style.{Style}
 use Rattle.rl_style.specs.Cases.{cased, drops_underscores, kept_digits, kept_row, number_character, separator}
+use Rattle.rl_style.specs.Groups.{float_in_groups, grouped_row}
 
 -- Both texts are strict literals of one kind, with the same contents and the same suffix. By the laws of both grammars
 -- they then read alike.
@@ -25,27 +26,54 @@ pub record SameLiteral (old new : List ℕ) : Type 0 where
   pub was : Strict old kind contents suffix
   pub is : Strict new kind contents suffix
 
+-- A float's contents get a zero after the dot that they end with, as the style says.
+pub record GetsZero (style : Style) (old new : Contents) : Type 0 where
+  pub float_zero : IsTrue style.float_zero
+  pub digits : List ℕ
+  pub old_is : old ≡ Digits (digits ++ codes ".")
+  pub new_is : new ≡ Digits (digits ++ codes ".0")
+
+-- Both texts are strict literals of one kind, with the same suffix and the same contents, but that a float may get a
+-- zero.
+pub record SameNumber (style : Style) (old new : List ℕ) : Type 0 where
+  pub kind : Kind
+  pub contents : Contents
+  pub new_contents : Contents
+  pub suffix : List ℕ
+  pub was : Strict old kind contents suffix
+  pub is : Strict new kind new_contents suffix
+  pub keeps : (new_contents ≡ contents) ⊎ ((kind ≡ Float) × GetsZero style contents new_contents)
+
 -- ---- numbers
 
--- The old text is an integer; the new one has its prefix, its digits, perhaps without the zeros in front and the
--- underscores at the end, what the style puts before the suffix, and the suffix; each character in front of that is
--- what
--- the style makes of it.
+-- what the style makes of the digits of an integer in the base, with this suffix
+abbrev pub styled_row : Style → ℕ → List ℕ → List ℕ → List ℕ
+styled_row style base suffix row =
+    grouped_row false style base suffix
+    (flat_map (number_character style (drops_underscores style suffix) (base == 16))
+    (kept_digits style base suffix (kept_row style suffix row)))
+
+-- The old text is an integer; the new one has its prefix, its digits, and its suffix. The digits lose the underscores
+-- at their end and the zeros in front, where the style says so, then each character becomes what the style makes of it,
+-- then they are grouped, and then stands what the style puts before the suffix.
 pub record RewritesInt (style : Style) (old new : List ℕ) : Type 0 where
   pub contents : Contents
   pub suffix : List ℕ
   pub int : StrictInt old contents suffix
-  pub new_is : new ≡ flat_map (number_character style (drops_underscores style suffix) (int.base == 16))
-      (int.prefix ++ kept_digits style int.base suffix (kept_row style suffix int.row))
-      ++ (separator style suffix ++ suffix)
+  pub new_is : new ≡ int.prefix ++ (styled_row style int.base suffix int.row ++ (separator style suffix ++ suffix))
+
+-- what the style makes of a float's numeral, with this suffix
+abbrev pub styled_numeral : Style → List ℕ → List ℕ → List ℕ
+styled_numeral style suffix numeral =
+    float_in_groups style.float_zero (number_character style (drops_underscores style suffix) false)
+    (λ from_first. grouped_row from_first style 10 suffix) (kept_row style suffix numeral)
 
 -- The same of a float, but for the zeros.
 pub record RewritesFloat (style : Style) (old new : List ℕ) : Type 0 where
   pub contents : Contents
   pub suffix : List ℕ
   pub float : StrictFloat old contents suffix
-  pub new_is : new ≡ flat_map (number_character style (drops_underscores style suffix) false)
-      (kept_row style suffix float.numeral) ++ (separator style suffix ++ suffix)
+  pub new_is : new ≡ styled_numeral style suffix float.numeral ++ (separator style suffix ++ suffix)
 
 -- ---- literals with escapes
 
@@ -219,6 +247,8 @@ pub record HasNoRule (style : Style) : Type 0 where
   pub underscores : style.underscores ≡ false
   pub leading_zeros : style.leading_zeros ≡ false
   pub suffix_separator : style.suffix_separator ≡ None
+  pub digit_groups : style.digit_groups ≡ None
+  pub float_zero : style.float_zero ≡ false
   pub exponent_letter : style.exponent_letter ≡ None
   pub exponent_plus : style.exponent_plus ≡ false
   pub escape_digits : style.escape_digits ≡ None

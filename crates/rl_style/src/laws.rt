@@ -1,15 +1,21 @@
 //! Laws of the definitions: each function does nothing, and its contract is the law.
 
-ghost use Rattle.std.specs.Prelude.{List, ℕ, ◌≡◌};
+ghost use Rattle.std.specs.Prelude.{List, ℕ, ◌≡◌, IsFalse};
 ghost use Rattle.rl_style.specs.declared.style.Style.{Style};
 ghost use Rattle.rl_style.specs.Around.{StaysAround, StaysBeforeQuote, KeepsItsEnds};
 ghost use Rattle.rl_style.specs.Recut.{KeepsTheCut, KeepsTheCutUnraw, KeepsTheSource};
 ghost use Rattle.rl_style.specs.Restyled.{KeepsTheEditedCut, KeepsTheEditedSource, KeepsTheRestyledCut, KeepsTheRestyledSource};
-ghost use Rattle.rl_style.specs.Rewriting.{HasNoRule, SameLiteral, Rewrites};
+ghost use Rattle.rl_style.specs.Rewriting.{HasNoRule, SameLiteral, SameNumber, Rewrites};
 
-/// A literal that is written anew is the same literal: its kind, its contents and its suffix are what they were.
+/// A literal that is written anew is the same literal, where the style puts no zero after a float's dot: its kind, its contents and its
+/// suffix are what they were.
 pub fn a_rewritten_literal_is_the_same()
-    ensures { (style : Style) (front t u : List ℕ) → Rewrites style front t u → SameLiteral t u }
+    ensures { (style : Style) (front t u : List ℕ) → IsFalse style.float_zero → Rewrites style front t u → SameLiteral t u }
+{}
+
+/// In any style it is the same literal, but that the contents of a float that ended with its dot may end with `.0`.
+pub fn a_rewritten_literal_is_the_same_number()
+    ensures { (style : Style) (front t u : List ℕ) → Rewrites style front t u → SameNumber style t u }
 {}
 
 /// What was written in a style, that style leaves as it is.

@@ -1,88 +1,31 @@
 //! Numbers written anew.
 
-ghost use Rattle.std.specs.Prelude.{◌≡◌, ◌≤◌, ◌+◌, ◌++◌, ℕ, List, Bool, [], codes, if◌then◌else◌, length, take, encode_utf8, encode_utf8_all, IfSome, IsTrue};
-ghost use Rattle.std.specs.List.{flat_map};
+ghost use Rattle.std.specs.Prelude.{◌≡◌, ◌≤◌, ◌+◌, ◌++◌, ℕ, List, [], codes, if◌then◌else◌, length, take, encode_utf8_all, IsTrue, ◌*◌, ◌==◌, true};
 ghost use Rattle.std.specs.Str.{chars, IsUtf8};
 ghost use Rattle.rl_text.specs.Texts.{IsTail, first_passes};
 ghost use Rattle.rl_forms.specs.Reading.{Contents};
 ghost use Rattle.rl_forms.specs.Strict.{StrictFloat, StrictInt};
-ghost use Rattle.rl_lexer.specs.Lexemes.{is_base_letter};
 ghost use Rattle.rl_reasons.specs.StrictNumbersRead.{IsNumberRead, suffix_of};
 ghost use Rattle.rl_text.specs.Classes.{after_run};
 ghost use Rattle.std.specs.Char.{is_ascii_digit};
-ghost use Rattle.rl_style.specs.Cases.{drops_underscores, drops_zeros, exponent_letter, is_padding, kept_row, number_character, separator, significant, trimmed, trims_by};
-ghost use Rattle.rl_style.specs.Mirrors.{one_or_none};
+ghost use Rattle.rl_style.specs.Cases.{drops_underscores, drops_zeros, is_padding, kept_digits, kept_row, number_character, separator, significant, trimmed, trims_by};
+ghost use Rattle.rl_style.specs.Groups.{after_dot, fraction_in_groups, least_by, regrouped, size_by};
 ghost use Rattle.rl_style.specs.Rewriting.{Rewrites, RewritesFloat, RewritesInt};
 
-use crate::case::cased;
-use crate::style::{Case, Separator, Style};
+use crate::characters::{Manner, begins_base_letter, put_numeral};
+use crate::groups::{group_size, put_row};
+use crate::style::{Separator, Style};
 use rl_reading::number_forms::split_radix;
 use rl_reasons::Number;
-use rl_text::room::{put_byte, put_char, put_text};
-use rl_text::text::{before, split_char};
-
-/// Whether the text begins with the letter of a base.
-fn begins_base_letter(text: &str) -> bool
-    ensures { result ≡ first_passes is_base_letter (chars text.now) }
-{
-    matches!(split_char(text), Some(('x' | 'o' | 'b', _)))
-}
+use rl_text::classes::{CharClass, skip_class};
+use rl_text::room::{put_byte, put_text};
+use rl_text::text::{after_prefix, before, split_char};
 
 /// Whether a number with the suffix loses its underscores.
 fn drops_underscores(style: Style, suffix: &str) -> bool
     ensures { result ≡ drops_underscores style (chars suffix.now) }
 {
     style.underscores && !begins_base_letter(suffix)
-}
-
-/// The letter before an exponent in the case; whatever else as it is.
-fn exponent_letter(case: Option<Case>, c: char) -> char
-    ensures value { result ≡ exponent_letter case c }
-    ensures len { length (encode_utf8 result) ≡ length (encode_utf8 c) }
-{
-    match case {
-        Some(Case::Lower) => match c {
-            'E' => 'e',
-            _ => c,
-        },
-        Some(Case::Upper) => match c {
-            'e' => 'E',
-            _ => c,
-        },
-        None => c,
-    }
-}
-
-/// What a character of a number is written anew as, before its suffix: `None` where it is dropped.
-fn number_character(style: Style, drops: bool, hex: bool, c: char) -> Option<char>
-    ensures value { one_or_none result ≡ number_character style drops hex c }
-    ensures len { IfSome result (λ d. length (encode_utf8 d) ≡ length (encode_utf8 c)) }
-{
-    match c {
-        '_' if drops => None,
-        '+' if style.exponent_plus && !hex => None,
-        _ if hex => Some(cased(style.hex_digits, c)),
-        _ => Some(exponent_letter(style.exponent_letter, c)),
-    }
-}
-
-/// Puts what stands before a number's suffix, written anew.
-fn put_numeral(out: &mut [u8], style: Style, drops: bool, hex: bool, numeral: &str) -> usize
-    requires { length numeral.now ≤ length out.old }
-    ensures end { result ≤ length numeral.now }
-    ensures bytes { take result out.new
-        ≡ encode_utf8_all (flat_map (number_character style drops hex) (chars numeral.now)) }
-    ensures len { length out.new ≡ length out.old }
-{
-    let mut end = 0;
-    let mut rest = numeral;
-    while let Some((c, after)) = split_char(rest) {
-        if let Some(written) = number_character(style, drops, hex, c) {
-            end = put_char(out, end, written);
-        }
-        rest = after;
-    }
-    end
 }
 
 /// The text after the zeros and underscores at its front.
@@ -115,6 +58,20 @@ fn drops_zeros(style: Style, base: u32, suffix: &str) -> bool
     ensures { result ≡ drops_zeros style base (chars suffix.now) }
 {
     style.leading_zeros && base == 10 && !begins_base_letter(suffix)
+}
+
+/// The digits of an integer in the base with the suffix, perhaps without the zeros in front.
+fn kept_digits<'t>(style: Style, base: u32, suffix: &str, row: &'t str) -> &'t str
+    requires { IsTrue (drops_zeros style base (chars suffix.now))
+        → IsTrue (first_passes is_ascii_digit (chars row.now)) }
+    ensures kept { chars result.now ≡ kept_digits style base (chars suffix.now) (chars row.now) }
+    ensures shorter { length result.now ≤ length row.now }
+{
+    if drops_zeros(style, base, suffix) {
+        significant(row)
+    } else {
+        row
+    }
 }
 
 /// The text without the underscores at its end.
@@ -181,39 +138,105 @@ fn put_suffix(out: &mut [u8], at: usize, style: Style, suffix: &str) -> usize
     put_text(out, at, suffix)
 }
 
+/// How a number in the base, with the suffix, is written anew.
+fn manner_of(style: Style, base: u32, suffix: &str) -> Manner
+    ensures style { result.style ≡ style }
+    ensures drops { result.drops ≡ drops_underscores style (chars suffix.now) }
+    ensures hex { result.hex ≡ (base == 16) }
+    ensures size { result.size ≡ size_by style.digit_groups base (chars suffix.now) }
+{
+    Manner {
+        style,
+        drops: drops_underscores(style, suffix),
+        hex: base == 16,
+        size: group_size(style, base, suffix),
+    }
+}
+
 /// Writes the integer anew that has this suffix.
 fn write_integer(text: &str, suffix: &str, style: Style, out: &mut [u8]) -> usize
     requires following { IsTail text.now suffix.now }
     requires integer { (v : Contents) × StrictInt (chars text.now) v (chars suffix.now) }
-    requires room { length text.now + 1 ≤ length out.old }
+    requires room { 4 * length text.now + 1 ≤ length out.old }
     ensures written { RewritesInt style (chars text.now) (chars (take result out.new)) }
     ensures utf8 { IsUtf8 (take result out.new) }
-    ensures within { result ≤ length text.now + 1 }
+    ensures within { result ≤ 4 * length text.now + 1 }
 {
-    let (base, _) = split_radix(text);
-    let drops = drops_underscores(style, suffix);
-    let numeral = kept_row(style, suffix, before(text, suffix));
-    if drops_zeros(style, base, suffix) {
-        let at = put_numeral(out, style, drops, false, significant(numeral));
-        return put_suffix(out, at, style, suffix);
-    }
-    let hex = base == 16;
-    let at = put_numeral(out, style, drops, hex, numeral);
+    let (base, digits) = split_radix(text);
+    let whole = kept_row(style, suffix, before(digits, suffix));
+    let row = kept_digits(style, base, suffix, whole);
+    let at = put_text(out, 0, before(text, digits));
+    let at = put_row(out, at, manner_of(style, base, suffix), false, row);
     put_suffix(out, at, style, suffix)
+}
+
+/// Puts the zero that the style has after a float's last dot.
+fn put_zero(out: &mut [u8], at: usize, style: Style) -> usize
+    requires { at + 1 ≤ length out.old }
+    ensures end { result ≤ at + 1 }
+    ensures bytes { take result out.new
+        ≡ take at out.old ++ encode_utf8_all (if style.float_zero then codes "0" else []) }
+    ensures len { length out.new ≡ length out.old }
+{
+    if style.float_zero {
+        return put_byte(out, at, b'0');
+    }
+    at
+}
+
+/// Puts what follows a float's dot, written anew.
+fn put_after_dot(out: &mut [u8], at: usize, manner: Manner, fraction: &str) -> usize
+    requires { at + (2 * length fraction.now + 1) ≤ length out.old }
+    ensures end { result ≤ at + (2 * length fraction.now + 1) }
+    ensures bytes { take result out.new ≡ take at out.old
+        ++ encode_utf8_all (after_dot manner.style.float_zero
+        (number_character manner.style manner.drops manner.hex)
+        (regrouped true manner.size (least_by manner.style.digit_groups)) (chars fraction.now)) }
+    ensures len { length out.new ≡ length out.old }
+{
+    match split_char(fraction) {
+        Some(_) => {
+            let exponent = skip_class(CharClass::Numeral, fraction);
+            let at = put_row(out, at, manner, true, before(fraction, exponent));
+            put_numeral(out, at, manner, exponent)
+        }
+        None => put_zero(out, at, manner.style),
+    }
+}
+
+/// Puts what follows a float's whole part, written anew.
+fn put_fraction(out: &mut [u8], at: usize, manner: Manner, rest: &str) -> usize
+    requires { at + 2 * length rest.now ≤ length out.old }
+    ensures end { result ≤ at + 2 * length rest.now }
+    ensures bytes { take result out.new ≡ take at out.old
+        ++ encode_utf8_all (fraction_in_groups manner.style.float_zero
+        (number_character manner.style manner.drops manner.hex)
+        (regrouped true manner.size (least_by manner.style.digit_groups)) (chars rest.now)) }
+    ensures len { length out.new ≡ length out.old }
+{
+    match after_prefix(".", rest) {
+        Some(fraction) => {
+            let at = put_byte(out, at, b'.');
+            put_after_dot(out, at, manner, fraction)
+        }
+        None => put_numeral(out, at, manner, rest),
+    }
 }
 
 /// Writes the float anew that has this suffix.
 fn write_float(text: &str, suffix: &str, style: Style, out: &mut [u8]) -> usize
     requires following { IsTail text.now suffix.now }
     requires float { (v : Contents) × StrictFloat (chars text.now) v (chars suffix.now) }
-    requires room { length text.now + 1 ≤ length out.old }
+    requires room { 4 * length text.now + 1 ≤ length out.old }
     ensures written { RewritesFloat style (chars text.now) (chars (take result out.new)) }
     ensures utf8 { IsUtf8 (take result out.new) }
-    ensures within { result ≤ length text.now + 1 }
+    ensures within { result ≤ 4 * length text.now + 1 }
 {
-    let drops = drops_underscores(style, suffix);
+    let manner = manner_of(style, 10, suffix);
     let numeral = kept_row(style, suffix, before(text, suffix));
-    let at = put_numeral(out, style, drops, false, numeral);
+    let rest = skip_class(CharClass::Numeral, numeral);
+    let at = put_row(out, 0, manner, false, before(numeral, rest));
+    let at = put_fraction(out, at, manner, rest);
     put_suffix(out, at, style, suffix)
 }
 
@@ -221,10 +244,10 @@ fn write_float(text: &str, suffix: &str, style: Style, out: &mut [u8]) -> usize
 pub(crate) fn write_number(text: &str, number: Number<'_>, style: Style, out: &mut [u8]) -> usize
     requires number { IsNumberRead (chars text.now) number }
     requires following { IsTail text.now (suffix_of number) }
-    requires room { length text.now + 1 ≤ length out.old }
+    requires room { 4 * length text.now + 1 ≤ length out.old }
     ensures written { (front : List ℕ) → Rewrites style front (chars text.now) (chars (take result out.new)) }
     ensures utf8 { IsUtf8 (take result out.new) }
-    ensures within { result ≤ length text.now + 1 }
+    ensures within { result ≤ 4 * length text.now + 1 }
 {
     match number {
         Number::Integer(_, suffix) => write_integer(text, suffix, style, out),

@@ -68,10 +68,10 @@ fn write_quoted(
 /// Writes the number anew that the text is.
 fn rewrite_number(text: &str, style: Style, out: &mut [u8]) -> Result<usize, Flaw>
     requires digit { IsTrue (first_passes is_ascii_digit (chars text.now)) }
-    requires room { length text.now + 1 ≤ length out.old }
+    requires room { 4 * length text.now + 1 ≤ length out.old }
     ensures written { IfOk result (λ n. (front : List ℕ) → Rewrites style front (chars text.now) (chars (take n out.new))) }
     ensures utf8 { IfOk result (λ n. IsUtf8 (take n out.new)) }
-    ensures within { IfOk result (λ n. n ≤ length text.now + 1) }
+    ensures within { IfOk result (λ n. n ≤ 4 * length text.now + 1) }
     ensures flaw { IfErr result (ExplainsStrictly (chars text.now)) }
 {
     match read_number(text) {
@@ -83,8 +83,8 @@ fn rewrite_number(text: &str, style: Style, out: &mut [u8]) -> Result<usize, Fla
     }
 }
 
-/// Writes the literal token anew in the style, to the front of `out`, and returns how many bytes it is long: at most four for each byte
-/// of the text, and one. Kind, contents and suffix are the same, and what the style has no rule for stays as it is.
+/// Writes the literal token anew in the style, to the front of `out`, and returns how many bytes it is long: at most one more than four
+/// times the text. Kind and suffix are the same, and but for [`Style::float_zero`] the contents; what the style has no rule for stays.
 ///
 /// The first text is what stands in front of the literal, of which the last character counts: after a hash or a dot no raw string loses
 /// its `r`. It is empty where nothing stands there.

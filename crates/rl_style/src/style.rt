@@ -14,6 +14,22 @@ pub enum Separator {
     Underscore,
 }
 
+/// How the digits of numbers stand in groups, with an underscore between two: by the base how many stand in one, of 0 its numbers are
+/// left alone.
+#[derive(Clone, Copy)]
+pub struct DigitGroups {
+    /// After `0b`: of 4 in `0b1_0000`.
+    pub binary: usize,
+    /// After `0o`.
+    pub octal: usize,
+    /// Of base ten, floats among them: of 3 in `1_000`.
+    pub decimal: usize,
+    /// After `0x`.
+    pub hexadecimal: usize,
+    /// How many digits a row has at least that underscores stand in: of 5 and groups of 3 none in `1000`, and one in `10_000`.
+    pub least: usize,
+}
+
 /// How literals are written anew: each field is a rule by itself. With `None` and `false` it changes nothing.
 #[derive(Clone, Copy)]
 pub struct Style {
@@ -28,6 +44,12 @@ pub struct Style {
     /// What stands between a number and its suffix: `1u8` or `1_u8`. A number without a suffix loses the underscores at its end. With
     /// `Nothing` one keeps them whose suffix begins with `b`, `o` or `x`.
     pub suffix_separator: Option<Separator>,
+    /// The groups of a number's digits: from the last digit on, of a float's fraction from the first one on. An exponent's aren't
+    /// grouped. Zeros in front are dropped before, and so are underscores where the style says it: then no others are left than those
+    /// between groups. Else those at the end of a row of digits stay. A number whose suffix begins with `b`, `o` or `x` is left alone.
+    pub digit_groups: Option<DigitGroups>,
+    /// Whether a float that ends with its dot gets a zero: `1.0` for `1.`. It is the same number, of which `concat!` makes another text.
+    pub float_zero: bool,
     /// The case of the letter before a float's exponent: `1e5` or `1E5`.
     pub exponent_letter: Option<Case>,
     /// Whether a float's exponent loses its `+`: `1e5` for `1e+5`.

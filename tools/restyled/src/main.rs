@@ -1,16 +1,25 @@
 //! Writes Rust files in a style: the paths of the files come on standard input, a line each; the first argument is `lower` or `upper`,
 //! the second a folder. Of each file that the style changes, its path and that of the new one are printed, with a tab between.
 
-use navyspindle::{restyle, Case, Separator, Style};
+use navyspindle::{restyle, Case, DigitGroups, Separator, Style};
 use std::borrow::Cow;
 use std::io::{stdin, BufRead};
 use std::{env, fs};
+
+const GROUPS: DigitGroups = DigitGroups::new()
+    .binary(8)
+    .octal(3)
+    .decimal(3)
+    .hexadecimal(4)
+    .least(5);
 
 /// A style with all rules.
 fn style_of(case: Case, separator: Separator) -> Style {
     Style::new()
         .hex_digits(case)
         .suffix_separator(separator)
+        .digit_groups(GROUPS)
+        .float_zero(true)
         .drop_underscores(true)
         .drop_leading_zeros(true)
         .exponent_letter(case)

@@ -1,59 +1,18 @@
 // Rendered from crates/rl_style/src/numbers.rt by tools/render, which erases contracts: change that file, and render anew.
 //! Numbers written anew.
 
-use crate::rl_style::case::cased;
-use crate::rl_style::style::{Case, Separator, Style};
+use crate::rl_style::characters::{Manner, begins_base_letter, put_numeral};
+use crate::rl_style::groups::{group_size, put_row};
+use crate::rl_style::style::{Separator, Style};
 use crate::rl_reading::number_forms::split_radix;
 use crate::rl_reasons::Number;
-use crate::rl_text::room::{put_byte, put_char, put_text};
-use crate::rl_text::text::{before, split_char};
-
-/// Whether the text begins with the letter of a base.
-fn begins_base_letter(text: &str) -> bool {
-    matches!(split_char(text), Some(('x' | 'o' | 'b', _)))
-}
+use crate::rl_text::classes::{CharClass, skip_class};
+use crate::rl_text::room::{put_byte, put_text};
+use crate::rl_text::text::{after_prefix, before, split_char};
 
 /// Whether a number with the suffix loses its underscores.
 fn drops_underscores(style: Style, suffix: &str) -> bool {
     style.underscores && !begins_base_letter(suffix)
-}
-
-/// The letter before an exponent in the case; whatever else as it is.
-fn exponent_letter(case: Option<Case>, c: char) -> char {
-    match case {
-        Some(Case::Lower) => match c {
-            'E' => 'e',
-            _ => c,
-        },
-        Some(Case::Upper) => match c {
-            'e' => 'E',
-            _ => c,
-        },
-        None => c,
-    }
-}
-
-/// What a character of a number is written anew as, before its suffix: `None` where it is dropped.
-fn number_character(style: Style, drops: bool, hex: bool, c: char) -> Option<char> {
-    match c {
-        '_' if drops => None,
-        '+' if style.exponent_plus && !hex => None,
-        _ if hex => Some(cased(style.hex_digits, c)),
-        _ => Some(exponent_letter(style.exponent_letter, c)),
-    }
-}
-
-/// Puts what stands before a number's suffix, written anew.
-fn put_numeral(out: &mut [u8], style: Style, drops: bool, hex: bool, numeral: &str) -> usize {
-    let mut end = 0;
-    let mut rest = numeral;
-    while let Some((c, after)) = split_char(rest) {
-        if let Some(written) = number_character(style, drops, hex, c) {
-            end = put_char(out, end, written);
-        }
-        rest = after;
-    }
-    end
 }
 
 /// The text after the zeros and underscores at its front.
@@ -77,6 +36,15 @@ fn significant(digits: &str) -> &str {
 /// Whether an integer of the base with the suffix loses the zeros in front of its digits.
 fn drops_zeros(style: Style, base: u32, suffix: &str) -> bool {
     style.leading_zeros && base == 10 && !begins_base_letter(suffix)
+}
+
+/// The digits of an integer in the base with the suffix, perhaps without the zeros in front.
+fn kept_digits<'t>(style: Style, base: u32, suffix: &str, row: &'t str) -> &'t str {
+    if drops_zeros(style, base, suffix) {
+        significant(row)
+    } else {
+        row
+    }
 }
 
 /// The text without the underscores at its end.
@@ -127,25 +95,64 @@ fn put_suffix(out: &mut [u8], at: usize, style: Style, suffix: &str) -> usize {
     put_text(out, at, suffix)
 }
 
+/// How a number in the base, with the suffix, is written anew.
+fn manner_of(style: Style, base: u32, suffix: &str) -> Manner {
+    Manner {
+        style,
+        drops: drops_underscores(style, suffix),
+        hex: base == 16,
+        size: group_size(style, base, suffix),
+    }
+}
+
 /// Writes the integer anew that has this suffix.
 fn write_integer(text: &str, suffix: &str, style: Style, out: &mut [u8]) -> usize {
-    let (base, _) = split_radix(text);
-    let drops = drops_underscores(style, suffix);
-    let numeral = kept_row(style, suffix, before(text, suffix));
-    if drops_zeros(style, base, suffix) {
-        let at = put_numeral(out, style, drops, false, significant(numeral));
-        return put_suffix(out, at, style, suffix);
-    }
-    let hex = base == 16;
-    let at = put_numeral(out, style, drops, hex, numeral);
+    let (base, digits) = split_radix(text);
+    let whole = kept_row(style, suffix, before(digits, suffix));
+    let row = kept_digits(style, base, suffix, whole);
+    let at = put_text(out, 0, before(text, digits));
+    let at = put_row(out, at, manner_of(style, base, suffix), false, row);
     put_suffix(out, at, style, suffix)
+}
+
+/// Puts the zero that the style has after a float's last dot.
+fn put_zero(out: &mut [u8], at: usize, style: Style) -> usize {
+    if style.float_zero {
+        return put_byte(out, at, b'0');
+    }
+    at
+}
+
+/// Puts what follows a float's dot, written anew.
+fn put_after_dot(out: &mut [u8], at: usize, manner: Manner, fraction: &str) -> usize {
+    match split_char(fraction) {
+        Some(_) => {
+            let exponent = skip_class(CharClass::Numeral, fraction);
+            let at = put_row(out, at, manner, true, before(fraction, exponent));
+            put_numeral(out, at, manner, exponent)
+        }
+        None => put_zero(out, at, manner.style),
+    }
+}
+
+/// Puts what follows a float's whole part, written anew.
+fn put_fraction(out: &mut [u8], at: usize, manner: Manner, rest: &str) -> usize {
+    match after_prefix(".", rest) {
+        Some(fraction) => {
+            let at = put_byte(out, at, b'.');
+            put_after_dot(out, at, manner, fraction)
+        }
+        None => put_numeral(out, at, manner, rest),
+    }
 }
 
 /// Writes the float anew that has this suffix.
 fn write_float(text: &str, suffix: &str, style: Style, out: &mut [u8]) -> usize {
-    let drops = drops_underscores(style, suffix);
+    let manner = manner_of(style, 10, suffix);
     let numeral = kept_row(style, suffix, before(text, suffix));
-    let at = put_numeral(out, style, drops, false, numeral);
+    let rest = skip_class(CharClass::Numeral, numeral);
+    let at = put_row(out, 0, manner, false, before(numeral, rest));
+    let at = put_fraction(out, at, manner, rest);
     put_suffix(out, at, style, suffix)
 }
 

@@ -52,8 +52,8 @@ fn rewrite_number(text: &str, style: Style, out: &mut [u8]) -> Result<usize, Fla
     }
 }
 
-/// Writes the literal token anew in the style, to the front of `out`, and returns how many bytes it is long: at most four for each byte
-/// of the text, and one. Kind, contents and suffix are the same, and what the style has no rule for stays as it is.
+/// Writes the literal token anew in the style, to the front of `out`, and returns how many bytes it is long: at most one more than four
+/// times the text. Kind and suffix are the same, and but for [`Style::float_zero`] the contents; what the style has no rule for stays.
 ///
 /// The first text is what stands in front of the literal, of which the last character counts: after a hash or a dot no raw string loses
 /// its `r`. It is empty where nothing stands there.

@@ -1,16 +1,34 @@
-use Rattle.rl_text.proofs.Common.{◌∙◌, ◌++◌, ap, false}
-use Rattle.rl_style.proofs.WrittenNumbers.{ended, float_written, number_utf8}
+use Rattle.std.specs.Str.{chars}
+use Rattle.rl_style.proofs.SameFloats.{run_cut}
+use Rattle.rl_style.proofs.WrittenNumbers.{float_put, float_written}
 use Rattle.rl_style.proofs.numbers.write_float.Goals as goal
 
+pub put_row-at-requires-clause-no_plus : goal.put_row-at-requires-clause-no_plus
+put_row-at-requires-clause-no_plus c = (run_cut (chars c.kept_row-numeral.result.now) (chars c.before-3.result.now)
+    (chars c.skip_class-rest.result.now) c.before-3.ensures.chars c.skip_class-rest.ensures.rest).1
+
 pub returns-clause-written : goal.returns-clause-written
-returns-clause-written c = float_written c.args.style c.args.text.now c.before-2.result.now
-    c.kept_row-numeral.result.now
-    c.args.suffix.now _ c.drops_underscores-drops.result c.requires.float.0 c.kept_row-numeral.utf8 c.utf8.suffix
-    c.drops_underscores-drops.ensures c.before-2.ensures.chars c.kept_row-numeral.ensures.kept
-    (c.put_suffix.ensures.bytes ∙ ap (λ z. z ++ ended c.args.style c.args.suffix.now) c.put_numeral-at.ensures.bytes)
-    c.requires.float.1
+returns-clause-written c =
+    let m = c.manner_of-manner.ensures in
+    let row = (run_cut (chars c.kept_row-numeral.result.now) (chars c.before-3.result.now)
+    (chars c.skip_class-rest.result.now) c.before-3.ensures.chars c.skip_class-rest.ensures.rest).0 in
+    (float_written c.args.style c.args.text.now c.before-2.result.now c.kept_row-numeral.result.now c.args.suffix.now _
+    c.requires.float.0 c.kept_row-numeral.utf8 c.utf8.suffix c.before-2.ensures.chars c.kept_row-numeral.ensures.kept
+    (float_put c.args.style c.manner_of-manner.result (chars c.kept_row-numeral.result.now)
+    (chars c.before-3.result.now)
+    (chars c.skip_class-rest.result.now) _ _ _ c.args.suffix.now m.style m.drops m.hex m.size c.put_row-at.ensures.bytes
+    c.put_fraction-at.ensures.bytes c.put_suffix.ensures.bytes row c.skip_class-rest.ensures.rest)
+    c.requires.float.1).1
 
 pub returns-clause-utf8 : goal.returns-clause-utf8
-returns-clause-utf8 c = number_utf8 c.args.style c.kept_row-numeral.result.now c.args.suffix.now _
-    c.drops_underscores-drops.result false c.kept_row-numeral.utf8 c.utf8.suffix (c.put_suffix.ensures.bytes
-    ∙ ap (λ z. z ++ ended c.args.style c.args.suffix.now) c.put_numeral-at.ensures.bytes)
+returns-clause-utf8 c =
+    let m = c.manner_of-manner.ensures in
+    let row = (run_cut (chars c.kept_row-numeral.result.now) (chars c.before-3.result.now)
+    (chars c.skip_class-rest.result.now) c.before-3.ensures.chars c.skip_class-rest.ensures.rest).0 in
+    (float_written c.args.style c.args.text.now c.before-2.result.now c.kept_row-numeral.result.now c.args.suffix.now _
+    c.requires.float.0 c.kept_row-numeral.utf8 c.utf8.suffix c.before-2.ensures.chars c.kept_row-numeral.ensures.kept
+    (float_put c.args.style c.manner_of-manner.result (chars c.kept_row-numeral.result.now)
+    (chars c.before-3.result.now)
+    (chars c.skip_class-rest.result.now) _ _ _ c.args.suffix.now m.style m.drops m.hex m.size c.put_row-at.ensures.bytes
+    c.put_fraction-at.ensures.bytes c.put_suffix.ensures.bytes row c.skip_class-rest.ensures.rest)
+    c.requires.float.1).0

@@ -1,49 +1,47 @@
-use Rattle.rl_text.proofs.Common.{◌≡◌, ◌∙◌, ◌++◌, ◌==◌, ℕ, List, true, ap, false, subst, sym, is_ascii_digit}
+use Rattle.rl_text.proofs.Common.{◌∙◌, List, ℕ, ap, rules}
 use Rattle.std.specs.Str.{chars}
-use Rattle.rl_text.specs.Texts.{first_passes}
-use Rattle.rl_style.proofs.WrittenNumbers.{ended, integer_digit, integer_trimmed, integer_whole, number_utf8}
-use Rattle.rl_style.proofs.SameIntegers.{zeros_ten}
-use Rattle.rl_style.proofs.Trimmed.{kept_first}
+use Rattle.rl_style.proofs.UnitTexts.{tail_of}
+use Rattle.rl_style.proofs.WrittenNumbers.{digits_found, integer_put, integer_written, row_plus, whole_digit}
 use Rattle.rl_style.proofs.numbers.write_integer.Goals as goal
 
-pub significant-requires : goal.significant-requires
-significant-requires c = subst (λ (z : List ℕ). first_passes is_ascii_digit z ≡ true)
-    (sym c.kept_row-numeral.ensures.kept) (kept_first c.args.style (chars c.args.suffix.now)
-    (chars c.before-2.result.now) (integer_digit (chars c.args.text.now) (chars c.before-2.result.now)
-    (chars c.args.suffix.now)
-    c.requires.integer.0 c.requires.integer.1 c.before-2.ensures.chars
-    (sym (ap (λ (p : ℕ × List ℕ). p.0) c.split_radix-base.ensures.value) ∙ zeros_ten c.args.style
-    c.split_radix-base.result.0 (chars c.args.suffix.now) (sym c.drops_zeros.ensures ∙ c.if-drops_zeros.true))))
+pub before-requires : goal.before-requires
+before-requires c = tail_of c.split_radix-base.result.1.now c.args.suffix.now c.requires.integer.1.row
+    (search rules) c.utf8.suffix
+    (ap (λ (p : ℕ × List ℕ). p.1) c.split_radix-base.ensures.value
+    ∙ digits_found (chars c.args.text.now) c.requires.integer.0 (chars c.args.suffix.now) c.requires.integer.1)
 
-pub returns-then-drops_zeros-clause-written : goal.returns-then-drops_zeros-clause-written
-returns-then-drops_zeros-clause-written c = integer_trimmed c.args.style c.args.text.now c.before-2.result.now
-    c.kept_row-numeral.result.now
-    c.significant.result.now c.args.suffix.now _ c.split_radix-base.result.0 c.drops_underscores-drops.result
-    c.requires.integer.0 c.significant.utf8 c.utf8.suffix (ap (λ (p : ℕ × List ℕ). p.0)
-    c.split_radix-base.ensures.value)
-    c.drops_underscores-drops.ensures (sym c.drops_zeros.ensures ∙ c.if-drops_zeros.true) c.before-2.ensures.chars
-    c.kept_row-numeral.ensures.kept
-    c.significant.ensures.digits (c.put_suffix.ensures.bytes ∙ ap (λ z. z ++ ended c.args.style c.args.suffix.now)
-    c.put_numeral-at.ensures.bytes) c.requires.integer.1
+pub kept_digits-row-requires : goal.kept_digits-row-requires
+kept_digits-row-requires c = whole_digit c.args.style c.args.text.now c.split_radix-base.result.1.now c.args.suffix.now
+    c.before-2.result.now c.kept_row-whole.result.now c.split_radix-base.result.0 c.requires.integer.0
+    c.split_radix-base.ensures.value c.before-2.ensures.chars c.kept_row-whole.ensures.kept c.requires.integer.1
 
-pub returns-then-drops_zeros-clause-utf8 : goal.returns-then-drops_zeros-clause-utf8
-returns-then-drops_zeros-clause-utf8 c = number_utf8 c.args.style c.significant.result.now c.args.suffix.now _
-    c.drops_underscores-drops.result false c.significant.utf8 c.utf8.suffix
-    (c.put_suffix.ensures.bytes ∙ ap (λ z. z ++ ended c.args.style c.args.suffix.now) c.put_numeral-at.ensures.bytes)
+pub put_row-at-requires-clause-no_plus : goal.put_row-at-requires-clause-no_plus
+put_row-at-requires-clause-no_plus c = row_plus c.args.style c.args.text.now c.split_radix-base.result.1.now
+    c.args.suffix.now
+    c.before-2.result.now c.kept_row-whole.result.now c.kept_digits-row.result.now c.split_radix-base.result.0
+    c.requires.integer.0 c.split_radix-base.ensures.value c.before-2.ensures.chars c.kept_row-whole.ensures.kept
+    c.kept_digits-row.ensures.kept c.requires.integer.1
 
 pub returns-clause-written : goal.returns-clause-written
-returns-clause-written c = integer_whole c.args.style c.args.text.now c.before-2.result.now
-    c.kept_row-numeral.result.now c.args.suffix.now _
-    c.split_radix-base.result.0 c.drops_underscores-drops.result c.requires.integer.0 c.kept_row-numeral.utf8
-    c.utf8.suffix
-    (ap (λ (p : ℕ × List ℕ). p.0) c.split_radix-base.ensures.value) c.drops_underscores-drops.ensures
-    (sym c.drops_zeros.ensures ∙ c.if-drops_zeros.false) c.before-2.ensures.chars c.kept_row-numeral.ensures.kept
-    (c.put_suffix-2.ensures.bytes ∙ ap (λ z. z ++ ended c.args.style c.args.suffix.now)
-    c.put_numeral-at-2.ensures.bytes)
-    c.requires.integer.1
+returns-clause-written c =
+    let m = c.manner_of.ensures in
+    (integer_written c.args.style c.args.text.now c.split_radix-base.result.1.now c.args.suffix.now
+    c.before-2.result.now c.kept_row-whole.result.now c.kept_digits-row.result.now c.before-3.result.now _
+    c.split_radix-base.result.0 c.requires.integer.0 c.before-3.utf8 c.utf8.suffix c.kept_digits-row.utf8
+    c.split_radix-base.ensures.value c.before-2.ensures.chars c.kept_row-whole.ensures.kept
+    c.kept_digits-row.ensures.kept c.before-3.ensures.chars
+    (integer_put c.args.style c.manner_of.result c.split_radix-base.result.0 (chars c.kept_digits-row.result.now)
+    c.before-3.result.now _ _ _ c.args.suffix.now m.style m.drops m.hex m.size c.put_text-at.ensures.bytes
+    c.put_row-at.ensures.bytes c.put_suffix.ensures.bytes) c.requires.integer.1).1
 
 pub returns-clause-utf8 : goal.returns-clause-utf8
-returns-clause-utf8 c = number_utf8 c.args.style c.kept_row-numeral.result.now c.args.suffix.now _
-    c.drops_underscores-drops.result (c.split_radix-base.result.0 == 16) c.kept_row-numeral.utf8 c.utf8.suffix
-    (c.put_suffix-2.ensures.bytes ∙ ap (λ z. z ++ ended c.args.style c.args.suffix.now)
-    c.put_numeral-at-2.ensures.bytes)
+returns-clause-utf8 c =
+    let m = c.manner_of.ensures in
+    (integer_written c.args.style c.args.text.now c.split_radix-base.result.1.now c.args.suffix.now
+    c.before-2.result.now c.kept_row-whole.result.now c.kept_digits-row.result.now c.before-3.result.now _
+    c.split_radix-base.result.0 c.requires.integer.0 c.before-3.utf8 c.utf8.suffix c.kept_digits-row.utf8
+    c.split_radix-base.ensures.value c.before-2.ensures.chars c.kept_row-whole.ensures.kept
+    c.kept_digits-row.ensures.kept c.before-3.ensures.chars
+    (integer_put c.args.style c.manner_of.result c.split_radix-base.result.0 (chars c.kept_digits-row.result.now)
+    c.before-3.result.now _ _ _ c.args.suffix.now m.style m.drops m.hex m.size c.put_text-at.ensures.bytes
+    c.put_row-at.ensures.bytes c.put_suffix.ensures.bytes) c.requires.integer.1).0

@@ -1,0 +1,222 @@
+-- Digits in groups, and the underscores at a row's end.
+use Rattle.rl_text.proofs.Common.{◌≡◌, ℕ, ◌||◌, ◌&&◌, Bool, true, false, not, ◌==◌, cond, List, [], ◌∷◌, ◌++◌, length, refl, sym, ap, ◌∙◌, append-nil, and_from, and_parts, eqb-true, is_ascii_digit, list_all, list_any, list_all-append}
+use Rattle.std.proofs.lemmas.List.Elements.{filter-append}
+use Rattle.rl_text.proofs.Basics.{apart}
+use Rattle.rl_text.specs.Texts.{first_passes, is_row_part, is_underscore}
+use Rattle.rl_lexer.proofs.LexemeRows.{not_among}
+use Rattle.rl_forms.specs.Spelling.{without_underscores}
+use Rattle.rl_forms.specs.Strict.{IsDigits}
+use Rattle.rl_style.specs.Cases.{trimmed}
+use Rattle.rl_style.specs.Groups.{ending, spaced}
+use Rattle.rl_style.proofs.Trimmed.{IsTrim, any_left, kept_of, none_of, none_trim, only, trim_tail, trimmed_join}
+
+pub not_false : (b : Bool) → not b ≡ true → b ≡ false
+not_false true h = absurd (cc)
+not_false false h = refl
+
+abbrev pub other : ℕ → Bool
+other c = not (c == 95)
+
+abbrev pub mark : Bool → List ℕ
+mark b = cond b (95 ∷ []) []
+
+-- what no plus passes
+pub plus_free : (test : ℕ → Bool) (cs : List ℕ) → test 43 ≡ false → list_all test cs ≡ true
+    → list_all (λ c. not (c == 43)) cs ≡ true
+plus_free test [] n h = refl
+plus_free test (c ∷ cs) n h =
+    let p = and_parts (test c) (list_all test cs) h in
+    and_from (not (c == 43)) (list_all (λ c. not (c == 43)) cs) (ap not (apart test c 43 p.0 n))
+    (plus_free test cs n p.1)
+
+-- ---- digits
+
+pub bare_other : (cs : List ℕ) → list_all other (without_underscores cs) ≡ true
+bare_other [] = refl
+bare_other (c ∷ cs) = go (other c) refl (bare_other cs)
+  where
+    go : (b : Bool) → other c ≡ b → list_all other (without_underscores cs) ≡ true
+        → list_all other (cond b (c ∷ without_underscores cs) (without_underscores cs)) ≡ true
+    go true h more = and_from (other c) (list_all other (without_underscores cs)) h more
+    go false h more = more
+
+pub bare_all : (test : ℕ → Bool) (cs : List ℕ) → list_all test cs ≡ true → list_all test (without_underscores cs) ≡ true
+bare_all test [] h = refl
+bare_all test (c ∷ cs) h =
+    let p = and_parts (test c) (list_all test cs) h in
+    go (other c) p.0 (bare_all test cs p.1)
+  where
+    go : (b : Bool) → test c ≡ true → list_all test (without_underscores cs) ≡ true
+        → list_all test (cond b (c ∷ without_underscores cs) (without_underscores cs)) ≡ true
+    go true k more = and_from (test c) (list_all test (without_underscores cs)) k more
+    go false k more = more
+
+-- an underscore passes no such test
+under_fails : (test : ℕ → Bool) (c : ℕ) → test 95 ≡ false → other c ≡ false → test c ≡ false
+under_fails test c n h = ap test (eq h) ∙ n
+  where
+    eq : other c ≡ false → c ≡ 95
+    eq e = is_under c (off (c == 95) e)
+      where
+        off : (b : Bool) → not b ≡ false → b ≡ true
+        off true k = refl
+        off false k = absurd (cc)
+
+        is_under : (c : ℕ) → (c == 95) ≡ true → c ≡ 95
+        is_under c k = eqb-true c 95 k
+
+pub bare_kept : (test : ℕ → Bool) (cs : List ℕ) → test 95 ≡ false → kept_of test (without_underscores cs) ≡ kept_of test
+    cs
+bare_kept test [] n = refl
+bare_kept test (c ∷ cs) n = go (other c) refl (bare_kept test cs n)
+  where
+    go : (b : Bool) → other c ≡ b → kept_of test (without_underscores cs) ≡ kept_of test cs
+        → kept_of test (cond b (c ∷ without_underscores cs) (without_underscores cs)) ≡ kept_of test (c ∷ cs)
+    go true h more = ap (λ z. cond (test c) (c ∷ z) z) more
+    go false h more = more ∙ ap (λ b. cond b (c ∷ kept_of test cs) (kept_of test cs)) (sym (under_fails test c n h))
+
+bare_any : (test : ℕ → Bool) (cs : List ℕ) → test 95 ≡ false → list_any test (without_underscores cs) ≡ list_any test
+    cs
+bare_any test [] n = refl
+bare_any test (c ∷ cs) n = go (other c) refl (bare_any test cs n)
+  where
+    go : (b : Bool) → other c ≡ b → list_any test (without_underscores cs) ≡ list_any test cs
+        → list_any test (cond b (c ∷ without_underscores cs) (without_underscores cs)) ≡ list_any test (c ∷ cs)
+    go true h more = ap (λ b. test c || b) more
+    go false h more = more ∙ ap (λ b. b || list_any test cs) (sym (under_fails test c n h))
+
+-- ---- with underscores between them
+
+spaced_all : (p test : ℕ → Bool) (ds : List ℕ) → p 95 ≡ true → list_all p ds ≡ true → list_all p (spaced test ds)
+    ≡ true
+spaced_all p test [] m h = refl
+spaced_all p test (d ∷ ds) m h =
+    let q = and_parts (p d) (list_all p ds) h in
+    and_from (p d) _ q.0 (go (test (length ds)) (spaced_all p test ds m q.1))
+  where
+    go : (b : Bool) → list_all p (spaced test ds) ≡ true → list_all p (mark b ++ spaced test ds) ≡ true
+    go true k = and_from (p 95) (list_all p (spaced test ds)) m k
+    go false k = k
+
+spaced_kept : (p test : ℕ → Bool) (ds : List ℕ) → p 95 ≡ false → kept_of p (spaced test ds) ≡ kept_of p ds
+spaced_kept p test [] n = refl
+spaced_kept p test (d ∷ ds) n = ap (λ z. cond (p d) (d ∷ z) z) (go (test (length ds)) ∙ spaced_kept p test ds n)
+  where
+    go : (b : Bool) → kept_of p (mark b ++ spaced test ds) ≡ kept_of p (spaced test ds)
+    go true = ap (λ b. cond b (95 ∷ kept_of p (spaced test ds)) (kept_of p (spaced test ds))) n
+    go false = refl
+
+spaced_any : (p test : ℕ → Bool) (ds : List ℕ) → p 95 ≡ false → list_any p (spaced test ds) ≡ list_any p ds
+spaced_any p test [] n = refl
+spaced_any p test (d ∷ ds) n = ap (λ b. p d || b) (go (test (length ds)) ∙ spaced_any p test ds n)
+  where
+    go : (b : Bool) → list_any p (mark b ++ spaced test ds) ≡ list_any p (spaced test ds)
+    go true = ap (λ b. b || list_any p (spaced test ds)) n
+    go false = refl
+
+spaced_trim : (test : ℕ → Bool) (ds : List ℕ) → test 0 ≡ false → list_all other ds ≡ true → IsTrim (spaced test ds)
+spaced_trim test [] z h = refl
+spaced_trim test (d ∷ []) z h =
+    let p = and_parts (other d) true h in
+    ap (λ b. trimmed (d ∷ (mark b ++ []))) z ∙ ap (λ b. cond (b && true) [] (d ∷ [])) (not_false (d == 95) p.0)
+    ∙ ap (λ b. d ∷ (mark b ++ [])) (sym z)
+spaced_trim test (d ∷ e ∷ ds) z h =
+    let p = and_parts (other d) (list_all other (e ∷ ds)) h in
+    let q = and_parts (other e) (list_all other ds) p.1 in
+    let rest : List ℕ = spaced test (e ∷ ds) in
+    let some : only rest ≡ false = ap (λ b. b && only (mark (test (length ds)) ++ spaced test ds))
+    (not_false (e == 95) q.0) in
+    trimmed_join (d ∷ mark (test (length (e ∷ ds)))) rest some
+    ∙ ap (λ y. (d ∷ mark (test (length (e ∷ ds)))) ++ y) (spaced_trim test (e ∷ ds) z p.1)
+
+-- ---- the underscores at the end
+
+pub ending_only : (cs : List ℕ) → only (ending cs) ≡ true
+ending_only [] = refl
+ending_only (c ∷ cs) = go (only (c ∷ cs)) refl (ending_only cs)
+  where
+    go : (b : Bool) → only (c ∷ cs) ≡ b → only (ending cs) ≡ true → only (cond b (c ∷ cs) (ending cs)) ≡ true
+    go true h more = h
+    go false h more = more
+
+ending_all : (test : ℕ → Bool) (cs : List ℕ) → list_all test cs ≡ true → list_all test (ending cs) ≡ true
+ending_all test [] h = refl
+ending_all test (c ∷ cs) h = go (only (c ∷ cs)) (ending_all test cs (and_parts (test c) (list_all test cs) h).1)
+  where
+    go : (b : Bool) → list_all test (ending cs) ≡ true → list_all test (cond b (c ∷ cs) (ending cs)) ≡ true
+    go true more = h
+    go false more = more
+
+pub ending_none : (cs : List ℕ) → IsTrim cs → ending cs ≡ []
+ending_none [] h = refl
+ending_none (c ∷ cs) h = ap (λ b. cond b (c ∷ cs) (ending cs)) (none_trim c cs h) ∙ ending_none cs (trim_tail c cs h)
+
+ending_join : (a u : List ℕ) → IsTrim a → only u ≡ true → ending (a ++ u) ≡ u
+ending_join [] [] h k = refl
+ending_join [] (c ∷ u) h k = ap (λ b. cond b (c ∷ u) (ending u)) k
+ending_join (c ∷ a) u h k =
+    let some : only ((c ∷ a) ++ u) ≡ false = list_all-append is_underscore (c ∷ a) u
+    ∙ ap (λ b. b && only u) (none_trim c a h) in
+    ap (λ b. cond b (c ∷ (a ++ u)) (ending (a ++ u))) some ∙ ending_join a u (trim_tail c a h) k
+
+-- a row without underscores has none at its end
+pub clear_ending : (cs : List ℕ) → list_all other cs ≡ true → ending cs ≡ []
+clear_ending [] h = refl
+clear_ending (c ∷ cs) h =
+    let p = and_parts (other c) (list_all other cs) h in
+    ap (λ b. cond (b && only cs) (c ∷ cs) (ending cs)) (not_false (c == 95) p.0) ∙ clear_ending cs p.1
+
+pub only_ending : (cs : List ℕ) → only cs ≡ true → ending cs ≡ cs
+only_ending [] h = refl
+only_ending (c ∷ cs) h = ap (λ b. cond b (c ∷ cs) (ending cs)) h
+
+-- ---- both
+
+abbrev pub row_spaced : (ℕ → Bool) → List ℕ → List ℕ
+row_spaced test row = spaced test (without_underscores row) ++ ending row
+
+pub row_all : (p test : ℕ → Bool) (row : List ℕ) → p 95 ≡ true → list_all p row ≡ true
+    → list_all p (row_spaced test row) ≡ true
+row_all p test row m h =
+    list_all-append p (spaced test (without_underscores row)) (ending row)
+    ∙ and_from _ _ (spaced_all p test (without_underscores row) m (bare_all p row h)) (ending_all p row h)
+
+pub row_kept : (p test : ℕ → Bool) (row : List ℕ) → p 95 ≡ false → kept_of p (row_spaced test row) ≡ kept_of p row
+row_kept p test row n =
+    filter-append p (spaced test (without_underscores row)) (ending row)
+    ∙ ap (λ z. kept_of p (spaced test (without_underscores row)) ++ z) (none_of p (ending row) n (ending_only row))
+    ∙ append-nil (kept_of p (spaced test (without_underscores row)))
+    ∙ spaced_kept p test (without_underscores row) n ∙ bare_kept p row n
+
+pub row_some : (p test : ℕ → Bool) (row : List ℕ) → p 95 ≡ false → list_any p row ≡ true
+    → list_any p (row_spaced test row) ≡ true
+row_some p test row n h = any_left p (spaced test (without_underscores row)) (ending row)
+    (spaced_any p test (without_underscores row) n ∙ bare_any p row n ∙ h)
+
+-- what is no underscore stays in front
+pub row_first : (test : ℕ → Bool) (c : ℕ) (cs : List ℕ) → (c == 95) ≡ false
+    → row_spaced test (c ∷ cs)
+    ≡ c ∷ ((mark (test (length (without_underscores cs))) ++ spaced test (without_underscores cs)) ++ ending cs)
+row_first test c cs h =
+    ap (λ b. spaced test (cond (not b) (c ∷ without_underscores cs) (without_underscores cs)) ++ ending (c ∷ cs)) h
+    ∙ ap (λ b. (c ∷ (mark (test (length (without_underscores cs))) ++ spaced test (without_underscores cs)))
+    ++ cond (b && only cs) (c ∷ cs) (ending cs)) h
+
+pub row_digits : (test : ℕ → Bool) (row : List ℕ) → IsDigits row → IsDigits (row_spaced test row)
+row_digits test [] h = absurd (let e : false ≡ true = h.0 in cc)
+row_digits test (c ∷ cs) h = (
+  ap (first_passes is_ascii_digit) (row_first test c cs (not_among c 95 is_ascii_digit h.0 refl)) ∙ h.0,
+  row_all (is_row_part is_ascii_digit) test (c ∷ cs) refl h.1,
+)
+
+pub row_ending : (test : ℕ → Bool) (row : List ℕ) → test 0 ≡ false → ending (row_spaced test row) ≡ ending row
+row_ending test row z = ending_join (spaced test (without_underscores row)) (ending row)
+    (spaced_trim test (without_underscores row) z (bare_other row)) (ending_only row)
+
+pub row_trim : (test : ℕ → Bool) (row : List ℕ) → test 0 ≡ false → IsTrim row → IsTrim (row_spaced test row)
+row_trim test row z h =
+    let none : ending row ≡ [] = ending_none row h in
+    let ds : List ℕ = spaced test (without_underscores row) in
+    let is : row_spaced test row ≡ ds = ap (λ y. ds ++ y) none ∙ append-nil ds in
+    ap trimmed is
+    ∙ spaced_trim test (without_underscores row) z (bare_other row) ∙ sym is

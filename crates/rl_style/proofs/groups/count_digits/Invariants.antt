@@ -1,0 +1,17 @@
+-- The digits that were passed, and those that are left, are those of the row.
+use Rattle.rl_text.proofs.Common.{◌≡◌, ◌≤◌, ◌+◌, length}
+use denote.Text.{Utf8}
+use denote.Shadow.{shadow}
+use Rattle.std.specs.Str.{chars}
+use Rattle.rl_forms.specs.Spelling.{without_underscores}
+use Rattle.rl_style.proofs.groups.count_digits.Given as goal
+
+abbrev pub invariant-loop-c : goal.invariant-loop-c
+invariant-loop-c l = record {
+  utf8 : shadow (Utf8 l.rest);
+  digits : l.count + length (without_underscores (chars l.rest)) ≡ length (without_underscores (chars l.row));
+  within : l.count + length l.rest ≤ length l.row;
+}
+
+abbrev pub decreases-loop-c : goal.decreases-loop-c
+decreases-loop-c l = length l.rest

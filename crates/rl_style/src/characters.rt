@@ -1,0 +1,95 @@
+//! What the characters of numbers become.
+
+ghost use Rattle.std.specs.Prelude.{◌≡◌, ◌≤◌, ◌+◌, ◌++◌, length, take, encode_utf8, encode_utf8_all, IfSome};
+ghost use Rattle.std.specs.List.{flat_map};
+ghost use Rattle.std.specs.Str.{chars};
+ghost use Rattle.rl_text.specs.Texts.{first_passes};
+ghost use Rattle.rl_lexer.specs.Lexemes.{is_base_letter};
+ghost use Rattle.rl_style.specs.Cases.{exponent_letter, number_character};
+ghost use Rattle.rl_style.specs.Mirrors.{one_or_none};
+
+use crate::case::cased;
+use crate::style::{Case, Style};
+use rl_text::room::put_char;
+use rl_text::text::split_char;
+
+/// How what stands before a number's suffix is written anew.
+#[derive(Clone, Copy)]
+pub(crate) struct Manner {
+    pub style: Style,
+    /// Whether underscores are dropped.
+    pub drops: bool,
+    /// Whether the base is 16.
+    pub hex: bool,
+    /// How many digits stand in a group; 0 where they are left alone.
+    pub size: usize,
+}
+
+/// Whether the text begins with the letter of a base.
+pub(crate) fn begins_base_letter(text: &str) -> bool
+    ensures { result ≡ first_passes is_base_letter (chars text.now) }
+{
+    matches!(split_char(text), Some(('x' | 'o' | 'b', _)))
+}
+
+/// The letter before an exponent in the case; whatever else as it is.
+fn exponent_letter(case: Option<Case>, c: char) -> char
+    ensures value { result ≡ exponent_letter case c }
+    ensures len { length (encode_utf8 result) ≡ length (encode_utf8 c) }
+{
+    match case {
+        Some(Case::Lower) => match c {
+            'E' => 'e',
+            _ => c,
+        },
+        Some(Case::Upper) => match c {
+            'e' => 'E',
+            _ => c,
+        },
+        None => c,
+    }
+}
+
+/// What a character of a number is written anew as, before its suffix: `None` where it is dropped.
+fn number_character(style: Style, drops: bool, hex: bool, c: char) -> Option<char>
+    ensures value { one_or_none result ≡ number_character style drops hex c }
+    ensures len { IfSome result (λ d. length (encode_utf8 d) ≡ length (encode_utf8 c)) }
+{
+    match c {
+        '_' if drops => None,
+        '+' if style.exponent_plus && !hex => None,
+        _ if hex => Some(cased(style.hex_digits, c)),
+        _ => Some(exponent_letter(style.exponent_letter, c)),
+    }
+}
+
+/// Puts what a character of a number becomes.
+pub(crate) fn put_character(out: &mut [u8], at: usize, manner: Manner, c: char) -> usize
+    requires { at + length (encode_utf8 c) ≤ length out.old }
+    ensures end { result ≤ at + length (encode_utf8 c) }
+    ensures bytes { take result out.new
+        ≡ take at out.old ++ encode_utf8_all (number_character manner.style manner.drops manner.hex c) }
+    ensures len { length out.new ≡ length out.old }
+{
+    match number_character(manner.style, manner.drops, manner.hex, c) {
+        Some(written) => put_char(out, at, written),
+        None => at,
+    }
+}
+
+/// Puts what the characters of a number become.
+pub(crate) fn put_numeral(out: &mut [u8], at: usize, manner: Manner, numeral: &str) -> usize
+    requires { at + length numeral.now ≤ length out.old }
+    ensures end { result ≤ at + length numeral.now }
+    ensures bytes { take result out.new ≡ take at out.old
+        ++ encode_utf8_all (flat_map (number_character manner.style manner.drops manner.hex) (chars numeral.now)) }
+    ensures len { length out.new ≡ length out.old }
+{
+    let mut end = at;
+    let mut rest = numeral;
+    while let Some((c, after)) = split_char(rest) {
+        end = put_character(out, end, manner, c);
+        rest = after;
+    }
+    end
+}
