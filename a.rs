@@ -1,2 +1,0 @@
-let a = "x\u{202e}";
-let b = b"\q";
