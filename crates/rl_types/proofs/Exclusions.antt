@@ -4,7 +4,7 @@ use Rattle.rl_text.specs.Texts.{first_passes}
 use Rattle.rl_reading.proofs.Names.{Kind, Int, Float}
 use Rattle.rl_forms.specs.declared.kind.Kind.TheVariants.{Bool as BoolKind}
 use Rattle.rl_reading.specs.Founds.{is_quoted}
-use Rattle.rl_types.specs.FloatRange.{Reaches, numeral_of}
+use Rattle.rl_types.specs.FloatRange.{IsAtLeast, numeral_of}
 use Rattle.rl_types.specs.NumberTypes.{greatest_of, infinite_from, number_name}
 use Rattle.rl_types.specs.TypeErrors.{HasTypeError, HasType, IsFinite, IsInfinite, IsInRange, IsOfType, IsPastRange, IsTypeOfFloat, NamesNone, NamesType}
 use Rattle.rl_types.specs.declared.type_errors.TypeError.{TypeError}
@@ -142,7 +142,7 @@ range_is_out t m n (inr (l, infinite, out)) (inr (k, its, less)) =
 float_is_out : (t u : NumberType) (numeral : List ℕ) → t ≡ u → IsInfinite t numeral → IsFinite u numeral → ⊥
 float_is_out t u numeral same (l, infinite, reaches) (k, its, finite) =
     let one : l ≡ k = same_greatest (infinite_from u) l k (sym (ap infinite_from same) ∙ infinite) its in
-    finite (subst (λ z. Reaches z numeral) one reaches)
+    finite (subst (λ z. IsAtLeast z numeral) one reaches)
 
 pub no_both : (error : TypeError) (k : Kind) (text : List ℕ) (m : ℕ) (n : Bool) (s : List ℕ)
     → HasTypeError error k text m n s

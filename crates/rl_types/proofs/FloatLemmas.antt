@@ -7,7 +7,7 @@ use Rattle.rl_reading.proofs.Names.{is_exponent_letter, pow-suc, place_value}
 use native.Mathlib.Numerals.{unary_clauses}
 use Rattle.std.specs.Prelude.{filter}
 use Rattle.rl_text.specs.Classes.{after_run}
-use Rattle.rl_types.specs.FloatRange.{Reaches, after_dot, after_letter, before_letter, digits_in, exponent, has_minus, lowered, raised, significand}
+use Rattle.rl_types.specs.FloatRange.{IsAtLeast, after_point, power_part, decimal_part, digits_only, exponent, has_minus, lowered, raised, significand}
 use Rattle.rl_types.specs.Mirrors.Floats.{IsBound, not_below, without_zeros}
 
 -- ---- digits
@@ -251,13 +251,13 @@ same_capped front c v more (inr p) = inr (more, omega (arith, p.1, place_more fr
 
 -- ---- numerals
 
-digits_all : (cs : List ℕ) → list_all is_ascii_digit (digits_in cs) ≡ true
+digits_all : (cs : List ℕ) → list_all is_ascii_digit (digits_only cs) ≡ true
 digits_all [] = refl
 digits_all (c ∷ cs) = go (is_ascii_digit c) refl (digits_all cs)
   where
-    go : (b : Bool) → is_ascii_digit c ≡ b → list_all is_ascii_digit (digits_in cs) ≡ true
-        → list_all is_ascii_digit (cond b (c ∷ digits_in cs) (digits_in cs)) ≡ true
-    go true h more = and_from (is_ascii_digit c) (list_all is_ascii_digit (digits_in cs)) h more
+    go : (b : Bool) → is_ascii_digit c ≡ b → list_all is_ascii_digit (digits_only cs) ≡ true
+        → list_all is_ascii_digit (cond b (c ∷ digits_only cs) (digits_only cs)) ≡ true
+    go true h more = and_from (is_ascii_digit c) (list_all is_ascii_digit (digits_only cs)) h more
     go false h more = more
 
 zeros_kept : (ds : List ℕ) → place_value 10 (without_zeros ds) ≡ place_value 10 ds
@@ -288,13 +288,13 @@ first_digits (d ∷ ds) h = h.0
 
 -- digits of the numeral without the zeros in front
 abbrev pub ours_of : List ℕ → List ℕ
-ours_of numeral = without_zeros (digits_in (before_letter numeral))
+ours_of numeral = without_zeros (digits_only (decimal_part numeral))
 
 ours_value : (n : List ℕ) → place_value 10 (ours_of n) ≡ significand n
-ours_value n = zeros_kept (digits_in (before_letter n))
+ours_value n = zeros_kept (digits_only (decimal_part n))
 
 ours_first : (n : List ℕ) (count : ℕ) → count ≡ length (ours_of n) → count ≢ 0 → IsFirst (ours_of n)
-ours_first n count is some = go (first_left (digits_in (before_letter n)) (digits_all (before_letter n)))
+ours_first n count is some = go (first_left (digits_only (decimal_part n)) (digits_all (decimal_part n)))
   where
     go : (ours_of n ≡ []) ⊎ IsFirst (ours_of n) → IsFirst (ours_of n)
     go (inl e) = absurd (some (is ∙ ap length e))
@@ -308,7 +308,7 @@ no_times : (q : ℕ) → 0 * q ≡ 0
 no_times q = omega arith
 
 pub none_reach : (n bs : List ℕ) (count : ℕ) → IsBound bs → count ≡ length (ours_of n) → count ≡ 0
-    → Reaches (place_value 10 bs) n → ⊥
+    → IsAtLeast (place_value 10 bs) n → ⊥
 none_reach n bs count bound is none reaches =
     let f = bound_first bs bound in
     let some : 0 * 10 ^ 0 < place_value 10 bs * 10 ^ lowered n =
@@ -354,7 +354,7 @@ pub record IsMeasured (n bs : List ℕ) (count places power : ℕ) : Type 0 wher
   pub short : length bs ≤ 309
   pub count_is : count ≡ length (ours_of n)
   pub some : count ≢ 0
-  pub places_are : places ≡ length (digits_in (after_dot (before_letter n)))
+  pub places_are : places ≡ length (digits_only (after_point (decimal_part n)))
   pub power_is : IsCapped power (exponent n)
   pub count_fits : count < 2 ^ 64
   pub places_fit : places < 2 ^ 64
@@ -376,7 +376,7 @@ rows n bs count places power s =
 
 pub reach_more : (n bs : List ℕ) (count places power : ℕ) → IsMeasured n bs count places power
     → length bs + places + cond (has_minus n) power 0 < count + cond (not (has_minus n)) power 0
-    → Reaches (place_value 10 bs) n
+    → IsAtLeast (place_value 10 bs) n
 reach_more n bs count places power s h =
     let f = bound_first bs s.bound in
     let more = more_digits (ours_of n) bs (raised n) (lowered n) (ours_first n count s.count_is s.some)
@@ -387,7 +387,7 @@ reach_more n bs count places power s h =
 
 pub reach_less : (n bs : List ℕ) (count places power : ℕ) → IsMeasured n bs count places power
     → count + cond (not (has_minus n)) power 0 < length bs + places + cond (has_minus n) power 0
-    → Reaches (place_value 10 bs) n → ⊥
+    → IsAtLeast (place_value 10 bs) n → ⊥
 reach_less n bs count places power s h reaches =
     let f = ours_first n count s.count_is s.some in
     let less = more_digits bs (ours_of n) (lowered n) (raised n) (bound_first bs s.bound)
@@ -399,7 +399,7 @@ reach_less n bs count places power s h reaches =
 pub reach_same : (n bs : List ℕ) (count places power : ℕ) → IsMeasured n bs count places power
     → count + cond (not (has_minus n)) power 0 ≡ length bs + places + cond (has_minus n) power 0
     → (r : Bool) → r ≡ not_below (ours_of n) bs
-    → (r ≡ true → Reaches (place_value 10 bs) n) × (r ≡ false → Reaches (place_value 10 bs) n → ⊥)
+    → (r ≡ true → IsAtLeast (place_value 10 bs) n) × (r ≡ false → IsAtLeast (place_value 10 bs) n → ⊥)
 reach_same n bs count places power s h r is =
     let f = bound_first bs s.bound in
     let g = ours_first n count s.count_is s.some in
@@ -412,7 +412,7 @@ reach_same n bs count places power s h r is =
     go : (t : Bool)
         → Compared t (place_value 10 (ours_of n) * 10 ^ raised n) (place_value 10 bs * 10 ^ lowered n) → t ≡ r
         → place_value 10 (ours_of n) * 10 ^ raised n ≡ significand n * 10 ^ raised n
-        → (r ≡ true → Reaches (place_value 10 bs) n) × (r ≡ false → Reaches (place_value 10 bs) n → ⊥)
+        → (r ≡ true → IsAtLeast (place_value 10 bs) n) × (r ≡ false → IsAtLeast (place_value 10 bs) n → ⊥)
     go true c e same = (λ x. omega (arith, c, same), λ x reaches. both_ways r x (sym e))
     go false c e same = (
       λ x. absurd (both_ways r (sym e) x),
@@ -442,29 +442,29 @@ tail_of t r front u v e = record {
 }
 
 pub letter_ends : (front cs : List ℕ) (c : ℕ) → is_exponent_letter c ≡ true
-    → front ++ before_letter (c ∷ cs) ≡ front
-letter_ends front cs c h = ap (λ b. front ++ cond b [] (c ∷ before_letter cs)) h ∙ append-nil front
+    → front ++ decimal_part (c ∷ cs) ≡ front
+letter_ends front cs c h = ap (λ b. front ++ cond b [] (c ∷ decimal_part cs)) h ∙ append-nil front
 
 pub letter_next : (front cs : List ℕ) (c : ℕ) → is_exponent_letter c ≡ false
-    → (front ++ before_letter (c ∷ cs) ≡ (front ++ (c ∷ [])) ++ before_letter cs) × (after_letter (c ∷ cs) ≡ after_letter cs)
+    → (front ++ decimal_part (c ∷ cs) ≡ (front ++ (c ∷ [])) ++ decimal_part cs) × (power_part (c ∷ cs) ≡ power_part cs)
 letter_next front cs c h = (
-  ap (λ b. front ++ cond b [] (c ∷ before_letter cs)) h ∙ sym (append_assoc front (c ∷ []) (before_letter cs)),
-  ap (λ b. cond b cs (after_letter cs)) h,
+  ap (λ b. front ++ cond b [] (c ∷ decimal_part cs)) h ∙ sym (append_assoc front (c ∷ []) (decimal_part cs)),
+  ap (λ b. cond b cs (power_part cs)) h,
 )
 
 pub measured : (n bs before after digits rest : List ℕ) (count places power : ℕ) → IsBound bs → length bs ≤ 309
-    → before ≡ before_letter n → after ≡ after_letter n → digits ≡ without_zeros (digits_in before)
-    → count ≡ length digits → count ≢ 0 → rest ≡ after_dot before → places ≡ length (digits_in rest)
-    → IsCapped power (place_value 10 (digits_in after)) → count < 2 ^ 64 → places < 2 ^ 64
+    → before ≡ decimal_part n → after ≡ power_part n → digits ≡ without_zeros (digits_only before)
+    → count ≡ length digits → count ≢ 0 → rest ≡ after_point before → places ≡ length (digits_only rest)
+    → IsCapped power (place_value 10 (digits_only after)) → count < 2 ^ 64 → places < 2 ^ 64
     → IsMeasured n bs count places power
 measured n bs before after digits rest count places power bound short b a d c some r p v count_fits places_fit =
     record {
       bound = bound;
       short = short;
-      count_is = c ∙ ap length (d ∙ ap (λ z. without_zeros (digits_in z)) b);
+      count_is = c ∙ ap length (d ∙ ap (λ z. without_zeros (digits_only z)) b);
       some = some;
-      places_are = p ∙ ap (λ z. length (digits_in z)) (r ∙ ap after_dot b);
-      power_is = subst (λ z. IsCapped power (place_value 10 (digits_in z))) a v;
+      places_are = p ∙ ap (λ z. length (digits_only z)) (r ∙ ap after_point b);
+      power_is = subst (λ z. IsCapped power (place_value 10 (digits_only z))) a v;
       count_fits = count_fits;
       places_fit = places_fit;
     }

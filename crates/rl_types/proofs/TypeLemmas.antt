@@ -2,7 +2,7 @@
 use Rattle.rl_text.proofs.Common.{◌≡◌, ℕ, ◌^◌, ◌-◌, ◌<◌, ◌≢◌, ◌++◌, ◌∙◌, Bool, List, Option, Some, None, IfNone, refl, sym, ap, arith, rules, subst, inl, inr, length, take, chars, chars-IsAscii, chars-append, chars-nil, IsUtf8, AllByRecursion, length-append, take-append_seam}
 use Rattle.rl_reading.proofs.Names.{Kind, Float}
 use Rattle.std.proofs.ByRecursion.{IsAscii-from_all}
-use Rattle.rl_types.specs.FloatRange.{Reaches, numeral_of}
+use Rattle.rl_types.specs.FloatRange.{IsAtLeast, numeral_of}
 use Rattle.rl_types.specs.NumberTypes.{greatest_of, infinite_from, number_name}
 use Rattle.rl_types.specs.TypeErrors.{HasType, IsFinite, IsInfinite, IsInRange, IsTypeOfFloat, NamesType}
 use Rattle.rl_types.specs.declared.number_types.NumberType.{NumberType}
@@ -105,7 +105,7 @@ pub finite_float : (t : NumberType) (n : Bool) (text numeral suffix : List ℕ) 
     → numeral_of text suffix ≡ numeral → (IsInfinite t numeral → ⊥) → IsFinite t (numeral_of text suffix)
 finite_float t n text numeral suffix none same finite =
     let (least, is) = least_of t n none in
-    (least, is, λ reaches. finite (least, is, subst (λ z. Reaches least z) same reaches))
+    (least, is, λ reaches. finite (least, is, subst (λ z. IsAtLeast least z) same reaches))
 
 -- a float with the suffix of an integer
 pub integer_suffix : (s : List ℕ) (t : NumberType) (n : Bool) → IsTypeOfFloat s t → greatest_of t n ≢ None

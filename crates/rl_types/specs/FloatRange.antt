@@ -8,30 +8,30 @@ use Rattle.rl_forms.specs.Numbers.{is_exponent_letter}
 use Rattle.rl_forms.specs.Spelling.{place_value}
 
 -- what stands before the letter of the exponent, and after it
-abbrev pub before_letter : List ℕ → List ℕ
-before_letter [] = []
-before_letter (c ∷ cs) = if is_exponent_letter c then [] else c ∷ before_letter cs
+abbrev pub decimal_part : List ℕ → List ℕ
+decimal_part [] = []
+decimal_part (c ∷ cs) = if is_exponent_letter c then [] else c ∷ decimal_part cs
 
-abbrev pub after_letter : List ℕ → List ℕ
-after_letter [] = []
-after_letter (c ∷ cs) = if is_exponent_letter c then cs else after_letter cs
+abbrev pub power_part : List ℕ → List ℕ
+power_part [] = []
+power_part (c ∷ cs) = if is_exponent_letter c then cs else power_part cs
 
-abbrev pub after_dot : List ℕ → List ℕ
-after_dot [] = []
-after_dot (c ∷ cs) = if c == code "." then cs else after_dot cs
+abbrev pub after_point : List ℕ → List ℕ
+after_point [] = []
+after_point (c ∷ cs) = if c == code "." then cs else after_point cs
 
-abbrev pub digits_in : List ℕ → List ℕ
-digits_in cs = filter is_ascii_digit cs
+abbrev pub digits_only : List ℕ → List ℕ
+digits_only cs = filter is_ascii_digit cs
 
 -- what the digits before the exponent spell without the dot, and what those of the exponent spell
 abbrev pub significand : List ℕ → ℕ
-significand numeral = place_value 10 (digits_in (before_letter numeral))
+significand numeral = place_value 10 (digits_only (decimal_part numeral))
 
 abbrev pub exponent : List ℕ → ℕ
-exponent numeral = place_value 10 (digits_in (after_letter numeral))
+exponent numeral = place_value 10 (digits_only (power_part numeral))
 
 abbrev pub has_minus : List ℕ → Bool
-has_minus numeral = list_any (λ c. c == code "-") (after_letter numeral)
+has_minus numeral = list_any (λ c. c == code "-") (power_part numeral)
 
 -- The number is the significand, times ten to the power `raised`, by ten to the power `lowered`.
 abbrev pub raised : List ℕ → ℕ
@@ -39,11 +39,11 @@ raised numeral = if has_minus numeral then 0 else exponent numeral
 
 abbrev pub lowered : List ℕ → ℕ
 lowered numeral =
-    length (digits_in (after_dot (before_letter numeral))) + (if has_minus numeral then exponent numeral else 0)
+    length (digits_only (after_point (decimal_part numeral))) + (if has_minus numeral then exponent numeral else 0)
 
 -- the number is at least this one
-abbrev pub Reaches : ℕ → List ℕ → Type 0
-Reaches least numeral = least * 10 ^ lowered numeral ≤ significand numeral * 10 ^ raised numeral
+abbrev pub IsAtLeast : ℕ → List ℕ → Type 0
+IsAtLeast least numeral = least * 10 ^ lowered numeral ≤ significand numeral * 10 ^ raised numeral
 
 -- what stands before a suffix
 abbrev pub numeral_of : List ℕ → List ℕ → List ℕ

@@ -8,7 +8,7 @@ use Rattle.rl_forms.specs.declared.kind.Kind.{Kind}
 use Rattle.rl_forms.specs.declared.kind.Kind.TheVariants.{Int, Float, Bool as BoolKind}
 use Rattle.rl_forms.specs.Numbers.{begins_base}
 use Rattle.rl_reading.specs.Founds.{is_quoted}
-use Rattle.rl_types.specs.FloatRange.{Reaches, numeral_of}
+use Rattle.rl_types.specs.FloatRange.{IsAtLeast, numeral_of}
 use Rattle.rl_types.specs.NumberTypes.{greatest_of, infinite_from, number_name}
 use Rattle.rl_types.specs.declared.type_errors.TypeError.{TypeError}
 use Rattle.rl_types.specs.declared.type_errors.TypeError.TheVariants.{QuotedSuffix, UnknownSuffix, FloatSuffix, BasedFloat, OutOfRange}
@@ -44,10 +44,10 @@ IsTypeOfFloat suffix t = NamesType suffix t ⊎ ((suffix ≡ []) × (t ≡ F64))
 
 -- the decimal number doesn't round to infinity in the type, or it does
 abbrev pub IsFinite : NumberType → List ℕ → Type 0
-IsFinite t numeral = (least : ℕ) × (infinite_from t ≡ Some least) × (Reaches least numeral → ⊥)
+IsFinite t numeral = (least : ℕ) × (infinite_from t ≡ Some least) × (IsAtLeast least numeral → ⊥)
 
 abbrev pub IsInfinite : NumberType → List ℕ → Type 0
-IsInfinite t numeral = (least : ℕ) × (infinite_from t ≡ Some least) × Reaches least numeral
+IsInfinite t numeral = (least : ℕ) × (infinite_from t ≡ Some least) × IsAtLeast least numeral
 
 -- what each error says
 abbrev pub HasTypeError : TypeError → Kind → List ℕ → ℕ → Bool → List ℕ → Type 0

@@ -7,7 +7,7 @@ ghost use Rattle.std.specs.Str.{chars};
 ghost use Rattle.rl_text.specs.Texts.{code};
 ghost use Rattle.rl_forms.specs.Numbers.{is_exponent_letter};
 ghost use Rattle.rl_forms.specs.Spelling.{place_value};
-ghost use Rattle.rl_types.specs.FloatRange.{Reaches, after_dot, after_letter, before_letter, digits_in};
+ghost use Rattle.rl_types.specs.FloatRange.{IsAtLeast, after_point, power_part, decimal_part, digits_only};
 ghost use Rattle.rl_types.specs.Mirrors.Floats.{IsBound, not_below, without_zeros};
 ghost use Rattle.rl_types.specs.TypeErrors.{IsInfinite};
 
@@ -36,8 +36,8 @@ fn is_exponent_letter(c: char) -> bool
 
 /// What stands before the letter of the exponent, and after it.
 fn split_letter(numeral: &str) -> (&str, &str)
-    ensures before { chars result.0.now ≡ before_letter (chars numeral.now) }
-    ensures after { chars result.1.now ≡ after_letter (chars numeral.now) }
+    ensures before { chars result.0.now ≡ decimal_part (chars numeral.now) }
+    ensures after { chars result.1.now ≡ power_part (chars numeral.now) }
 {
     let mut rest = numeral;
     while let Some((c, after)) = split_char(rest) {
@@ -50,8 +50,8 @@ fn split_letter(numeral: &str) -> (&str, &str)
 }
 
 /// What stands after the dot.
-fn after_dot(text: &str) -> &str
-    ensures { chars result.now ≡ after_dot (chars text.now) }
+fn after_point(text: &str) -> &str
+    ensures { chars result.now ≡ after_point (chars text.now) }
 {
     let mut rest = text;
     while let Some((c, after)) = split_char(rest) {
@@ -80,8 +80,8 @@ fn has_minus(text: &str) -> bool
 /// The first digit, and what stands after it.
 fn split_digit(text: &str) -> Option<(char, &str)>
     ensures some { IfSome result (λ p. IsTrue (is_ascii_digit p.0)
-        × (digits_in (chars text.now) ≡ p.0 ∷ digits_in (chars p.1.now)) × (length p.1.now < length text.now)) }
-    ensures none { IfNone result (digits_in (chars text.now) ≡ []) }
+        × (digits_only (chars text.now) ≡ p.0 ∷ digits_only (chars p.1.now)) × (length p.1.now < length text.now)) }
+    ensures none { IfNone result (digits_only (chars text.now) ≡ []) }
 {
     let mut rest = text;
     while let Some((c, after)) = split_char(rest) {
@@ -95,7 +95,7 @@ fn split_digit(text: &str) -> Option<(char, &str)>
 
 /// The text from the first digit on that isn't zero.
 fn skip_zeros(text: &str) -> &str
-    ensures { digits_in (chars result.now) ≡ without_zeros (digits_in (chars text.now)) }
+    ensures { digits_only (chars result.now) ≡ without_zeros (digits_only (chars text.now)) }
 {
     let mut rest = text;
     while let Some(('0', after)) = split_digit(rest) {
@@ -106,7 +106,7 @@ fn skip_zeros(text: &str) -> &str
 
 /// How many digits there are.
 fn count_digits(text: &str) -> usize
-    ensures count { result ≡ length (digits_in (chars text.now)) }
+    ensures count { result ≡ length (digits_only (chars text.now)) }
     ensures fits { result < 2 ^ 64 }
 {
     let mut count = 0;
@@ -120,8 +120,8 @@ fn count_digits(text: &str) -> usize
 
 /// What the digits spell, exactly below `HUGE`.
 fn capped_value(text: &str) -> u128
-    ensures value { (result ≡ place_value 10 (digits_in (chars text.now)))
-        ⊎ ((HUGE ≤ result) × (HUGE ≤ place_value 10 (digits_in (chars text.now)))) }
+    ensures value { (result ≡ place_value 10 (digits_only (chars text.now)))
+        ⊎ ((HUGE ≤ result) × (HUGE ≤ place_value 10 (digits_only (chars text.now)))) }
     ensures fits { result < 16 * HUGE }
 {
     let mut value = 0;
@@ -137,8 +137,8 @@ fn capped_value(text: &str) -> u128
 
 /// The first digit, and what stands after it; a zero where there is none.
 fn digit_or_zero(text: &str) -> (char, &str)
-    ensures { (b : ℕ) (bs : List ℕ) → not_below (digits_in (chars text.now)) (b ∷ bs)
-        ≡ cond (result.0 == b) (not_below (digits_in (chars result.1.now)) bs) (nat_lt b result.0) }
+    ensures { (b : ℕ) (bs : List ℕ) → not_below (digits_only (chars text.now)) (b ∷ bs)
+        ≡ cond (result.0 == b) (not_below (digits_only (chars result.1.now)) bs) (nat_lt b result.0) }
 {
     match split_digit(text) {
         Some(parts) => parts,
@@ -148,7 +148,7 @@ fn digit_or_zero(text: &str) -> (char, &str)
 
 /// Whether the digits aren't below those of the bound, where the first ones have the same power of ten.
 fn is_not_below(digits: &str, bound: &str) -> bool
-    ensures { result ≡ not_below (digits_in (chars digits.now)) (chars bound.now) }
+    ensures { result ≡ not_below (digits_only (chars digits.now)) (chars bound.now) }
 {
     let mut left = digits;
     let mut rest = bound;
@@ -178,8 +178,8 @@ fn value_if(condition: bool, value: u128) -> u128
 fn reaches(bound: &str, numeral: &str) -> bool
     requires bound { IsBound bound.now }
     requires short { length bound.now ≤ 309 }
-    ensures yes { result ≡ true → Reaches (place_value 10 bound.now) (chars numeral.now) }
-    ensures no { result ≡ false → Reaches (place_value 10 bound.now) (chars numeral.now) → ⊥ }
+    ensures yes { result ≡ true → IsAtLeast (place_value 10 bound.now) (chars numeral.now) }
+    ensures no { result ≡ false → IsAtLeast (place_value 10 bound.now) (chars numeral.now) → ⊥ }
 {
     let (significand, exponent) = split_letter(numeral);
     let digits = skip_zeros(significand);
@@ -187,7 +187,7 @@ fn reaches(bound: &str, numeral: &str) -> bool
     if count == 0 {
         return false;
     }
-    let places = count_digits(after_dot(significand));
+    let places = count_digits(after_point(significand));
     let power = capped_value(exponent);
     let is_divided = has_minus(exponent);
     let ours = count as u128 + value_if(!is_divided, power);

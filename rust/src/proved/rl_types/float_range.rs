@@ -35,7 +35,7 @@ fn split_letter(numeral: &str) -> (&str, &str) {
 }
 
 /// What stands after the dot.
-fn after_dot(text: &str) -> &str {
+fn after_point(text: &str) -> &str {
     let mut rest = text;
     while let Some((c, after)) = split_char(rest) {
         if c == '.' {
@@ -143,7 +143,7 @@ fn reaches(bound: &str, numeral: &str) -> bool {
     if count == 0 {
         return false;
     }
-    let places = count_digits(after_dot(significand));
+    let places = count_digits(after_point(significand));
     let power = capped_value(exponent);
     let is_divided = has_minus(exponent);
     let ours = count as u128 + value_if(!is_divided, power);

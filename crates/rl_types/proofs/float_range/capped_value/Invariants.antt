@@ -1,7 +1,7 @@
 -- The value of the digits that were passed.
 use Rattle.rl_text.proofs.Common.{◌≡◌, ◌⊎◌, ◌≤◌, ◌<◌, ◌*◌, ◌^◌, ◌++◌, ℕ, List, length}
 use Rattle.rl_reading.proofs.Names.{place_value}
-use Rattle.rl_types.specs.FloatRange.{digits_in}
+use Rattle.rl_types.specs.FloatRange.{digits_only}
 use denote.Text.{Utf8}
 use denote.Shadow.{shadow}
 use Rattle.std.specs.Str.{chars}
@@ -10,7 +10,7 @@ use Rattle.rl_types.proofs.float_range.capped_value.Given as goal
 abbrev pub invariant-loop-digit : goal.invariant-loop-digit
 invariant-loop-digit l = record {
   utf8 : shadow (Utf8 l.rest);
-  passed : (front : List ℕ) × (digits_in (chars l.text) ≡ front ++ digits_in (chars l.rest))
+  passed : (front : List ℕ) × (digits_only (chars l.text) ≡ front ++ digits_only (chars l.rest))
       × ((l.value ≡ place_value 10 front) ⊎ ((2 ^ 100 ≤ l.value) × (2 ^ 100 ≤ place_value 10 front)));
   fits : l.value < 16 * 2 ^ 100;
 }

@@ -1,6 +1,6 @@
 -- So many were passed.
 use Rattle.rl_text.proofs.Common.{◌≡◌, ◌≤◌, ◌+◌, length}
-use Rattle.rl_types.specs.FloatRange.{digits_in}
+use Rattle.rl_types.specs.FloatRange.{digits_only}
 use denote.Text.{Utf8}
 use denote.Shadow.{shadow}
 use Rattle.std.specs.Str.{chars}
@@ -9,7 +9,7 @@ use Rattle.rl_types.proofs.float_range.count_digits.Given as goal
 abbrev pub invariant-loop-after : goal.invariant-loop-after
 invariant-loop-after l = record {
   utf8 : shadow (Utf8 l.rest);
-  counted : l.count + length (digits_in (chars l.rest)) ≡ length (digits_in (chars l.text));
+  counted : l.count + length (digits_only (chars l.rest)) ≡ length (digits_only (chars l.text));
   room : l.count + length l.rest ≤ length l.text;
 }
 

@@ -1,6 +1,6 @@
 -- What is left has the answer.
 use Rattle.rl_text.proofs.Common.{◌≡◌, length}
-use Rattle.rl_types.specs.FloatRange.{digits_in}
+use Rattle.rl_types.specs.FloatRange.{digits_only}
 use Rattle.rl_types.specs.Mirrors.Floats.{not_below}
 use denote.Text.{Utf8}
 use denote.Shadow.{shadow}
@@ -11,7 +11,7 @@ abbrev pub invariant-loop-wanted : goal.invariant-loop-wanted
 invariant-loop-wanted l = record {
   utf8 : shadow (Utf8 l.rest);
   left : shadow (Utf8 l.left);
-  same : not_below (digits_in (chars l.left)) (chars l.rest) ≡ not_below (digits_in (chars l.digits)) (chars l.bound);
+  same : not_below (digits_only (chars l.left)) (chars l.rest) ≡ not_below (digits_only (chars l.digits)) (chars l.bound);
 }
 
 abbrev pub decreases-loop-wanted : goal.decreases-loop-wanted

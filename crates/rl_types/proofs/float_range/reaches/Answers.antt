@@ -1,6 +1,6 @@
 use Rattle.rl_text.proofs.Common.{◌≡◌, ◌==◌, ◌∙◌, ℕ, List, ap, arith, cond, length, list_any, not, sym}
 use Rattle.std.specs.Str.{chars}
-use Rattle.rl_types.specs.FloatRange.{digits_in}
+use Rattle.rl_types.specs.FloatRange.{digits_only}
 use Rattle.rl_types.specs.Mirrors.Floats.{not_below, without_zeros}
 use Rattle.rl_types.proofs.FloatLemmas.{bound_chars, measured, none_reach, ours_of, reach_less, reach_more, reach_same}
 use Rattle.rl_types.proofs.float_range.reaches.Goals as goal
@@ -8,7 +8,7 @@ use Rattle.rl_types.proofs.float_range.reaches.Goals as goal
 pub returns-then-count-eq0-clause-no : goal.returns-then-count-eq0-clause-no
 returns-then-count-eq0-clause-no c = λ e. none_reach (chars c.args.numeral.now) c.args.bound.now
     c.count_digits-count.result c.requires.bound (c.count_digits-count.ensures.count
-    ∙ ap length (c.skip_zeros-digits.ensures ∙ ap (λ z. without_zeros (digits_in z)) c.split_letter.ensures.before))
+    ∙ ap length (c.skip_zeros-digits.ensures ∙ ap (λ z. without_zeros (digits_only z)) c.split_letter.ensures.before))
     c.if-count-eq0.true
 
 pub returns-then-ours-least-clause-yes : goal.returns-then-ours-least-clause-yes
@@ -17,7 +17,7 @@ returns-then-ours-least-clause-yes c =
     let s = measured n c.args.bound.now _ _ _ _ c.count_digits-count.result c.count_digits-places.result
         c.capped_value-power.result c.requires.bound c.requires.short c.split_letter.ensures.before
         c.split_letter.ensures.after c.skip_zeros-digits.ensures c.count_digits-count.ensures.count
-        c.if-count-eq0.false c.after_dot.ensures c.count_digits-places.ensures.count
+        c.if-count-eq0.false c.after_point.ensures c.count_digits-places.ensures.count
         c.capped_value-power.ensures.value c.count_digits-count.ensures.fits c.count_digits-places.ensures.fits in
     let minus = c.has_minus-is_divided.ensures ∙ ap (list_any (λ (z : ℕ). z == 45)) c.split_letter.ensures.after in
     let up = c.value_if.ensures ∙ ap (λ m. cond (not m) c.capped_value-power.result 0) minus in
@@ -32,7 +32,7 @@ returns-then-ours-least-2-clause-no c =
     let s = measured n c.args.bound.now _ _ _ _ c.count_digits-count.result c.count_digits-places.result
         c.capped_value-power.result c.requires.bound c.requires.short c.split_letter.ensures.before
         c.split_letter.ensures.after c.skip_zeros-digits.ensures c.count_digits-count.ensures.count
-        c.if-count-eq0.false c.after_dot.ensures c.count_digits-places.ensures.count
+        c.if-count-eq0.false c.after_point.ensures c.count_digits-places.ensures.count
         c.capped_value-power.ensures.value c.count_digits-count.ensures.fits c.count_digits-places.ensures.fits in
     let minus = c.has_minus-is_divided.ensures ∙ ap (list_any (λ (z : ℕ). z == 45)) c.split_letter.ensures.after in
     let up = c.value_if.ensures ∙ ap (λ m. cond (not m) c.capped_value-power.result 0) minus in
@@ -47,14 +47,14 @@ returns-clause-yes c =
     let s = measured n c.args.bound.now _ _ _ _ c.count_digits-count.result c.count_digits-places.result
         c.capped_value-power.result c.requires.bound c.requires.short c.split_letter.ensures.before
         c.split_letter.ensures.after c.skip_zeros-digits.ensures c.count_digits-count.ensures.count
-        c.if-count-eq0.false c.after_dot.ensures c.count_digits-places.ensures.count
+        c.if-count-eq0.false c.after_point.ensures c.count_digits-places.ensures.count
         c.capped_value-power.ensures.value c.count_digits-count.ensures.fits c.count_digits-places.ensures.fits in
     let minus = c.has_minus-is_divided.ensures ∙ ap (list_any (λ (z : ℕ). z == 45)) c.split_letter.ensures.after in
     let up = c.value_if.ensures ∙ ap (λ m. cond (not m) c.capped_value-power.result 0) minus in
     let down = c.value_if-2.ensures ∙ ap (λ m. cond m c.capped_value-power.result 0) minus in
     let below : c.is_not_below.result ≡ not_below (ours_of n) c.args.bound.now = c.is_not_below.ensures
     ∙ ap (λ z. not_below z (chars c.args.bound.now)) (c.skip_zeros-digits.ensures
-    ∙ ap (λ z. without_zeros (digits_in z)) c.split_letter.ensures.before)
+    ∙ ap (λ z. without_zeros (digits_only z)) c.split_letter.ensures.before)
     ∙ ap (λ z. not_below (ours_of n) z) (bound_chars c.args.bound.now c.requires.bound) in
     (reach_same n c.args.bound.now c.count_digits-count.result c.count_digits-places.result
     c.capped_value-power.result s
@@ -66,14 +66,14 @@ returns-clause-no c =
     let s = measured n c.args.bound.now _ _ _ _ c.count_digits-count.result c.count_digits-places.result
         c.capped_value-power.result c.requires.bound c.requires.short c.split_letter.ensures.before
         c.split_letter.ensures.after c.skip_zeros-digits.ensures c.count_digits-count.ensures.count
-        c.if-count-eq0.false c.after_dot.ensures c.count_digits-places.ensures.count
+        c.if-count-eq0.false c.after_point.ensures c.count_digits-places.ensures.count
         c.capped_value-power.ensures.value c.count_digits-count.ensures.fits c.count_digits-places.ensures.fits in
     let minus = c.has_minus-is_divided.ensures ∙ ap (list_any (λ (z : ℕ). z == 45)) c.split_letter.ensures.after in
     let up = c.value_if.ensures ∙ ap (λ m. cond (not m) c.capped_value-power.result 0) minus in
     let down = c.value_if-2.ensures ∙ ap (λ m. cond m c.capped_value-power.result 0) minus in
     let below : c.is_not_below.result ≡ not_below (ours_of n) c.args.bound.now = c.is_not_below.ensures
     ∙ ap (λ z. not_below z (chars c.args.bound.now)) (c.skip_zeros-digits.ensures
-    ∙ ap (λ z. without_zeros (digits_in z)) c.split_letter.ensures.before)
+    ∙ ap (λ z. without_zeros (digits_only z)) c.split_letter.ensures.before)
     ∙ ap (λ z. not_below (ours_of n) z) (bound_chars c.args.bound.now c.requires.bound) in
     (reach_same n c.args.bound.now c.count_digits-count.result c.count_digits-places.result
     c.capped_value-power.result s

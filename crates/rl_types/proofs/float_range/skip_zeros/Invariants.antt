@@ -1,6 +1,6 @@
 -- Zeros alone were passed.
 use Rattle.rl_text.proofs.Common.{◌≡◌, length}
-use Rattle.rl_types.specs.FloatRange.{digits_in}
+use Rattle.rl_types.specs.FloatRange.{digits_only}
 use Rattle.rl_types.specs.Mirrors.Floats.{without_zeros}
 use denote.Text.{Utf8}
 use denote.Shadow.{shadow}
@@ -10,7 +10,7 @@ use Rattle.rl_types.proofs.float_range.skip_zeros.Given as goal
 abbrev pub invariant-loop-after : goal.invariant-loop-after
 invariant-loop-after l = record {
   utf8 : shadow (Utf8 l.rest);
-  same : without_zeros (digits_in (chars l.rest)) ≡ without_zeros (digits_in (chars l.text));
+  same : without_zeros (digits_only (chars l.rest)) ≡ without_zeros (digits_only (chars l.text));
 }
 
 abbrev pub decreases-loop-after : goal.decreases-loop-after

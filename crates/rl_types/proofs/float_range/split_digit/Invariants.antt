@@ -1,6 +1,6 @@
 -- No digit was passed.
 use Rattle.rl_text.proofs.Common.{◌≡◌, ◌≤◌, length}
-use Rattle.rl_types.specs.FloatRange.{digits_in}
+use Rattle.rl_types.specs.FloatRange.{digits_only}
 use denote.Text.{Utf8}
 use denote.Shadow.{shadow}
 use Rattle.std.specs.Str.{chars}
@@ -9,7 +9,7 @@ use Rattle.rl_types.proofs.float_range.split_digit.Given as goal
 abbrev pub invariant-loop-c : goal.invariant-loop-c
 invariant-loop-c l = record {
   utf8 : shadow (Utf8 l.rest);
-  same : digits_in (chars l.rest) ≡ digits_in (chars l.text);
+  same : digits_only (chars l.rest) ≡ digits_only (chars l.text);
   shorter : length l.rest ≤ length l.text;
 }
 

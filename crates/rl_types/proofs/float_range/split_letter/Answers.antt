@@ -1,6 +1,6 @@
 use Rattle.rl_text.proofs.Common.{◌≡◌, [], ◌∷◌, ◌++◌, ◌∙◌, ℕ, List, append_assoc, append_cancel_right, sym, ap, rules}
 use Rattle.std.specs.Str.{chars}
-use Rattle.rl_types.specs.FloatRange.{after_letter, before_letter}
+use Rattle.rl_types.specs.FloatRange.{power_part, decimal_part}
 use Rattle.rl_types.proofs.FloatLemmas.{letter_ends, letter_next, tail_of}
 use Rattle.rl_types.proofs.float_range.split_letter.Goals as goal
 
@@ -16,7 +16,7 @@ returns-then-is_exponent_letter-clause-before c =
     let rest : List ℕ = chars c.loop-c.rest.now in
     let is : found ≡ front = append_cancel_right found front rest
     (sym c.before-then-is_exponent_letter.ensures.chars ∙ cut) in
-    is ∙ sym (ahead ∙ ap (λ z. front ++ before_letter z) c.in-Some.ensures.chars
+    is ∙ sym (ahead ∙ ap (λ z. front ++ decimal_part z) c.in-Some.ensures.chars
     ∙ letter_ends front (chars c.in-Some.after.now) c.in-Some.c
     (sym c.is_exponent_letter.ensures ∙ c.if-is_exponent_letter.true))
 
@@ -31,7 +31,7 @@ loop-c-preserved c =
         front ++ (c.in-Some.c ∷ []),
         cut ∙ ap (λ z. front ++ z) c.in-Some.ensures.chars
             ∙ sym (append_assoc front (c.in-Some.c ∷ []) (chars c.in-Some.after.now)),
-        ahead ∙ ap (λ z. front ++ before_letter z) c.in-Some.ensures.chars ∙ next.0,
-        after ∙ ap after_letter c.in-Some.ensures.chars ∙ next.1,
+        ahead ∙ ap (λ z. front ++ decimal_part z) c.in-Some.ensures.chars ∙ next.0,
+        after ∙ ap power_part c.in-Some.ensures.chars ∙ next.1,
       );
     }

@@ -1,15 +1,15 @@
 -- What is left has the same end.
 use Rattle.rl_text.proofs.Common.{◌≡◌, length}
-use Rattle.rl_types.specs.FloatRange.{after_dot}
+use Rattle.rl_types.specs.FloatRange.{after_point}
 use denote.Text.{Utf8}
 use denote.Shadow.{shadow}
 use Rattle.std.specs.Str.{chars}
-use Rattle.rl_types.proofs.float_range.after_dot.Given as goal
+use Rattle.rl_types.proofs.float_range.after_point.Given as goal
 
 abbrev pub invariant-loop-c : goal.invariant-loop-c
 invariant-loop-c l = record {
   utf8 : shadow (Utf8 l.rest);
-  same : after_dot (chars l.rest) ≡ after_dot (chars l.text);
+  same : after_point (chars l.rest) ≡ after_point (chars l.text);
 }
 
 abbrev pub decreases-loop-c : goal.decreases-loop-c
