@@ -1,7 +1,7 @@
 //! Whole sources in a style.
 #![cfg(all(feature = "sources", feature = "style"))]
 
-use navyspindle::{restyle, source, Case, Edit, Lit, Style};
+use navyspindle::{restyle, source, Case, DigitGroups, Edit, Lit, Style};
 use std::borrow::Cow;
 
 const STYLE: Style = Style::new()
@@ -55,6 +55,27 @@ fn other_numbers_do_not() {
         ("[1, 2,\n 0xF]", "[1, 2,\n 0xf]"),
     ] {
         assert_eq!(styled(text), written, "{text:?}");
+    }
+}
+
+#[test]
+fn numbers_that_grow_part_no_tokens() {
+    let style = Style::new()
+        .digit_groups(DigitGroups::new().decimal(3))
+        .float_zero(true);
+    for (text, written) in [
+        ("t.1000000 t.1. t.0.", "t.1000000 t.1. t.0."),
+        ("1000..2000", "1_000..2_000"),
+        ("1000.max(2000)", "1_000.max(2_000)"),
+        ("1. .max(2.)", "1.0 .max(2.0)"),
+        ("[1.,2.]", "[1.0,2.0]"),
+        ("1.-2.==-1.", "1.0-2.0==-1.0"),
+        ("m!(1.\"a\" 1.'b' 1.'c)", "m!(1.0\"a\" 1.0'b' 1.0'c)"),
+        ("1./**/e5 1.\u{b7}", "1.0/**/e5 1.0\u{b7}"),
+        ("1..2 1...2 1..=2", "1..2 1...2 1..=2"),
+        ("1.e 1._x", "1.e 1._x"),
+    ] {
+        assert_eq!(restyle(text, style).apply().unwrap(), written, "{text:?}");
     }
 }
 

@@ -1,7 +1,8 @@
 //! Literals written anew, held against the rows of `style.txt`, which `tools/style_model.py` writes of a model's answers.
 
 use navyspindle::{
-    is_token, rewrite, rewrite_after, Case, DigitGroups, FlawKind, Lit, Separator, Style,
+    is_token, rewrite, rewrite_after, write_integer, Base, Case, DigitGroups, FlawKind, IntegerStyle,
+    Lit, Separator, Style,
 };
 use std::borrow::Cow;
 
@@ -115,6 +116,29 @@ fn what_is_written_reads_alike() {
                 assert!(written.len() <= most, "{text} {written}");
             }
         }
+    }
+}
+
+#[test]
+fn groups_are_those_of_the_writer() {
+    for (base, group) in [
+        (Base::Binary, 8),
+        (Base::Octal, 3),
+        (Base::Decimal, 2),
+        (Base::Hexadecimal, 1),
+    ] {
+        let plain = IntegerStyle::new().base(base);
+        for value in (0..2_000_u128).chain([u128::MAX, u128::MAX / 7, 1 << 64]) {
+            let text = write_integer(value, plain);
+            let written = rewrite(&text, style_of("G")).unwrap();
+            assert_eq!(written, write_integer(value, plain.group(group)), "{text}");
+        }
+    }
+    let plain = IntegerStyle::new();
+    for value in [0_u64, 1_000, 9_999, 10_000, 123_456_789] {
+        let text = write_integer(value, plain.group(2));
+        let written = rewrite(&text, style_of("g")).unwrap();
+        assert_eq!(written, write_integer(value, plain.group(3).least(5)));
     }
 }
 

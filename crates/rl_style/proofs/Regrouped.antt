@@ -79,9 +79,6 @@ grouped_one from_first size least c h =
     (row_first (tests from_first size least n) c [] h
     ∙ ap (λ b. c ∷ ((mark b ++ []) ++ [])) (ends_none from_first (group_size size least n) n))
 
-pub grouped_none : (from_first : Bool) (size least : ℕ) → regrouped from_first size least [] ≡ []
-grouped_none from_first size least = either (λ z. z ≡ []) from_first size least [] refl refl
-
 pub ungrouped : (from_first : Bool) (size least : ℕ) (row : List ℕ) → size ≡ 0
     → regrouped from_first size least row ≡ row
 ungrouped from_first size least row e = ap (λ z. regrouped from_first z least row) e

@@ -32,9 +32,6 @@ pub record Shaped (numeral x : List ℕ) (shape : FloatShape) : Type 0 where
   pub form : FloatForm numeral x
   pub same_shape : shape_of numeral x form ≡ shape
 
-shaped : (n m x : List ℕ) (shape : FloatShape) → n ≡ m → Shaped n x shape → Shaped m x shape
-shaped n m x shape e s = subst (λ z. Shaped z x shape) e s
-
 digits_some_only : (z : List ℕ) → IsDigits z → only z ≡ false
 digits_some_only [] h = absurd (let e : false ≡ true = h.0 in cc)
 digits_some_only (c ∷ cs) h = ap (λ b. b && only cs) (not_among c 95 is_ascii_digit h.0 refl)

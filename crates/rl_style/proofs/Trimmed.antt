@@ -210,13 +210,6 @@ under_only u c h k = list_all-append is_underscore u (c ∷ []) ∙ and_from (on
 
 -- ---- what is kept
 
-pub kept_join : (style : Style) (x a b : List ℕ) → only b ≡ false → kept_row style x (a ++ b) ≡ a ++ kept_row style x b
-kept_join style x a b h = go (trims_by style.suffix_separator x)
-  where
-    go : (k : Bool) → cond k (trimmed (a ++ b)) (a ++ b) ≡ a ++ cond k (trimmed b) b
-    go true = trimmed_join a b h
-    go false = refl
-
 pub kept_first : (style : Style) (x row : List ℕ) → first_passes is_ascii_digit row ≡ true
     → first_passes is_ascii_digit (kept_row style x row) ≡ true
 kept_first style x row h = go (trims_by style.suffix_separator x)

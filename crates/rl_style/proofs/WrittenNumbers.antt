@@ -206,20 +206,6 @@ pub number_utf8 : (style : Style) (front middle suffix new : List ℕ) → IsUtf
     → scalars middle ≡ true → Written style front middle suffix new → IsUtf8 new
 number_utf8 style front middle suffix new u us h e = (number_text style front middle suffix new u us h e).0
 
--- what stands before the suffix, of base ten
-ten_prefix : (t : List ℕ) (v : Contents) (x : List ℕ) (i : StrictInt t v x) → i.base ≡ 10 → i.prefix ≡ []
-ten_prefix t v x i h =
-    elim i.is_front [
-      | inl f ↦ f.0
-      | inr f ↦ elim f [
-        | inl g ↦ absurd (let b = g.1 in omega (arith, b, h))
-        | inr g ↦ elim g [
-          | inl b ↦ absurd (let c = b.1 in omega (arith, c, h))
-          | inr b ↦ absurd (let c = b.1 in omega (arith, c, h))
-        ]
-      ]
-    ]
-
 -- where the digits of an integer stand
 pub digits_cut : (text digits suffix full : List ℕ) (base : ℕ) (v : Contents)
     → ◌≡◌ {A = ℕ × List ℕ} (base, chars digits) (radix_at (chars text))
