@@ -11,6 +11,7 @@ pub mod HiddenUnits
 pub mod SameUnits
 pub mod QuotedParts
 pub mod UnitTexts
+pub mod UnitRows
 pub mod LostRaw
 pub mod SameLiterals
 pub mod WrittenNumbers
