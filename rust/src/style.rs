@@ -448,8 +448,7 @@ pub fn rewrite_after<'t>(
     style: Style,
 ) -> Result<Cow<'t, str>, ParseError> {
     let mut room = vec![0; 4 * text.len() + 1];
-    let len =
-        rewrite_into(front, text, style.proved(), &mut room).map_err(ParseError::of_flaw)?;
+    let len = rewrite_into(front, text, style.proved(), &mut room).map_err(ParseError::of_flaw)?;
     room.truncate(len);
     if room == text.as_bytes() {
         return Ok(Cow::Borrowed(text));

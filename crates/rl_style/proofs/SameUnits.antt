@@ -319,7 +319,8 @@ respelled_front style k z n escape rest h =
     solid v = not-true (is_dropped_blank n) (visible_test (λ n. not (is_dropped_blank n)) n v
         (λ low. agree_below_at (λ n. not (is_visible n) || not (is_dropped_blank n)) (λ n. true) 128 n refl low))
 
-respelled_ends : (style : Style) (k : Kind) (z : Bool) (n : ℕ) (escape : StrictUnit) (us : List StrictUnit) → BlanksEnd us
+respelled_ends : (style : Style) (k : Kind) (z : Bool) (n : ℕ) (escape : StrictUnit) (us : List StrictUnit)
+    → BlanksEnd us
     → BlanksEnd (escape ∷ us) → BlanksEnd (respelled style k z n escape ∷ us)
 respelled_ends style k z n escape us b h =
     respelled_any (λ u. BlanksEnd (u ∷ us)) style k z n escape
@@ -337,7 +338,8 @@ named_contents : (z : Bool) (n : ℕ) → gets_letter z n ≡ true → plain_val
 named_contents z n h = named_any (λ n. plain_value_in plain_escapes (letter_of n) ≡ n ∷ []) z n h refl refl refl
     (λ e. refl)
 
-respelled_contents : (style : Style) (k : Kind) (z : Bool) (n : ℕ) (escape : StrictUnit) (v : List ℕ) → (n < 128 → n ∷ [] ≡ v)
+respelled_contents : (style : Style) (k : Kind) (z : Bool) (n : ℕ) (escape : StrictUnit) (v : List ℕ)
+    → (n < 128 → n ∷ [] ≡ v)
     → strict_contents (strict_content_of k) escape ≡ v
     → strict_contents (strict_content_of k) (respelled style k z n escape) ≡ v
 respelled_contents style k z n escape v same h =
@@ -349,7 +351,7 @@ respelled_contents style k z n escape v same h =
 -- what holds of the escape, and of the character itself, holds of what it becomes
 pub itself_any : (P : StrictUnit → Type 0) (style : Style) (k : Kind) (z : Bool) (c : ℕ)
     → (needs_number c ≡ true → P (reescaped style k z (number_escape k c))) → P (Itself c)
-        → P (restyled style k z (Itself c))
+    → P (restyled style k z (Itself c))
 itself_any P style k z c escaped other = go (style.hidden && needs_number c) refl
   where
     go : (b : Bool) → (style.hidden && needs_number c) ≡ b → P
@@ -361,20 +363,21 @@ itself_any P style k z c escaped other = go (style.hidden && needs_number c) ref
 
 ascii_stays : (style : Style) (k : Kind) (z : Bool) (us : List StrictUnit) (high low : ℕ) → HasUnits k us
     → is_strict_unit k (AsciiEscape high low) ≡ true → is_strict_unit k (reescaped style k z (AsciiEscape high low))
-        ≡ true
+    ≡ true
 ascii_stays style k z us high low q h = respelled_allowed style k z us (place_value 16 (high ∷ low ∷ []))
     (AsciiEscape (cased style.escape_digits high) (cased style.escape_digits low)) q (ascii_zero k high low h)
     (ascii_allowed style.escape_digits k high low h)
 
 byte_stays : (style : Style) (k : Kind) (z : Bool) (us : List StrictUnit) (high low : ℕ) → HasUnits k us
-    → is_strict_unit k (ByteEscape high low) ≡ true → is_strict_unit k (reescaped style k z (ByteEscape high low)) ≡ true
+    → is_strict_unit k (ByteEscape high low) ≡ true → is_strict_unit k (reescaped style k z (ByteEscape high low))
+        ≡ true
 byte_stays style k z us high low q h = respelled_allowed style k z us (place_value 16 (high ∷ low ∷ []))
     (ByteEscape (cased style.escape_digits high) (cased style.escape_digits low)) q (byte_zero k high low h)
     (byte_allowed style.escape_digits k high low h)
 
 unicode_stays : (style : Style) (k : Kind) (z : Bool) (us : List StrictUnit) (digits : List (ℕ × ℕ)) → HasUnits k us
     → is_strict_unit k (UnicodeEscape digits) ≡ true → is_strict_unit k (reescaped style k z (UnicodeEscape digits))
-        ≡ true
+    ≡ true
 unicode_stays style k z us digits q h = respelled_allowed style k z us (spaced_value digits)
     (UnicodeEscape (styled_digits style digits)) q (unicode_zero k digits h) (code_allowed style k digits h)
 
@@ -626,7 +629,8 @@ cooked_same style t u c = record {
 -- ---- once is enough
 
 -- what needs_number nothing stays itself
-pub shown_stays : (style : Style) (k : Kind) (z : Bool) (c : ℕ) → needs_number c ≡ false → restyled style k z (Itself c) ≡ Itself c
+pub shown_stays : (style : Style) (k : Kind) (z : Bool) (c : ℕ) → needs_number c ≡ false → restyled style k z (Itself c)
+    ≡ Itself c
 shown_stays style k z c h =
     ap (λ b. cond (style.hidden && b) (reescaped style k z (number_escape k c)) (Itself c)) h
     ∙ ap (λ b. cond b (reescaped style k z (number_escape k c)) (Itself c)) (none_right style.hidden)
@@ -640,7 +644,8 @@ twice_quote false style k z c q e = ap (λ z. quote_unit z c) (sym e)
 -- an escape by number that is written anew again
 twice_respelled : (style : Style) (k : Kind) (z : Bool) (n : ℕ) (escape : StrictUnit) → restyled style k z escape
     ≡ respelled style k z n escape → restyled style k z (respelled style k z n escape) ≡ respelled style k z n escape
-twice_respelled style k z n escape h = go (style.ascii_escapes && is_visible n) (style.named_escapes && gets_letter z n) refl
+twice_respelled style k z n escape h = go (style.ascii_escapes && is_visible n) (style.named_escapes && gets_letter z n)
+    refl
     refl
   where
     quote : (n == closer k) ≡ true → restyled style k z (QuoteEscape n) ≡ QuoteEscape n
@@ -656,7 +661,8 @@ twice_respelled style k z n escape h = go (style.ascii_escapes && is_visible n) 
         ∙ ap (λ a. chosen a (style.named_escapes && gets_letter z n) k n escape) e
         ∙ ap (λ b. chosen false b k n escape) f
 
-twice_ascii : (style : Style) (k : Kind) (z : Bool) (high low : ℕ) → restyled style k z (reescaped style k z (AsciiEscape high low))
+twice_ascii : (style : Style) (k : Kind) (z : Bool) (high low : ℕ)
+    → restyled style k z (reescaped style k z (AsciiEscape high low))
     ≡ reescaped style k z (AsciiEscape high low)
 twice_ascii style k z high low =
     let case : Option Case = style.escape_digits in
@@ -668,7 +674,8 @@ twice_ascii style k z high low =
     ∙ ap (λ d. respelled style k z n (AsciiEscape d (cased case l))) (twice_cased case high)
     ∙ ap (λ d. respelled style k z n (AsciiEscape h d)) (twice_cased case low))
 
-twice_byte : (style : Style) (k : Kind) (z : Bool) (high low : ℕ) → restyled style k z (reescaped style k z (ByteEscape high low))
+twice_byte : (style : Style) (k : Kind) (z : Bool) (high low : ℕ)
+    → restyled style k z (reescaped style k z (ByteEscape high low))
     ≡ reescaped style k z (ByteEscape high low)
 twice_byte style k z high low =
     let case : Option Case = style.escape_digits in

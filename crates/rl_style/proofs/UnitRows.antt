@@ -9,7 +9,6 @@ use Rattle.rl_reading.proofs.UnitLemmas.{some_pair, unit_complete, unit_nil}
 use Rattle.rl_style.specs.declared.style.Style.{Style}
 use Rattle.rl_style.specs.Rewriting.{digit_follows, restyled_units, restyled}
 use Rattle.rl_style.specs.Mirrors.{AreUnits, ascii_in, lettered, stands_for_digit, restyled_text}
-
 use Rattle.rl_style.proofs.UnitTexts.{alone_of, bytes_of, unit_restyled}
 
 -- ---- the units that were passed
