@@ -370,7 +370,7 @@ ascii_stays style k z us high low q h = respelled_allowed style k z us (place_va
 
 byte_stays : (style : Style) (k : Kind) (z : Bool) (us : List StrictUnit) (high low : ℕ) → HasUnits k us
     → is_strict_unit k (ByteEscape high low) ≡ true → is_strict_unit k (reescaped style k z (ByteEscape high low))
-        ≡ true
+    ≡ true
 byte_stays style k z us high low q h = respelled_allowed style k z us (place_value 16 (high ∷ low ∷ []))
     (ByteEscape (cased style.escape_digits high) (cased style.escape_digits low)) q (byte_zero k high low h)
     (byte_allowed style.escape_digits k high low h)

@@ -491,7 +491,7 @@ pub plain_bytes : (style : Style) (k : Kind) (n c : ℕ) (unit rest at a b : Lis
 unfolding restyled_text
 plain_bytes style k n c unit rest at a b u e h f g =
     let text : restyled_text style k n (chars unit) ≡ itself_text style (n == 0) c
-        ++ chars rest = ap (restyled_text style k n) e
+    ++ chars rest = ap (restyled_text style k n) e
     ∙ ap (λ b. cond b (restyled_escape style k n (chars rest)) (itself_text style (n == 0) c ++ chars rest))
     (sym (ap (first_passes (λ c. c == 92)) e) ∙ h) in
     g ∙ ap (λ z. z ++ rest) f ∙ append_assoc at (encode_utf8_all (itself_text style (n == 0) c)) rest

@@ -97,8 +97,7 @@ respelled style kind zero c escape =
     else (if style.named_escapes && gets_letter zero c then PlainEscape (letter_of c) else escape)
 
 -- what an escape becomes: a quote that doesn't close the literal stands for itself, and so does a visible character
--- that
--- is spelled by its number; other escapes by number have their digits in one case
+-- that is spelled by its number; other escapes by number have their digits in one case
 abbrev pub reescaped : Style → Kind → Bool → StrictUnit → StrictUnit
 reescaped style kind zero (QuoteEscape c) =
     if style.quote_escapes && not (c == closer kind) then Itself c else QuoteEscape c
