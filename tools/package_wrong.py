@@ -135,6 +135,10 @@ WRONG = [Wrong(*row) for row in [
      'hashes are dropped where backslashes are'),
     ('style.rs', "if room == text.as_bytes() {", "if len == text.len() {",
      'what is as long as before is returned as it was'),
+    ('style.rs', "hidden: self.hidden,", "hidden: self.raw,",
+     'what hides text is escaped where raw strings are dropped'),
+    ('restyle.rs', "&source[..literal.token.lo]", "&source[..literal.token.hi]",
+     'a literal stands after itself'),
     # write.rs
     ('write.rs', "write_bytes_into(Kind::CStr, bytes, out)", "write_bytes_into(Kind::ByteStr, bytes, out)",
      'a C string is written as a byte string'),

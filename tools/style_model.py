@@ -8,8 +8,9 @@
 A literal is taken apart by the token grammar of the Rust Reference, each part is mapped by itself, and the parts are put together
 again. Nothing of the repository is asked. A style is a word of letters: `x` and `X` hexadecimal digits in lower and in upper case,
 `u` no underscores in numbers, `z` no zeros in front of integers of base ten, `s` nothing and `S` an underscore before a suffix, `g`
-and `G` digits in the groups of GROUPS, `f` a zero after a float's last dot, `e` and `E` the exponent's letter, `d` and `D` the digits of escapes, `c` the fewest of `\\u{..}`, `a` visible characters of ASCII and `n`
-letters for LF, CR and TAB where escapes by number spell them, `p` no plus, `q` no needless backslash before a quote, `h` the fewest
+and `G` digits in the groups of GROUPS, `f` a zero after a float's last dot, `e` and `E` the exponent's letter, `d` and `D` the digits of
+escapes, `c` the fewest of `\\u{..}`, `a` visible characters of ASCII and `n` letters for LF, CR, TAB and NUL where escapes by number
+spell them (of NUL not before a digit), `p` no plus, `q` no needless backslash before a quote, `h` the fewest
 hashes, `r` no raw strings that need none, `i` escapes for characters that turn or hide text, by Unicode's table as perl has it. A row
 is a style, the text that stands in front, a text and what it becomes, all three in hexadecimal: `-` stands for no style and for no text,
 `=` for the text itself, and `!` for what is no literal.
@@ -209,22 +210,25 @@ def cased(style, low, high, text):
     return text.lower() if low in style else text.upper() if high in style else text
 
 
-def unit(style, kind, it):
+def unit(style, kind, it, after):
+    """What the unit becomes before the next one, if there is one."""
     if it.what == 'quote' and 'q' in style and chr(it.code) != closer(kind):
         return Unit('itself', chr(it.code), it.code)
-    if it.what in ('hex', 'unicode') and 'a' in style and 0x21 <= it.code <= 0x7e:
+    if it.what == 'itself' and 'i' in style and is_hidden(it.text):
+        it = Unit('hex', '\\x%02x' % it.code if it.code < 128 else '\\u{%x}' % it.code, it.code)
+    if it.what not in ('hex', 'unicode'):
+        return it
+    if 'a' in style and 0x21 <= it.code <= 0x7e:
         return Unit('quote' if chr(it.code) == closer(kind) else 'letter' if it.code == 92 else 'itself',
                     ('\\' if chr(it.code) in (closer(kind), '\\') else '') + chr(it.code), it.code)
-    if it.what in ('hex', 'unicode') and 'n' in style and it.code in NAMES:
+    if 'n' in style and it.code in NAMES:
         return Unit('letter', NAMES[it.code], it.code)
+    # In other languages digits after `\0` belong to it.
+    if 'n' in style and it.code == 0 and not (after and after.code is not None and chr(after.code) in '0123456789'):
+        return Unit('letter', '\\0', it.code)
     if it.what == 'unicode' and 'c' in style:
         it = it._replace(text='\\u{%s}' % (it.text[3:-1].replace('_', '').lstrip('0') or '0'))
-    if it.what in ('hex', 'unicode'):
-        return it._replace(text=it.text[:2] + cased(style, 'd', 'D', it.text[2:]))
-    if it.what == 'itself' and 'i' in style and is_hidden(it.text):
-        digits = '\\x%02x' % it.code if it.code < 128 else '\\u{%x}' % it.code
-        return Unit('hex', digits[:2] + cased(style, 'd', 'D', digits[2:]), it.code)
-    return it
+    return it._replace(text=it.text[:2] + cased(style, 'd', 'D', it.text[2:]))
 
 
 def is_hidden(c):
@@ -301,7 +305,8 @@ def rewrite(style, text, front=''):
     if last and 'S' in style and it.suffix:
         parts[last] += '_'
     if it.form == 'escapes':
-        parts['units'] = [unit(style, it.kind, each) for each in parts['units']]
+        pairs = itertools.zip_longest(parts['units'], parts['units'][1:])
+        parts['units'] = [unit(style, it.kind, each, after) for each, after in pairs]
     if it.form == 'raw' and 'h' in style:
         parts['hashes'] = fewest_hashes(parts['inside'])
     return text_of(it._replace(parts=parts))

@@ -477,14 +477,15 @@ impl Style {
         }
     }
 
-    /// The same with `\n`, `\r` and `\t` for the escapes by number that spell LF, CR and TAB, or with what stands there. `\x00`
-    /// stays: before a digit `\0` would be read as octal in other languages.
+    /// The same with `\n`, `\r`, `\t` and `\0` for the escapes by number that spell LF, CR, TAB and NUL, or with what stands there. NUL
+    /// stays before what stands for a digit: `\01` is octal in other languages.
     ///
     /// ```
     /// use navyspindle::{rewrite, Style};
     ///
     /// let style = Style::new().named_escapes(true);
-    /// assert_eq!(rewrite(r#""\x0d\u{a}\x09\x00""#, style)?, r#""\r\n\t\x00""#);
+    /// assert_eq!(rewrite(r#""\x0d\u{a}\x09\x00""#, style)?, r#""\r\n\t\0""#);
+    /// assert_eq!(rewrite(r#""\x001""#, style)?, r#""\x001""#);
     /// # Ok::<(), navyspindle::ParseError>(())
     /// ```
     #[must_use]
@@ -645,8 +646,7 @@ pub fn rewrite_after<'t>(
     style: Style,
 ) -> Result<Cow<'t, str>, ParseError> {
     let mut room = vec![0; 4 * text.len() + 1];
-    let len =
-        rewrite_into(front, text, style.proved(), &mut room).map_err(ParseError::of_flaw)?;
+    let len = rewrite_into(front, text, style.proved(), &mut room).map_err(ParseError::of_flaw)?;
     room.truncate(len);
     if room == text.as_bytes() {
         return Ok(Cow::Borrowed(text));

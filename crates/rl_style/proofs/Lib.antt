@@ -14,6 +14,7 @@ pub mod HiddenUnits
 pub mod SameUnits
 pub mod QuotedParts
 pub mod UnitTexts
+pub mod UnitRows
 pub mod LostRaw
 pub mod SameLiterals
 pub mod WrittenNumbers

@@ -1,17 +1,19 @@
 -- A raw literal that becomes one with escapes is the same literal.
-use Rattle.rl_text.proofs.Common.{◌≡◌, ℕ, ◌||◌, ◌&&◌, Bool, true, false, not, ◌==◌, cond, nat_lt, List, [], ◌∷◌, ◌++◌, map, refl, sym, ap, ◌∙◌, arith, and_from, and_parts, eqb-true, list_all, flat_map, encodes-append}
+use Rattle.rl_text.proofs.Common.{◌≡◌, ℕ, ◌||◌, ◌&&◌, Bool, true, false, not, ◌==◌, cond, nat_lt, List, [], ◌∷◌, ◌++◌, map, refl, sym, ap, ◌∙◌, arith, and_from, and_parts, eqb-true, list_all, flat_map, encodes-append, is_ascii_digit, encode_utf8_all}
 use Rattle.rl_reading.proofs.Names.{Kind, Str, ByteStr, CStr, Byte, Char, Int, Float, BoolKind, Contents, StrictUnit, Itself, QuoteEscape, PlainEscape, is_string, strict_contents, strict_content_of, is_strict_unit, strict_text, quoted_contents}
 use Rattle.rl_forms.specs.Strict.{BlanksEnd, HasUnits, IsRawInside, StrictCooked, StrictRaw, is_bare_in_string, is_plain_letter, plain_escapes, plain_value_in, strict_closer, strict_opener}
 use Rattle.rl_forms.proofs.StrictQuoted.{between}
 use Rattle.rl_style.specs.declared.style.Style.{Style}
-use Rattle.rl_style.specs.Mirrors.{itself_text, raw_character}
-use Rattle.rl_style.specs.Rewriting.{LosesRaw, RewritesCooked, SameLiteral, raw_unit, restyled}
+use Rattle.rl_style.specs.Mirrors.{itself_text, raw_character, raw_inside}
+use Rattle.rl_style.specs.Rewriting.{LosesRaw, RewritesCooked, SameLiteral, digit_follows, raw_unit, restyled, restyled_inside}
 use Rattle.rl_style.proofs.CaseLemmas.{none_right}
 use Rattle.rl_style.proofs.HiddenUnits.{held_low}
 use Rattle.rl_style.proofs.SameRaw.{raw_strict, raw_string}
 use Rattle.rl_style.proofs.SameUnits.{cooked_strict, cooked_stays}
 use Rattle.rl_style.proofs.SameUnits as units
 use Rattle.rl_style.proofs.UnitTexts.{itself_restyled}
+use Rattle.rl_style.proofs.UnitRows.{digit_ascii, digit_bytes}
+use Rattle.rl_text.specs.Texts.{first_passes}
 
 -- ---- one character
 
@@ -161,33 +163,51 @@ lost_stays style front t u c = cooked_stays style (escaped_text c.kind c.raw.ins
 -- ---- what is put
 
 -- the quote that closes a string keeps its backslash
-quote_kept : (style : Style) (k : Kind) (c : ℕ) → is_string k ≡ true → (c == 34) ≡ true
-    → 92 ∷ c ∷ [] ≡ strict_text (restyled style k (QuoteEscape c))
-quote_kept style k c s e = go k s
+quote_kept : (style : Style) (k : Kind) (z : Bool) (c : ℕ) → is_string k ≡ true → (c == 34) ≡ true
+    → 92 ∷ c ∷ [] ≡ strict_text (restyled style k z (QuoteEscape c))
+quote_kept style k z c s e = go k s
   where
     kept : 92 ∷ c ∷ [] ≡ strict_text (cond (style.quote_escapes && not (c == 34)) (Itself c) (QuoteEscape c))
     kept = sym (ap (λ b. strict_text (cond (style.quote_escapes && not b) (Itself c) (QuoteEscape c))) e
         ∙ ap (λ b. strict_text (cond b (Itself c) (QuoteEscape c))) (none_right style.quote_escapes))
 
-    go : (k : Kind) → is_string k ≡ true → 92 ∷ c ∷ [] ≡ strict_text (restyled style k (QuoteEscape c))
+    go : (k : Kind) → is_string k ≡ true → 92 ∷ c ∷ [] ≡ strict_text (restyled style k z (QuoteEscape c))
     go Str s = kept
     go ByteStr s = kept
     go CStr s = kept
     go kind s = absurd (cc)
 
-one_text : (style : Style) (k : Kind) (c : ℕ) → is_string k ≡ true
-    → raw_character style c ≡ strict_text (restyled style k (raw_unit c))
-one_text style k c s = go (c == 34) (c == 92) refl refl
+one_text : (style : Style) (k : Kind) (z : Bool) (c : ℕ) → is_string k ≡ true
+    → raw_character style z c ≡ strict_text (restyled style k z (raw_unit c))
+one_text style k z c s = go (c == 34) (c == 92) refl refl
   where
-    go : (a b : Bool) → (c == 34) ≡ a → (c == 92) ≡ b → cond (a || b) (92 ∷ c ∷ []) (itself_text style c)
-        ≡ strict_text (restyled style k (unit_by a b c))
-    go true b e f = quote_kept style k c s e
+    go : (a b : Bool) → (c == 34) ≡ a → (c == 92) ≡ b → cond (a || b) (92 ∷ c ∷ []) (itself_text style z c)
+        ≡ strict_text (restyled style k z (unit_by a b c))
+    go true b e f = quote_kept style k z c s e
     go false true e f = refl
-    go false false e f = itself_restyled style k c
+    go false false e f = itself_restyled style k z z c refl
 
-pub raw_texts : (style : Style) (k : Kind) (cs : List ℕ) → is_string k ≡ true → flat_map (raw_character style) cs
-    ≡ flat_map strict_text (map (restyled style k) (map raw_unit cs))
+-- what follows stands for a digit, where it begins with one
+digit_content : (k : Kind) (c : ℕ) → first_passes is_ascii_digit (strict_content_of k (c ∷ [])) ≡ is_ascii_digit c
+digit_content CStr c = digit_ascii (encode_utf8_all (c ∷ [])) ∙ sym (digit_bytes c)
+digit_content Str c = refl
+digit_content ByteStr c = refl
+digit_content Byte c = refl
+digit_content Char c = refl
+digit_content Int c = refl
+digit_content Float c = refl
+digit_content BoolKind c = refl
+
+raw_follows : (k : Kind) (cs : List ℕ) → digit_follows k (map raw_unit cs) ≡ first_passes is_ascii_digit cs
+raw_follows k [] = refl
+raw_follows k (c ∷ cs) = ap (first_passes is_ascii_digit) (one_content k c) ∙ digit_content k c
+
+pub raw_texts : (style : Style) (k : Kind) (cs : List ℕ) → is_string k ≡ true → raw_inside style cs
+    ≡ restyled_inside style k (map raw_unit cs)
 raw_texts style k [] s = refl
 raw_texts style k (c ∷ cs) s =
-    ap (λ z. z ++ flat_map (raw_character style) cs) (one_text style k c s)
-    ∙ ap (λ z. strict_text (restyled style k (raw_unit c)) ++ z) (raw_texts style k cs s)
+    let x : Bool = not (first_passes is_ascii_digit cs) in
+    let z : Bool = not (digit_follows k (map raw_unit cs)) in
+    ap (λ b. raw_character style b c ++ raw_inside style cs) (ap not (sym (raw_follows k cs)))
+    ∙ ap (λ t. t ++ raw_inside style cs) (one_text style k z c s)
+    ∙ ap (λ t. strict_text (restyled style k z (raw_unit c)) ++ t) (raw_texts style k cs s)

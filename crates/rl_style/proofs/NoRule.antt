@@ -8,7 +8,7 @@ use Rattle.rl_forms.proofs.StrictQuoted.{between}
 use Rattle.rl_writing.specs.RawStrings.{raw_text}
 use Rattle.rl_style.specs.declared.style.Style.{Style}
 use Rattle.rl_style.specs.Cases.{cased, drops_underscores, exponent_letter, kept_digits, kept_row, number_character, separator, separator_by, significant, trimmed, trims_by}
-use Rattle.rl_style.specs.Rewriting.{HasHashes, HasNoRule, Rewrites, RewritesCooked, RewritesFloat, RewritesInt, RewritesRaw, cased_digit, styled_digits, fewest_digits, has_letter, needs_number, is_visible, letter_of, loses_raw, may_lose_r, needs_backslash, number_escape, reescaped, respelled, restyled, visible_unit, styled_numeral, styled_row}
+use Rattle.rl_style.specs.Rewriting.{HasHashes, HasNoRule, Rewrites, RewritesCooked, RewritesFloat, RewritesInt, RewritesRaw, cased_digit, styled_digits, fewest_digits, needs_number, is_visible, letter_of, loses_raw, may_lose_r, needs_backslash, number_escape, reescaped, respelled, restyled, visible_unit, styled_numeral, styled_row, gets_letter, restyled_units, digit_follows}
 use Rattle.rl_text.specs.Texts.{first_passes, is_row_part}
 use Rattle.rl_style.specs.Groups.{after_dot, digit_run, fraction_in_groups, grouped_row, least_by, regrouped, size_by}
 use Rattle.rl_text.specs.Classes.{after_run}
@@ -137,38 +137,39 @@ codes_kept [] = refl
 codes_kept ((a, b) ∷ ds) = ap (λ z. (a, b) ∷ z) (codes_kept ds)
 
 -- no escape by number becomes shorter
-escape_kept : (style : Style) (k : Kind) (n : ℕ) (escape : StrictUnit) → HasNoRule style
-    → respelled style k n escape ≡ escape
-escape_kept style k n escape r =
+escape_kept : (style : Style) (k : Kind) (z : Bool) (n : ℕ) (escape : StrictUnit) → HasNoRule style
+    → respelled style k z n escape ≡ escape
+escape_kept style k z n escape r =
     ap (λ b. cond (b && is_visible n) (visible_unit k n)
-    (cond (style.named_escapes && has_letter n) (PlainEscape (letter_of n)) escape)) r.ascii_escapes
-    ∙ ap (λ b. cond (b && has_letter n) (PlainEscape (letter_of n)) escape) r.named_escapes
+    (cond (style.named_escapes && gets_letter z n) (PlainEscape (letter_of n)) escape)) r.ascii_escapes
+    ∙ ap (λ b. cond (b && gets_letter z n) (PlainEscape (letter_of n)) escape) r.named_escapes
 
-unit_kept : (style : Style) (k : Kind) (u : StrictUnit) → HasNoRule style → restyled style k u ≡ u
-unit_kept style k (QuoteEscape c) n = ap (λ b. cond (b && not (c == closer k)) (Itself c) (QuoteEscape c))
+unit_kept : (style : Style) (k : Kind) (z : Bool) (u : StrictUnit) → HasNoRule style → restyled style k z u ≡ u
+unit_kept style k z (QuoteEscape c) n = ap (λ b. cond (b && not (c == closer k)) (Itself c) (QuoteEscape c))
     n.quote_escapes
-unit_kept style k (AsciiEscape high low) n =
-    escape_kept style k (place_value 16 (high ∷ low ∷ []))
+unit_kept style k z (AsciiEscape high low) n =
+    escape_kept style k z (place_value 16 (high ∷ low ∷ []))
     (AsciiEscape (cased style.escape_digits high) (cased style.escape_digits low)) n
-    ∙ ap (λ z. AsciiEscape (cased z high) (cased z low)) n.escape_digits
-unit_kept style k (ByteEscape high low) n =
-    escape_kept style k (place_value 16 (high ∷ low ∷ []))
+    ∙ ap (λ d. AsciiEscape (cased d high) (cased d low)) n.escape_digits
+unit_kept style k z (ByteEscape high low) n =
+    escape_kept style k z (place_value 16 (high ∷ low ∷ []))
     (ByteEscape (cased style.escape_digits high) (cased style.escape_digits low)) n
-    ∙ ap (λ z. ByteEscape (cased z high) (cased z low)) n.escape_digits
-unit_kept style k (UnicodeEscape digits) n =
-    escape_kept style k (spaced_value digits) (UnicodeEscape (styled_digits style digits)) n
+    ∙ ap (λ d. ByteEscape (cased d high) (cased d low)) n.escape_digits
+unit_kept style k z (UnicodeEscape digits) n =
+    escape_kept style k z (spaced_value digits) (UnicodeEscape (styled_digits style digits)) n
     ∙ ap (λ b. UnicodeEscape (map (cased_digit style.escape_digits) (cond b (fewest_digits digits) digits)))
     n.code_digits
-    ∙ ap (λ z. UnicodeEscape (map (cased_digit z) digits)) n.escape_digits ∙ ap UnicodeEscape (codes_kept digits)
-unit_kept style k (Itself c) n = ap (λ b. cond (b && needs_number c) (reescaped style k (number_escape k c)) (Itself c))
-    n.hidden
-unit_kept style k (PlainEscape c) n = refl
-unit_kept style k (LineBreak blanks) n = refl
+    ∙ ap (λ d. UnicodeEscape (map (cased_digit d) digits)) n.escape_digits ∙ ap UnicodeEscape (codes_kept digits)
+unit_kept style k z (Itself c) n =
+    ap (λ b. cond (b && needs_number c) (reescaped style k z (number_escape k c)) (Itself c)) n.hidden
+unit_kept style k z (PlainEscape c) n = refl
+unit_kept style k z (LineBreak blanks) n = refl
 
-units_kept : (style : Style) (k : Kind) (us : List StrictUnit) → HasNoRule style → map (restyled style k) us ≡ us
+units_kept : (style : Style) (k : Kind) (us : List StrictUnit) → HasNoRule style → restyled_units style k us ≡ us
 units_kept style k [] n = refl
 units_kept style k (u ∷ us) n =
-    ap (λ z. z ∷ map (restyled style k) us) (unit_kept style k u n) ∙ ap (λ z. u ∷ z) (units_kept style k us n)
+    ap (λ v. v ∷ restyled_units style k us) (unit_kept style k (not (digit_follows k us)) u n)
+    ∙ ap (λ vs. u ∷ vs) (units_kept style k us n)
 
 cooked_kept : (style : Style) (t u : List ℕ) → HasNoRule style → RewritesCooked style t u → u ≡ t
 cooked_kept style t u n c =

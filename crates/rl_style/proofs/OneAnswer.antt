@@ -1,5 +1,5 @@
 -- A literal is one text in a style, and the same text in a style without rules.
-use Rattle.rl_text.proofs.Common.{◌≡◌, ℕ, Bool, true, false, ◌==◌, cond, List, [], ◌∷◌, ◌++◌, length, map, replicate, refl, sym, ap, subst, ◌∙◌, inl, inr, arith, append_cancel_right, both_ways, cases_lt, flat_map}
+use Rattle.rl_text.proofs.Common.{◌≡◌, ℕ, Bool, true, false, ◌==◌, cond, List, [], ◌∷◌, ◌++◌, length, replicate, refl, sym, ap, subst, ◌∙◌, inl, inr, arith, append_cancel_right, both_ways, cases_lt, flat_map}
 use Rattle.rl_text.proofs.Basics.{hashes_all}
 use Rattle.rl_reading.proofs.Names.{Kind, Str, ByteStr, CStr, Byte, Char, Int, Float, BoolKind, Contents, StrictUnit, is_string, strict_text}
 use Rattle.rl_forms.specs.Strict.{Strict, StrictCooked, StrictInt, StrictRaw, strict_closer, strict_opener, strict_raw_opener, HasUnits}
@@ -10,10 +10,10 @@ use Rattle.rl_forms.proofs.StrictQuoted.{between}
 use Rattle.rl_writing.specs.RawStrings.{HasFewestHashes, raw_contents, raw_text}
 use Rattle.rl_style.specs.declared.style.Style.{Style}
 use Rattle.rl_style.specs.Cases.{separator}
-use Rattle.rl_style.specs.Rewriting.{HasHashes, KeepsTruth, LosesRaw, Rewrites, RewritesCooked, RewritesFloat, RewritesInt, RewritesRaw, StaysRaw, loses_raw, restyled, unraw_text, styled_numeral, styled_row}
+use Rattle.rl_style.specs.Rewriting.{HasHashes, KeepsTruth, LosesRaw, Rewrites, RewritesCooked, RewritesFloat, RewritesInt, RewritesRaw, StaysRaw, loses_raw, unraw_text, styled_numeral, styled_row, restyled_inside}
 use Rattle.rl_style.proofs.SameRaw.{first_quote, length_hashes, raw_joined, raw_strict, raw_string, second_quote}
 use Rattle.rl_style.proofs.SameUnits.{cooked_strict}
-use Rattle.rl_style.proofs.UnitTexts.{texts_once}
+use Rattle.rl_style.proofs.UnitRows.{texts_once}
 use Rattle.rl_style.proofs.WrittenNumbers.{base_found}
 
 -- ---- numbers
@@ -183,7 +183,7 @@ was_raw style front t u (inr a) = record { kind = a.kind; contents = a.contents;
 abbrev CookedAs : Style → List ℕ → List ℕ → Contents → Kind → List ℕ → Type 0
 CookedAs style t w v k x =
     (s : StrictCooked t k v x)
-    × (w ≡ strict_opener k ++ (flat_map strict_text (map (restyled style k) s.units) ++ (strict_closer k ++ x)))
+    × (w ≡ strict_opener k ++ (restyled_inside style k s.units ++ (strict_closer k ++ x)))
 
 cooked_once : (style : Style) (t u w : List ℕ) → RewritesCooked style t u → RewritesCooked style t w → u ≡ w
 cooked_once style t u w a b =

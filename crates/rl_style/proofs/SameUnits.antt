@@ -1,5 +1,5 @@
 -- A literal whose units are written anew is the same literal.
-use Rattle.rl_text.proofs.Common.{nat_tests, or_cases, subst, ◌≡◌, ℕ, ◌<◌, ◌||◌, ◌&&◌, Bool, true, false, not, ◌==◌, cond, nat_le, nat_lt, List, [], ◌∷◌, ◌++◌, length, map, refl, sym, ap, ◌∙◌, inl, inr, arith, ◌⊎◌, append-nil, and_from, and_parts, cases_Bool, cases_lt, or_from, eqb-true, not-true, agree_below_at, is_ascii_hexdigit, all_scalars, list_all, flat_map, length-map, encode_utf8_all, encode_ascii, Some, None}
+use Rattle.rl_text.proofs.Common.{nat_tests, or_cases, subst, ◌≡◌, ℕ, ◌<◌, ◌||◌, ◌&&◌, Bool, true, false, not, ◌==◌, cond, nat_le, nat_lt, List, [], ◌∷◌, ◌++◌, length, map, refl, sym, ap, ◌∙◌, inl, inr, arith, ◌⊎◌, append-nil, and_from, and_parts, cases_Bool, cases_lt, or_from, eqb-true, not-true, agree_below_at, is_ascii_hexdigit, all_scalars, list_all, flat_map, length-map, suc, both_ways, is_ascii_digit, encode_utf8_all, encode_ascii, Some, None}
 use Rattle.std.specs.Prelude.{Option}
 use Rattle.rl_text.proofs.Basics.{apart}
 use Rattle.rl_reading.proofs.Names.{Kind, Str, ByteStr, CStr, Byte, Char, Int, Float, BoolKind, first_passes, Contents, StrictUnit, Itself, QuoteEscape, PlainEscape, AsciiEscape, ByteEscape, UnicodeEscape, LineBreak, strict_text, strict_contents, strict_content_of, is_dropped_blank, is_strict_unit, place_value, quoted_contents}
@@ -10,7 +10,7 @@ use Rattle.rl_style.specs.declared.style.Case.{Case}
 use Rattle.rl_style.specs.declared.style.Case.TheVariants.{Lower, Upper}
 use Rattle.rl_style.specs.declared.style.Style.{Style}
 use Rattle.rl_style.specs.Cases.{cased, lower_case, upper_case}
-use Rattle.rl_style.specs.Rewriting.{SameLiteral, RewritesCooked, cased_digit, needs_number, number_escape, reescaped, restyled}
+use Rattle.rl_style.specs.Rewriting.{SameLiteral, RewritesCooked, cased_digit, digit_follows, gets_letter, needs_number, number_escape, reescaped, restyled, restyled_inside, restyled_units}
 use Rattle.rl_style.specs.Rewriting.{styled_digits, fewest_digits, has_letter, is_visible, letter_of, respelled, visible_unit}
 use Rattle.rl_style.proofs.CodeDigits.{code_twice, fewest_unicode, fewest_value}
 use Rattle.rl_style.proofs.HiddenUnits.{held_low, number_allowed, number_any, number_contents, quotes_shown, visible_shown}
@@ -176,16 +176,16 @@ code_allowed style kind ds h = absurd (cc)
 abbrev chosen : Bool → Bool → Kind → ℕ → StrictUnit → StrictUnit
 chosen a b k n escape = cond a (visible_unit k n) (cond b (PlainEscape (letter_of n)) escape)
 
-pub respelled_any : (P : StrictUnit → Type 0) (style : Style) (k : Kind) (n : ℕ) (escape : StrictUnit)
-    → (is_visible n ≡ true → P (visible_unit k n)) → (has_letter n ≡ true → P (PlainEscape (letter_of n))) → P escape
-    → P (respelled style k n escape)
-respelled_any P style k n escape visible named other =
-    go (style.ascii_escapes && is_visible n) (style.named_escapes && has_letter n) refl refl
+pub respelled_any : (P : StrictUnit → Type 0) (style : Style) (k : Kind) (z : Bool) (n : ℕ) (escape : StrictUnit)
+    → (is_visible n ≡ true → P (visible_unit k n)) → (gets_letter z n ≡ true → P (PlainEscape (letter_of n))) → P escape
+    → P (respelled style k z n escape)
+respelled_any P style k z n escape visible named other =
+    go (style.ascii_escapes && is_visible n) (style.named_escapes && gets_letter z n) refl refl
   where
-    go : (a b : Bool) → (style.ascii_escapes && is_visible n) ≡ a → (style.named_escapes && has_letter n) ≡ b
+    go : (a b : Bool) → (style.ascii_escapes && is_visible n) ≡ a → (style.named_escapes && gets_letter z n) ≡ b
         → P (chosen a b k n escape)
     go true b e f = visible (and_parts style.ascii_escapes (is_visible n) e).1
-    go false true e f = named (and_parts style.named_escapes (has_letter n) f).1
+    go false true e f = named (and_parts style.named_escapes (gets_letter z n) f).1
     go false false e f = other
 
 pub visible_any : (P : StrictUnit → Type 0) (k : Kind) (n : ℕ) → ((n == closer k) ≡ true → P (QuoteEscape n))
@@ -201,8 +201,15 @@ visible_any P k n quote backslash other = go (n == closer k) (n == 92) refl refl
 pub visible_low : (n : ℕ) → is_visible n ≡ true → n < 128
 visible_low n h = grind (arith, nat_tests)
 
-pub named_low : (n : ℕ) → has_letter n ≡ true → n < 128
-named_low n h = grind (arith, nat_tests)
+pub named_low : (z : Bool) (n : ℕ) → gets_letter z n ≡ true → n < 128
+named_low z n h =
+    elim (or_cases (has_letter n) (z && n == 0) h) [
+      | inl e ↦ letter_low n e
+      | inr e ↦ let f = eqb-true n 0 (and_parts z (n == 0) e).1 in omega (arith, f)
+    ]
+  where
+    letter_low : (n : ℕ) → has_letter n ≡ true → n < 128
+    letter_low n h = grind (arith, nat_tests)
 
 follows : (a b : Bool) → a ≡ true → (not a || b) ≡ true → b ≡ true
 follows true b h k = k
@@ -232,39 +239,78 @@ visible_allowed Char us n q v = visible_test (λ n. is_strict_unit Char (visible
     low)
 visible_allowed kind us n q v = absurd q
 
--- LF, CR and TAB one by one
-named_any : (P : ℕ → Type 0) (n : ℕ) → has_letter n ≡ true → P 10 → P 13 → P 9 → P n
-named_any P n h a b c =
-    elim (or_cases (n == 10 || n == 13) (n == 9) h) [
-      | inl e ↦ elim (or_cases (n == 10) (n == 13) e) [
-        | inl f ↦ subst P (sym (eqb-true n 10 f)) a
-        | inr f ↦ subst P (sym (eqb-true n 13 f)) b
+-- LF, CR, TAB and NUL one by one
+named_any : (P : ℕ → Type 0) (z : Bool) (n : ℕ) → gets_letter z n ≡ true → P 10 → P 13 → P 9
+    → ((n == 0) ≡ true → P 0) → P n
+named_any P z n h a b c d =
+    elim (or_cases (has_letter n) (z && n == 0) h) [
+      | inl g ↦ elim (or_cases (n == 10 || n == 13) (n == 9) g) [
+        | inl e ↦ elim (or_cases (n == 10) (n == 13) e) [
+          | inl f ↦ subst P (sym (eqb-true n 10 f)) a
+          | inr f ↦ subst P (sym (eqb-true n 13 f)) b
+        ]
+        | inr e ↦ subst P (sym (eqb-true n 9 e)) c
       ]
-      | inr e ↦ subst P (sym (eqb-true n 9 e)) c
+      | inr g ↦
+          let e : (n == 0) ≡ true = (and_parts z (n == 0) g).1 in
+          subst P (sym (eqb-true n 0 e)) (d e)
     ]
 
-named_allowed : (k : Kind) (us : List StrictUnit) (n : ℕ) → HasUnits k us → has_letter n ≡ true
-    → is_strict_unit k (PlainEscape (letter_of n)) ≡ true
-named_allowed Str us n q h = named_any (λ n. is_strict_unit Str (PlainEscape (letter_of n)) ≡ true) n h refl refl refl
-named_allowed ByteStr us n q h = named_any (λ n. is_strict_unit ByteStr (PlainEscape (letter_of n)) ≡ true) n h refl
-    refl
-    refl
-named_allowed CStr us n q h = named_any (λ n. is_strict_unit CStr (PlainEscape (letter_of n)) ≡ true) n h refl refl refl
-named_allowed Byte us n q h = named_any (λ n. is_strict_unit Byte (PlainEscape (letter_of n)) ≡ true) n h refl refl refl
-named_allowed Char us n q h = named_any (λ n. is_strict_unit Char (PlainEscape (letter_of n)) ≡ true) n h refl refl refl
-named_allowed kind us n q h = absurd q
+-- `\0` stands in the kind, where this is NUL
+abbrev MayBeZero : Kind → ℕ → Type 0
+MayBeZero k n = (n == 0) ≡ true → is_strict_unit k (PlainEscape 48) ≡ true
 
-respelled_allowed : (style : Style) (k : Kind) (us : List StrictUnit) (n : ℕ) (escape : StrictUnit) → HasUnits k us
-    → is_strict_unit k escape ≡ true → is_strict_unit k (respelled style k n escape) ≡ true
-respelled_allowed style k us n escape q h = respelled_any (λ u. is_strict_unit k u ≡ true) style k n escape
-    (visible_allowed k us n q) (named_allowed k us n q) h
+named_allowed : (k : Kind) (us : List StrictUnit) (z : Bool) (n : ℕ) → HasUnits k us → MayBeZero k n
+    → gets_letter z n ≡ true → is_strict_unit k (PlainEscape (letter_of n)) ≡ true
+named_allowed Str us z n q m h = named_any (λ n. is_strict_unit Str (PlainEscape (letter_of n)) ≡ true) z n h refl refl
+    refl m
+named_allowed ByteStr us z n q m h = named_any (λ n. is_strict_unit ByteStr (PlainEscape (letter_of n)) ≡ true) z n h
+    refl refl refl m
+named_allowed CStr us z n q m h = named_any (λ n. is_strict_unit CStr (PlainEscape (letter_of n)) ≡ true) z n h refl
+    refl refl m
+named_allowed Byte us z n q m h = named_any (λ n. is_strict_unit Byte (PlainEscape (letter_of n)) ≡ true) z n h refl
+    refl refl m
+named_allowed Char us z n q m h = named_any (λ n. is_strict_unit Char (PlainEscape (letter_of n)) ≡ true) z n h refl
+    refl refl m
+named_allowed kind us z n q m h = absurd q
+
+respelled_allowed : (style : Style) (k : Kind) (z : Bool) (us : List StrictUnit) (n : ℕ) (escape : StrictUnit)
+    → HasUnits k us → MayBeZero k n
+    → is_strict_unit k escape ≡ true → is_strict_unit k (respelled style k z n escape) ≡ true
+respelled_allowed style k z us n escape q m h = respelled_any (λ u. is_strict_unit k u ≡ true) style k z n escape
+    (visible_allowed k us n q) (named_allowed k us z n q m) h
+
+-- no escape spells NUL in a C string
+no_zero : (b : Bool) (n : ℕ) → (b && not (n == 0)) ≡ true → (n == 0) ≡ true → ⊥
+no_zero b n h e = both_ways (n == 0) (not-true (n == 0) (and_parts b (not (n == 0)) h).1) e
+
+ascii_zero : (k : Kind) (high low : ℕ) → is_strict_unit k (AsciiEscape high low) ≡ true
+    → MayBeZero k (place_value 16 (high ∷ low ∷ []))
+ascii_zero Str high low h e = refl
+ascii_zero Char high low h e = refl
+ascii_zero kind high low h e = absurd (cc)
+
+byte_zero : (k : Kind) (high low : ℕ) → is_strict_unit k (ByteEscape high low) ≡ true
+    → MayBeZero k (place_value 16 (high ∷ low ∷ []))
+byte_zero ByteStr high low h e = refl
+byte_zero Byte high low h e = refl
+byte_zero CStr high low h e = absurd (no_zero (is_ascii_hexdigit high && is_ascii_hexdigit low)
+    (place_value 16 (high ∷ low ∷ [])) h e)
+byte_zero kind high low h e = absurd (cc)
+
+unicode_zero : (k : Kind) (ds : List (ℕ × ℕ)) → is_strict_unit k (UnicodeEscape ds) ≡ true
+    → MayBeZero k (spaced_value ds)
+unicode_zero Str ds h e = refl
+unicode_zero Char ds h e = refl
+unicode_zero CStr ds h e = absurd (no_zero (is_unicode_escape ds) (spaced_value ds) h e)
+unicode_zero kind ds h e = absurd (cc)
 
 -- none of them begins with a blank
-respelled_front : (style : Style) (k : Kind) (n : ℕ) (escape : StrictUnit) (rest : List ℕ)
+respelled_front : (style : Style) (k : Kind) (z : Bool) (n : ℕ) (escape : StrictUnit) (rest : List ℕ)
     → first_passes is_dropped_blank (strict_text escape ++ rest) ≡ false
-    → first_passes is_dropped_blank (strict_text (respelled style k n escape) ++ rest) ≡ false
-respelled_front style k n escape rest h =
-    respelled_any Free style k n escape (λ v. visible_any Free k n (λ e. refl) (λ e. refl) (solid v)) (λ e. refl) h
+    → first_passes is_dropped_blank (strict_text (respelled style k z n escape) ++ rest) ≡ false
+respelled_front style k z n escape rest h =
+    respelled_any Free style k z n escape (λ v. visible_any Free k n (λ e. refl) (λ e. refl) (solid v)) (λ e. refl) h
   where
     Free : StrictUnit → Type 0
     Free u = first_passes is_dropped_blank (strict_text u ++ rest) ≡ false
@@ -273,10 +319,11 @@ respelled_front style k n escape rest h =
     solid v = not-true (is_dropped_blank n) (visible_test (λ n. not (is_dropped_blank n)) n v
         (λ low. agree_below_at (λ n. not (is_visible n) || not (is_dropped_blank n)) (λ n. true) 128 n refl low))
 
-respelled_ends : (style : Style) (k : Kind) (n : ℕ) (escape : StrictUnit) (us : List StrictUnit) → BlanksEnd us
-    → BlanksEnd (escape ∷ us) → BlanksEnd (respelled style k n escape ∷ us)
-respelled_ends style k n escape us b h =
-    respelled_any (λ u. BlanksEnd (u ∷ us)) style k n escape
+respelled_ends : (style : Style) (k : Kind) (z : Bool) (n : ℕ) (escape : StrictUnit) (us : List StrictUnit)
+    → BlanksEnd us
+    → BlanksEnd (escape ∷ us) → BlanksEnd (respelled style k z n escape ∷ us)
+respelled_ends style k z n escape us b h =
+    respelled_any (λ u. BlanksEnd (u ∷ us)) style k z n escape
     (λ v. visible_any (λ u. BlanksEnd (u ∷ us)) k n (λ e. b) (λ e. b) b) (λ e. b) h
 
 -- they stand for the same
@@ -287,82 +334,90 @@ visible_contents k n v =
     (λ e. ap (plain_value_in plain_escapes) (eqb-true n 92 e) ∙ ap (λ z. z ∷ []) (sym (eqb-true n 92 e)))
     (held_low k n (visible_low n v))
 
-named_contents : (n : ℕ) → has_letter n ≡ true → plain_value_in plain_escapes (letter_of n) ≡ n ∷ []
-named_contents n h = named_any (λ n. plain_value_in plain_escapes (letter_of n) ≡ n ∷ []) n h refl refl refl
+named_contents : (z : Bool) (n : ℕ) → gets_letter z n ≡ true → plain_value_in plain_escapes (letter_of n) ≡ n ∷ []
+named_contents z n h = named_any (λ n. plain_value_in plain_escapes (letter_of n) ≡ n ∷ []) z n h refl refl refl
+    (λ e. refl)
 
-respelled_contents : (style : Style) (k : Kind) (n : ℕ) (escape : StrictUnit) (v : List ℕ) → (n < 128 → n ∷ [] ≡ v)
+respelled_contents : (style : Style) (k : Kind) (z : Bool) (n : ℕ) (escape : StrictUnit) (v : List ℕ)
+    → (n < 128 → n ∷ [] ≡ v)
     → strict_contents (strict_content_of k) escape ≡ v
-    → strict_contents (strict_content_of k) (respelled style k n escape) ≡ v
-respelled_contents style k n escape v same h =
-    respelled_any (λ u. strict_contents (strict_content_of k) u ≡ v) style k n escape
-    (λ e. visible_contents k n e ∙ same (visible_low n e)) (λ e. named_contents n e ∙ same (named_low n e)) h
+    → strict_contents (strict_content_of k) (respelled style k z n escape) ≡ v
+respelled_contents style k z n escape v same h =
+    respelled_any (λ u. strict_contents (strict_content_of k) u ≡ v) style k z n escape
+    (λ e. visible_contents k n e ∙ same (visible_low n e)) (λ e. named_contents z n e ∙ same (named_low z n e)) h
 
 -- ---- characters that are escaped
 
 -- what holds of the escape, and of the character itself, holds of what it becomes
-pub itself_any : (P : StrictUnit → Type 0) (style : Style) (k : Kind) (c : ℕ)
-    → (needs_number c ≡ true → P (reescaped style k (number_escape k c))) → P (Itself c)
-        → P (restyled style k (Itself c))
-itself_any P style k c escaped other = go (style.hidden && needs_number c) refl
+pub itself_any : (P : StrictUnit → Type 0) (style : Style) (k : Kind) (z : Bool) (c : ℕ)
+    → (needs_number c ≡ true → P (reescaped style k z (number_escape k c))) → P (Itself c)
+    → P (restyled style k z (Itself c))
+itself_any P style k z c escaped other = go (style.hidden && needs_number c) refl
   where
     go : (b : Bool) → (style.hidden && needs_number c) ≡ b → P
-        (cond b (reescaped style k (number_escape k c)) (Itself c))
+        (cond b (reescaped style k z (number_escape k c)) (Itself c))
     go true e = escaped (and_parts style.hidden (needs_number c) e).1
     go false e = other
 
 -- ---- any unit
 
-ascii_stays : (style : Style) (k : Kind) (us : List StrictUnit) (high low : ℕ) → HasUnits k us
-    → is_strict_unit k (AsciiEscape high low) ≡ true → is_strict_unit k (reescaped style k (AsciiEscape high low))
-        ≡ true
-ascii_stays style k us high low q h = respelled_allowed style k us (place_value 16 (high ∷ low ∷ []))
-    (AsciiEscape (cased style.escape_digits high) (cased style.escape_digits low)) q
+ascii_stays : (style : Style) (k : Kind) (z : Bool) (us : List StrictUnit) (high low : ℕ) → HasUnits k us
+    → is_strict_unit k (AsciiEscape high low) ≡ true → is_strict_unit k (reescaped style k z (AsciiEscape high low))
+    ≡ true
+ascii_stays style k z us high low q h = respelled_allowed style k z us (place_value 16 (high ∷ low ∷ []))
+    (AsciiEscape (cased style.escape_digits high) (cased style.escape_digits low)) q (ascii_zero k high low h)
     (ascii_allowed style.escape_digits k high low h)
 
-byte_stays : (style : Style) (k : Kind) (us : List StrictUnit) (high low : ℕ) → HasUnits k us
-    → is_strict_unit k (ByteEscape high low) ≡ true → is_strict_unit k (reescaped style k (ByteEscape high low)) ≡ true
-byte_stays style k us high low q h = respelled_allowed style k us (place_value 16 (high ∷ low ∷ []))
-    (ByteEscape (cased style.escape_digits high) (cased style.escape_digits low)) q
+byte_stays : (style : Style) (k : Kind) (z : Bool) (us : List StrictUnit) (high low : ℕ) → HasUnits k us
+    → is_strict_unit k (ByteEscape high low) ≡ true → is_strict_unit k (reescaped style k z (ByteEscape high low))
+    ≡ true
+byte_stays style k z us high low q h = respelled_allowed style k z us (place_value 16 (high ∷ low ∷ []))
+    (ByteEscape (cased style.escape_digits high) (cased style.escape_digits low)) q (byte_zero k high low h)
     (byte_allowed style.escape_digits k high low h)
 
-unicode_stays : (style : Style) (k : Kind) (us : List StrictUnit) (digits : List (ℕ × ℕ)) → HasUnits k us
-    → is_strict_unit k (UnicodeEscape digits) ≡ true → is_strict_unit k (reescaped style k (UnicodeEscape digits))
-        ≡ true
-unicode_stays style k us digits q h = respelled_allowed style k us (spaced_value digits)
-    (UnicodeEscape (styled_digits style digits)) q (code_allowed style k digits h)
+unicode_stays : (style : Style) (k : Kind) (z : Bool) (us : List StrictUnit) (digits : List (ℕ × ℕ)) → HasUnits k us
+    → is_strict_unit k (UnicodeEscape digits) ≡ true → is_strict_unit k (reescaped style k z (UnicodeEscape digits))
+    ≡ true
+unicode_stays style k z us digits q h = respelled_allowed style k z us (spaced_value digits)
+    (UnicodeEscape (styled_digits style digits)) q (unicode_zero k digits h) (code_allowed style k digits h)
 
-unit_allowed : (style : Style) (k : Kind) (us : List StrictUnit) (u : StrictUnit) → HasUnits k us
-    → is_strict_unit k u ≡ true → is_strict_unit k (restyled style k u) ≡ true
-unit_allowed style k us (QuoteEscape c) q h = quote_kept (style.quote_escapes && not (c == closer k)) k us c q h
+unit_allowed : (style : Style) (k : Kind) (z : Bool) (us : List StrictUnit) (u : StrictUnit) → HasUnits k us
+    → is_strict_unit k u ≡ true → is_strict_unit k (restyled style k z u) ≡ true
+unit_allowed style k z us (QuoteEscape c) q h = quote_kept (style.quote_escapes && not (c == closer k)) k us c q h
     (not_closer style.quote_escapes k c)
-unit_allowed style k us (Itself c) q h =
-    itself_any (λ u. is_strict_unit k u ≡ true) style k c
-    (λ e. number_any (λ u. is_strict_unit k u ≡ true → is_strict_unit k (reescaped style k u) ≡ true) k c
-    (λ high low. ascii_stays style k us high low q) (λ high low. byte_stays style k us high low q)
-    (λ digits. unicode_stays style k us digits q) (number_allowed k us c q h e)) h
-unit_allowed style k us (PlainEscape c) q h = h
-unit_allowed style k us (AsciiEscape high low) q h = ascii_stays style k us high low q h
-unit_allowed style k us (ByteEscape high low) q h = byte_stays style k us high low q h
-unit_allowed style k us (UnicodeEscape digits) q h = unicode_stays style k us digits q h
-unit_allowed style k us (LineBreak blanks) q h = h
+unit_allowed style k z us (Itself c) q h =
+    itself_any (λ u. is_strict_unit k u ≡ true) style k z c
+    (λ e. number_any (λ u. is_strict_unit k u ≡ true → is_strict_unit k (reescaped style k z u) ≡ true) k c
+    (λ high low. ascii_stays style k z us high low q) (λ high low. byte_stays style k z us high low q)
+    (λ digits. unicode_stays style k z us digits q) (number_allowed k us c q h e)) h
+unit_allowed style k z us (PlainEscape c) q h = h
+unit_allowed style k z us (AsciiEscape high low) q h = ascii_stays style k z us high low q h
+unit_allowed style k z us (ByteEscape high low) q h = byte_stays style k z us high low q h
+unit_allowed style k z us (UnicodeEscape digits) q h = unicode_stays style k z us digits q h
+unit_allowed style k z us (LineBreak blanks) q h = h
 
 pub all_allowed : (style : Style) (k : Kind) (vs us : List StrictUnit) → HasUnits k vs
-    → list_all (is_strict_unit k) us ≡ true → list_all (is_strict_unit k) (map (restyled style k) us) ≡ true
+    → list_all (is_strict_unit k) us ≡ true → list_all (is_strict_unit k) (restyled_units style k us) ≡ true
 all_allowed style k vs [] q h = refl
 all_allowed style k vs (u ∷ us) q h =
     let p = and_parts (is_strict_unit k u) (list_all (is_strict_unit k) us) h in
-    and_from (is_strict_unit k (restyled style k u)) (list_all (is_strict_unit k) (map (restyled style k) us))
-    (unit_allowed style k vs u q p.0) (all_allowed style k vs us q p.1)
+    let z : Bool = not (digit_follows k us) in
+    and_from (is_strict_unit k (restyled style k z u)) (list_all (is_strict_unit k) (restyled_units style k us))
+    (unit_allowed style k z vs u q p.0) (all_allowed style k vs us q p.1)
 
 -- ---- how many
 
+unit_count : (style : Style) (k : Kind) (us : List StrictUnit) → length (restyled_units style k us) ≡ length us
+unit_count style k [] = refl
+unit_count style k (u ∷ us) = ap suc (unit_count style k us)
+
 pub same_count : (style : Style) (k : Kind) (us : List StrictUnit) → HasUnits k us
-    → HasUnits k (map (restyled style k) us)
+    → HasUnits k (restyled_units style k us)
 same_count style Str us h = tt
 same_count style ByteStr us h = tt
 same_count style CStr us h = tt
-same_count style Byte us h = length-map us (restyled style Byte) ∙ h
-same_count style Char us h = length-map us (restyled style Char) ∙ h
+same_count style Byte us h = unit_count style Byte us ∙ h
+same_count style Char us h = unit_count style Char us ∙ h
 same_count style kind us h = absurd h
 
 -- ---- line breaks
@@ -378,74 +433,82 @@ quote_front : (b : Bool) (k : Kind) (c : ℕ) (rest : List ℕ) → is_strict_un
 quote_front true k c rest h = no_blank c (quote_of k c h)
 quote_front false k c rest h = refl
 
-hidden_front : (style : Style) (k : Kind) (c : ℕ) (rest : List ℕ)
-    → first_passes is_dropped_blank (strict_text (reescaped style k (number_escape k c)) ++ rest) ≡ false
-hidden_front style k c rest = number_any
-    (λ u. first_passes is_dropped_blank (strict_text (reescaped style k u) ++ rest) ≡ false) k c
-    (λ high low. respelled_front style k (place_value 16 (high ∷ low ∷ []))
+hidden_front : (style : Style) (k : Kind) (z : Bool) (c : ℕ) (rest : List ℕ)
+    → first_passes is_dropped_blank (strict_text (reescaped style k z (number_escape k c)) ++ rest) ≡ false
+hidden_front style k z c rest = number_any
+    (λ u. first_passes is_dropped_blank (strict_text (reescaped style k z u) ++ rest) ≡ false) k c
+    (λ high low. respelled_front style k z (place_value 16 (high ∷ low ∷ []))
     (AsciiEscape (cased style.escape_digits high) (cased style.escape_digits low)) rest refl)
-    (λ high low. respelled_front style k (place_value 16 (high ∷ low ∷ []))
+    (λ high low. respelled_front style k z (place_value 16 (high ∷ low ∷ []))
     (ByteEscape (cased style.escape_digits high) (cased style.escape_digits low)) rest refl)
-    (λ digits. respelled_front style k (spaced_value digits) (UnicodeEscape (styled_digits style digits)) rest refl)
+    (λ digits. respelled_front style k z (spaced_value digits) (UnicodeEscape (styled_digits style digits)) rest refl)
 
 front_stays : (style : Style) (k : Kind) (us : List StrictUnit) → list_all (is_strict_unit k) us ≡ true
     → first_passes is_dropped_blank (flat_map strict_text us) ≡ false
-    → first_passes is_dropped_blank (flat_map strict_text (map (restyled style k) us)) ≡ false
+    → first_passes is_dropped_blank (flat_map strict_text (restyled_units style k us)) ≡ false
 front_stays style k [] h n = refl
-front_stays style k (QuoteEscape c ∷ us) h n =
-    let p = and_parts (is_strict_unit k (QuoteEscape c)) (list_all (is_strict_unit k) us) h in
-    quote_front (style.quote_escapes && not (c == closer k)) k c (flat_map strict_text (map (restyled style k) us)) p.0
-front_stays style k (Itself c ∷ us) h n = itself_any
-    (λ u. first_passes is_dropped_blank (strict_text u ++ flat_map strict_text (map (restyled style k) us)) ≡ false)
-    style k c (λ e. hidden_front style k c (flat_map strict_text (map (restyled style k) us))) n
-front_stays style k (PlainEscape c ∷ us) h n = refl
-front_stays style k (AsciiEscape high low ∷ us) h n = respelled_front style k (place_value 16 (high ∷ low ∷ []))
-    (AsciiEscape (cased style.escape_digits high) (cased style.escape_digits low))
-    (flat_map strict_text (map (restyled style k) us)) refl
-front_stays style k (ByteEscape high low ∷ us) h n = respelled_front style k (place_value 16 (high ∷ low ∷ []))
-    (ByteEscape (cased style.escape_digits high) (cased style.escape_digits low))
-    (flat_map strict_text (map (restyled style k) us)) refl
-front_stays style k (UnicodeEscape digits ∷ us) h n = respelled_front style k (spaced_value digits)
-    (UnicodeEscape (styled_digits style digits)) (flat_map strict_text (map (restyled style k) us))
-    refl
-front_stays style k (LineBreak blanks ∷ us) h n = refl
+front_stays style k (u ∷ us) h n = go u (and_parts (is_strict_unit k u) (list_all (is_strict_unit k) us) h).0 n
+  where
+    z : Bool
+    z = not (digit_follows k us)
+
+    rest : List ℕ
+    rest = flat_map strict_text (restyled_units style k us)
+
+    go : (u : StrictUnit) → is_strict_unit k u ≡ true
+        → first_passes is_dropped_blank (strict_text u ++ flat_map strict_text us) ≡ false
+        → first_passes is_dropped_blank (strict_text (restyled style k z u) ++ rest) ≡ false
+    go (QuoteEscape c) p n = quote_front (style.quote_escapes && not (c == closer k)) k c rest p
+    go (Itself c) p n = itself_any (λ u. first_passes is_dropped_blank (strict_text u ++ rest) ≡ false) style k z c
+        (λ e. hidden_front style k z c rest) n
+    go (PlainEscape c) p n = refl
+    go (AsciiEscape high low) p n = respelled_front style k z (place_value 16 (high ∷ low ∷ []))
+        (AsciiEscape (cased style.escape_digits high) (cased style.escape_digits low)) rest refl
+    go (ByteEscape high low) p n = respelled_front style k z (place_value 16 (high ∷ low ∷ []))
+        (ByteEscape (cased style.escape_digits high) (cased style.escape_digits low)) rest refl
+    go (UnicodeEscape digits) p n = respelled_front style k z (spaced_value digits)
+        (UnicodeEscape (styled_digits style digits)) rest refl
+    go (LineBreak blanks) p n = refl
 
 quote_ends : (b : Bool) (c : ℕ) (us : List StrictUnit) → BlanksEnd us → BlanksEnd (quote_unit b c ∷ us)
 quote_ends true c us e = e
 quote_ends false c us e = e
 
-hidden_ends : (style : Style) (k : Kind) (c : ℕ) (us : List StrictUnit) → BlanksEnd us
-    → BlanksEnd (reescaped style k (number_escape k c) ∷ us)
-hidden_ends style k c us b = number_any (λ u. BlanksEnd (reescaped style k u ∷ us)) k c
-    (λ high low. respelled_ends style k (place_value 16 (high ∷ low ∷ []))
+hidden_ends : (style : Style) (k : Kind) (z : Bool) (c : ℕ) (us : List StrictUnit) → BlanksEnd us
+    → BlanksEnd (reescaped style k z (number_escape k c) ∷ us)
+hidden_ends style k z c us b = number_any (λ u. BlanksEnd (reescaped style k z u ∷ us)) k c
+    (λ high low. respelled_ends style k z (place_value 16 (high ∷ low ∷ []))
     (AsciiEscape (cased style.escape_digits high) (cased style.escape_digits low)) us b b)
-    (λ high low. respelled_ends style k (place_value 16 (high ∷ low ∷ []))
+    (λ high low. respelled_ends style k z (place_value 16 (high ∷ low ∷ []))
     (ByteEscape (cased style.escape_digits high) (cased style.escape_digits low)) us b b)
-    (λ digits. respelled_ends style k (spaced_value digits) (UnicodeEscape (styled_digits style digits)) us b b)
+    (λ digits. respelled_ends style k z (spaced_value digits) (UnicodeEscape (styled_digits style digits)) us b b)
 
 pub blanks_stay : (style : Style) (k : Kind) (us : List StrictUnit) → list_all (is_strict_unit k) us ≡ true
     → BlanksEnd us
-    → BlanksEnd (map (restyled style k) us)
+    → BlanksEnd (restyled_units style k us)
 blanks_stay style k [] h b = tt
 blanks_stay style k (u ∷ us) h b = go u (and_parts (is_strict_unit k u) (list_all (is_strict_unit k) us) h).1 b
     (λ p b. blanks_stay style k us p b)
   where
+    z : Bool
+    z = not (digit_follows k us)
+
+    rest : List StrictUnit
+    rest = restyled_units style k us
+
     go : (u : StrictUnit) → list_all (is_strict_unit k) us ≡ true → BlanksEnd (u ∷ us)
-        → (list_all (is_strict_unit k) us ≡ true → BlanksEnd us → BlanksEnd (map (restyled style k) us))
-        → BlanksEnd (restyled style k u ∷ map (restyled style k) us)
-    go (QuoteEscape c) p b ih = quote_ends (style.quote_escapes && not (c == closer k)) c (map (restyled style k) us)
-        (ih p b)
-    go (Itself c) p b ih = itself_any (λ u. BlanksEnd (u ∷ map (restyled style k) us)) style k c
-        (λ e. hidden_ends style k c (map (restyled style k) us) (ih p b)) (ih p b)
+        → (list_all (is_strict_unit k) us ≡ true → BlanksEnd us → BlanksEnd rest)
+        → BlanksEnd (restyled style k z u ∷ rest)
+    go (QuoteEscape c) p b ih = quote_ends (style.quote_escapes && not (c == closer k)) c rest (ih p b)
+    go (Itself c) p b ih = itself_any (λ u. BlanksEnd (u ∷ rest)) style k z c (λ e. hidden_ends style k z c rest
+        (ih p b)) (ih p b)
     go (PlainEscape c) p b ih = ih p b
-    go (AsciiEscape high low) p b ih = respelled_ends style k (place_value 16 (high ∷ low ∷ []))
-        (AsciiEscape (cased style.escape_digits high) (cased style.escape_digits low)) (map (restyled style k) us)
-        (ih p b) (ih p b)
-    go (ByteEscape high low) p b ih = respelled_ends style k (place_value 16 (high ∷ low ∷ []))
-        (ByteEscape (cased style.escape_digits high) (cased style.escape_digits low)) (map (restyled style k) us)
-        (ih p b) (ih p b)
-    go (UnicodeEscape digits) p b ih = respelled_ends style k (spaced_value digits)
-        (UnicodeEscape (styled_digits style digits)) (map (restyled style k) us) (ih p b) (ih p b)
+    go (AsciiEscape high low) p b ih = respelled_ends style k z (place_value 16 (high ∷ low ∷ []))
+        (AsciiEscape (cased style.escape_digits high) (cased style.escape_digits low)) rest (ih p b) (ih p b)
+    go (ByteEscape high low) p b ih = respelled_ends style k z (place_value 16 (high ∷ low ∷ []))
+        (ByteEscape (cased style.escape_digits high) (cased style.escape_digits low)) rest (ih p b) (ih p b)
+    go (UnicodeEscape digits) p b ih = respelled_ends style k z (spaced_value digits)
+        (UnicodeEscape (styled_digits style digits)) rest (ih p b) (ih p b)
     go (LineBreak blanks) p b ih = (front_stays style k us p b.0, ih p b.1)
 
 -- ---- contents
@@ -472,53 +535,60 @@ quote_contents : (b : Bool) (k : Kind) (c : ℕ) → is_strict_unit k (QuoteEsca
 quote_contents true k c h = quote_held k c (quote_of k c h)
 quote_contents false k c h = refl
 
-ascii_contents : (style : Style) (k : Kind) (high low : ℕ)
-    → strict_contents (strict_content_of k) (reescaped style k (AsciiEscape high low))
+ascii_contents : (style : Style) (k : Kind) (z : Bool) (high low : ℕ)
+    → strict_contents (strict_content_of k) (reescaped style k z (AsciiEscape high low))
     ≡ place_value 16 (high ∷ low ∷ []) ∷ []
-ascii_contents style k high low = respelled_contents style k (place_value 16 (high ∷ low ∷ []))
+ascii_contents style k z high low = respelled_contents style k z (place_value 16 (high ∷ low ∷ []))
     (AsciiEscape (cased style.escape_digits high) (cased style.escape_digits low)) (place_value 16 (high ∷ low ∷ []) ∷
     [])
     (λ low. refl) (ap (λ n. n ∷ []) (two_cased style.escape_digits high low))
 
-byte_contents : (style : Style) (k : Kind) (high low : ℕ)
-    → strict_contents (strict_content_of k) (reescaped style k (ByteEscape high low))
+byte_contents : (style : Style) (k : Kind) (z : Bool) (high low : ℕ)
+    → strict_contents (strict_content_of k) (reescaped style k z (ByteEscape high low))
     ≡ place_value 16 (high ∷ low ∷ []) ∷ []
-byte_contents style k high low = respelled_contents style k (place_value 16 (high ∷ low ∷ []))
+byte_contents style k z high low = respelled_contents style k z (place_value 16 (high ∷ low ∷ []))
     (ByteEscape (cased style.escape_digits high) (cased style.escape_digits low)) (place_value 16 (high ∷ low ∷ []) ∷
     [])
     (λ low. refl) (ap (λ n. n ∷ []) (two_cased style.escape_digits high low))
 
-unicode_contents : (style : Style) (k : Kind) (digits : List (ℕ × ℕ))
-    → strict_contents (strict_content_of k) (reescaped style k (UnicodeEscape digits))
+unicode_contents : (style : Style) (k : Kind) (z : Bool) (digits : List (ℕ × ℕ))
+    → strict_contents (strict_content_of k) (reescaped style k z (UnicodeEscape digits))
     ≡ strict_content_of k (spaced_value digits ∷ [])
-unicode_contents style k digits = respelled_contents style k (spaced_value digits)
+unicode_contents style k z digits = respelled_contents style k z (spaced_value digits)
     (UnicodeEscape (styled_digits style digits)) (strict_content_of k (spaced_value digits ∷ []))
     (λ low. sym (held_low k (spaced_value digits) low)) (ap (λ n. strict_content_of k (n ∷ []))
     (code_value style digits))
 
-unit_contents : (style : Style) (k : Kind) (u : StrictUnit) → is_strict_unit k u ≡ true
-    → strict_contents (strict_content_of k) (restyled style k u) ≡ strict_contents (strict_content_of k) u
-unit_contents style k (QuoteEscape c) h = quote_contents (style.quote_escapes && not (c == closer k)) k c h
-unit_contents style k (Itself c) h =
-    itself_any (λ u. strict_contents (strict_content_of k) u ≡ strict_content_of k (c ∷ [])) style k c
-    (λ e. number_any (λ u. strict_contents (strict_content_of k) (reescaped style k u)
-    ≡ strict_contents (strict_content_of k) u) k c (ascii_contents style k) (byte_contents style k)
-    (unicode_contents style k) ∙ number_contents k c) refl
-unit_contents style k (PlainEscape c) h = refl
-unit_contents style k (AsciiEscape high low) h = ascii_contents style k high low
-unit_contents style k (ByteEscape high low) h = byte_contents style k high low
-unit_contents style k (UnicodeEscape digits) h = unicode_contents style k digits
-unit_contents style k (LineBreak blanks) h = refl
+unit_contents : (style : Style) (k : Kind) (z : Bool) (u : StrictUnit) → is_strict_unit k u ≡ true
+    → strict_contents (strict_content_of k) (restyled style k z u) ≡ strict_contents (strict_content_of k) u
+unit_contents style k z (QuoteEscape c) h = quote_contents (style.quote_escapes && not (c == closer k)) k c h
+unit_contents style k z (Itself c) h =
+    itself_any (λ u. strict_contents (strict_content_of k) u ≡ strict_content_of k (c ∷ [])) style k z c
+    (λ e. number_any (λ u. strict_contents (strict_content_of k) (reescaped style k z u)
+    ≡ strict_contents (strict_content_of k) u) k c (ascii_contents style k z) (byte_contents style k z)
+    (unicode_contents style k z) ∙ number_contents k c) refl
+unit_contents style k z (PlainEscape c) h = refl
+unit_contents style k z (AsciiEscape high low) h = ascii_contents style k z high low
+unit_contents style k z (ByteEscape high low) h = byte_contents style k z high low
+unit_contents style k z (UnicodeEscape digits) h = unicode_contents style k z digits
+unit_contents style k z (LineBreak blanks) h = refl
 
 pub all_contents : (style : Style) (k : Kind) (us : List StrictUnit) → list_all (is_strict_unit k) us ≡ true
-    → flat_map (strict_contents (strict_content_of k)) (map (restyled style k) us)
+    → flat_map (strict_contents (strict_content_of k)) (restyled_units style k us)
     ≡ flat_map (strict_contents (strict_content_of k)) us
 all_contents style k [] h = refl
 all_contents style k (u ∷ us) h =
     let p = and_parts (is_strict_unit k u) (list_all (is_strict_unit k) us) h in
-    ap (λ z. z ++ flat_map (strict_contents (strict_content_of k)) (map (restyled style k) us))
-    (unit_contents style k u p.0)
+    ap (λ z. z ++ flat_map (strict_contents (strict_content_of k)) (restyled_units style k us))
+    (unit_contents style k (not (digit_follows k us)) u p.0)
     ∙ ap (λ z. strict_contents (strict_content_of k) u ++ z) (all_contents style k us p.1)
+
+-- so the same stands for a digit
+follows_same : (style : Style) (k : Kind) (us : List StrictUnit) → list_all (is_strict_unit k) us ≡ true
+    → digit_follows k (restyled_units style k us) ≡ digit_follows k us
+follows_same style k [] h = refl
+follows_same style k (u ∷ us) h = ap (first_passes is_ascii_digit) (unit_contents style k (not (digit_follows k us)) u
+    (and_parts (is_strict_unit k u) (list_all (is_strict_unit k) us) h).0)
 
 -- ---- the literal
 
@@ -534,15 +604,15 @@ cooked_strict t Float v x s = absurd s.count
 cooked_strict t BoolKind v x s = absurd s.count
 
 abbrev pub written : (style : Style) (t u : List ℕ) (k : Kind) (v : Contents) (x : List ℕ) (s : StrictCooked t k v x)
-    → u ≡ strict_opener k ++ (flat_map strict_text (map (restyled style k) s.units) ++ (strict_closer k ++ x))
+    → u ≡ strict_opener k ++ (restyled_inside style k s.units ++ (strict_closer k ++ x))
     → StrictCooked u k v x
 written style t u k v x s e = record {
-  units = map (restyled style k) s.units;
+  units = restyled_units style k s.units;
   count = same_count style k s.units s.count;
   each = all_allowed style k s.units s.units s.count s.each;
   blanks_end = blanks_stay style k s.units s.each s.blanks_end;
   suffix = s.suffix;
-  text = e ∙ sym (between (strict_opener k) (flat_map strict_text (map (restyled style k) s.units)) (strict_closer k)
+  text = e ∙ sym (between (strict_opener k) (restyled_inside style k s.units) (strict_closer k)
       x);
   contents = s.contents ∙ ap (quoted_contents k) (sym (all_contents style k s.units s.each));
 }
@@ -559,99 +629,107 @@ cooked_same style t u c = record {
 -- ---- once is enough
 
 -- what needs_number nothing stays itself
-pub shown_stays : (style : Style) (k : Kind) (c : ℕ) → needs_number c ≡ false → restyled style k (Itself c) ≡ Itself c
-shown_stays style k c h =
-    ap (λ b. cond (style.hidden && b) (reescaped style k (number_escape k c)) (Itself c)) h
-    ∙ ap (λ b. cond b (reescaped style k (number_escape k c)) (Itself c)) (none_right style.hidden)
+pub shown_stays : (style : Style) (k : Kind) (z : Bool) (c : ℕ) → needs_number c ≡ false → restyled style k z (Itself c)
+    ≡ Itself c
+shown_stays style k z c h =
+    ap (λ b. cond (style.hidden && b) (reescaped style k z (number_escape k c)) (Itself c)) h
+    ∙ ap (λ b. cond b (reescaped style k z (number_escape k c)) (Itself c)) (none_right style.hidden)
 
-twice_quote : (b : Bool) (style : Style) (k : Kind) (c : ℕ) → (c == 39 || c == 34) ≡ true
+twice_quote : (b : Bool) (style : Style) (k : Kind) (z : Bool) (c : ℕ) → (c == 39 || c == 34) ≡ true
     → b ≡ (style.quote_escapes && not (c == closer k))
-    → restyled style k (quote_unit b c) ≡ quote_unit b c
-twice_quote true style k c q e = shown_stays style k c (quotes_shown c q)
-twice_quote false style k c q e = ap (λ z. quote_unit z c) (sym e)
+    → restyled style k z (quote_unit b c) ≡ quote_unit b c
+twice_quote true style k z c q e = shown_stays style k z c (quotes_shown c q)
+twice_quote false style k z c q e = ap (λ z. quote_unit z c) (sym e)
 
 -- an escape by number that is written anew again
-twice_respelled : (style : Style) (k : Kind) (n : ℕ) (escape : StrictUnit) → restyled style k escape
-    ≡ respelled style k n escape → restyled style k (respelled style k n escape) ≡ respelled style k n escape
-twice_respelled style k n escape h = go (style.ascii_escapes && is_visible n) (style.named_escapes && has_letter n) refl
+twice_respelled : (style : Style) (k : Kind) (z : Bool) (n : ℕ) (escape : StrictUnit) → restyled style k z escape
+    ≡ respelled style k z n escape → restyled style k z (respelled style k z n escape) ≡ respelled style k z n escape
+twice_respelled style k z n escape h = go (style.ascii_escapes && is_visible n) (style.named_escapes && gets_letter z n)
+    refl
     refl
   where
-    quote : (n == closer k) ≡ true → restyled style k (QuoteEscape n) ≡ QuoteEscape n
+    quote : (n == closer k) ≡ true → restyled style k z (QuoteEscape n) ≡ QuoteEscape n
     quote e = ap (λ b. quote_unit (style.quote_escapes && not b) n) e
         ∙ ap (λ b. quote_unit b n) (none_right style.quote_escapes)
 
-    go : (a b : Bool) → (style.ascii_escapes && is_visible n) ≡ a → (style.named_escapes && has_letter n) ≡ b
-        → restyled style k (chosen a b k n escape) ≡ chosen a b k n escape
-    go true b e f = visible_any (λ u. restyled style k u ≡ u) k n quote (λ e. refl)
-        (shown_stays style k n (visible_shown n (and_parts style.ascii_escapes (is_visible n) e).1))
+    go : (a b : Bool) → (style.ascii_escapes && is_visible n) ≡ a → (style.named_escapes && gets_letter z n) ≡ b
+        → restyled style k z (chosen a b k n escape) ≡ chosen a b k n escape
+    go true b e f = visible_any (λ u. restyled style k z u ≡ u) k n quote (λ e. refl)
+        (shown_stays style k z n (visible_shown n (and_parts style.ascii_escapes (is_visible n) e).1))
     go false true e f = refl
     go false false e f = h
-        ∙ ap (λ a. chosen a (style.named_escapes && has_letter n) k n escape) e
+        ∙ ap (λ a. chosen a (style.named_escapes && gets_letter z n) k n escape) e
         ∙ ap (λ b. chosen false b k n escape) f
 
-twice_ascii : (style : Style) (k : Kind) (high low : ℕ) → restyled style k (reescaped style k (AsciiEscape high low))
-    ≡ reescaped style k (AsciiEscape high low)
-twice_ascii style k high low =
+twice_ascii : (style : Style) (k : Kind) (z : Bool) (high low : ℕ)
+    → restyled style k z (reescaped style k z (AsciiEscape high low))
+    ≡ reescaped style k z (AsciiEscape high low)
+twice_ascii style k z high low =
     let case : Option Case = style.escape_digits in
     let n : ℕ = place_value 16 (high ∷ low ∷ []) in
     let h : ℕ = cased case high in
     let l : ℕ = cased case low in
-    twice_respelled style k n (AsciiEscape h l)
-    (ap (λ m. respelled style k m (AsciiEscape (cased case h) (cased case l))) (two_cased case high low)
-    ∙ ap (λ z. respelled style k n (AsciiEscape z (cased case l))) (twice_cased case high)
-    ∙ ap (λ z. respelled style k n (AsciiEscape h z)) (twice_cased case low))
+    twice_respelled style k z n (AsciiEscape h l)
+    (ap (λ m. respelled style k z m (AsciiEscape (cased case h) (cased case l))) (two_cased case high low)
+    ∙ ap (λ d. respelled style k z n (AsciiEscape d (cased case l))) (twice_cased case high)
+    ∙ ap (λ d. respelled style k z n (AsciiEscape h d)) (twice_cased case low))
 
-twice_byte : (style : Style) (k : Kind) (high low : ℕ) → restyled style k (reescaped style k (ByteEscape high low))
-    ≡ reescaped style k (ByteEscape high low)
-twice_byte style k high low =
+twice_byte : (style : Style) (k : Kind) (z : Bool) (high low : ℕ)
+    → restyled style k z (reescaped style k z (ByteEscape high low))
+    ≡ reescaped style k z (ByteEscape high low)
+twice_byte style k z high low =
     let case : Option Case = style.escape_digits in
     let n : ℕ = place_value 16 (high ∷ low ∷ []) in
     let h : ℕ = cased case high in
     let l : ℕ = cased case low in
-    twice_respelled style k n (ByteEscape h l)
-    (ap (λ m. respelled style k m (ByteEscape (cased case h) (cased case l))) (two_cased case high low)
-    ∙ ap (λ z. respelled style k n (ByteEscape z (cased case l))) (twice_cased case high)
-    ∙ ap (λ z. respelled style k n (ByteEscape h z)) (twice_cased case low))
+    twice_respelled style k z n (ByteEscape h l)
+    (ap (λ m. respelled style k z m (ByteEscape (cased case h) (cased case l))) (two_cased case high low)
+    ∙ ap (λ d. respelled style k z n (ByteEscape d (cased case l))) (twice_cased case high)
+    ∙ ap (λ d. respelled style k z n (ByteEscape h d)) (twice_cased case low))
 
-twice_unicode : (style : Style) (k : Kind) (digits : List (ℕ × ℕ))
-    → restyled style k (reescaped style k (UnicodeEscape digits)) ≡ reescaped style k (UnicodeEscape digits)
-twice_unicode style k digits =
+twice_unicode : (style : Style) (k : Kind) (z : Bool) (digits : List (ℕ × ℕ))
+    → restyled style k z (reescaped style k z (UnicodeEscape digits)) ≡ reescaped style k z (UnicodeEscape digits)
+twice_unicode style k z digits =
     let new : List (ℕ × ℕ) = styled_digits style digits in
-    twice_respelled style k (spaced_value digits) (UnicodeEscape new)
-    (ap (λ m. respelled style k m (UnicodeEscape (styled_digits style new))) (code_value style digits)
-    ∙ ap (λ z. respelled style k (spaced_value digits) (UnicodeEscape z)) (code_twice style digits))
+    twice_respelled style k z (spaced_value digits) (UnicodeEscape new)
+    (ap (λ m. respelled style k z m (UnicodeEscape (styled_digits style new))) (code_value style digits)
+    ∙ ap (λ ds. respelled style k z (spaced_value digits) (UnicodeEscape ds)) (code_twice style digits))
 
-twice_itself : (style : Style) (k : Kind) (c : ℕ) → restyled style k (restyled style k (Itself c))
-    ≡ restyled style k (Itself c)
-twice_itself style k c = go (style.hidden && needs_number c) refl
+twice_itself : (style : Style) (k : Kind) (z : Bool) (c : ℕ) → restyled style k z (restyled style k z (Itself c))
+    ≡ restyled style k z (Itself c)
+twice_itself style k z c = go (style.hidden && needs_number c) refl
   where
     escape : StrictUnit
-    escape = reescaped style k (number_escape k c)
+    escape = reescaped style k z (number_escape k c)
 
-    go : (b : Bool) → (style.hidden && needs_number c) ≡ b → restyled style k (cond b escape (Itself c))
+    go : (b : Bool) → (style.hidden && needs_number c) ≡ b → restyled style k z (cond b escape (Itself c))
         ≡ cond b escape (Itself c)
-    go true e = number_any (λ u. restyled style k (reescaped style k u) ≡ reescaped style k u) k c
-        (twice_ascii style k) (twice_byte style k) (twice_unicode style k)
+    go true e = number_any (λ u. restyled style k z (reescaped style k z u) ≡ reescaped style k z u) k c
+        (twice_ascii style k z) (twice_byte style k z) (twice_unicode style k z)
     go false e = ap (λ b. cond b escape (Itself c)) e
 
-twice_unit : (style : Style) (k : Kind) (u : StrictUnit) → is_strict_unit k u ≡ true
-    → restyled style k (restyled style k u) ≡ restyled style k u
-twice_unit style k (QuoteEscape c) h = twice_quote (style.quote_escapes && not (c == closer k)) style k c
+twice_unit : (style : Style) (k : Kind) (z : Bool) (u : StrictUnit) → is_strict_unit k u ≡ true
+    → restyled style k z (restyled style k z u) ≡ restyled style k z u
+twice_unit style k z (QuoteEscape c) h = twice_quote (style.quote_escapes && not (c == closer k)) style k z c
     (quote_of k c h) refl
-twice_unit style k (Itself c) h = twice_itself style k c
-twice_unit style k (PlainEscape c) h = refl
-twice_unit style k (AsciiEscape high low) h = twice_ascii style k high low
-twice_unit style k (ByteEscape high low) h = twice_byte style k high low
-twice_unit style k (UnicodeEscape digits) h = twice_unicode style k digits
-twice_unit style k (LineBreak blanks) h = refl
+twice_unit style k z (Itself c) h = twice_itself style k z c
+twice_unit style k z (PlainEscape c) h = refl
+twice_unit style k z (AsciiEscape high low) h = twice_ascii style k z high low
+twice_unit style k z (ByteEscape high low) h = twice_byte style k z high low
+twice_unit style k z (UnicodeEscape digits) h = twice_unicode style k z digits
+twice_unit style k z (LineBreak blanks) h = refl
 
 twice_units : (style : Style) (k : Kind) (us : List StrictUnit) → list_all (is_strict_unit k) us ≡ true
-    → map (restyled style k) (map (restyled style k) us) ≡ map (restyled style k) us
+    → restyled_units style k (restyled_units style k us) ≡ restyled_units style k us
 twice_units style k [] h = refl
 twice_units style k (u ∷ us) h =
     let p = and_parts (is_strict_unit k u) (list_all (is_strict_unit k) us) h in
-    ap (λ z. z ∷ map (restyled style k) (map (restyled style k) us)) (twice_unit style k u p.0)
-    ∙ ap (λ z. restyled style k u ∷ z) (twice_units style k us p.1)
+    let z : Bool = not (digit_follows k us) in
+    let new : List StrictUnit = restyled_units style k us in
+    ap (λ b. restyled style k (not b) (restyled style k z u) ∷ restyled_units style k new)
+    (follows_same style k us p.1)
+    ∙ ap (λ v. v ∷ restyled_units style k new) (twice_unit style k z u p.0)
+    ∙ ap (λ vs. restyled style k z u ∷ vs) (twice_units style k us p.1)
 
 pub cooked_stays : (style : Style) (t u : List ℕ) → RewritesCooked style t u → RewritesCooked style u u
 cooked_stays style t u c = record {

@@ -1,16 +1,15 @@
 -- Units are taken from a text one at a time, and each is written anew by its text.
 use Rattle.std.proofs.Common.{length-append}
-use Rattle.rl_text.proofs.Common.{length, ◌+◌, ◌≢◌, drop, eqb-true, ◌≡◌, ℕ, ◌<◌, ◌≤◌, inl, inr, arith, nat_lt, lt-ltb, ltb-true, cases_lt, agree_below_at, ◌||◌, ◌&&◌, Bool, true, false, not, ◌==◌, cond, List, [], ◌∷◌, ◌++◌, map, Some, None, refl, sym, ap, subst, ◌∙◌, append_assoc, append-nil, append_cancel_right, and_from, and_parts, or_from, list_all, flat_map, map-append, replicate, zero, suc, scalar, encode_utf8_all, ◌/◌, ◌%◌, encodes-append, encodes-chars, IsUtf8}
+use Rattle.rl_text.proofs.Common.{not-true, length, ◌+◌, ◌≢◌, drop, eqb-true, ◌≡◌, ℕ, ◌<◌, ◌≤◌, inl, inr, arith, nat_lt, lt-ltb, ltb-true, cases_lt, agree_below_at, ◌||◌, ◌&&◌, Bool, true, false, not, ◌==◌, cond, List, [], ◌∷◌, ◌++◌, map, Some, None, refl, sym, ap, ◌∙◌, append_assoc, append-nil, and_from, and_parts, or_from, list_all, flat_map, map-append, replicate, zero, suc, scalar, encode_utf8_all, ◌/◌, ◌%◌, encodes-append, encodes-chars, IsUtf8}
 use Rattle.std.specs.Prelude.{Option}
 use Rattle.std.specs.Str.{chars}
 use Rattle.rl_text.proofs.Basics.{apart, false_unless}
 use Rattle.rl_text.proofs.LowBytes.{encode_is_high, low_front}
-use Rattle.rl_reading.proofs.Names.{flat_map-append, Kind, Str, ByteStr, CStr, Byte, Char, Int, Float, BoolKind, content_of, holds_characters, place_value, strict_content_of, strict_contents, first_passes, IsTail, StrictUnit, Itself, QuoteEscape, PlainEscape, AsciiEscape, ByteEscape, UnicodeEscape, LineBreak, strict_text, is_strict_unit, unit_text, unit_value}
+use Rattle.rl_reading.proofs.Names.{Kind, Str, ByteStr, CStr, Byte, Char, Int, Float, BoolKind, content_of, holds_characters, place_value, strict_content_of, strict_contents, first_passes, IsTail, StrictUnit, Itself, QuoteEscape, PlainEscape, AsciiEscape, ByteEscape, UnicodeEscape, LineBreak, strict_text, is_strict_unit, unit_text}
 use Rattle.rl_forms.specs.Written.{closer}
-use Rattle.rl_forms.specs.Strict.{BlanksEnd, is_bare_character, is_bare_in_string, is_plain_letter, is_unicode_escape, plain_escapes, plain_value_in, spaced_digit, spaced_value}
-use Rattle.rl_forms.proofs.StrictQuoted.{MayFollow, no_blank, no_return, stands}
+use Rattle.rl_forms.specs.Strict.{is_bare_character, is_bare_in_string, is_plain_letter, is_unicode_escape, plain_escapes, plain_value_in, spaced_digit, spaced_value}
 use Rattle.rl_reading.specs.Mirrors.UnitAt.{unit_at}
-use Rattle.rl_reading.proofs.UnitLemmas.{some_pair, unit_complete, unit_nil, unit_sound}
+use Rattle.rl_reading.proofs.UnitLemmas.{unit_sound}
 use Rattle.rl_style.specs.declared.style.Case.{Case}
 use Rattle.rl_style.specs.declared.style.Case.TheVariants.{Lower, Upper}
 use Rattle.rl_style.specs.declared.style.Style.{Style}
@@ -20,8 +19,8 @@ use Rattle.rl_text.specs.Texts.{begins}
 use Rattle.rl_forms.specs.Spelling.{without_underscores}
 use Rattle.rl_writing.proofs.AsciiLemmas.{encoded_low, low_chars}
 use Rattle.rl_writing.proofs.UnicodeLemmas.{digits_of, escape_is, escape_text, escape_value}
-use Rattle.rl_style.specs.Rewriting.{cased_digit, styled_digits, fewest_digits, has_letter, needs_number, is_visible, letter_of, lower_digit, number_escape, reescaped, respelled, restyled, hex_escape, visible_unit}
-use Rattle.rl_style.specs.Mirrors.{AreUnits, ascii_in, code_text, digits_text, fewest_text, itself_text, number_text, zero_closed, restyled_escape, restyled_text, visible_text}
+use Rattle.rl_style.specs.Rewriting.{cased_digit, digit_follows, gets_letter, restyled_units, styled_digits, fewest_digits, has_letter, needs_number, is_visible, letter_of, lower_digit, number_escape, reescaped, respelled, restyled, hex_escape, visible_unit}
+use Rattle.rl_style.specs.Mirrors.{ascii_in, code_text, digits_text, fewest_text, hidden_text, lettered, itself_text, number_text, zero_closed, restyled_escape, restyled_text, visible_text}
 use Rattle.std.proofs.Math.Utf8.{scalars}
 use Rattle.rl_style.proofs.CodeDigits.{fewest_is, hex_of, unicode_hex}
 use Rattle.rl_style.proofs.CaseLemmas.{none_right, scalars_cased}
@@ -63,11 +62,11 @@ abbrev otherwise : Style → Kind → ℕ → ℕ → List ℕ → List ℕ
 otherwise style k n c cs = cond (c == 120 || c == 117) (number_text style k n (92 ∷ c ∷ cs)) (92 ∷ c ∷ cs)
 
 -- the number that a unit's contents begin with, where it is of ASCII
-record IsOf (n m : ℕ) : Type 0 where
-  low : n < 128 → m ≡ n
-  high : 128 ≤ n → m ≡ 128
+pub record IsOf (n m : ℕ) : Type 0 where
+  pub low : n < 128 → m ≡ n
+  pub high : 128 ≤ n → m ≡ 128
 
-alone_of : (n : ℕ) → IsOf n (ascii_in (n ∷ []))
+pub alone_of : (n : ℕ) → IsOf n (ascii_in (n ∷ []))
 alone_of n = record {
   low = λ l. ap (λ b. cond b n 128) (lt-ltb n 128 l);
   high = λ h. ap (λ b. cond b n 128) (false_unless (nat_lt n 128)
@@ -75,7 +74,7 @@ alone_of n = record {
 }
 
 -- its bytes, where the kind holds bytes
-bytes_of : (n : ℕ) → IsOf n (ascii_in (encode_utf8_all (n ∷ [])))
+pub bytes_of : (n : ℕ) → IsOf n (ascii_in (encode_utf8_all (n ∷ [])))
 bytes_of n = record {
   low = λ l. ap ascii_in (low_front n [] l) ∙ (alone_of n).low l;
   high = λ h.
@@ -122,32 +121,72 @@ spelled_so true b k n text escape e = visible_is (n == closer k) (n == 92) n
 spelled_so false true k n text escape e = refl
 spelled_so false false k n text escape e = e
 
-number_is : (style : Style) (k : Kind) (n m : ℕ) (text : List ℕ) (escape : StrictUnit) → IsOf n m
+same_letters : (z : Bool) (n : ℕ) → (z || not (n == 0)) ≡ true → gets_letter true n ≡ gets_letter z n
+same_letters true n h = refl
+same_letters false n h = ap (λ b. has_letter n || b) (not-true (n == 0) h)
+
+either_way : (b : Bool) (n : ℕ) → cond b n n ≡ n
+either_way true n = refl
+either_way false n = refl
+
+-- neither visible nor with a letter
+kept_escape : (style : Style) (k : Kind) (z : Bool) (n : ℕ) (escape : StrictUnit) → is_visible n ≡ false
+    → gets_letter z n ≡ false → respelled style k z n escape ≡ escape
+kept_escape style k z n escape v l =
+    ap (λ b. cond (style.ascii_escapes && b) (visible_unit k n)
+    (cond (style.named_escapes && gets_letter z n) (PlainEscape (letter_of n)) escape)) v
+    ∙ ap (λ b. cond b (visible_unit k n)
+    (cond (style.named_escapes && gets_letter z n) (PlainEscape (letter_of n)) escape))
+    (none_right style.ascii_escapes)
+    ∙ ap (λ b. cond (style.named_escapes && b) (PlainEscape (letter_of n)) escape) l
+    ∙ ap (λ b. cond b (PlainEscape (letter_of n)) escape) (none_right style.named_escapes)
+
+-- no character of ASCII
+kept_text : (style : Style) (k : Kind) (text : List ℕ) → number_text style k 128 text ≡ digits_text style text
+kept_text style k text =
+    ap (λ b. cond b (visible_text k 128) (cond (style.named_escapes && false) (92 ∷ letter_of 128 ∷ [])
+    (digits_text style text)))
+    (none_right style.ascii_escapes)
+    ∙ ap (λ b. cond b (92 ∷ letter_of 128 ∷ []) (digits_text style text)) (none_right style.named_escapes)
+
+no_other : (a b : Bool) → (a || not b) ≡ false → (a ≡ false) × (b ≡ true)
+no_other true b h = absurd (cc)
+no_other false true h = (refl, refl)
+no_other false false h = absurd (cc)
+
+number_is : (style : Style) (k : Kind) (z : Bool) (n m : ℕ) (text : List ℕ) (escape : StrictUnit) → IsOf n m
     → digits_text style text ≡ strict_text escape
-    → number_text style k m text ≡ strict_text (respelled style k n escape)
-number_is style k n m text escape of same =
+    → number_text style k (lettered z m) text ≡ strict_text (respelled style k z n escape)
+number_is style k z n m text escape of same =
     elim (cases_lt n 128) [
-      | inl low ↦ ap (λ z. number_text style k z text) (of.low low)
-          ∙ spelled_so (style.ascii_escapes && is_visible n) (style.named_escapes && has_letter n) k n
-          (digits_text style text) escape same
+      | inl low ↦ ap (λ m. number_text style k (lettered z m) text) (of.low low)
+          ∙ low_number (z || not (n == 0)) refl
       | inr high ↦
           let none : is_visible n ≡ false = false_unless (is_visible n)
           (λ v. let l = visible_low n v in absurd (omega (arith, l, high))) in
-          let unnamed : has_letter n ≡ false = false_unless (has_letter n)
-          (λ v. let l = named_low n v in absurd (omega (arith, l, high))) in
-          let all : List ℕ = digits_text style text in
-          ap (λ z. number_text style k z text) (of.high high)
-          ∙ ap (λ b. cond b (visible_text k 128) (cond (style.named_escapes && false) (92 ∷ letter_of 128 ∷ []) all))
-          (none_right style.ascii_escapes)
-          ∙ ap (λ b. cond b (92 ∷ letter_of 128 ∷ []) all) (none_right style.named_escapes) ∙ same
-          ∙ ap strict_text (sym (ap (λ b. cond (style.ascii_escapes && b) (visible_unit k n)
-          (cond (style.named_escapes && has_letter n) (PlainEscape (letter_of n)) escape)) none
-          ∙ ap (λ b. cond b (visible_unit k n)
-          (cond (style.named_escapes && has_letter n) (PlainEscape (letter_of n)) escape))
-          (none_right style.ascii_escapes)
-          ∙ ap (λ b. cond (style.named_escapes && b) (PlainEscape (letter_of n)) escape) unnamed
-          ∙ ap (λ b. cond b (PlainEscape (letter_of n)) escape) (none_right style.named_escapes)))
+          let unnamed : gets_letter z n ≡ false = false_unless (gets_letter z n)
+          (λ v. let l = named_low z n v in absurd (omega (arith, l, high))) in
+          ap (λ m. number_text style k (lettered z m) text) (of.high high)
+          ∙ ap (λ m. number_text style k m text) (either_way (z || true) 128)
+          ∙ kept_text style k text ∙ same ∙ ap strict_text (sym (kept_escape style k z n escape none unnamed))
     ]
+  where
+    low_number : (b : Bool) → (z || not (n == 0)) ≡ b
+        → number_text style k (lettered z n) text ≡ strict_text (respelled style k z n escape)
+    low_number true e =
+        ap (λ b. number_text style k (cond b n 128) text) e
+        ∙ ap (λ b. cond (style.ascii_escapes && is_visible n) (visible_text k n)
+        (cond (style.named_escapes && b) (92 ∷ letter_of n ∷ []) (digits_text style text))) (same_letters z n e)
+        ∙ spelled_so (style.ascii_escapes && is_visible n) (style.named_escapes && gets_letter z n) k n
+        (digits_text style text) escape same
+    low_number false e =
+        let zero : n ≡ 0 = eqb-true n 0 (no_other z (n == 0) e).1 in
+        let off : z ≡ false = (no_other z (n == 0) e).0 in
+        let none : is_visible n ≡ false = ap is_visible zero in
+        let unnamed : gets_letter z n ≡ false = ap (λ z. has_letter n || (z && n == 0)) off
+        ∙ ap (λ n. has_letter n || false) zero in
+        ap (λ b. number_text style k (cond b n 128) text) e ∙ kept_text style k text ∙ same
+        ∙ ap strict_text (sym (kept_escape style k z n escape none unnamed))
 
 -- a plain escape, which begins neither as a quote nor as a number
 plain_text : (style : Style) (k : Kind) (n c : ℕ) → is_plain_letter c ≡ true → restyled_escape style k n (c ∷ [])
@@ -237,35 +276,63 @@ hexes Char ds h = unicode_hex ds h
 hexes CStr ds h = unicode_hex ds (and_parts (is_unicode_escape ds) (not (spaced_value ds == 0)) h).0
 hexes kind ds h = absurd (cc)
 
--- a character that is escaped becomes nothing shorter
-unrespelled : (style : Style) (k : Kind) (n c : ℕ) (escape : StrictUnit) → n ≡ c → needs_number c ≡ true
-    → respelled style k n escape ≡ escape
-unrespelled style k n c escape e h =
-    ap (λ n. respelled style k n escape) e
-    ∙ ap (λ b. cond (style.ascii_escapes && b) (visible_unit k c)
-    (cond (style.named_escapes && has_letter c) (PlainEscape (letter_of c)) escape)) (hidden_invisible c h)
-    ∙ ap (λ b. cond b (visible_unit k c)
-    (cond (style.named_escapes && has_letter c) (PlainEscape (letter_of c)) escape)) (none_right style.ascii_escapes)
-    ∙ ap (λ b. cond (style.named_escapes && b) (PlainEscape (letter_of c)) escape) (hidden_unnamed c h)
-    ∙ ap (λ b. cond b (PlainEscape (letter_of c)) escape) (none_right style.named_escapes)
+-- what a character that is escaped becomes: NUL may have a letter
+abbrev by_letter : Style → Bool → ℕ → Bool
+by_letter style z c = style.named_escapes && (z && c == 0)
 
-two_text : (style : Style) (k : Kind) (high low c : ℕ) → place_value 16 (high ∷ low ∷ []) ≡ c → needs_number c ≡ true
-    → strict_text (reescaped style k (hex_escape k high low))
-    ≡ 92 ∷ 120 ∷ map (cased style.escape_digits) (high ∷ low ∷ [])
-two_text style k high low c e h = go k
+zero_letter : (style : Style) (z : Bool) (c : ℕ) (escape : StrictUnit)
+    → cond (by_letter style z c) (PlainEscape (letter_of c)) escape ≡ cond (by_letter style z c) (PlainEscape 48) escape
+zero_letter style z c escape = go (by_letter style z c) refl
   where
-    ascii : (k : Kind) → strict_text (reescaped style k (AsciiEscape high low))
-        ≡ 92 ∷ 120 ∷ map (cased style.escape_digits) (high ∷ low ∷ [])
-    ascii k = ap strict_text (unrespelled style k (place_value 16 (high ∷ low ∷ [])) c
-        (AsciiEscape (cased style.escape_digits high) (cased style.escape_digits low)) e h)
+    go : (b : Bool) → by_letter style z c ≡ b → cond b (PlainEscape (letter_of c)) escape
+        ≡ cond b (PlainEscape 48) escape
+    go true e =
+        let zero : c ≡ 0 = eqb-true c 0 (and_parts z (c == 0) (and_parts style.named_escapes (z && c == 0) e).1).1 in
+        ap (λ c. PlainEscape (letter_of c)) zero
+    go false e = refl
 
-    byte : (k : Kind) → strict_text (reescaped style k (ByteEscape high low))
-        ≡ 92 ∷ 120 ∷ map (cased style.escape_digits) (high ∷ low ∷ [])
-    byte k = ap strict_text (unrespelled style k (place_value 16 (high ∷ low ∷ [])) c
-        (ByteEscape (cased style.escape_digits high) (cased style.escape_digits low)) e h)
+hidden_unit : (style : Style) (k : Kind) (z : Bool) (n c : ℕ) (escape : StrictUnit) → n ≡ c → needs_number c ≡ true
+    → respelled style k z n escape ≡ cond (by_letter style z c) (PlainEscape 48) escape
+hidden_unit style k z n c escape e h =
+    ap (λ n. respelled style k z n escape) e
+    ∙ ap (λ b. cond (style.ascii_escapes && b) (visible_unit k c)
+    (cond (style.named_escapes && gets_letter z c) (PlainEscape (letter_of c)) escape)) (hidden_invisible c h)
+    ∙ ap (λ b. cond b (visible_unit k c)
+    (cond (style.named_escapes && gets_letter z c) (PlainEscape (letter_of c)) escape)) (none_right style.ascii_escapes)
+    ∙ ap (λ b. cond (style.named_escapes && (b || (z && c == 0))) (PlainEscape (letter_of c)) escape)
+    (hidden_unnamed c h)
+    ∙ zero_letter style z c escape
 
-    go : (k : Kind) → strict_text (reescaped style k (hex_escape k high low))
-        ≡ 92 ∷ 120 ∷ map (cased style.escape_digits) (high ∷ low ∷ [])
+unit_by_letter : (b : Bool) (text : List ℕ) (escape : StrictUnit) → text ≡ strict_text escape
+    → cond b (92 ∷ 48 ∷ []) text ≡ strict_text (cond b (PlainEscape 48) escape)
+unit_by_letter true text escape e = refl
+unit_by_letter false text escape e = e
+
+two_text : (style : Style) (k : Kind) (z : Bool) (high low c : ℕ) → place_value 16 (high ∷ low ∷ []) ≡ c
+    → needs_number c ≡ true
+    → cond (by_letter style z c) (92 ∷ 48 ∷ []) (92 ∷ 120 ∷ map (cased style.escape_digits) (high ∷ low ∷ []))
+    ≡ strict_text (reescaped style k z (hex_escape k high low))
+two_text style k z high low c e h = go k
+  where
+    n : ℕ
+    n = place_value 16 (high ∷ low ∷ [])
+
+    text : List ℕ
+    text = cond (by_letter style z c) (92 ∷ 48 ∷ []) (92 ∷ 120 ∷ map (cased style.escape_digits) (high ∷ low ∷ []))
+
+    ascii : (k : Kind) → text ≡ strict_text (reescaped style k z (AsciiEscape high low))
+    ascii k =
+        let escape : StrictUnit = AsciiEscape (cased style.escape_digits high) (cased style.escape_digits low) in
+        unit_by_letter (by_letter style z c) (strict_text escape) escape refl
+        ∙ ap strict_text (sym (hidden_unit style k z n c escape e h))
+
+    byte : (k : Kind) → text ≡ strict_text (reescaped style k z (ByteEscape high low))
+    byte k =
+        let escape : StrictUnit = ByteEscape (cased style.escape_digits high) (cased style.escape_digits low) in
+        unit_by_letter (by_letter style z c) (strict_text escape) escape refl
+        ∙ ap strict_text (sym (hidden_unit style k z n c escape e h))
+
+    go : (k : Kind) → text ≡ strict_text (reescaped style k z (hex_escape k high low))
     go Str = ascii Str
     go Char = ascii Char
     go ByteStr = byte ByteStr
@@ -275,62 +342,84 @@ two_text style k high low c e h = go k
     go Float = byte Float
     go BoolKind = byte BoolKind
 
-hidden_text : (style : Style) (k : Kind) (c : ℕ) → needs_number c ≡ true
-    → digits_text style (code_text c) ≡ strict_text (reescaped style k (number_escape k c))
-hidden_text style k c h =
+hidden_is : (style : Style) (k : Kind) (z : Bool) (c : ℕ) → needs_number c ≡ true
+    → hidden_text style z c ≡ strict_text (reescaped style k z (number_escape k c))
+hidden_is style k z c h =
     elim (cases_lt c 128) [
-      | inl low ↦ ap (digits_text style) (low_text c low)
-          ∙ hex_text style (lower_digit (c / 16)) (lower_digit (c % 16))
-          ∙ sym (ap (λ u. strict_text (reescaped style k u)) (low_escape k c low)
-          ∙ two_text style k (lower_digit (c / 16)) (lower_digit (c % 16)) c (low_value c low) h)
+      | inl low ↦ ap (λ t. cond (by_letter style z c) (92 ∷ 48 ∷ []) (digits_text style t)) (low_text c low)
+          ∙ ap (λ t. cond (by_letter style z c) (92 ∷ 48 ∷ []) t)
+          (hex_text style (lower_digit (c / 16)) (lower_digit (c % 16)))
+          ∙ two_text style k z (lower_digit (c / 16)) (lower_digit (c % 16)) c (low_value c low) h
+          ∙ sym (ap (λ u. strict_text (reescaped style k z u)) (low_escape k c low))
       | inr wide ↦
           let ds : List (ℕ × ℕ) = digits_of c in
-          ap (digits_text style) (wide_text c wide ∙ escape_text c)
-          ∙ code_text_is style ds (unicode_hex ds (escape_is c (hidden_scalar c h)))
-          ∙ sym (ap (λ u. strict_text (reescaped style k u)) (wide_escape k c wide)
-          ∙ ap strict_text (unrespelled style k (spaced_value ds) c (UnicodeEscape (styled_digits style ds))
-          (escape_value c) h))
+          let escape : StrictUnit = UnicodeEscape (styled_digits style ds) in
+          unit_by_letter (by_letter style z c) (digits_text style (code_text c)) escape
+          (ap (digits_text style) (wide_text c wide ∙ escape_text c)
+          ∙ code_text_is style ds (unicode_hex ds (escape_is c (hidden_scalar c h))))
+          ∙ sym (ap (λ u. strict_text (reescaped style k z u)) (wide_escape k c wide)
+          ∙ ap strict_text (hidden_unit style k z (spaced_value ds) c escape (escape_value c) h))
     ]
 
-pub itself_restyled : (style : Style) (k : Kind) (c : ℕ) → itself_text style c
-    ≡ strict_text (restyled style k (Itself c))
-itself_restyled style k c = go (style.hidden && needs_number c) refl
+pub itself_restyled : (style : Style) (k : Kind) (y z : Bool) (c : ℕ) → (y && c == 0) ≡ (z && c == 0)
+    → itself_text style y c ≡ strict_text (restyled style k z (Itself c))
+itself_restyled style k y z c same = go (style.hidden && needs_number c) refl
   where
-    go : (b : Bool) → (style.hidden && needs_number c) ≡ b → cond b (digits_text style (code_text c)) (c ∷ [])
-        ≡ strict_text (cond b (reescaped style k (number_escape k c)) (Itself c))
-    go true e = hidden_text style k c (and_parts style.hidden (needs_number c) e).1
+    go : (b : Bool) → (style.hidden && needs_number c) ≡ b → cond b (hidden_text style y c) (c ∷ [])
+        ≡ strict_text (cond b (reescaped style k z (number_escape k c)) (Itself c))
+    go true e = ap (λ b. cond (style.named_escapes && b) (92 ∷ 48 ∷ []) (digits_text style (code_text c))) same
+        ∙ hidden_is style k z c (and_parts style.hidden (needs_number c) e).1
     go false e = refl
 
-pub unit_restyled : (style : Style) (k : Kind) (u : StrictUnit) → is_strict_unit k u ≡ true
-    → restyled_text style k (ascii_in (strict_contents (strict_content_of k) u)) (strict_text u)
-    ≡ strict_text (restyled style k u)
+-- NUL gets a letter by its contents as by itself
+zero_same : (k : Kind) (z : Bool) (c : ℕ)
+    → ((lettered z (ascii_in (strict_content_of k (c ∷ []))) == 0) && c == 0) ≡ (z && c == 0)
+zero_same k z c = go (c == 0) refl
+  where
+    m : ℕ
+    m = ascii_in (strict_content_of k (c ∷ []))
+
+    at_zero : (z : Bool) → (cond (z || false) 0 128 == 0) ≡ z
+    at_zero true = refl
+    at_zero false = refl
+
+    go : (b : Bool) → (c == 0) ≡ b → ((lettered z m == 0) && b) ≡ (z && b)
+    go true e =
+        let zero : c ≡ 0 = eqb-true c 0 e in
+        let low : m ≡ 0 = (held_of k c).low (omega (arith, zero)) ∙ zero in
+        ap (λ m. (lettered z m == 0) && true) low ∙ ap (λ b. b && true) (at_zero z)
+    go false e = none_right (lettered z m == 0) ∙ sym (none_right z)
+
+pub unit_restyled : (style : Style) (k : Kind) (z : Bool) (u : StrictUnit) → is_strict_unit k u ≡ true
+    → restyled_text style k (lettered z (ascii_in (strict_contents (strict_content_of k) u))) (strict_text u)
+    ≡ strict_text (restyled style k z u)
 unfolding restyled_text
-unit_restyled style k (Itself c) h =
-    let n : ℕ = ascii_in (strict_contents (strict_content_of k) (Itself c)) in
-    ap (λ b. cond b (restyled_escape style k n []) (itself_text style c ++ [])) (bare_front k c h)
-    ∙ append-nil (itself_text style c) ∙ itself_restyled style k c
-unit_restyled style k (QuoteEscape c) h =
-    let n : ℕ = ascii_in (c ∷ []) in
+unit_restyled style k z (Itself c) h =
+    let n : ℕ = lettered z (ascii_in (strict_content_of k (c ∷ []))) in
+    ap (λ b. cond b (restyled_escape style k n []) (itself_text style (n == 0) c ++ [])) (bare_front k c h)
+    ∙ append-nil (itself_text style (n == 0) c) ∙ itself_restyled style k (n == 0) z c (zero_same k z c)
+unit_restyled style k z (QuoteEscape c) h =
+    let n : ℕ = lettered z (ascii_in (c ∷ [])) in
     ap (λ b. cond b (cond (style.quote_escapes && not (c == closer k)) (c ∷ []) (92 ∷ c ∷ []))
     (otherwise style k n c []))
     (quote_of k c h) ∙ quote_text (style.quote_escapes && not (c == closer k)) c
-unit_restyled style k (PlainEscape c) h = plain_text style k (ascii_in (plain_value_in plain_escapes c)) c
-    (letter_of_plain k c h)
-unit_restyled style k (AsciiEscape high low) h =
+unit_restyled style k z (PlainEscape c) h = plain_text style k (lettered z (ascii_in (plain_value_in plain_escapes c)))
+    c (letter_of_plain k c h)
+unit_restyled style k z (AsciiEscape high low) h =
     let n : ℕ = place_value 16 (high ∷ low ∷ []) in
-    number_is style k n (ascii_in (n ∷ [])) (92 ∷ 120 ∷ high ∷ low ∷ [])
+    number_is style k z n (ascii_in (n ∷ [])) (92 ∷ 120 ∷ high ∷ low ∷ [])
     (AsciiEscape (cased style.escape_digits high) (cased style.escape_digits low)) (alone_of n)
     (hex_text style high low)
-unit_restyled style k (ByteEscape high low) h =
+unit_restyled style k z (ByteEscape high low) h =
     let n : ℕ = place_value 16 (high ∷ low ∷ []) in
-    number_is style k n (ascii_in (n ∷ [])) (92 ∷ 120 ∷ high ∷ low ∷ [])
+    number_is style k z n (ascii_in (n ∷ [])) (92 ∷ 120 ∷ high ∷ low ∷ [])
     (ByteEscape (cased style.escape_digits high) (cased style.escape_digits low)) (alone_of n)
     (hex_text style high low)
-unit_restyled style k (UnicodeEscape digits) h =
+unit_restyled style k z (UnicodeEscape digits) h =
     let n : ℕ = spaced_value digits in
-    number_is style k n (ascii_in (strict_content_of k (n ∷ []))) (strict_text (UnicodeEscape digits))
+    number_is style k z n (ascii_in (strict_content_of k (n ∷ []))) (strict_text (UnicodeEscape digits))
     (UnicodeEscape (styled_digits style digits)) (held_of k n) (code_text_is style digits (hexes k digits h))
-unit_restyled style k (LineBreak blanks) h = refl
+unit_restyled style k z (LineBreak blanks) h = refl
 
 -- ---- the bytes that are put
 
@@ -397,16 +486,17 @@ alone_bytes style k n unit escape u e f =
 -- a character that is no backslash, and what follows it
 pub plain_bytes : (style : Style) (k : Kind) (n c : ℕ) (unit rest at a b : List ℕ) → IsUtf8 rest
     → chars unit ≡ c ∷ chars rest → first_passes (λ c. c == 92) (chars unit) ≡ false
-    → a ≡ at ++ encode_utf8_all (itself_text style c) → b ≡ a ++ rest
+    → a ≡ at ++ encode_utf8_all (itself_text style (n == 0) c) → b ≡ a ++ rest
     → b ≡ at ++ encode_utf8_all (restyled_text style k n (chars unit))
 unfolding restyled_text
 plain_bytes style k n c unit rest at a b u e h f g =
-    let text : restyled_text style k n (chars unit) ≡ itself_text style c ++ chars rest = ap (restyled_text style k n) e
-    ∙ ap (λ b. cond b (restyled_escape style k n (chars rest)) (itself_text style c ++ chars rest))
+    let text : restyled_text style k n (chars unit) ≡ itself_text style (n == 0) c
+    ++ chars rest = ap (restyled_text style k n) e
+    ∙ ap (λ b. cond b (restyled_escape style k n (chars rest)) (itself_text style (n == 0) c ++ chars rest))
     (sym (ap (first_passes (λ c. c == 92)) e) ∙ h) in
-    g ∙ ap (λ z. z ++ rest) f ∙ append_assoc at (encode_utf8_all (itself_text style c)) rest
-    ∙ ap (λ z. at ++ z) (sym (ap encode_utf8_all text ∙ encodes-append (itself_text style c) (chars rest)
-    ∙ ap (λ z. encode_utf8_all (itself_text style c) ++ z) (encodes-chars rest u)))
+    g ∙ ap (λ z. z ++ rest) f ∙ append_assoc at (encode_utf8_all (itself_text style (n == 0) c)) rest
+    ∙ ap (λ z. at ++ z) (sym (ap encode_utf8_all text ∙ encodes-append (itself_text style (n == 0) c) (chars rest)
+    ∙ ap (λ z. encode_utf8_all (itself_text style (n == 0) c) ++ z) (encodes-chars rest u)))
 
 pub empty_bytes : (style : Style) (k : Kind) (n : ℕ) (unit : List ℕ) → chars unit ≡ []
     → encode_utf8_all (restyled_text style k n (chars unit)) ≡ []
@@ -477,142 +567,6 @@ cased_code style text prefix is none =
     ∙ ap (λ b. cond b (92 ∷ 117 ∷ 123 ∷ map (cased style.escape_digits)
     (fewest_text (drop 3 (chars text)))) (map (cased style.escape_digits) (chars text))) (none_right style.code_digits)
 
--- ---- the units that were passed
-
-may_follow : (k : Kind) (s : StrictUnit) (us : List StrictUnit) → list_all (is_strict_unit k) us ≡ true
-    → BlanksEnd (s ∷ us) → MayFollow s (flat_map strict_text us)
-may_follow k (LineBreak blanks) us h b = no_blank (flat_map strict_text us) b.0 (no_return k us h)
-may_follow k (Itself c) us h b = tt
-may_follow k (QuoteEscape c) us h b = tt
-may_follow k (PlainEscape c) us h b = tt
-may_follow k (AsciiEscape high low) us h b = tt
-may_follow k (ByteEscape high low) us h b = tt
-may_follow k (UnicodeEscape digits) us h b = tt
-
-blanks_after : (s : StrictUnit) (us : List StrictUnit) → BlanksEnd (s ∷ us) → BlanksEnd us
-blanks_after (LineBreak blanks) us b = b.1
-blanks_after (Itself c) us b = b
-blanks_after (QuoteEscape c) us b = b
-blanks_after (PlainEscape c) us b = b
-blanks_after (AsciiEscape high low) us b = b
-blanks_after (ByteEscape high low) us b = b
-blanks_after (UnicodeEscape digits) us b = b
-
--- the first of a row of units is the one that is read
-record FirstIs (k : Kind) (u : StrictUnit) (us : List StrictUnit) (t : List ℕ) : Type 0 where
-  value : List ℕ
-  value_is : value ≡ strict_contents (strict_content_of k) u
-  read : unit_at k t ≡ Some (value, flat_map strict_text us)
-  is_unit : is_strict_unit k u ≡ true
-  left : AreUnits k us (flat_map strict_text us)
-  text_is : t ≡ strict_text u ++ flat_map strict_text us
-
-first_is : (k : Kind) (u : StrictUnit) (us : List StrictUnit) (t : List ℕ) → AreUnits k (u ∷ us) t → FirstIs k u us t
-first_is k u us t a =
-    let p = and_parts (is_strict_unit k u) (list_all (is_strict_unit k) us) a.each in
-    let s = stands k u p.0 in
-    let rest : List ℕ = flat_map strict_text us in
-    record {
-      value = unit_value k s.unit;
-      value_is = s.value_is;
-      read = ap (unit_at k) (a.inside_is ∙ ap (λ z. z ++ rest) (sym s.text_is))
-          ∙ unit_complete k s.unit rest s.is_unit (s.ends_before rest (may_follow k u us p.1 a.blanks_end));
-      is_unit = p.0;
-      left = record { each = p.1; blanks_end = blanks_after u us a.blanks_end; inside_is = refl };
-      text_is = a.inside_is;
-    }
-
--- one text is one row of units, as far as their texts go
-pub texts_once : (style : Style) (k : Kind) (us vs : List StrictUnit) (t : List ℕ) → AreUnits k us t → AreUnits k vs t
-    → flat_map strict_text (map (restyled style k) us) ≡ flat_map strict_text (map (restyled style k) vs)
-texts_once style k [] [] t a b = refl
-texts_once style k [] (v ∷ vs) t a b =
-    let g = first_is k v vs t b in
-    absurd (let none : None ≡ Some (g.value, flat_map strict_text vs) = sym (ap (unit_at k) a.inside_is ∙ unit_nil k)
-    ∙ g.read in cc)
-texts_once style k (u ∷ us) [] t a b =
-    let f = first_is k u us t a in
-    absurd (let none : None ≡ Some (f.value, flat_map strict_text us) = sym (ap (unit_at k) b.inside_is ∙ unit_nil k)
-    ∙ f.read in cc)
-texts_once style k (u ∷ us) (v ∷ vs) t a b =
-    let f = first_is k u us t a in
-    let g = first_is k v vs t b in
-    let read = some_pair (f.value, flat_map strict_text us) (g.value, flat_map strict_text vs) (sym f.read ∙ g.read) in
-    let rest : flat_map strict_text us ≡ flat_map strict_text vs = read.1 in
-    let value : ascii_in (strict_contents (strict_content_of k) u) ≡ ascii_in
-    (strict_contents (strict_content_of k) v) = ap ascii_in (sym f.value_is ∙ read.0 ∙ g.value_is) in
-    let text : strict_text u ≡ strict_text v = append_cancel_right (strict_text u) (strict_text v)
-    (flat_map strict_text us)
-    (sym f.text_is ∙ g.text_is ∙ ap (λ z. strict_text v ++ z) (sym rest)) in
-    let one : strict_text (restyled style k u) ≡ strict_text (restyled style k v) =
-    sym (unit_restyled style k u f.is_unit)
-    ∙ ap (restyled_text style k (ascii_in (strict_contents (strict_content_of k) u))) text
-    ∙ ap (λ n. restyled_text style k n (strict_text v)) value ∙ unit_restyled style k v g.is_unit in
-    ap (λ z. z ++ flat_map strict_text (map (restyled style k) us)) one
-    ∙ ap (λ z. strict_text (restyled style k v) ++ z) (texts_once style k us vs (flat_map strict_text us) f.left
-    (subst (AreUnits k vs) (sym rest) g.left))
-
-pub record UnitsPassed (style : Style) (k : Kind) (us : List StrictUnit) (rest out front : List ℕ) : Type 0 where
-  pub done : List StrictUnit
-  pub left : List StrictUnit
-  pub units_are : us ≡ done ++ left
-  pub left_are : AreUnits k left rest
-  pub out_is : out ≡ front ++ encode_utf8_all (flat_map strict_text (map (restyled style k) done))
-
-pub passed_start : (style : Style) (k : Kind) (us : List StrictUnit) (inside out : List ℕ) → AreUnits k us inside
-    → UnitsPassed style k us inside out out
-passed_start style k us inside out a = record { done = []; left = us; units_are = refl; left_are = a; out_is = sym (append-nil out) }
-
-texts_more : (style : Style) (k : Kind) (us : List StrictUnit) (u : StrictUnit)
-    → flat_map strict_text (map (restyled style k) (us ++ (u ∷ [])))
-    ≡ flat_map strict_text (map (restyled style k) us) ++ strict_text (restyled style k u)
-texts_more style k us u =
-    ap (flat_map strict_text) (map-append (restyled style k) us (u ∷ []))
-    ∙ flat_map-append strict_text (map (restyled style k) us) (restyled style k u ∷ [])
-    ∙ ap (λ z. flat_map strict_text (map (restyled style k) us) ++ z) (append-nil (strict_text (restyled style k u)))
-
-pub passed_step : (style : Style) (k : Kind) (us : List StrictUnit) (rest v piece after out new front : List ℕ)
-    → UnitsPassed style k us rest out front → Some (v, after) ≡ unit_at k rest → rest ≡ piece ++ after
-    → new ≡ out ++ encode_utf8_all (restyled_text style k (ascii_in v) piece) → UnitsPassed style k us after new front
-passed_step style k us rest v piece after out new front p e cut w = go p.left p.units_are p.left_are
-  where
-    go : (left : List StrictUnit) → us ≡ p.done ++ left → AreUnits k left rest → UnitsPassed style k us after new front
-    go [] are a = absurd (let none : Some (v, after) ≡ None = e ∙ ap (unit_at k) a.inside_is ∙ unit_nil k in cc)
-    go (u ∷ left) are a =
-        let f = first_is k u left rest a in
-        let same = some_pair (v, after) (f.value, flat_map strict_text left) (e ∙ f.read) in
-        let rest_is : after ≡ flat_map strict_text left = same.1 in
-        let is : piece ≡ strict_text u = append_cancel_right piece (strict_text u) after (sym cut ∙ f.text_is
-        ∙ ap (λ z. strict_text u ++ z) (sym rest_is)) in
-        let old : List ℕ = flat_map strict_text (map (restyled style k) p.done) in
-        let one : List ℕ = strict_text (restyled style k u) in
-        record {
-          done = p.done ++ (u ∷ []);
-          left = left;
-          units_are = are ∙ sym (append_assoc p.done (u ∷ []) left);
-          left_are = subst (λ z. AreUnits k left z) (sym rest_is) f.left;
-          out_is = w ∙ ap (λ z. out ++ encode_utf8_all z) (ap (restyled_text style k (ascii_in v)) is
-              ∙ ap (λ n. restyled_text style k (ascii_in n) (strict_text u)) (same.0 ∙ f.value_is)
-              ∙ unit_restyled style k u f.is_unit)
-              ∙ ap (λ z. z ++ encode_utf8_all one) p.out_is ∙ append_assoc front (encode_utf8_all old)
-              (encode_utf8_all one)
-              ∙ ap (λ z. front ++ z) (sym (encodes-append old one) ∙ ap encode_utf8_all
-              (sym (texts_more style k p.done u)));
-        }
-
-pub passed_end : (style : Style) (k : Kind) (us : List StrictUnit) (rest out front : List ℕ)
-    → UnitsPassed style k us rest out front → unit_at k rest ≡ None
-    → out ≡ front ++ encode_utf8_all (flat_map strict_text (map (restyled style k) us))
-passed_end style k us rest out front p e = go p.left p.units_are p.left_are
-  where
-    go : (left : List StrictUnit) → us ≡ p.done ++ left → AreUnits k left rest
-        → out ≡ front ++ encode_utf8_all (flat_map strict_text (map (restyled style k) us))
-    go [] are a = p.out_is ∙ ap (λ z. front ++ encode_utf8_all (flat_map strict_text (map (restyled style k) z)))
-        (sym (are ∙ append-nil p.done))
-    go (u ∷ left) are a =
-        let f = first_is k u left rest a in
-        absurd (let none : None ≡ Some (f.value, flat_map strict_text left) = sym e ∙ f.read in cc)
-
 -- ---- characters stay characters
 
 scalars_split : (a b : List ℕ) → scalars (a ++ b) ≡ true → (scalars a ≡ true) × (scalars b ≡ true)
@@ -665,12 +619,12 @@ number_scalars : (style : Style) (k : Kind) (n : ℕ) (cs : List ℕ) → n ≤ 
     → scalars (number_text style k n cs) ≡ true
 number_scalars style k n cs small h =
     let one : scalar n ≡ true = scalar_low n small in
-    let letter : scalar (letter_of n) ≡ true = chosen_scalar (n == 10) 110 (cond (n == 13) 114 116) refl
-    (chosen_scalar (n == 13) 114 116 refl refl) in
+    let letter : scalar (letter_of n) ≡ true = chosen_scalar (n == 10) 110 (cond (n == 13) 114 (cond (n == 9) 116 48))
+    refl (chosen_scalar (n == 13) 114 (cond (n == 9) 116 48) refl (chosen_scalar (n == 9) 116 48 refl refl)) in
     chosen_scalars (style.ascii_escapes && is_visible n) _ _
     (chosen_scalars (n == closer k || n == 92) (92 ∷ n ∷ []) (n ∷ []) (and_from (scalar n) true one refl)
     (and_from (scalar n) true one refl))
-    (chosen_scalars (style.named_escapes && has_letter n) (92 ∷ letter_of n ∷ []) _
+    (chosen_scalars (style.named_escapes && gets_letter true n) (92 ∷ letter_of n ∷ []) _
     (and_from (scalar (letter_of n)) true letter refl) (digits_scalars style cs h))
   where
     scalar_low : (n : ℕ) → n ≤ 128 → scalar n ≡ true
@@ -689,10 +643,12 @@ escape_scalars style k n (c ∷ cs) small h =
     (chosen_scalars (c == 120 || c == 117) (number_text style k n (92 ∷ c ∷ cs)) (92 ∷ c ∷ cs)
     (number_scalars style k n (92 ∷ c ∷ cs) small h) h)
 
-pub itself_scalars : (style : Style) (c : ℕ) → scalar c ≡ true → scalars (itself_text style c) ≡ true
-itself_scalars style c h =
-    chosen_scalars (style.hidden && needs_number c) (digits_text style (code_text c)) (c ∷ [])
-    (digits_scalars style (code_text c) (low_scalars (code_text c) (text_low c))) (and_from (scalar c) true h refl)
+pub itself_scalars : (style : Style) (z : Bool) (c : ℕ) → scalar c ≡ true
+    → scalars (itself_text style z c) ≡ true
+itself_scalars style z c h =
+    chosen_scalars (style.hidden && needs_number c) (hidden_text style z c) (c ∷ [])
+    (chosen_scalars (style.named_escapes && (z && c == 0)) (92 ∷ 48 ∷ []) (digits_text style (code_text c)) refl
+    (digits_scalars style (code_text c) (low_scalars (code_text c) (text_low c)))) (and_from (scalar c) true h refl)
 
 text_scalars : (style : Style) (k : Kind) (n : ℕ) (t : List ℕ) → n ≤ 128 → scalars t ≡ true
     → scalars (restyled_text style k n t) ≡ true
@@ -700,9 +656,9 @@ unfolding restyled_text
 text_scalars style k n [] small h = refl
 text_scalars style k n (c ∷ cs) small h =
     let p = and_parts (scalar c) (scalars cs) h in
-    chosen_scalars (c == 92) (restyled_escape style k n cs) (itself_text style c ++ cs)
+    chosen_scalars (c == 92) (restyled_escape style k n cs) (itself_text style (n == 0) c ++ cs)
     (escape_scalars style k n cs small p.1)
-    (scalars_join (itself_text style c) cs (itself_scalars style c p.0) p.1)
+    (scalars_join (itself_text style (n == 0) c) cs (itself_scalars style (n == 0) c p.0) p.1)
 
 ascii_small : (v : List ℕ) → ascii_in v ≤ 128
 ascii_small [] = omega arith
@@ -712,14 +668,22 @@ ascii_small (n ∷ ns) = go (nat_lt n 128) refl
     go true h = let l = ltb-true n 128 h in omega (arith, l)
     go false h = omega arith
 
+lettered_small : (z : Bool) (n : ℕ) → n ≤ 128 → lettered z n ≤ 128
+lettered_small z n h = go (z || not (n == 0))
+  where
+    go : (b : Bool) → cond b n 128 ≤ 128
+    go true = h
+    go false = omega arith
+
 pub units_scalars : (style : Style) (k : Kind) (us : List StrictUnit) → list_all (is_strict_unit k) us ≡ true
-    → scalars (flat_map strict_text us) ≡ true → scalars (flat_map strict_text (map (restyled style k) us)) ≡ true
+    → scalars (flat_map strict_text us) ≡ true → scalars (flat_map strict_text (restyled_units style k us)) ≡ true
 units_scalars style k [] each h = refl
 units_scalars style k (u ∷ us) each h =
     let p = and_parts (is_strict_unit k u) (list_all (is_strict_unit k) us) each in
     let q = scalars_split (strict_text u) (flat_map strict_text us) h in
-    scalars_join (strict_text (restyled style k u)) (flat_map strict_text (map (restyled style k) us))
-    (ap scalars (sym (unit_restyled style k u p.0)) ∙ text_scalars style k
-    (ascii_in (strict_contents (strict_content_of k) u)) (strict_text u)
-    (ascii_small (strict_contents (strict_content_of k) u)) q.0)
+    let z : Bool = not (digit_follows k us) in
+    let n : ℕ = ascii_in (strict_contents (strict_content_of k) u) in
+    scalars_join (strict_text (restyled style k z u)) (flat_map strict_text (restyled_units style k us))
+    (ap scalars (sym (unit_restyled style k z u p.0)) ∙ text_scalars style k (lettered z n) (strict_text u)
+    (lettered_small z n (ascii_small (strict_contents (strict_content_of k) u))) q.0)
     (units_scalars style k us p.1 q.1)

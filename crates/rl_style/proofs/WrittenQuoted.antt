@@ -1,5 +1,5 @@
 -- Quoted literals as they were written.
-use Rattle.rl_text.proofs.Common.{◌≡◌, ℕ, zero, suc, ◌+◌, ◌*◌, ◌<◌, ◌≤◌, Bool, true, false, List, [], ◌∷◌, ◌++◌, length, map, replicate, refl, sym, ap, subst, ◌∙◌, inl, inr, arith, append_assoc, append-nil, cases_lt, list_all, flat_map, encode_utf8, encode_utf8_all, encode_ascii, encodes-append, encodes-chars, chars-append, length-append, IsUtf8}
+use Rattle.rl_text.proofs.Common.{◌≡◌, ℕ, zero, suc, ◌+◌, ◌*◌, ◌<◌, ◌≤◌, Bool, true, false, List, [], ◌∷◌, ◌++◌, length, replicate, refl, sym, ap, subst, ◌∙◌, inl, inr, arith, append_assoc, append-nil, cases_lt, list_all, flat_map, encode_utf8, encode_utf8_all, encode_ascii, encodes-append, encodes-chars, chars-append, length-append, IsUtf8}
 use Rattle.std.specs.Str.{chars}
 use Rattle.std.proofs.Math.Utf8.{scalars}
 use Rattle.std.proofs.lemmas.Str.{scalars-chars}
@@ -11,7 +11,7 @@ use Rattle.rl_writing.specs.RawStrings.{HasFewestHashes, HasNoRaw, raw_contents,
 use Rattle.rl_writing.proofs.AsciiLemmas.{encoded_low, is_low, low_join}
 use Rattle.rl_style.specs.declared.style.Style.{Style}
 use Rattle.rl_style.specs.Mirrors.{AreUnits, CookedParts, RawParts}
-use Rattle.rl_style.specs.Rewriting.{HasHashes, RewritesCooked, RewritesRaw, loses_raw, restyled, unraw_text}
+use Rattle.rl_style.specs.Rewriting.{HasHashes, RewritesCooked, RewritesRaw, loses_raw, restyled_inside, unraw_text}
 use Rattle.rl_style.proofs.SameRaw.{length_hashes, raw_followed, raw_joined, raw_strict}
 use Rattle.rl_style.proofs.UnitTexts.{units_scalars}
 use Rattle.rl_style.proofs.WrittenTexts.{scalars_join, text_of}
@@ -124,12 +124,12 @@ joined a b c d o mid x q r e f s g h =
 pub cooked_written : (style : Style) (k : Kind) (text inside suffix new : List ℕ) → IsUtf8 inside → IsUtf8 suffix
     → CookedParts k (chars text) (chars inside) (chars suffix)
     → ((us : List StrictUnit) → AreUnits k us (chars inside) → new
-    ≡ ((opener k ++ encode_utf8_all (flat_map strict_text (map (restyled style k) us))) ++ encode_utf8 (closer k))
+    ≡ ((opener k ++ encode_utf8_all (restyled_inside style k us)) ++ encode_utf8 (closer k))
     ++ suffix)
     → IsUtf8 new × RewritesCooked style (chars text) (chars new)
 cooked_written style k text inside suffix new ui us p w =
     let units : List StrictUnit = p.units in
-    let mid : List ℕ = flat_map strict_text (map (restyled style k) units) in
+    let mid : List ℕ = restyled_inside style k units in
     let held : scalars (flat_map strict_text units) ≡ true = ap scalars (sym p.are.inside_is)
     ∙ scalars-chars inside ui in
     let end : List ℕ = strict_closer k ++ chars suffix in

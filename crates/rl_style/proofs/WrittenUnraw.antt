@@ -1,15 +1,16 @@
 -- Raw literals as they are written with escapes.
-use Rattle.rl_text.proofs.Common.{◌≡◌, ℕ, ◌+◌, ◌*◌, ◌≤◌, true, List, [], ◌∷◌, ◌++◌, length, map, replicate, refl, sym, ap, ◌∙◌, arith, append_assoc, append-nil, and_from, and_parts, list_all, flat_map, encode_utf8_all, encodes-append, encodes-chars, length-append, scalar, IsUtf8}
+use Rattle.rl_text.proofs.Common.{◌≡◌, ℕ, ◌+◌, ◌*◌, ◌≤◌, true, List, [], ◌∷◌, ◌++◌, length, map, replicate, refl, sym, ap, ◌∙◌, arith, append_assoc, append-nil, and_from, and_parts, list_all, encode_utf8_all, encodes-append, encodes-chars, length-append, scalar, is_ascii_digit, IsUtf8, Bool, not}
 use Rattle.std.specs.Str.{chars}
 use Rattle.std.proofs.Math.Utf8.{scalars}
 use Rattle.std.proofs.lemmas.Str.{scalars-chars}
-use Rattle.rl_reading.proofs.Names.{flat_map-append, Kind, Str, ByteStr, CStr, is_string, opener}
-use Rattle.rl_forms.specs.Strict.{strict_closer, strict_opener, strict_raw_opener, strict_text}
+use Rattle.rl_reading.proofs.Names.{Kind, Str, ByteStr, CStr, is_string, opener}
+use Rattle.rl_forms.specs.Strict.{strict_closer, strict_opener, strict_raw_opener}
 use Rattle.rl_forms.proofs.StrictQuoted.{between}
 use Rattle.rl_writing.proofs.AsciiLemmas.{encoded_low, is_low, low_join}
 use Rattle.rl_style.specs.declared.style.Style.{Style}
-use Rattle.rl_style.specs.Mirrors.{RawParts, itself_text, raw_character}
-use Rattle.rl_style.specs.Rewriting.{needs_backslash, raw_unit, restyled, unraw_text}
+use Rattle.rl_text.specs.Texts.{first_passes}
+use Rattle.rl_style.specs.Mirrors.{RawParts, itself_text, raw_character, raw_inside}
+use Rattle.rl_style.specs.Rewriting.{needs_backslash, raw_unit, restyled_inside, unraw_text}
 use Rattle.rl_style.proofs.LostRaw.{raw_texts}
 use Rattle.rl_style.proofs.UnitTexts.{chosen_scalars, itself_scalars}
 use Rattle.rl_style.proofs.WrittenQuoted.{hashes_low, opens_so, parts_length, raw_is_string, raw_low, regrouped}
@@ -37,22 +38,23 @@ unraw_room k t i s ut ui us p =
     let same = (opener_is k (raw_is_string k (chars t) (chars i) (chars s) p)).0 in
     omega (arith, whole, front, same)
 
-raw_scalars : (style : Style) (cs : List ℕ) → scalars cs ≡ true → scalars (flat_map (raw_character style) cs) ≡ true
+raw_scalars : (style : Style) (cs : List ℕ) → scalars cs ≡ true → scalars (raw_inside style cs) ≡ true
 raw_scalars style [] h = refl
 raw_scalars style (c ∷ cs) h =
     let p = and_parts (scalar c) (scalars cs) h in
-    scalars_join (raw_character style c) (flat_map (raw_character style) cs)
-    (chosen_scalars (needs_backslash c) (92 ∷ c ∷ []) (itself_text style c) (and_from (scalar c) true p.0 refl)
-    (itself_scalars style c p.0)) (raw_scalars style cs p.1)
+    let z : Bool = not (first_passes is_ascii_digit cs) in
+    scalars_join (raw_character style z c) (raw_inside style cs)
+    (chosen_scalars (needs_backslash c) (92 ∷ c ∷ []) (itself_text style z c) (and_from (scalar c) true p.0 refl)
+    (itself_scalars style z c p.0)) (raw_scalars style cs p.1)
 
 pub unraw_written : (style : Style) (k : Kind) (t inside suffix new : List ℕ) → IsUtf8 inside → IsUtf8 suffix
     → RawParts k t (chars inside) (chars suffix)
-    → new ≡ ((opener k ++ encode_utf8_all (flat_map (raw_character style) (chars inside))) ++ (34 ∷ [])) ++ suffix
+    → new ≡ ((opener k ++ encode_utf8_all (raw_inside style (chars inside))) ++ (34 ∷ [])) ++ suffix
     → IsUtf8 new × (chars new ≡ unraw_text style k (chars inside) (chars suffix))
 unraw_written style k t inside suffix new ui us p w =
     let is = raw_is_string k t (chars inside) (chars suffix) p in
     let o = opener_is k is in
-    let mid : List ℕ = flat_map (raw_character style) (chars inside) in
+    let mid : List ℕ = raw_inside style (chars inside) in
     let end : List ℕ = 34 ∷ chars suffix in
     let whole : encode_utf8_all (strict_opener k ++ (mid ++ end)) ≡ opener k
     ++ (encode_utf8_all mid ++ ((34 ∷ []) ++ suffix)) =
@@ -69,30 +71,53 @@ unraw_written style k t inside suffix new ui us p w =
     (w ∙ between (opener k) (encode_utf8_all mid) (34 ∷ []) suffix ∙ sym whole) in (
       written.0,
       written.1 ∙ ap (λ z. strict_opener k ++ (z ++ end)) (raw_texts style k (chars inside) is)
-          ∙ ap (λ z. strict_opener k ++ (flat_map strict_text (map (restyled style k) (map raw_unit (chars inside)))
+          ∙ ap (λ z. strict_opener k ++ (restyled_inside style k (map raw_unit (chars inside))
           ++ (z ++ chars suffix))) (sym o.3),
     )
 
 -- ---- one character after another
 
-pub raw_more : (style : Style) (front a b xs : List ℕ) (c : ℕ)
-    → a ≡ front ++ encode_utf8_all (flat_map (raw_character style) xs) → b ≡ a
-        ++ encode_utf8_all (raw_character style c)
-    → b ≡ front ++ encode_utf8_all (flat_map (raw_character style) (xs ++ (c ∷ [])))
-raw_more style front a b xs c e f =
-    let old : List ℕ = flat_map (raw_character style) xs in
-    let one : List ℕ = raw_character style c in
-    let all : flat_map (raw_character style) (xs ++ (c ∷ [])) ≡ old ++ one =
-    flat_map-append (raw_character style) xs (c ∷ []) ∙ ap (λ z. old ++ z) (append-nil one) in
-    f ∙ ap (λ z. z ++ encode_utf8_all one) e ∙ append_assoc front (encode_utf8_all old) (encode_utf8_all one)
-    ∙ ap (λ z. front ++ z) (sym (encodes-append old one) ∙ ap encode_utf8_all (sym all))
+-- characters before others
+abbrev pub raw_before : Style → List ℕ → List ℕ → List ℕ
+raw_before style [] left = []
+raw_before style (c ∷ cs) left =
+    raw_character style (not (first_passes is_ascii_digit (cs ++ left))) c ++ raw_before style cs left
+
+raw_next : (style : Style) (cs : List ℕ) (c : ℕ) (left : List ℕ) → raw_before style (cs ++ (c ∷ [])) left
+    ≡ raw_before style cs (c ∷ left) ++ raw_character style (not (first_passes is_ascii_digit left)) c
+raw_next style [] c left = append-nil (raw_character style (not (first_passes is_ascii_digit left)) c)
+raw_next style (d ∷ cs) c left =
+    let one : List ℕ = raw_character style (not (first_passes is_ascii_digit (cs ++ (c ∷ left)))) d in
+    ap (λ t. raw_character style (not (first_passes is_ascii_digit t)) d ++ raw_before style (cs ++ (c ∷ [])) left)
+    (append_assoc cs (c ∷ []) left)
+    ∙ ap (λ t. one ++ t) (raw_next style cs c left)
+    ∙ sym (append_assoc one (raw_before style cs (c ∷ left))
+    (raw_character style (not (first_passes is_ascii_digit left)) c))
+
+raw_whole : (style : Style) (cs : List ℕ) → raw_before style cs [] ≡ raw_inside style cs
+raw_whole style [] = refl
+raw_whole style (c ∷ cs) =
+    ap (λ t. raw_character style (not (first_passes is_ascii_digit t)) c ++ raw_before style cs []) (append-nil cs)
+    ∙ ap (λ t. raw_character style (not (first_passes is_ascii_digit cs)) c ++ t) (raw_whole style cs)
+
+pub raw_more : (style : Style) (front a b xs rest left : List ℕ) (c : ℕ) → rest ≡ c ∷ left
+    → a ≡ front ++ encode_utf8_all (raw_before style xs rest)
+    → b ≡ a ++ encode_utf8_all (raw_character style (not (first_passes is_ascii_digit left)) c)
+    → b ≡ front ++ encode_utf8_all (raw_before style (xs ++ (c ∷ [])) left)
+raw_more style front a b xs rest left c is e f =
+    let old : List ℕ = raw_before style xs (c ∷ left) in
+    let one : List ℕ = raw_character style (not (first_passes is_ascii_digit left)) c in
+    f ∙ ap (λ t. t ++ encode_utf8_all one) (e ∙ ap (λ t. front ++ encode_utf8_all (raw_before style xs t)) is)
+    ∙ append_assoc front (encode_utf8_all old) (encode_utf8_all one)
+    ∙ ap (λ t. front ++ t) (sym (encodes-append old one) ∙ ap encode_utf8_all (sym (raw_next style xs c left)))
 
 pub raw_all : (style : Style) (front a xs all rest : List ℕ) → all ≡ xs ++ rest → rest ≡ []
-    → a ≡ front ++ encode_utf8_all (flat_map (raw_character style) xs)
-    → a ≡ front ++ encode_utf8_all (flat_map (raw_character style) all)
+    → a ≡ front ++ encode_utf8_all (raw_before style xs rest)
+    → a ≡ front ++ encode_utf8_all (raw_inside style all)
 raw_all style front a xs all rest cut none e =
-    e ∙ ap (λ z. front ++ encode_utf8_all (flat_map (raw_character style) z))
-    (sym (cut ∙ ap (λ z. xs ++ z) none ∙ append-nil xs))
+    e ∙ ap (λ t. front ++ encode_utf8_all (raw_before style xs t)) none
+    ∙ ap (λ t. front ++ encode_utf8_all t) (raw_whole style xs
+    ∙ ap (raw_inside style) (sym (cut ∙ ap (λ t. xs ++ t) none ∙ append-nil xs)))
 
 -- ---- the pieces
 

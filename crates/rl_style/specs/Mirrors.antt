@@ -1,19 +1,20 @@
 -- Mirrors of the code, for private functions and proofs alone.
-use Rattle.std.specs.Prelude.{◌≡◌, ℕ, ◌<◌, ◌/◌, ◌%◌, not, ◌&&◌, ◌||◌, ◌==◌, nat_lt, List, [], ◌∷◌, ◌++◌, Option, Some, None, map, replicate, codes, drop, IsTrue, if◌then◌else◌, Bool, length}
+use Rattle.std.specs.Prelude.{◌≡◌, ℕ, ◌<◌, ◌/◌, ◌%◌, not, ◌&&◌, ◌||◌, ◌==◌, nat_lt, List, [], ◌∷◌, ◌++◌, Option, Some, None, map, replicate, codes, drop, IsTrue, if◌then◌else◌, Bool, length, true, false}
 use Rattle.std.specs.List.{flat_map, list_all}
+use Rattle.std.specs.Char.{is_ascii_digit}
 use Prim.Native.Char.{code}
 use Rattle.rl_forms.specs.declared.kind.Kind.{Kind}
 use Rattle.rl_forms.specs.Strict.{BlanksEnd, HasUnits, IsRawInside, IsStrictSuffix, StrictUnit, is_strict_unit, strict_closer, strict_opener, strict_raw_opener, strict_text}
 use Rattle.rl_forms.specs.Spelling.{without_underscores}
 use Rattle.rl_forms.specs.Written.{closer}
 use Rattle.rl_text.specs.Classes.{after_run}
-use Rattle.rl_text.specs.Texts.{begins, is_underscore}
+use Rattle.rl_text.specs.Texts.{begins, is_underscore, first_passes}
 use Rattle.rl_reading.specs.declared.quoted_forms.QuotedForm.{QuotedForm}
 use Rattle.rl_reading.specs.Mirrors.OpenerAt.{found_opener, opener_at}
 use Rattle.rl_style.specs.declared.style.Style.{Style}
 use Rattle.rl_style.specs.Cases.{cased, is_padding}
 use Rattle.rl_writing.specs.AsciiStrings.{unicode_escape}
-use Rattle.rl_style.specs.Rewriting.{has_letter, needs_number, is_visible, letter_of, lower_digit, needs_backslash}
+use Rattle.rl_style.specs.Rewriting.{gets_letter, needs_number, is_visible, letter_of, lower_digit, needs_backslash}
 
 -- one or none
 abbrev pub one_or_none : Option ℕ → List ℕ
@@ -86,11 +87,15 @@ digits_text style text =
     then codes "\\u{" ++ map (cased style.escape_digits) (fewest_text (drop 3 text))
     else map (cased style.escape_digits) text
 
+-- the same, but no character of it for NUL that gets no letter
+abbrev pub lettered : Bool → ℕ → ℕ
+lettered zero n = if zero || not (n == 0) then n else 128
+
 -- an escape by number that spells this, by its text
 abbrev pub number_text : Style → Kind → ℕ → List ℕ → List ℕ
 number_text style kind n text =
     if style.ascii_escapes && is_visible n then visible_text kind n
-    else (if style.named_escapes && has_letter n then code "\\" ∷ letter_of n ∷ []
+    else (if style.named_escapes && gets_letter true n then code "\\" ∷ letter_of n ∷ []
     else digits_text style text)
 
 -- an escape that stands for this, by what follows its backslash
@@ -107,16 +112,31 @@ abbrev pub code_text : ℕ → List ℕ
 code_text c =
     if nat_lt c 128 then code "\\" ∷ code "x" ∷ lower_digit (c / 16) ∷ lower_digit (c % 16) ∷ [] else unicode_escape c
 
+-- the same, but a letter for NUL that gets one
+abbrev pub hidden_text : Style → Bool → ℕ → List ℕ
+hidden_text style zero c =
+    if style.named_escapes && (zero && c == 0) then code "\\" ∷ code "0" ∷ [] else digits_text style (code_text c)
+
 -- a character that stands for itself
-abbrev pub itself_text : Style → ℕ → List ℕ
-itself_text style c = if style.hidden && needs_number c then digits_text style (code_text c) else c ∷ []
+abbrev pub itself_text : Style → Bool → ℕ → List ℕ
+itself_text style zero c = if style.hidden && needs_number c then hidden_text style zero c else c ∷ []
 
 -- a unit that stands for this, by its text
 unfoldable pub restyled_text : Style → Kind → ℕ → List ℕ → List ℕ
 restyled_text style kind n [] = []
 restyled_text style kind n (c ∷ cs) =
-    if c == code "\\" then restyled_escape style kind n cs else itself_text style c ++ cs
+    if c == code "\\" then restyled_escape style kind n cs else itself_text style (n == 0) c ++ cs
+
+-- the unit that the text begins with stands for a digit
+abbrev pub stands_for_digit : Option (List ℕ × List ℕ) → Bool
+stands_for_digit None = false
+stands_for_digit (Some p) = is_ascii_digit (ascii_in p.0)
 
 -- a character of a raw literal, in one with escapes
-abbrev pub raw_character : Style → ℕ → List ℕ
-raw_character style c = if needs_backslash c then code "\\" ∷ c ∷ [] else itself_text style c
+abbrev pub raw_character : Style → Bool → ℕ → List ℕ
+raw_character style zero c = if needs_backslash c then code "\\" ∷ c ∷ [] else itself_text style zero c
+
+-- what stands inside a raw literal
+abbrev pub raw_inside : Style → List ℕ → List ℕ
+raw_inside style [] = []
+raw_inside style (c ∷ cs) = raw_character style (not (first_passes is_ascii_digit cs)) c ++ raw_inside style cs

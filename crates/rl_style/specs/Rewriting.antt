@@ -3,11 +3,13 @@ use Rattle.std.specs.Prelude.{◌≡◌, ◌⊎◌, ℕ, ◌+◌, ◌-◌, ◌/�
 use Rattle.std.specs.List.{flat_map, list_all, list_any}
 use Prim.Native.Char.{code}
 use Rattle.rl_writing.specs.Hiding.{needs_escape}
+use Rattle.std.specs.Char.{is_ascii_digit}
+use Rattle.rl_text.specs.Texts.{first_passes}
 use Rattle.rl_forms.specs.declared.kind.Kind.{Kind}
 use Rattle.rl_forms.specs.declared.kind.Kind.TheVariants.{Str, Char, Float}
 use Rattle.rl_forms.specs.Reading.{Contents, Digits}
 use Rattle.rl_forms.specs.Written.{closer}
-use Rattle.rl_forms.specs.Strict.{StrictUnit, Itself, QuoteEscape, PlainEscape, AsciiEscape, ByteEscape, UnicodeEscape, spaced_value, strict_text, strict_opener, strict_closer, StrictBool, StrictCooked, StrictFloat, StrictInt, StrictRaw, Strict}
+use Rattle.rl_forms.specs.Strict.{StrictUnit, Itself, QuoteEscape, PlainEscape, AsciiEscape, ByteEscape, UnicodeEscape, spaced_value, strict_content_of, strict_contents, strict_text, strict_opener, strict_closer, StrictBool, StrictCooked, StrictFloat, StrictInt, StrictRaw, Strict}
 use Rattle.rl_forms.specs.Spelling.{place_value}
 use Rattle.rl_writing.specs.Integers.{numeral}
 use Rattle.rl_writing.specs.RawStrings.{raw_text, HasFewestHashes}
@@ -102,34 +104,40 @@ is_visible c = nat_le (code "!") c && nat_le c (code "~")
 abbrev pub visible_unit : Kind → ℕ → StrictUnit
 visible_unit kind c = if c == closer kind then QuoteEscape c else (if c == code "\\" then PlainEscape c else Itself c)
 
--- LF, CR and TAB, and the letters of their escapes
+-- LF, CR and TAB, which have letters, and NUL where no digit follows: `\01` is octal in other languages
 abbrev pub has_letter : ℕ → Bool
 has_letter c = c == code "\n" || c == code "\r" || c == code "\t"
 
-abbrev pub letter_of : ℕ → ℕ
-letter_of c = if c == code "\n" then code "n" else (if c == code "\r" then code "r" else code "t")
+abbrev pub gets_letter : Bool → ℕ → Bool
+gets_letter zero c = has_letter c || (zero && c == 0)
 
--- what an escape by number becomes that spells this character or byte; the last is the escape itself
-abbrev pub respelled : Style → Kind → ℕ → StrictUnit → StrictUnit
-respelled style kind c escape =
+-- the letters of their escapes
+abbrev pub letter_of : ℕ → ℕ
+letter_of c =
+    if c == code "\n" then code "n"
+    else (if c == code "\r" then code "r" else (if c == code "\t" then code "t" else code "0"))
+
+-- what an escape by number becomes that spells this character or byte; the last is the escape itself. Each of these
+-- asks first whether NUL may have a letter.
+abbrev pub respelled : Style → Kind → Bool → ℕ → StrictUnit → StrictUnit
+respelled style kind zero c escape =
     if style.ascii_escapes && is_visible c then visible_unit kind c
-    else (if style.named_escapes && has_letter c then PlainEscape (letter_of c) else escape)
+    else (if style.named_escapes && gets_letter zero c then PlainEscape (letter_of c) else escape)
 
 -- what an escape becomes: a quote that doesn't close the literal stands for itself, and so does a visible character
--- that
--- is spelled by its number; other escapes by number have their digits in one case
-abbrev pub reescaped : Style → Kind → StrictUnit → StrictUnit
-reescaped style kind (QuoteEscape c) =
+-- that is spelled by its number; other escapes by number have their digits in one case
+abbrev pub reescaped : Style → Kind → Bool → StrictUnit → StrictUnit
+reescaped style kind zero (QuoteEscape c) =
     if style.quote_escapes && not (c == closer kind) then Itself c else QuoteEscape c
-reescaped style kind (AsciiEscape high low) =
-    respelled style kind (place_value 16 (high ∷ low ∷ []))
+reescaped style kind zero (AsciiEscape high low) =
+    respelled style kind zero (place_value 16 (high ∷ low ∷ []))
     (AsciiEscape (cased style.escape_digits high) (cased style.escape_digits low))
-reescaped style kind (ByteEscape high low) =
-    respelled style kind (place_value 16 (high ∷ low ∷ []))
+reescaped style kind zero (ByteEscape high low) =
+    respelled style kind zero (place_value 16 (high ∷ low ∷ []))
     (ByteEscape (cased style.escape_digits high) (cased style.escape_digits low))
-reescaped style kind (UnicodeEscape digits) =
-    respelled style kind (spaced_value digits) (UnicodeEscape (styled_digits style digits))
-reescaped style kind unit = unit
+reescaped style kind zero (UnicodeEscape digits) =
+    respelled style kind zero (spaced_value digits) (UnicodeEscape (styled_digits style digits))
+reescaped style kind zero unit = unit
 
 -- a character that turns or hides text, but for those that have letters
 abbrev pub needs_number : ℕ → Bool
@@ -152,14 +160,24 @@ number_escape kind c =
     else UnicodeEscape (map (λ d. (d, 0)) (numeral 16 false c))
 
 -- what a unit becomes: a character that turns or hides text is the escape by its number
-abbrev pub restyled : Style → Kind → StrictUnit → StrictUnit
-restyled style kind (Itself c) =
-    if style.hidden && needs_number c then reescaped style kind (number_escape kind c) else Itself c
-restyled style kind unit = reescaped style kind unit
+abbrev pub restyled : Style → Kind → Bool → StrictUnit → StrictUnit
+restyled style kind zero (Itself c) =
+    if style.hidden && needs_number c then reescaped style kind zero (number_escape kind c) else Itself c
+restyled style kind zero unit = reescaped style kind zero unit
+
+-- the first of the units stands for a digit
+abbrev pub digit_follows : Kind → List StrictUnit → Bool
+digit_follows kind [] = false
+digit_follows kind (u ∷ us) = first_passes is_ascii_digit (strict_contents (strict_content_of kind) u)
+
+abbrev pub restyled_units : Style → Kind → List StrictUnit → List StrictUnit
+restyled_units style kind [] = []
+restyled_units style kind (u ∷ us) =
+    restyled style kind (not (digit_follows kind us)) u ∷ restyled_units style kind us
 
 -- what stands inside a literal, each unit as the style makes it
 abbrev pub restyled_inside : Style → Kind → List StrictUnit → List ℕ
-restyled_inside style kind units = flat_map strict_text (map (restyled style kind) units)
+restyled_inside style kind units = flat_map strict_text (restyled_units style kind units)
 
 -- The old text is a literal with escapes; in the new one each unit is what the style makes of it.
 pub record RewritesCooked (style : Style) (old new : List ℕ) : Type 0 where

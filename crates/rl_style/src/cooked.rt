@@ -1,13 +1,13 @@
 //! Literals with escapes written anew, unit by unit.
 
-ghost use Rattle.std.specs.Prelude.{◌≡◌, ◌<◌, ◌≤◌, ◌+◌, ◌*◌, ◌++◌, ◌∷◌, [], ◌||◌, ◌&&◌, ◌==◌, not, nat_lt, if◌then◌else◌, List, length, take, encode_utf8_all, IsFalse};
+ghost use Rattle.std.specs.Prelude.{◌≡◌, ◌<◌, ◌≤◌, ◌+◌, ◌*◌, ◌++◌, ◌∷◌, [], ◌||◌, ◌&&◌, ◌==◌, not, true, nat_lt, if◌then◌else◌, List, length, take, encode_utf8_all, IsFalse};
 ghost use Rattle.std.specs.Str.{chars, IsUtf8};
 ghost use Rattle.rl_text.specs.Texts.{code, first_passes};
 ghost use Rattle.rl_forms.specs.Strict.{StrictUnit};
 ghost use Rattle.rl_forms.specs.Written.{closer};
-ghost use Rattle.rl_reading.specs.Mirrors.UnitAt.{piece_value};
-ghost use Rattle.rl_style.specs.Mirrors.{AreUnits, CookedParts, ascii_in, number_text, restyled_text, visible_text};
-ghost use Rattle.rl_style.specs.Rewriting.{RewritesCooked, has_letter, is_visible, letter_of, restyled_inside};
+ghost use Rattle.rl_reading.specs.Mirrors.UnitAt.{piece_value, unit_at};
+ghost use Rattle.rl_style.specs.Mirrors.{AreUnits, CookedParts, ascii_in, lettered, number_text, restyled_text, stands_for_digit, visible_text};
+ghost use Rattle.rl_style.specs.Rewriting.{RewritesCooked, gets_letter, is_visible, letter_of, restyled_inside};
 
 use crate::codes::put_digits;
 use crate::hidden::put_itself;
@@ -59,6 +59,25 @@ fn ascii_of(kind: Kind, piece: Piece) -> u8
     }
 }
 
+/// The same, but 128 for NUL that gets no letter.
+fn lettered(zero: bool, byte: u8) -> u8
+    requires { byte ≤ 128 }
+    ensures value { result ≡ lettered zero byte }
+    ensures small { result ≤ 128 }
+{
+    if zero || byte != 0 { byte } else { 128 }
+}
+
+/// Whether the unit that the text begins with stands for a digit.
+fn stands_for_digit(kind: Kind, text: &str) -> bool
+    ensures { result ≡ stands_for_digit (unit_at kind (chars text.now)) }
+{
+    match unit(kind, text) {
+        Some((piece, _)) => ascii_of(kind, piece).is_ascii_digit(),
+        None => false,
+    }
+}
+
 /// Whether the character stands for itself where an escape by number spells it.
 fn is_visible(style: Style, byte: u8) -> bool
     ensures { result ≡ (style.ascii_escapes && is_visible byte) }
@@ -66,14 +85,14 @@ fn is_visible(style: Style, byte: u8) -> bool
     style.ascii_escapes && matches!(byte, b'!'..=b'~')
 }
 
-/// Whether the character has a letter where an escape by number spells it.
+/// Whether the character gets a letter where an escape by number spells it.
 fn has_letter(style: Style, byte: u8) -> bool
-    ensures { result ≡ (style.named_escapes && has_letter byte) }
+    ensures { result ≡ (style.named_escapes && gets_letter true byte) }
 {
-    style.named_escapes && matches!(byte, b'\n' | b'\r' | b'\t')
+    style.named_escapes && matches!(byte, b'\n' | b'\r' | b'\t' | 0)
 }
 
-/// The letter of the escape that stands for LF, CR or TAB.
+/// The letter of the escape that stands for LF, CR, TAB or NUL.
 fn letter_of(byte: u8) -> u8
     ensures value { result ≡ letter_of byte }
     ensures ascii { result < 128 }
@@ -81,7 +100,8 @@ fn letter_of(byte: u8) -> u8
     match byte {
         b'\n' => b'n',
         b'\r' => b'r',
-        _ => b't',
+        b'\t' => b't',
+        _ => b'0',
     }
 }
 
@@ -175,7 +195,7 @@ fn put_plain(out: &mut [u8], at: usize, kind: Kind, style: Style, unit: &str, by
 {
     match split_char(unit) {
         Some((c, rest)) => {
-            let end = put_itself(out, at, style, c);
+            let end = put_itself(out, at, style, byte == 0, c);
             put_text(out, end, rest)
         }
         None => at,
@@ -208,7 +228,7 @@ fn put_units(out: &mut [u8], at: usize, kind: Kind, style: Style, inside: &str) 
     let mut end = at;
     let mut rest = inside;
     while let Some((piece, after)) = unit(kind, rest) {
-        let byte = ascii_of(kind, piece);
+        let byte = lettered(!stands_for_digit(kind, after), ascii_of(kind, piece));
         end = put_unit(out, end, kind, style, before(rest, after), byte);
         rest = after;
     }

@@ -4,12 +4,12 @@ ghost use Rattle.std.specs.Prelude.{◌≡◌, ◌<◌, ◌≤◌, ◌+◌, ◌*
 ghost use Rattle.std.specs.List.{list_any};
 ghost use Rattle.std.specs.Str.{chars};
 ghost use Rattle.rl_text.specs.Texts.{code};
-ghost use Rattle.rl_style.specs.Mirrors.{code_text, digits_text, itself_text};
+ghost use Rattle.rl_style.specs.Mirrors.{code_text, digits_text, hidden_text, itself_text};
 ghost use Rattle.rl_style.specs.Rewriting.{needs_number as wants_number, lower_digit};
 
 use crate::codes::put_digits;
 use crate::style::Style;
-use rl_text::room::{put_byte, put_char};
+use rl_text::room::{put_byte, put_char, put_text};
 use rl_text::text::split_char;
 use rl_writing::{needs_escape, put_unicode};
 
@@ -78,7 +78,7 @@ fn put_code(out: &mut [u8], at: usize, c: char) -> usize
 }
 
 /// Puts the escape of a character by its number, its digits in the style.
-fn put_hidden(out: &mut [u8], at: usize, style: Style, c: char) -> usize
+fn put_styled_code(out: &mut [u8], at: usize, style: Style, c: char) -> usize
     requires { at + 4 * length (encode_utf8 c) ≤ length out.old }
     ensures end { result ≤ at + 4 * length (encode_utf8 c) }
     ensures bytes { take result out.new ≡ take at out.old ++ encode_utf8_all (digits_text style (code_text c)) }
@@ -92,15 +92,29 @@ fn put_hidden(out: &mut [u8], at: usize, style: Style, c: char) -> usize
     }
 }
 
-/// Puts a character that stands for itself, written anew: at most four bytes for each of its own.
-pub(crate) fn put_itself(out: &mut [u8], at: usize, style: Style, c: char) -> usize
+/// Puts the escape of a character that turns or hides text; the truth value says whether NUL gets a letter.
+fn put_hidden(out: &mut [u8], at: usize, style: Style, zero: bool, c: char) -> usize
     requires { at + 4 * length (encode_utf8 c) ≤ length out.old }
     ensures end { result ≤ at + 4 * length (encode_utf8 c) }
-    ensures bytes { take result out.new ≡ take at out.old ++ encode_utf8_all (itself_text style c) }
+    ensures bytes { take result out.new ≡ take at out.old ++ encode_utf8_all (hidden_text style zero c) }
+    ensures len { length out.new ≡ length out.old }
+{
+    if style.named_escapes && zero && c == '\0' {
+        return put_text(out, at, "\\0");
+    }
+    put_styled_code(out, at, style, c)
+}
+
+/// Puts a character that stands for itself, written anew: at most four bytes for each of its own. The truth value says whether NUL
+/// gets a letter.
+pub(crate) fn put_itself(out: &mut [u8], at: usize, style: Style, zero: bool, c: char) -> usize
+    requires { at + 4 * length (encode_utf8 c) ≤ length out.old }
+    ensures end { result ≤ at + 4 * length (encode_utf8 c) }
+    ensures bytes { take result out.new ≡ take at out.old ++ encode_utf8_all (itself_text style zero c) }
     ensures len { length out.new ≡ length out.old }
 {
     if style.hidden && needs_number(c) {
-        return put_hidden(out, at, style, c);
+        return put_hidden(out, at, style, zero, c);
     }
     put_char(out, at, c)
 }

@@ -1,17 +1,18 @@
 //! Raw literals written anew.
 
 ghost use Rattle.std.specs.Prelude.{◌≡◌, ◌≤◌, ◌+◌, ◌*◌, ◌++◌, ◌||◌, ◌==◌, not, length, take, encode_utf8, encode_utf8_all};
-ghost use Rattle.std.specs.List.{flat_map, list_all};
+ghost use Rattle.std.specs.List.{list_all};
 ghost use Rattle.std.specs.Str.{chars, IsUtf8};
 ghost use Rattle.rl_text.specs.Texts.{code};
 ghost use Rattle.rl_style.specs.Around.{may_precede_quote};
-ghost use Rattle.rl_style.specs.Mirrors.{RawParts, raw_character};
+ghost use Rattle.rl_style.specs.Mirrors.{RawParts, raw_character, raw_inside};
 ghost use Rattle.rl_style.specs.Rewriting.{RewritesRaw, loses_raw, may_lose_r, needs_backslash, unraw_text};
 
 use crate::cooked::put_pair;
 use crate::hidden::{holds_hidden, put_itself};
 use crate::style::Style;
 use rl_forms::Kind;
+use rl_reading::digit_rows::begins_digit;
 use rl_text::room::{put_byte, put_text};
 use rl_text::text::split_char;
 use rl_writing::{raw_hashes, write_raw_into};
@@ -72,17 +73,17 @@ fn loses_raw(style: Style, kind: Kind, front: &str, inside: &str) -> bool
         && (style.raw && is_bare(inside) || style.hidden && holds_hidden(inside))
 }
 
-/// Puts a character from inside a raw literal into one with escapes.
-fn put_raw_character(out: &mut [u8], at: usize, style: Style, c: char) -> usize
+/// Puts a character from inside a raw literal into one with escapes; the truth value says whether NUL gets a letter.
+fn put_raw_character(out: &mut [u8], at: usize, style: Style, zero: bool, c: char) -> usize
     requires { at + 4 * length (encode_utf8 c) ≤ length out.old }
     ensures end { result ≤ at + 4 * length (encode_utf8 c) }
-    ensures bytes { take result out.new ≡ take at out.old ++ encode_utf8_all (raw_character style c) }
+    ensures bytes { take result out.new ≡ take at out.old ++ encode_utf8_all (raw_character style zero c) }
     ensures len { length out.new ≡ length out.old }
 {
     if needs_backslash(c) {
         return put_pair(out, at, c as u8);
     }
-    put_itself(out, at, style, c)
+    put_itself(out, at, style, zero, c)
 }
 
 /// Puts what stands inside a raw literal into one with escapes.
@@ -90,13 +91,13 @@ fn put_raw_inside(out: &mut [u8], at: usize, style: Style, inside: &str) -> usiz
     requires { at + 4 * length inside.now ≤ length out.old }
     ensures end { result ≤ at + 4 * length inside.now }
     ensures bytes { take result out.new
-        ≡ take at out.old ++ encode_utf8_all (flat_map (raw_character style) (chars inside.now)) }
+        ≡ take at out.old ++ encode_utf8_all (raw_inside style (chars inside.now)) }
     ensures len { length out.new ≡ length out.old }
 {
     let mut end = at;
     let mut rest = inside;
     while let Some((c, after)) = split_char(rest) {
-        end = put_raw_character(out, end, style, c);
+        end = put_raw_character(out, end, style, !begins_digit(after), c);
         rest = after;
     }
     end

@@ -20,7 +20,7 @@ pub(crate) enum Dots {
 /// A literal of a source.
 #[derive(Clone, Copy)]
 pub struct Restylable<'t> {
-    /// Its token.
+    /// Its token. What stands in front of it in the source, up to its `lo`, [`rewrite_into`](crate::rewrite_into) takes too.
     pub token: SourceToken<'t>,
     /// Whether it may be a field of a tuple, as in `t.0`: a number after one dot. Then it isn't to be written anew, since a field has
     /// one name.

@@ -61,7 +61,8 @@ pub struct Style {
     /// Whether a visible character of ASCII stands for itself where an escape by number spells it: `"A"` for `"\x41"`. The quote that
     /// closes the literal and a backslash get a backslash before them.
     pub ascii_escapes: bool,
-    /// Whether LF, CR and TAB are `\n`, `\r` and `\t` where an escape by number spells them.
+    /// Whether LF, CR, TAB and NUL are `\n`, `\r`, `\t` and `\0` where an escape by number spells them. NUL stays before what stands for
+    /// a digit: `\01` is octal in other languages.
     pub named_escapes: bool,
     /// Whether a quote that doesn't close the literal loses its backslash: `"'"` for `"\'"`.
     pub quote_escapes: bool,

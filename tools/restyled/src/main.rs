@@ -30,6 +30,8 @@ fn style_of(case: Case, separator: Separator) -> Style {
         .fewest_escape_digits(true)
         .drop_quote_escapes(true)
         .fewest_hashes(true)
+        .drop_raw(true)
+        .escape_hidden(true)
 }
 
 fn main() {

@@ -39,22 +39,36 @@ fn ascii_of(kind: Kind, piece: Piece) -> u8 {
     }
 }
 
+/// The same, but 128 for NUL that gets no letter.
+fn lettered(zero: bool, byte: u8) -> u8 {
+    if zero || byte != 0 { byte } else { 128 }
+}
+
+/// Whether the unit that the text begins with stands for a digit.
+fn stands_for_digit(kind: Kind, text: &str) -> bool {
+    match unit(kind, text) {
+        Some((piece, _)) => ascii_of(kind, piece).is_ascii_digit(),
+        None => false,
+    }
+}
+
 /// Whether the character stands for itself where an escape by number spells it.
 fn is_visible(style: Style, byte: u8) -> bool {
     style.ascii_escapes && matches!(byte, b'!'..=b'~')
 }
 
-/// Whether the character has a letter where an escape by number spells it.
+/// Whether the character gets a letter where an escape by number spells it.
 fn has_letter(style: Style, byte: u8) -> bool {
-    style.named_escapes && matches!(byte, b'\n' | b'\r' | b'\t')
+    style.named_escapes && matches!(byte, b'\n' | b'\r' | b'\t' | 0)
 }
 
-/// The letter of the escape that stands for LF, CR or TAB.
+/// The letter of the escape that stands for LF, CR, TAB or NUL.
 fn letter_of(byte: u8) -> u8 {
     match byte {
         b'\n' => b'n',
         b'\r' => b'r',
-        _ => b't',
+        b'\t' => b't',
+        _ => b'0',
     }
 }
 
@@ -112,7 +126,7 @@ fn put_escape(
 fn put_plain(out: &mut [u8], at: usize, kind: Kind, style: Style, unit: &str, byte: u8) -> usize {
     match split_char(unit) {
         Some((c, rest)) => {
-            let end = put_itself(out, at, style, c);
+            let end = put_itself(out, at, style, byte == 0, c);
             put_text(out, end, rest)
         }
         None => at,
@@ -132,7 +146,7 @@ fn put_units(out: &mut [u8], at: usize, kind: Kind, style: Style, inside: &str) 
     let mut end = at;
     let mut rest = inside;
     while let Some((piece, after)) = unit(kind, rest) {
-        let byte = ascii_of(kind, piece);
+        let byte = lettered(!stands_for_digit(kind, after), ascii_of(kind, piece));
         end = put_unit(out, end, kind, style, before(rest, after), byte);
         rest = after;
     }

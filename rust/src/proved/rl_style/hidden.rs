@@ -3,7 +3,7 @@
 
 use crate::rl_style::codes::put_digits;
 use crate::rl_style::style::Style;
-use crate::rl_text::room::{put_byte, put_char};
+use crate::rl_text::room::{put_byte, put_char, put_text};
 use crate::rl_text::text::split_char;
 use crate::rl_writing::{needs_escape, put_unicode};
 
@@ -52,7 +52,7 @@ fn put_code(out: &mut [u8], at: usize, c: char) -> usize {
 }
 
 /// Puts the escape of a character by its number, its digits in the style.
-fn put_hidden(out: &mut [u8], at: usize, style: Style, c: char) -> usize {
+fn put_styled_code(out: &mut [u8], at: usize, style: Style, c: char) -> usize {
     let mut room = [0; 10];
     let end = put_code(&mut room, 0, c);
     match core::str::from_utf8(&room[..end]) {
@@ -61,10 +61,19 @@ fn put_hidden(out: &mut [u8], at: usize, style: Style, c: char) -> usize {
     }
 }
 
-/// Puts a character that stands for itself, written anew: at most four bytes for each of its own.
-pub(crate) fn put_itself(out: &mut [u8], at: usize, style: Style, c: char) -> usize {
+/// Puts the escape of a character that turns or hides text; the truth value says whether NUL gets a letter.
+fn put_hidden(out: &mut [u8], at: usize, style: Style, zero: bool, c: char) -> usize {
+    if style.named_escapes && zero && c == '\0' {
+        return put_text(out, at, "\\0");
+    }
+    put_styled_code(out, at, style, c)
+}
+
+/// Puts a character that stands for itself, written anew: at most four bytes for each of its own. The truth value says whether NUL
+/// gets a letter.
+pub(crate) fn put_itself(out: &mut [u8], at: usize, style: Style, zero: bool, c: char) -> usize {
     if style.hidden && needs_number(c) {
-        return put_hidden(out, at, style, c);
+        return put_hidden(out, at, style, zero, c);
     }
     put_char(out, at, c)
 }

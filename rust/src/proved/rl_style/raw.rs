@@ -5,6 +5,7 @@ use crate::rl_style::cooked::put_pair;
 use crate::rl_style::hidden::{holds_hidden, put_itself};
 use crate::rl_style::style::Style;
 use crate::rl_forms::Kind;
+use crate::rl_reading::digit_rows::begins_digit;
 use crate::rl_text::room::{put_byte, put_text};
 use crate::rl_text::text::split_char;
 use crate::rl_writing::{raw_hashes, write_raw_into};
@@ -53,12 +54,12 @@ fn loses_raw(style: Style, kind: Kind, front: &str, inside: &str) -> bool {
         && (style.raw && is_bare(inside) || style.hidden && holds_hidden(inside))
 }
 
-/// Puts a character from inside a raw literal into one with escapes.
-fn put_raw_character(out: &mut [u8], at: usize, style: Style, c: char) -> usize {
+/// Puts a character from inside a raw literal into one with escapes; the truth value says whether NUL gets a letter.
+fn put_raw_character(out: &mut [u8], at: usize, style: Style, zero: bool, c: char) -> usize {
     if needs_backslash(c) {
         return put_pair(out, at, c as u8);
     }
-    put_itself(out, at, style, c)
+    put_itself(out, at, style, zero, c)
 }
 
 /// Puts what stands inside a raw literal into one with escapes.
@@ -66,7 +67,7 @@ fn put_raw_inside(out: &mut [u8], at: usize, style: Style, inside: &str) -> usiz
     let mut end = at;
     let mut rest = inside;
     while let Some((c, after)) = split_char(rest) {
-        end = put_raw_character(out, end, style, c);
+        end = put_raw_character(out, end, style, !begins_digit(after), c);
         rest = after;
     }
     end

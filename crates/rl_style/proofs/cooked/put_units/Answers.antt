@@ -1,8 +1,10 @@
-use Rattle.rl_text.proofs.Common.{◌≡◌, ◌+◌, ◌∙◌, ◌++◌, length, take, ap, sym, arith, rules, encode_utf8_all}
+use Rattle.rl_text.proofs.Common.{◌≡◌, ◌+◌, ◌∙◌, ◌++◌, length, take, ap, sym, arith, rules, encode_utf8_all, not}
 use Rattle.std.proofs.Common.{length-append}
 use Rattle.std.specs.Str.{chars}
-use Rattle.rl_style.specs.Mirrors.{restyled_text}
-use Rattle.rl_style.proofs.UnitTexts.{passed_end, passed_step, unit_tail}
+use Rattle.rl_reading.specs.Mirrors.UnitAt.{unit_at}
+use Rattle.rl_style.specs.Mirrors.{lettered, restyled_text, stands_for_digit}
+use Rattle.rl_style.proofs.UnitTexts.{unit_tail}
+use Rattle.rl_style.proofs.UnitRows.{passed_end, passed_step}
 use Rattle.rl_style.proofs.cooked.put_units.Goals as goal
 
 pub before-requires : goal.before-requires
@@ -21,7 +23,10 @@ loop-piece-preserved c =
       passed = λ us a. passed_step c.args.style c.args.kind us (chars l.rest.now) _ (chars b.result.now)
           (chars c.in-Some.after.now) _ _ _ (l.invariant.passed us a) c.in-Some.ensures.value b.ensures.chars
           (p.bytes ∙ ap (λ n. take l.end l.out ++ encode_utf8_all (restyled_text c.args.style c.args.kind n
-          (chars b.result.now))) c.ascii_of-byte.ensures.value);
+          (chars b.result.now))) (c.lettered-byte.ensures.value
+          ∙ ap (λ d. lettered (not d) c.ascii_of.result) c.stands_for_digit.ensures
+          ∙ ap (lettered (not (stands_for_digit (unit_at c.args.kind (chars c.in-Some.after.now)))))
+          c.ascii_of.ensures.value));
       room = omega (arith, l.invariant.room, long, p.end);
       len = p.len ∙ l.invariant.len;
     }

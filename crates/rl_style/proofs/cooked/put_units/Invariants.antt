@@ -5,7 +5,7 @@ use denote.Shadow.{shadow}
 use Rattle.std.specs.Str.{chars}
 use Rattle.rl_forms.specs.Strict.{StrictUnit}
 use Rattle.rl_style.specs.Mirrors.{AreUnits}
-use Rattle.rl_style.proofs.UnitTexts.{UnitsPassed}
+use Rattle.rl_style.proofs.UnitRows.{UnitsPassed}
 use Rattle.rl_style.proofs.cooked.put_units.Given as goal
 
 abbrev pub invariant-loop-piece : goal.invariant-loop-piece

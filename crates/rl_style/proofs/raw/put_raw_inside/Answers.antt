@@ -1,6 +1,7 @@
-use Rattle.rl_text.proofs.Common.{◌≡◌, ◌∙◌, ◌+◌, ◌∷◌, [], ◌++◌, length, ap, sym, append_assoc, arith, rules, encode_utf8}
+use Rattle.rl_text.proofs.Common.{◌≡◌, ◌∙◌, ◌+◌, ◌∷◌, [], ◌++◌, length, ap, sym, append_assoc, arith, rules, encode_utf8, encode_utf8_all, not, take}
 use Rattle.std.proofs.Common.{length-append}
 use Rattle.std.specs.Str.{chars}
+use Rattle.rl_style.specs.Mirrors.{raw_character}
 use Rattle.rl_style.proofs.WrittenUnraw.{raw_all, raw_more}
 use Rattle.rl_style.proofs.raw.put_raw_inside.Goals as goal
 
@@ -19,7 +20,9 @@ loop-c-preserved c =
         xs ++ (first ∷ []),
         cut ∙ ap (λ z. xs ++ z) s.chars
             ∙ sym (append_assoc xs (first ∷ []) (chars c.in-Some.after.now)),
-        raw_more c.args.style _ _ _ xs first bytes d.bytes,
+        raw_more c.args.style _ _ _ xs (chars l.rest.now) (chars c.in-Some.after.now) first s.chars bytes (d.bytes
+            ∙ ap (λ b. take l.end l.out ++ encode_utf8_all (raw_character c.args.style (not b) first))
+            c.begins_digit.ensures),
       );
       room = omega (arith, l.invariant.room, long, d.end);
       len = d.len ∙ l.invariant.len;

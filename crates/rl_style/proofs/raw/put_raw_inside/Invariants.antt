@@ -1,16 +1,16 @@
 -- The characters that were passed stand in the slice, and the rest has room after them.
-use Rattle.rl_text.proofs.Common.{◌≡◌, ◌≤◌, ◌+◌, ◌*◌, ◌++◌, ℕ, List, take, length, flat_map, encode_utf8_all}
+use Rattle.rl_text.proofs.Common.{◌≡◌, ◌≤◌, ◌+◌, ◌*◌, ◌++◌, ℕ, List, take, length, encode_utf8_all}
 use denote.Text.{Utf8}
 use denote.Shadow.{shadow}
 use Rattle.std.specs.Str.{chars}
-use Rattle.rl_style.specs.Mirrors.{raw_character}
+use Rattle.rl_style.proofs.WrittenUnraw.{raw_before}
 use Rattle.rl_style.proofs.raw.put_raw_inside.Given as goal
 
 abbrev pub invariant-loop-c : goal.invariant-loop-c
 invariant-loop-c l = record {
   utf8 : shadow (Utf8 l.rest);
   passed : (xs : List ℕ) × (chars l.inside ≡ xs ++ chars l.rest)
-      × (take l.end l.out ≡ take l.fn.at l.initial.out ++ encode_utf8_all (flat_map (raw_character l.style) xs));
+      × (take l.end l.out ≡ take l.fn.at l.initial.out ++ encode_utf8_all (raw_before l.style xs (chars l.rest)));
   room : l.end + 4 * length l.rest ≤ l.fn.at + 4 * length l.inside;
   len : length l.out ≡ length l.initial.out;
 }

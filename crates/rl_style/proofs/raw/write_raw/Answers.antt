@@ -8,7 +8,7 @@ returns-then-not-style-clause-written c = raw_kept c.args.style c.args.kind (cha
     (chars c.args.text.now)
     (chars c.args.inside.now)
     (chars c.args.suffix.now) _ c.requires.parts (sym c.loses_raw.ensures ∙ c.if-loses_raw.false)
-        (not-true c.args.style.raw_hashes c.if-not-style.true)
+    (not-true c.args.style.raw_hashes c.if-not-style.true)
     (ap chars c.put_text.ensures.bytes)
 
 pub returns-then-loses_raw-clause-written : goal.returns-then-loses_raw-clause-written

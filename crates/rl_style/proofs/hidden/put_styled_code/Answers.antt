@@ -1,7 +1,7 @@
 use Rattle.rl_text.proofs.Common.{◌∙◌, ◌++◌, take, ap, arith, encode_utf8_all}
 use Rattle.rl_style.specs.Mirrors.{digits_text}
 use Rattle.rl_style.proofs.HiddenUnits.{put_code_chars, put_code_fits, put_code_utf8, text_short}
-use Rattle.rl_style.proofs.hidden.put_hidden.Goals as goal
+use Rattle.rl_style.proofs.hidden.put_styled_code.Goals as goal
 
 pub put_code-end-requires : goal.put_code-end-requires
 put_code-end-requires c = let s = text_short c.args.c c.ranges.c.0 in omega (arith, s)
