@@ -47,7 +47,7 @@ module _ {P X : Type 0} (star : P → Bool) (one : P → X → Bool) where
       → all_match star one (p ∷ ps) xs ≡ any_end (all_match star one ps) xs
   star_more p ps xs e = cond-true (star p) _ _ e
 
-  -- behind the parts before a star what is left matches
+  -- after the parts before a star what is left matches
   shifted : (passed : List P) (at : P) (after : List P) (xs : List X) → All (λ p. star p ≡ false) passed
       → star at ≡ true → all_match star one (passed ++ at ∷ after) xs ≡ true
       → any_end (all_match star one after) (drop (length passed) xs) ≡ true
@@ -72,7 +72,8 @@ module _ {P X : Type 0} (star : P → Bool) (one : P → X → Bool) where
           let moved = shifted r.passed r.at after (drop k text) r.plain r.is_star
           (subst (λ (z : List P). all_match star one z (drop k text) ≡ true) r.pattern_is h) in
           let turned : drop (length r.passed) (drop k text) ≡ drop k rest =
-          drop-drop (length r.passed) k text ∙ ap (λ (n : ℕ). drop n text) {x = k + length r.passed} {y = length r.passed + k} (omega arith)
+          drop-drop (length r.passed) k text ∙ ap (λ (n : ℕ). drop n text) {x = k + length r.passed}
+          {y = length r.passed + k} (omega arith)
           ∙ sym (drop-drop k (length r.passed) text) ∙ ap (drop k) (sym r.rest_is) in
           any_end_later (all_match star one after) k rest
           (subst (λ (z : List X). any_end (all_match star one after) z ≡ true) turned moved)

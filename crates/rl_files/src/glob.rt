@@ -199,7 +199,7 @@ fn without_slash(path: &[u8]) -> &[u8]
 fn has_slash(path: &[u8]) -> bool
     ensures { result ≡ slash_in path.now }
 {
-    path.iter().any(|byte| *byte == b'/')
+    path.contains(&b'/')
 }
 
 /// A path without the slash at its front.

@@ -1,6 +1,7 @@
 -- A line, and carets below it.
-use Rattle.rl_text.proofs.Common.{Bool, IsUtf8, List, [], ap, append-nil, append_assoc, append_cancel_right, arith, chars, chars-nil, chars_from_encodes, codes, cond, drop, encodes-append, encodes-chars, eqb-true, false, inl, inr, length-append, ne_eqb, subst, ◌+◌, ◌-◌, ◌⊎◌, ◌||◌, ◌≤◌, if◌then◌else◌, length, refl, rules, suc, sym, true, ℕ, ◌++◌, ◌==◌, ◌∙◌, ◌∷◌, ◌≡◌}
+use Rattle.rl_text.proofs.Common.{Bool, IsUtf8, List, [], ap, append-nil, append_assoc, append_cancel_right, arith, chars, chars-nil, chars_from_encodes, codes, cond, drop, encodes-append, encodes-chars, eqb-true, false, inl, inr, length-append, ne_eqb, subst, take, take-append_seam, IsUtf8-take, ◌+◌, ◌-◌, ◌⊎◌, ◌||◌, ◌≤◌, if◌then◌else◌, length, refl, rules, suc, zero, ◌<◌, sym, true, ℕ, ◌++◌, ◌==◌, ◌∙◌, ◌∷◌, ◌≡◌}
 use Rattle.std.specs.Prelude.{encode_utf8_all}
+use Rattle.std.proofs.Common.{add-one}
 use Rattle.std.proofs.lemmas.Bool.{false≢true}
 use Rattle.rl_files.specs.Visible.{visible, visible_char}
 use Rattle.rl_lexer.specs.Sources.{without_mark}
@@ -12,7 +13,7 @@ use Rattle.std.specs.Str.{IsCharBoundary}
 use Rattle.std.specs.Prelude.{encode_utf8}
 use Rattle.rl_output.specs.Spots.{IsSpotAt, first_spot, next_spot, spot_after}
 use Rattle.rl_output.specs.declared.spot.Spot.{Spot}
-use Rattle.rl_output.specs.Contexts.{IsBeforeInLine, has_end, carets, ends_line, first_line, line_char, line_text, marks_below}
+use Rattle.rl_output.specs.Contexts.{IsBeforeInLine, has_end, carets, ends_line, first_line, line_char, line_text, marks_below, after_first_line, shown_line, shown_lines}
 use Rattle.rl_output.proofs.Pieces.{back_utf8, four_parts, five_parts}
 
 -- Of a text's first line these characters were passed.
@@ -102,6 +103,43 @@ eight_parts o a b d e f g h new p q r s t u v w i j k l m n x y =
     four_parts o a b d new p q r (s ++ (t ++ (u ++ (v ++ w)))) i j k
     (five_parts d e f g h new s t u v w l m n x y)
 
+-- ---- lines, one after another
+
+not_zero : (n : ℕ) → (suc n == 0) ≡ false
+not_zero n = search rules
+
+-- none is left
+pub no_lines_more : (left : ℕ) (rest old all : List ℕ) → (length rest == 0) ≡ true
+    → old ++ shown_lines left (chars rest) ≡ all → old ≡ all
+no_lines_more left (b ∷ bs) old all none is = absurd (false≢true (sym (not_zero (length bs)) ∙ none))
+no_lines_more left [] old all none is = go left (sym (ap (λ (z : List ℕ). old ++ shown_lines left z) chars-nil) ∙ is)
+  where
+    go : (n : ℕ) → old ++ shown_lines n [] ≡ all → old ≡ all
+    go zero e = sym (append-nil old) ∙ e
+    go (suc n) e = sym (append-nil old) ∙ e
+
+-- one is shown
+pub one_line_more : (left : ℕ) (rest after old new all : List ℕ) → 0 < left → (length rest == 0) ≡ false → IsUtf8 rest
+    → new ≡ old ++ shown_line (chars rest) → after ≡ after_first_line (chars rest)
+    → old ++ shown_lines left (chars rest) ≡ all → new ++ shown_lines (left - 1) after ≡ all
+one_line_more zero rest after old new all some any utf8 shown after_is is = absurd (omega (arith, some))
+one_line_more (suc n) rest after old new all some any utf8 shown after_is is = go (chars rest) refl
+  where
+    less : suc n - 1 ≡ n
+    less = omega (arith, add-one n)
+
+    go : (cs : List ℕ) → chars rest ≡ cs → new ++ shown_lines (suc n - 1) after ≡ all
+    go [] none =
+        let empty : rest ≡ [] = sym (encodes-chars rest utf8) ∙ ap encode_utf8_all none in
+        absurd (false≢true (sym any ∙ ap (λ (z : List ℕ). length z == 0) empty))
+    go (c ∷ cs) text =
+        let line = shown_line (c ∷ cs) in
+        let more = shown_lines n (after_first_line (c ∷ cs)) in
+        ap (λ (m : ℕ). new ++ shown_lines m after) less
+        ∙ ap (λ (z : List ℕ). new ++ shown_lines n z) (after_is ∙ ap after_first_line text)
+        ∙ ap (λ (z : List ℕ). z ++ more) (shown ∙ ap (λ (z : List ℕ). old ++ shown_line z) text)
+        ∙ append_assoc old line more ∙ sym (ap (λ (z : List ℕ). old ++ shown_lines (suc n) z) text) ∙ is
+
 -- ---- the line of a place
 
 -- Of a text so much is the last line, in which a place stands after it.
@@ -176,18 +214,42 @@ last_line p lines inside (c ∷ cs) long none begins =
         (subst (λ (q : Spot). LastLine (lines ++ (longer ++ cs)) (spot_after q cs)) (sym (next_is false e)) found)
 
 -- a byte order mark, where a text begins with one
-mark_of : (text : List ℕ) → (mark : List ℕ) × (text ≡ mark ++ without_mark text)
-mark_of [] = ([], refl)
-mark_of (c ∷ cs) = go (c == 0xfeff)
+abbrev mark_of : List ℕ → List ℕ
+mark_of [] = []
+mark_of (c ∷ cs) = if c == 0xfeff then c ∷ [] else []
+
+mark_is : (text : List ℕ) → text ≡ mark_of text ++ without_mark text
+mark_is [] = refl
+mark_is (c ∷ cs) = go (c == 0xfeff)
   where
-    go : (b : Bool) → (mark : List ℕ) × (c ∷ cs ≡ mark ++ (if b then cs else c ∷ cs))
-    go true = (c ∷ [], refl)
-    go false = ([], refl)
+    go : (b : Bool) → c ∷ cs ≡ (if b then c ∷ [] else []) ++ (if b then cs else c ∷ cs)
+    go true = refl
+    go false = refl
+
+not_marked : (c : ℕ) (cs lines inside : List ℕ) → c ∷ cs ≡ lines ++ inside → (c == 0xfeff) ≡ false
+    → without_mark lines ≡ lines
+not_marked c cs [] inside e none = refl
+not_marked c cs (x ∷ xs) inside e none =
+    let same : c ≡ x = (cc) in
+    ap (λ (b : Bool). if b then xs else x ∷ xs) (subst (λ (z : ℕ). (z == 0xfeff) ≡ false) same none)
+
+-- the lines of a text after its mark
+unmarked : (text lines inside : List ℕ) → without_mark text ≡ lines ++ inside → without_mark (mark_of text ++ lines)
+    ≡ lines
+unmarked [] [] inside e = refl
+unmarked [] (x ∷ xs) inside e = absurd (cc)
+unmarked (c ∷ cs) lines inside e = go (c == 0xfeff) refl e
+  where
+    go : (b : Bool) → (c == 0xfeff) ≡ b → (if b then cs else c ∷ cs) ≡ lines ++ inside
+        → without_mark ((if b then c ∷ [] else []) ++ lines) ≡ lines
+    go true is f = ap (λ (b : Bool). if b then lines else c ∷ lines) is
+    go false is f = not_marked c cs lines inside f is
 
 -- Where the line of a place begins in what stands before the place.
 pub record LineCut (text rest front : List ℕ) (at : ℕ) : Type 0 where
   pub boundary : IsCharBoundary front at
-  pub line : (before : List ℕ) → before ≡ drop at front → IsBeforeInLine (chars text) (chars rest) (chars before)
+  pub line : (lines before shown : List ℕ) → lines ≡ take at front → before ≡ drop at front
+      → shown ≡ without_mark (chars lines) → IsBeforeInLine (chars text) (chars rest) shown (chars before)
   pub within : at ≤ length front
 
 pub line_cut : (text rest front : List ℕ) (spot : Spot) → IsUtf8 front → IsSpotAt (chars text) (chars rest) spot
@@ -199,11 +261,11 @@ line_cut text rest front spot utf8 stands cut =
     ∙ ap (λ (z : List ℕ). spot_after first_spot (without_mark z)) same in
     let found : LastLine (without_mark (chars front)) (spot_after first_spot (without_mark (chars front))) =
     last_line first_spot [] [] (without_mark (chars front)) refl refl (inl refl) in
-    let mark = mark_of (chars front) in
-    let pre : List ℕ = mark.0 ++ found.lines in
+    let mark : List ℕ = mark_of (chars front) in
+    let pre : List ℕ = mark ++ found.lines in
     let inside : List ℕ = found.inside in
-    let whole : chars front ≡ pre ++ inside = mark.1 ∙ ap (λ (z : List ℕ). mark.0 ++ z) found.text_is
-    ∙ sym (append_assoc mark.0 found.lines inside) in
+    let whole : chars front ≡ pre ++ inside = mark_is (chars front) ∙ ap (λ (z : List ℕ). mark ++ z) found.text_is
+    ∙ sym (append_assoc mark found.lines inside) in
     let bytes : front ≡ encode_utf8_all pre ++ encode_utf8_all inside = sym (encodes-chars front utf8)
     ∙ ap encode_utf8_all whole ∙ encodes-append pre inside in
     let is_text : IsUtf8 (encode_utf8_all inside) = back_utf8 pre inside
@@ -215,19 +277,30 @@ line_cut text rest front spot utf8 stands cut =
     let dropped : drop (length front + 1 - spot.byte_column) front ≡ encode_utf8_all inside =
     ap (λ (n : ℕ). drop n front) (sym at) ∙ ap (drop (byte_len pre)) bytes
     ∙ drop-append_seam (encode_utf8_all pre) (encode_utf8_all inside) in
+    let boundary : IsCharBoundary front (length front + 1 - spot.byte_column) = subst (IsCharBoundary front) at
+    (IsCharBoundary-at_seam front (encode_utf8_all pre) (encode_utf8_all inside) bytes is_text) in
+    let taken : take (length front + 1 - spot.byte_column) front ≡ encode_utf8_all pre =
+    ap (λ (n : ℕ). take n front) (sym at) ∙ ap (take (byte_len pre)) bytes
+    ∙ take-append_seam (encode_utf8_all pre) (encode_utf8_all inside) in
+    let pre_utf8 : IsUtf8 (encode_utf8_all pre) = subst IsUtf8 taken
+    (IsUtf8-take front (length front + 1 - spot.byte_column) utf8 boundary) in
+    let pre_is : pre ≡ chars (encode_utf8_all pre) = chars_from_encodes pre (encode_utf8_all pre) pre_utf8 refl in
+    let lines_are : (lines : List ℕ) → lines ≡ take (length front + 1 - spot.byte_column) front
+    → without_mark (chars lines) ≡ found.lines = λ lines is. ap (λ (z : List ℕ). without_mark (chars z)) (is ∙ taken)
+    ∙ ap without_mark (sym pre_is) ∙ unmarked (chars front) found.lines inside found.text_is in
     record {
-      boundary = subst (IsCharBoundary front) at
-          (IsCharBoundary-at_seam front (encode_utf8_all pre) (encode_utf8_all inside) bytes is_text);
-      line = λ before is. record {
-        front = chars front;
-        text_is = cut;
-        lines = found.lines;
-        front_is = found.text_is ∙ ap (λ (z : List ℕ). found.lines ++ z)
-            (chars_from_encodes inside before (subst IsUtf8 (sym (is ∙ dropped)) is_text) (sym (is ∙ dropped)));
-        inside = subst (λ (z : List ℕ). has_end z ≡ false)
-            (chars_from_encodes inside before (subst IsUtf8 (sym (is ∙ dropped)) is_text) (sym (is ∙ dropped)))
-            found.no_end;
-        begins = found.begins;
-      };
+      boundary = boundary;
+      line = λ lines before shown lines_is is shown_is. subst
+          (λ (z : List ℕ). IsBeforeInLine (chars text) (chars rest) z (chars before))
+          (sym (shown_is ∙ lines_are lines lines_is)) (record {
+            front = chars front;
+            text_is = cut;
+            front_is = found.text_is ∙ ap (λ (z : List ℕ). found.lines ++ z)
+                (chars_from_encodes inside before (subst IsUtf8 (sym (is ∙ dropped)) is_text) (sym (is ∙ dropped)));
+            inside = subst (λ (z : List ℕ). has_end z ≡ false)
+                (chars_from_encodes inside before (subst IsUtf8 (sym (is ∙ dropped)) is_text) (sym (is ∙ dropped)))
+                found.no_end;
+            begins = found.begins;
+          });
       within = omega (arith, all, at);
     }

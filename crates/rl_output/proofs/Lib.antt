@@ -5,3 +5,4 @@ pub mod ColorLemmas
 pub mod JsonStringLemmas
 pub mod GithubLemmas
 pub mod ContextLemmas
+pub mod LastLines

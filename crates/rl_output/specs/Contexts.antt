@@ -1,7 +1,9 @@
--- The line of a source where a place stands, and carets below it. All are lists of characters.
-use Rattle.std.specs.Prelude.{◌≡◌, ◌⊎◌, ℕ, ◌==◌, Bool, false, ◌||◌, ◌&&◌, cond, List, [], ◌∷◌, ◌++◌, codes, if◌then◌else◌}
+-- The line of a source where a place stands, carets below it, and lines before and after it. All are lists of
+-- characters, but
+-- where bytes are said.
+use Rattle.std.specs.Prelude.{◌≡◌, ◌⊎◌, ℕ, ◌≤◌, ◌==◌, Bool, false, ◌||◌, ◌&&◌, cond, List, [], ◌∷◌, ◌++◌, codes, encode_utf8_all, if◌then◌else◌, zero, suc}
 use Prim.Native.Char.{code}
-use Rattle.std.specs.List.{flat_map, list_any}
+use Rattle.std.specs.List.{count_by, flat_map, list_any}
 use Rattle.rl_text.specs.Texts.{begins_char}
 use Rattle.rl_files.specs.Visible.{visible_char}
 use Rattle.rl_lexer.specs.Sources.{without_mark}
@@ -20,13 +22,12 @@ first_line (c ∷ cs) = if ends_line c cs then [] else c ∷ first_line cs
 abbrev pub has_end : List ℕ → Bool
 has_end text = list_any (λ c. c == code "\n") text
 
--- A rest of a text begins in a line of which so much stands before it: what comes after the last LF, a byte order mark
--- at the
--- text's front aside.
-pub record IsBeforeInLine (text rest before : List ℕ) : Type 0 where
+-- A rest of a text begins in a line of which so much stands before it, after these lines: what comes after the last LF,
+-- a byte
+-- order mark at the text's front aside.
+pub record IsBeforeInLine (text rest lines before : List ℕ) : Type 0 where
   pub front : List ℕ
   pub text_is : text ≡ front ++ rest
-  pub lines : List ℕ
   pub front_is : without_mark front ≡ lines ++ before
   pub inside : has_end before ≡ false
   pub begins : (lines ≡ []) ⊎ ((others : List ℕ) × (lines ≡ others ++ code "\n" ∷ []))
@@ -60,3 +61,47 @@ context_lines before rest bytes =
     codes "    " ++ (line_text before ++ (line_text (first_line rest) ++ (codes "\n"
     ++ (codes "    " ++ (marks_below (code " ") (code "\t") before
     ++ (carets (first_line (covered bytes rest)) ++ codes "\n"))))))
+
+-- ---- lines before and after it
+
+-- how many LFs are among bytes
+abbrev pub ends_among : List ℕ → ℕ
+ends_among bytes = count_by (λ b. b == 10) bytes
+
+-- bytes that are lines, each with its LF
+abbrev pub AreWholeLines : List ℕ → Type 0
+AreWholeLines bytes = (bytes ≡ []) ⊎ ((others : List ℕ) × (bytes ≡ others ++ 10 ∷ []))
+
+-- the bytes through the last LF among some
+abbrev pub IsThroughEnd : List ℕ → List ℕ → Type 0
+IsThroughEnd bytes front = (back : List ℕ) × (bytes ≡ front ++ back) × (ends_among back ≡ 0) × AreWholeLines front
+
+-- The last of some lines, so many, or all where there are fewer. All are bytes.
+pub record AreLastLines (count : ℕ) (lines last : List ℕ) : Type 0 where
+  pub front : List ℕ
+  pub lines_are : lines ≡ front ++ last
+  pub cut : AreWholeLines front
+  pub fewer : ends_among last ≤ count
+  pub all : (front ≡ []) ⊎ (ends_among last ≡ count)
+
+-- A rest of a text begins in a line of which so much stands before it, and these are the last lines before that, in
+-- bytes.
+pub record HasLinesBefore (count : ℕ) (text rest last before : List ℕ) : Type 0 where
+  pub lines : List ℕ
+  pub line : IsBeforeInLine text rest lines before
+  pub last_are : AreLastLines count (encode_utf8_all lines) last
+
+-- what stands after the first line of a text
+abbrev pub after_first_line : List ℕ → List ℕ
+after_first_line [] = []
+after_first_line (c ∷ cs) = if c == code "\n" then cs else after_first_line cs
+
+-- a line as it is shown, four columns in
+abbrev pub shown_line : List ℕ → List ℕ
+shown_line text = codes "    " ++ (line_text (first_line text) ++ codes "\n")
+
+-- the first lines of a text as they are shown, so many, or all where there are fewer
+abbrev pub shown_lines : ℕ → List ℕ → List ℕ
+shown_lines zero text = []
+shown_lines (suc count) [] = []
+shown_lines (suc count) (c ∷ cs) = shown_line (c ∷ cs) ++ shown_lines count (after_first_line (c ∷ cs))

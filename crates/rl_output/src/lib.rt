@@ -1,5 +1,5 @@
 //! What a line of the programs looks like: places, colours, strings of JSON, annotations of GitHub, and the line of the source
-//! with a mark below.
+//! with a mark below, and lines about it.
 #![tactic(auto)]
 
 mod color;
@@ -8,12 +8,13 @@ mod error_id;
 mod form;
 mod github;
 mod json_string;
+mod last_lines;
 mod member;
 mod place;
 mod spot;
 
 pub use crate::color::{Paint, push_error_word, push_painted};
-pub use crate::context::{first_line, push_context};
+pub use crate::context::{Context, first_line, push_context};
 pub use crate::error_id::id_of;
 pub use crate::form::{Form, has_extents, is_github, is_json};
 pub use crate::github::{Level, push_annotation_end, push_data};

@@ -1,13 +1,14 @@
 //! Lines and columns of places in a text, a column in characters and in bytes.
 
 ghost use Rattle.std.specs.Prelude.{◌≡◌, ◌≤◌, ◌<◌, ◌+◌, ◌^◌, cond, drop, length};
-ghost use Rattle.std.specs.Str.{chars, IsCharBoundary};
+ghost use Rattle.std.specs.Str.{chars, IsCharBoundary, IsUtf8};
 ghost use Rattle.rl_lexer.specs.Cursors.{IsCursorState};
 ghost use Rattle.rl_lexer.specs.Sources.{without_mark as unmarked};
 ghost use Rattle.rl_text.specs.Texts.{IsTail};
-ghost use Rattle.rl_output.specs.Contexts.{IsBeforeInLine};
+ghost use Rattle.rl_output.specs.Contexts.{HasLinesBefore, IsBeforeInLine};
 ghost use Rattle.rl_output.specs.Spots.{bytes_before, next_spot, spot_after, next_count, covered, IsExtentOf, IsSpotOf};
 
+use crate::last_lines::last_lines;
 use rl_lexer::without_mark;
 use rl_text::text::{before, split_char};
 use std::marker::Model;
@@ -170,13 +171,15 @@ fn extent_from(text: &str, rest: &str, start: Spot, lo: usize, hi: usize) -> Ext
     Extent { lo, hi, start, end }
 }
 
-/// What stands in the line of a place before it, where a rest of the text begins at that place.
-fn before_in_line<'t>(text: &'t str, rest: &str, spot: Spot) -> &'t str
+/// The lines before that of a place, and what stands in that line before it, where a rest of the text begins at the place.
+fn before_in_line<'t>(text: &'t str, rest: &str, spot: Spot) -> (&'t str, &'t str)
     requires { IsSpotOf text.now rest.now spot }
-    ensures { IsBeforeInLine (chars text.now) (chars rest.now) (chars result.now) }
+    ensures line { IsBeforeInLine (chars text.now) (chars rest.now) (chars result.0.now) (chars result.1.now) }
+    ensures text { IsUtf8 result.0.now }
 {
     let front = before(text, rest);
-    &front[front.len() + 1 - spot.byte_column..]
+    let (lines, inside) = front.split_at(front.len() + 1 - spot.byte_column);
+    (without_mark(lines), inside)
 }
 
 /// The places of a text. From one place to a later one only what stands between them is gone over; an earlier one is looked for
@@ -262,13 +265,15 @@ impl<'t> Places<'t> {
         extent_from(self.text, rest, start, lo, hi)
     }
 
-    /// What stands in the line of a place before it, where a rest of the text begins there.
-    pub fn line_before(&mut self, rest: &'t str) -> &'t str
+    /// The last lines before that of a place, so many, or all where there are fewer, and what stands in that line before the place,
+    /// where a rest of the text begins there.
+    pub fn lines_before(&mut self, rest: &'t str, count: usize) -> (&'t str, &'t str)
         requires { IsCursorState self.old rest.now }
-        ensures line { IsBeforeInLine (chars self.old) (chars rest.now) (chars result.now) }
+        ensures lines { HasLinesBefore count (chars self.old) (chars rest.now) result.0.now (chars result.1.now) }
         ensures same { self.new ≡ self.old }
     {
         let spot = self.at(rest);
-        before_in_line(self.text, rest, spot)
+        let (lines, inside) = before_in_line(self.text, rest, spot);
+        (last_lines(lines, count), inside)
     }
 }

@@ -1,15 +1,17 @@
 -- How a call ends.
-use Rattle.rl_text.proofs.Common.{Bool, Bor, List, None, Option, Some, [], inl, inr, refl, subst, sym, ℕ, ◌≡◌}
+use Rattle.rl_text.proofs.Common.{ap, false, length, not, true, ◌==◌, ◌∙◌, Bool, Bor, List, None, Option, Some, [], inl, inr, refl, subst, sym, ℕ, ◌∷◌, ◌≡◌}
 use Rattle.std.specs.Prelude.{IfSome, String}
+use Rattle.std.proofs.lemmas.Bool.{false≢true}
 use Rattle.std.specs.Io.KnownBytes.{Keeps}
 use Rattle.std.proofs.KnownBytes.{Appends-nil}
+use Rattle.rl_files.specs.Globs.{borrowed_texts}
 use Rattle.rl_files.specs.Trees.{World}
 use Rattle.rl_files.specs.Walks.{Spot}
 use Rattle.rl_files.proofs.WalkLemmas.{some_visits}
 use Rattle.rl_program.specs.declared.ending.Ending.{Ending}
 use Rattle.rl_program.specs.declared.ending.Ending.TheVariants.{Done, FoundBad, Reported, Closed, Usage, Failed}
 use Rattle.rl_reports.specs.declared.command.Wish.{Wish}
-use Rattle.rl_reports.specs.declared.command.Wish.TheVariants.{Scan, Help, Version}
+use Rattle.rl_reports.specs.declared.command.Wish.TheVariants.{Scan, Help, Version, Files}
 use Rattle.rl_reports.specs.declared.command.Command.{Command}
 use Rattle.rl_reports.specs.declared.command.Console.{Console}
 use Rattle.rl_reports.specs.declared.words.WordError.{WordError}
@@ -17,8 +19,9 @@ use Rattle.rl_reports.specs.declared.ending.CallError.{CallError}
 use Rattle.rl_reports.specs.declared.ending.CallError.TheVariants.{NoArguments, Word, Walk, List as NoList, NoFile, Write}
 use Rattle.rl_reports.specs.Reports.{nothing}
 use Rattle.rl_reports.specs.Runs.{Streams, WritesFront}
+use Rattle.rl_reports.proofs.RunLemmas.{not_empty}
 use Rattle.rl_reports.specs.Words.{Wishes, wishes_of}
-use Rattle.rl_reports.specs.Endings.{AskForWishes, EndsText, EndsWish, EndsAsked, EndsAsScan, EndsFrom, EndsScan, IsCommandFor, IsSelecting}
+use Rattle.rl_reports.specs.Endings.{AskForWishes, EndsText, EndsWish, EndsAsked, EndsAsScan, EndsFrom, EndsListed, EndsPaths, EndsScan, paths_read, IsCommandFor, IsSelecting}
 
 -- what wasn't written to is kept
 pub keeps_same : (a : Option (List ℕ)) → Keeps a a
@@ -46,49 +49,76 @@ front_none command (Some w) spots o e =
     ([], more.0, nothing, more.1, refl, ((0, Appends-nil o), (0, Appends-nil e)))
 
 -- a command that selects is the one that is asked for
-pub command_for : (command selecting : Command) (finds extensions excludes paths : List (List ℕ))
-    → IsSelecting command finds extensions excludes selecting
-    → IsCommandFor (wishes_of command finds extensions excludes paths) selecting
-command_for command selecting finds extensions excludes paths is = record {
-  asked = is.same finds extensions excludes paths;
+pub command_for : (command selecting : Command) (finds extensions excludes lists paths : List (List ℕ))
+    → IsSelecting command finds extensions excludes lists selecting
+    → IsCommandFor (wishes_of command finds extensions excludes lists paths) selecting
+command_for command selecting finds extensions excludes lists paths is = record {
+  asked = is.same finds extensions excludes lists paths;
   finds_are = is.finds_are;
   extensions_are = is.extensions_are;
   excludes_are = is.excludes_are;
+  lists_are = is.lists_are;
 }
 
-pub scan_ends : {B : Type 0} (command selecting : Command) (finds extensions excludes paths : List (List ℕ))
-    (from : Option (Bor (List ℕ))) (is_terminal : Bool) (holds : Option World) (streams : Streams)
-    (ending : Ending (CallError B)) → IsSelecting command finds extensions excludes selecting → selecting.files_from ≡ from
-    → EndsFrom from selecting is_terminal holds paths streams ending
-    → EndsScan (wishes_of command finds extensions excludes paths) is_terminal holds streams ending
-scan_ends command selecting finds extensions excludes paths from is_terminal holds streams ending is from_is ends = (
+-- no file names paths, or some do
+pub ends_named : {B : Type 0} (files : List (Bor (List ℕ))) (command : Command) (is_terminal : Bool)
+    (holds : Option World) (paths : List (List ℕ)) (streams : Streams) (ending : Ending (CallError B))
+    → (length files == 0) ≡ true → EndsPaths command holds (paths_read is_terminal paths) streams ending
+    → EndsFrom (borrowed_texts files) command is_terminal holds paths streams ending
+ends_named [] command is_terminal holds paths streams ending none ends = ends
+ends_named (file ∷ files) command is_terminal holds paths streams ending none ends =
+    absurd (false≢true (sym (ap not none) ∙ not_empty (length files)))
+
+pub ends_listed : {B : Type 0} (files : List (Bor (List ℕ))) (command : Command) (is_terminal : Bool)
+    (holds : Option World) (paths : List (List ℕ)) (streams : Streams) (ending : Ending (CallError B))
+    → (length files == 0) ≡ false → EndsListed command (borrowed_texts files) holds paths streams ending
+    → EndsFrom (borrowed_texts files) command is_terminal holds paths streams ending
+ends_listed [] command is_terminal holds paths streams ending some ends = absurd (false≢true (sym some))
+ends_listed (file ∷ files) command is_terminal holds paths streams ending some ends = ends
+
+pub scan_ends : {B : Type 0} (command selecting : Command) (finds extensions excludes lists paths : List (List ℕ))
+    (is_terminal : Bool) (holds : Option World) (streams : Streams) (ending : Ending (CallError B))
+    → IsSelecting command finds extensions excludes lists selecting
+    → EndsFrom (borrowed_texts selecting.files_from.now) selecting is_terminal holds paths streams ending
+    → EndsScan (wishes_of command finds extensions excludes lists paths) is_terminal holds streams ending
+scan_ends command selecting finds extensions excludes lists paths is_terminal holds streams ending is ends = (
   selecting,
-  command_for command selecting finds extensions excludes paths is,
-  subst (λ (o : Option (Bor (List ℕ))). EndsFrom o selecting is_terminal holds paths streams ending) (sym from_is) ends,
+  command_for command selecting finds extensions excludes lists paths is,
+  subst (λ (files : List (List ℕ)). EndsFrom files selecting is_terminal holds paths streams ending) is.lists_are ends,
 )
 
 -- what is asked for ends so
+scan_arguments : (B : Type 0) (wishes : Wishes) (is_terminal : Bool) (holds : Option World) (streams : Streams)
+    → EndsScan {B = B} wishes is_terminal holds streams (Failed NoArguments) → ⊥
+scan_arguments B wishes is_terminal holds streams (command, is, ends) = go wishes.files_from ends
+  where
+    go : (from : List (List ℕ))
+        → EndsFrom {B = B} from command is_terminal holds wishes.paths streams (Failed NoArguments) → ⊥
+    go [] never = never
+    go (file ∷ files) (inl (_, (unread, why, read, never))) = never
+    go (file ∷ files) (inr (all, are, never)) = never
+
+scan_word : {B : Type 0} (error : WordError B) (wishes : Wishes) (is_terminal : Bool) (holds : Option World)
+    (streams : Streams) → EndsScan {B = B} wishes is_terminal holds streams (Failed (Word error)) → ⊥
+scan_word {B} error wishes is_terminal holds streams (command, is, ends) = go wishes.files_from ends
+  where
+    go : (from : List (List ℕ))
+        → EndsFrom {B = B} from command is_terminal holds wishes.paths streams (Failed (Word error)) → ⊥
+    go [] never = never
+    go (file ∷ files) (inl (_, (unread, why, read, never))) = never
+    go (file ∷ files) (inr (all, are, never)) = never
+
 no_arguments : (B : Type 0) (wish : Wish) (wishes : Wishes) (is_terminal : Bool) (holds : Option World)
     (streams : Streams) → EndsWish {B = B} wish wishes is_terminal holds streams (Failed NoArguments) → ⊥
-no_arguments B Scan wishes is_terminal holds streams (command, is, ends) = go command.files_from ends
-  where
-    go : (from : Option (Bor (List ℕ)))
-        → EndsFrom {B = B} from command is_terminal holds wishes.paths streams (Failed NoArguments) → ⊥
-    go None never = never
-    go (Some file) (inl (nothing, (why, read, never))) = never
-    go (Some file) (inr (all, are, never)) = never
+no_arguments B Scan wishes is_terminal holds streams ends = scan_arguments B wishes is_terminal holds streams ends
+no_arguments B Files wishes is_terminal holds streams ends = scan_arguments B wishes is_terminal holds streams ends
 no_arguments B Help wishes is_terminal holds streams (text, (never, begun), kept) = never
 no_arguments B Version wishes is_terminal holds streams (text, (never, begun), kept) = never
 
 no_word : {B : Type 0} (error : WordError B) (wish : Wish) (wishes : Wishes) (is_terminal : Bool) (holds : Option World)
     (streams : Streams) → EndsWish {B = B} wish wishes is_terminal holds streams (Failed (Word error)) → ⊥
-no_word {B} error Scan wishes is_terminal holds streams (command, is, ends) = go command.files_from ends
-  where
-    go : (from : Option (Bor (List ℕ)))
-        → EndsFrom {B = B} from command is_terminal holds wishes.paths streams (Failed (Word error)) → ⊥
-    go None never = never
-    go (Some file) (inl (nothing, (why, read, never))) = never
-    go (Some file) (inr (all, are, never)) = never
+no_word error Scan wishes is_terminal holds streams ends = scan_word error wishes is_terminal holds streams ends
+no_word error Files wishes is_terminal holds streams ends = scan_word error wishes is_terminal holds streams ends
 no_word error Help wishes is_terminal holds streams (text, (never, begun), kept) = never
 no_word error Version wishes is_terminal holds streams (text, (never, begun), kept) = never
 

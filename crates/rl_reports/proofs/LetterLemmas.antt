@@ -4,7 +4,7 @@ use Rattle.std.specs.Prelude.{IfErr, OnOk}
 use Rattle.std.specs.declared.result.Result.{Result}
 use Rattle.std.specs.declared.result.Result.TheVariants.{Err, Ok}
 use Rattle.rl_reports.specs.declared.flags.Flag.{Flag}
-use Rattle.rl_reports.specs.declared.flags.Flag.TheVariants.{Bad, Hidden, Only, Find, IgnoreCase, WholeWords, Text, Json, Format, Context, Color, Bytes, Lines, NoStray, AnySuffix, Edition, AllDirectories, Extension, Exclude, FilesFrom, NoMessages, Count, Files, Quiet, Help, Version, Paths}
+use Rattle.rl_reports.specs.declared.flags.Flag.TheVariants.{Bad, Hidden, Only, Find, IgnoreCase, WholeWords, Text, Json, Format, Context, Before, After, Color, Bytes, Lines, NoStray, AnySuffix, Edition, AllDirectories, Extension, Exclude, FilesFrom, NoMessages, Count, FilesWithMatches, Nul, Quiet, Files, Help, Version, Paths}
 use Rattle.rl_reports.specs.declared.flags.Operand.{Operand}
 use Rattle.rl_reports.specs.declared.flags.Operand.TheVariants as takes
 use Rattle.rl_reports.specs.declared.flags.Next.{Next}
@@ -18,7 +18,8 @@ letter_low Find c is = omega (arith, is)
 letter_low IgnoreCase c is = omega (arith, is)
 letter_low WholeWords c is = omega (arith, is)
 letter_low Count c is = omega (arith, is)
-letter_low Files c is = omega (arith, is)
+letter_low FilesWithMatches c is = omega (arith, is)
+letter_low Nul c is = omega (arith, is)
 letter_low Quiet c is = omega (arith, is)
 letter_low Help c is = omega (arith, is)
 letter_low Version c is = omega (arith, is)
@@ -28,7 +29,9 @@ letter_low Only c is = absurd is
 letter_low Text c is = absurd is
 letter_low Json c is = absurd is
 letter_low Format c is = absurd is
-letter_low Context c is = absurd is
+letter_low Context c is = omega (arith, is)
+letter_low Before c is = omega (arith, is)
+letter_low After c is = omega (arith, is)
 letter_low Color c is = absurd is
 letter_low Bytes c is = absurd is
 letter_low Lines c is = absurd is
@@ -40,6 +43,7 @@ letter_low Extension c is = absurd is
 letter_low Exclude c is = absurd is
 letter_low FilesFrom c is = absurd is
 letter_low NoMessages c is = absurd is
+letter_low Files c is = absurd is
 letter_low Paths c is = absurd is
 
 -- a letter begins the bytes
@@ -73,7 +77,13 @@ letters_begin A hc word old letters then any = inl (record {
 
 -- a character is left
 some_left : (c : ℕ) (after : List ℕ) → encode_utf8 c ++ after ≡ [] → ⊥
-some_left c after nil = absurd (omega (arith, ap length nil, length-append (encode_utf8 c) after, length-encode c, (len_utf8_bounds c).0))
+some_left c after nil = absurd (omega (
+  arith,
+  ap length nil,
+  length-append (encode_utf8 c) after,
+  length-encode c,
+  (len_utf8_bounds c).0,
+))
 
 pub still_open : (A : Type 0) (has_colors : Bool) (word : List ℕ) (old : Wishes) (letters : List ℕ) (now : Wishes)
     (then : Next) (rest after : List ℕ) (c : ℕ) → rest ≡ encode_utf8 c ++ after
@@ -130,22 +140,23 @@ letter_taken A hc word old letters now new then last rest after c flag split is 
     plain f any is added front = inl (open_more A hc word old letters now new then last rest after c f begun front is
         added (added.1 ∙ any))
 
-    no_text : TakesNothing Find after → after ≡ []
-    no_text (inl nil) = nil
-    no_text (inr (inl e)) = absurd (cc)
-    no_text (inr (inr e)) = absurd (cc)
+    no_text : (f : Flag) (operand : Operand) → next_after f ≡ next.Operand operand → TakesNothing f after → after ≡ []
+    no_text f operand is (inl nil) = nil
+    no_text f operand is (inr (inl e)) = absurd (cc)
+    no_text f operand is (inr (inr e)) = absurd (cc)
 
     go : (f : Flag) → IsLetter f c → TakesNothing f after → IsAdded f now last new → rest ≡ c ∷ after
         → AreLeft A hc word old letters new last after
     go Find is none added front = inr (
-      no_text none,
+      no_text Find takes.Text refl none,
       closed A hc word old letters now new then last rest after c Find
-          takes.Text begun front is added added.1 (no_text none),
+          takes.Text begun front is added added.1 (no_text Find takes.Text refl none),
     )
     go IgnoreCase is none added front = plain IgnoreCase refl is added front
     go WholeWords is none added front = plain WholeWords refl is added front
     go Count is none added front = plain Count refl is added front
-    go Files is none added front = plain Files refl is added front
+    go FilesWithMatches is none added front = plain FilesWithMatches refl is added front
+    go Nul is none added front = plain Nul refl is added front
     go Quiet is none added front = plain Quiet refl is added front
     go Help is none added front = plain Help refl is added front
     go Version is none added front = plain Version refl is added front
@@ -155,7 +166,21 @@ letter_taken A hc word old letters now new then last rest after c flag split is 
     go Text is none added front = absurd is
     go Json is none added front = absurd is
     go Format is none added front = absurd is
-    go Context is none added front = absurd is
+    go Context is none added front = inr (
+      no_text Context takes.Around refl none,
+      closed A hc word old letters now new then last rest after c Context
+          takes.Around begun front is added added.1 (no_text Context takes.Around refl none),
+    )
+    go Before is none added front = inr (
+      no_text Before takes.Before refl none,
+      closed A hc word old letters now new then last rest after c Before
+          takes.Before begun front is added added.1 (no_text Before takes.Before refl none),
+    )
+    go After is none added front = inr (
+      no_text After takes.After refl none,
+      closed A hc word old letters now new then last rest after c After
+          takes.After begun front is added added.1 (no_text After takes.After refl none),
+    )
     go Color is none added front = absurd is
     go Bytes is none added front = absurd is
     go Lines is none added front = absurd is
@@ -167,6 +192,7 @@ letter_taken A hc word old letters now new then last rest after c flag split is 
     go Exclude is none added front = absurd is
     go FilesFrom is none added front = absurd is
     go NoMessages is none added front = absurd is
+    go Files is none added front = absurd is
     go Paths is none added front = absurd is
 
 -- a letter and what it takes
@@ -234,7 +260,9 @@ taken_flag IgnoreCase operand e = absurd (cc)
 taken_flag WholeWords operand e = absurd (cc)
 taken_flag Text operand e = absurd (cc)
 taken_flag Json operand e = absurd (cc)
-taken_flag Context operand e = absurd (cc)
+taken_flag Context operand e = let same : takes.Around ≡ operand = (cc) in ap taken_by same
+taken_flag Before operand e = let same : takes.Before ≡ operand = (cc) in ap taken_by same
+taken_flag After operand e = let same : takes.After ≡ operand = (cc) in ap taken_by same
 taken_flag Bytes operand e = absurd (cc)
 taken_flag Lines operand e = absurd (cc)
 taken_flag NoStray operand e = absurd (cc)
@@ -242,6 +270,8 @@ taken_flag AnySuffix operand e = absurd (cc)
 taken_flag AllDirectories operand e = absurd (cc)
 taken_flag NoMessages operand e = absurd (cc)
 taken_flag Count operand e = absurd (cc)
+taken_flag FilesWithMatches operand e = absurd (cc)
+taken_flag Nul operand e = absurd (cc)
 taken_flag Files operand e = absurd (cc)
 taken_flag Quiet operand e = absurd (cc)
 taken_flag Help operand e = absurd (cc)
@@ -267,7 +297,9 @@ takes_nothing WholeWords none = inl refl
 takes_nothing Text none = inl refl
 takes_nothing Json none = inl refl
 takes_nothing Format none = absurd (none takes.Format refl)
-takes_nothing Context none = inl refl
+takes_nothing Context none = absurd (none takes.Around refl)
+takes_nothing Before none = absurd (none takes.Before refl)
+takes_nothing After none = absurd (none takes.After refl)
 takes_nothing Color none = absurd (none takes.Color refl)
 takes_nothing Bytes none = inl refl
 takes_nothing Lines none = inl refl
@@ -280,6 +312,8 @@ takes_nothing Exclude none = absurd (none takes.Pattern refl)
 takes_nothing FilesFrom none = absurd (none takes.List refl)
 takes_nothing NoMessages none = inl refl
 takes_nothing Count none = inl refl
+takes_nothing FilesWithMatches none = inl refl
+takes_nothing Nul none = inl refl
 takes_nothing Files none = inl refl
 takes_nothing Quiet none = inl refl
 takes_nothing Help none = inl refl

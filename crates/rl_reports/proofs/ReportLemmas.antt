@@ -1,5 +1,5 @@
 -- What is reported of a file.
-use Rattle.rl_text.proofs.Common.{IsAscii, IsUtf8, List, None, Option, Some, [], ap, append_assoc, chars, chars-IsAscii, chars-nil, codes, encodes-chars, inl, inr, refl, sym, ℕ, ◌++◌, ◌∙◌, ◌≡◌, ◌⊎◌}
+use Rattle.rl_text.proofs.Common.{false, true, IsAscii, IsUtf8, List, None, Option, Some, [], ap, append_assoc, chars, chars-IsAscii, chars-nil, codes, encodes-chars, inl, inr, refl, sym, ℕ, ◌++◌, ◌∙◌, ◌≡◌, ◌⊎◌}
 use Rattle.std.specs.Prelude.{encode_utf8_all, IfSome, IfOk, Ok, Err}
 use Rattle.std.specs.declared.result.Result.{Result}
 use Rattle.std.proofs.lemmas.Str.{IsAscii-append}
@@ -11,7 +11,8 @@ use Rattle.rl_files.specs.declared.tree.PathError.TheVariants.{NotFound, Permiss
 use Rattle.rl_lines.proofs.LineLemmas.{pushed}
 use Rattle.rl_reports.specs.declared.command.Command.{Command}
 use Rattle.rl_reports.specs.declared.report.Report.{Report}
-use Rattle.rl_reports.specs.Reports.{in_report, IsTextReport, IsErrorReport, IsNotUtf8, IsReport}
+use Rattle.rl_reports.specs.Reports.{in_report, IsTextReport, IsErrorReport, IsListReport, IsNotUtf8, IsReadReport, IsReport}
+use Rattle.rl_reports.specs.Words.{lists_files}
 use Rattle.rl_output.proofs.Pieces.{decimal_ascii, low_text}
 
 -- what is appended to nothing
@@ -60,7 +61,7 @@ error_reported path why a b errors utf8 first shown written =
 pub was_read : {A : Type 0} (command : Command) (holds : Option World) (path bytes : List ℕ) (p : Report A)
     → IfSome holds (λ w. w.bytes path ≡ Ok bytes) → (IsUtf8 bytes × IsTextReport command path bytes (in_report p))
     ⊎ ((why : PathError) × IsNotUtf8 bytes why × IsErrorReport path why (in_report p))
-    → IfSome holds (λ w. IsReport command w (FileAt path) (in_report p))
+    → IfSome holds (λ w. IsReadReport command w path (in_report p))
 was_read command None path bytes p found is = tt
 was_read command (Some w) path bytes p found (inl (utf8, is)) = inl (bytes, found, utf8, is)
 was_read command (Some w) path bytes p found (inr (why, no_text, is)) = inr (why, inr (inr (bytes, found, no_text)), is)
@@ -73,3 +74,19 @@ pub no_text_reported : {A E : Type 0} (command : Command) (path bytes : List ℕ
     ⊎ ((other : PathError) × IsNotUtf8 bytes other × IsErrorReport path other (in_report p)))
 no_text_reported command path bytes why (Ok p) no_text is = inr (why, no_text, is)
 no_text_reported command path bytes why (Err e) no_text is = tt
+
+-- a file that is listed, and one that is read
+pub listed_reported : {A E : Type 0} (command : Command) (holds : Option World) (path : List ℕ)
+    (r : Result (Report A) E) → lists_files command.wish ≡ true → IfOk r (λ p. IsListReport command path (in_report p))
+    → IfOk r (λ p. IfSome holds (λ w. IsReport command w (FileAt path) (in_report p)))
+listed_reported command holds path (Err e) lists is = tt
+listed_reported command None path (Ok p) lists is = tt
+listed_reported command (Some w) path (Ok p) lists is = inl (lists, is)
+
+pub read_reported : {A E : Type 0} (command : Command) (holds : Option World) (path : List ℕ)
+    (r : Result (Report A) E) → lists_files command.wish ≡ false
+    → IfOk r (λ p. IfSome holds (λ w. IsReadReport command w path (in_report p)))
+    → IfOk r (λ p. IfSome holds (λ w. IsReport command w (FileAt path) (in_report p)))
+read_reported command holds path (Err e) reads is = tt
+read_reported command None path (Ok p) reads is = tt
+read_reported command (Some w) path (Ok p) reads is = inr (reads, is)

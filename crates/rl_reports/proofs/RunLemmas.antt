@@ -19,7 +19,8 @@ use Rattle.rl_reports.specs.Runs.{Streams, shown_errors, IsWritten, WritesReport
 pub record Ran (command : Command) (w : World) (old new : List Spot) (streams : Streams) (tally : Tally) : Type 0 where
   pub visits : List Visited
   pub printed : Findings
-  pub goes : (more : List Visited) → Visits command.selection w new more → Visits command.selection w old (visits ++ more)
+  pub goes : (more : List Visited) → Visits command.selection w new more
+      → Visits command.selection w old (visits ++ more)
   pub reports : AreReports command w visits printed
   pub written : IsWritten command streams printed tally
   pub visited : tally.visited ≡ not (length visits == 0)
@@ -51,7 +52,7 @@ ran_start command (Some w) spots o e = record {
 }
 
 -- a list with an element isn't empty
-not_empty : (n : ℕ) → not (suc n == 0) ≡ true
+pub not_empty : (n : ℕ) → not (suc n == 0) ≡ true
 not_empty n = search rules
 
 -- whether both together have any
@@ -98,7 +99,8 @@ reports_more command w (v ∷ vs) visit done one (first, others, is_first, are, 
     ) refl
 
 -- both are told together
-told_both : (command : Command) (a b : List ℕ) → shown_errors command a ++ shown_errors command b ≡ shown_errors command (a ++ b)
+told_both : (command : Command) (a b : List ℕ) → shown_errors command a ++ shown_errors command b
+    ≡ shown_errors command (a ++ b)
 told_both command a b = go command.tells_errors
   where
     go : (t : Bool) → cond t a [] ++ cond t b [] ≡ cond t (a ++ b) []
@@ -106,7 +108,8 @@ told_both command a b = go command.tells_errors
     go false = refl
 
 -- both writes together
-written_more : (command : Command) (o0 o1 o2 e0 e1 e2 : Option (List ℕ)) (done one : Findings) (before more after : Tally)
+written_more : (command : Command) (o0 o1 o2 e0 e1 e2 : Option (List ℕ)) (done one : Findings)
+    (before more after : Tally)
     → IsWritten command (record { out_old = o0; out_new = o1; err_old = e0; err_new = e1 }) done before
     → IsWritten command (record { out_old = o1; out_new = o2; err_old = e1; err_new = e2 }) one more
     → after.found ≡ (before.found || more.found) → after.failed ≡ (before.failed || more.failed)
@@ -114,7 +117,8 @@ written_more : (command : Command) (o0 o1 o2 e0 e1 e2 : Option (List ℕ)) (done
 written_more command o0 o1 o2 e0 e1 e2 done one before more after first second found failed = record {
   on_out = Appends-trans o0 o1 o2 done.out one.out first.on_out second.on_out;
   on_err = subst (λ (z : List ℕ). Appends e0 e2 z) (told_both command done.errors one.errors)
-      (Appends-trans e0 e1 e2 (shown_errors command done.errors) (shown_errors command one.errors) first.on_err second.on_err);
+      (Appends-trans e0 e1 e2 (shown_errors command done.errors) (shown_errors command one.errors) first.on_err
+      second.on_err);
   found = found ∙ ap (λ (z : Bool). z || more.found) first.found ∙ ap (λ (z : Bool). done.found || z) second.found;
   failed = failed ∙ ap (λ (z : Bool). z || more.failed) first.failed
       ∙ ap (λ (z : Bool). not (length done.errors == 0) || z) second.failed ∙ any_both done.errors one.errors;
@@ -140,7 +144,8 @@ pub ran_more : (command : Command) (holds : Option World) (old mid new : List Sp
     → IfSome holds (λ w. Ran command w old new (record { out_old = o0; out_new = o2; err_old = e0; err_new = e2 })
     after)
 ran_more command None old mid new visit o0 o1 o2 e0 e1 e2 before more after ran visits writes visited found failed = tt
-ran_more command (Some w) old mid new visit o0 o1 o2 e0 e1 e2 before more after ran visits (one, is, written, some) visited
+ran_more command (Some w) old mid new visit o0 o1 o2 e0 e1 e2 before more after ran visits (one, is, written, some)
+    visited
     found failed = record {
       visits = ran.visits ++ visit ∷ [];
       printed = both_of ran.printed one;
@@ -148,7 +153,8 @@ ran_more command (Some w) old mid new visit o0 o1 o2 e0 e1 e2 before more after 
           (sym (append_assoc ran.visits (visit ∷ []) others))
           (ran.goes (visit ∷ others) (visits others m));
       reports = reports_more command w ran.visits visit ran.printed one ran.reports is;
-      written = written_more command o0 o1 o2 e0 e1 e2 ran.printed one before more after ran.written written found failed;
+      written = written_more command o0 o1 o2 e0 e1 e2 ran.printed one before more after ran.written written found
+          failed;
       visited = visited ∙ ap (λ (z : Bool). before.visited || z) some ∙ or_true before.visited
           ∙ sym (any_more ran.visits visit);
     }
@@ -225,7 +231,8 @@ ran_some command (Some w) old mid new visit o0 o1 o2 e0 e1 e2 before ran visits 
       (
         more_of o0 o1 o2 ran.printed.out one.out ran.written.on_out begun.0,
         subst (λ (z : List ℕ). AppendsBeginning e0 e2 z) (told_both command ran.printed.errors one.errors)
-            (more_of e0 e1 e2 (shown_errors command ran.printed.errors) (shown_errors command one.errors) ran.written.on_err begun.1),
+            (more_of e0 e1 e2 (shown_errors command ran.printed.errors) (shown_errors command one.errors)
+            ran.written.on_err begun.1),
       ),
     )
 

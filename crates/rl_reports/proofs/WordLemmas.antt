@@ -1,13 +1,14 @@
 -- Words of the command line, one after another.
 use Rattle.rl_text.proofs.Common.{Bool, Bor, List, None, Option, Some, [], ap, arith, codes, common_steps, drop, get_or, inr, length, map, map-append, refl, string_bytes, subst, sym, take, take_all, ℕ, ◌++◌, ◌+◌, ◌-◌, ◌<◌, ◌∙◌, ◌∷◌, ◌≡◌, ◌≢◌, ◌≤◌}
-use Rattle.std.specs.Prelude.{IfNone, IfSome, MatchOption, String}
+use Rattle.std.specs.Prelude.{IfNone, IfSome, MatchOption, String, Err, ◌^◌}
+use Rattle.std.specs.Str.Parse.{ParsesUnsigned}
 use Rattle.std.specs.Str.Pattern.{FindsTextPrefix}
 use Rattle.rl_reports.specs.declared.flags.Next.{Next}
 use Rattle.rl_reports.specs.declared.flags.Operand.{Operand}
-use Rattle.rl_reports.specs.declared.flags.Operand.TheVariants.{Kinds, Text, Color, Extension, Pattern, List as Names, Edition, Format}
+use Rattle.rl_reports.specs.declared.flags.Operand.TheVariants.{Kinds, Text, Color, Extension, Pattern, List as Names, Edition, Format, Around, Before, After}
 use Rattle.rl_reports.specs.declared.words.WordError.{WordError}
 use Rattle.rl_reports.specs.Endings.{AskForWishes, CannotAsk}
-use Rattle.rl_reports.specs.Words.{Wishes, joined_word, IsStep, AreSteps, AskSoFar, Asks, IsRejectedWord, AreRejected}
+use Rattle.rl_reports.specs.Words.{Wishes, IsCountWord, joined_word, IsStep, AreSteps, AskSoFar, Asks, IsRejectedWord, AreRejected}
 
 -- ---- what stands after a front of a word: each takes the clause of `strip_prefix`
 
@@ -29,16 +30,27 @@ pub no_joined : (word : List ℕ) → ((rest : List ℕ) → word ≢ codes "--o
     → ((rest : List ℕ) → word ≢ codes "--find=" ++ rest) → ((rest : List ℕ) → word ≢ codes "--color=" ++ rest)
     → ((rest : List ℕ) → word ≢ codes "--extension=" ++ rest) → ((rest : List ℕ) → word ≢ codes "--exclude=" ++ rest)
     → ((rest : List ℕ) → word ≢ codes "--files-from=" ++ rest) → ((rest : List ℕ) → word ≢ codes "--edition=" ++ rest)
-    → ((rest : List ℕ) → word ≢ codes "--format=" ++ rest)
+    → ((rest : List ℕ) → word ≢ codes "--format=" ++ rest) → ((rest : List ℕ) → word ≢ codes "--context=" ++ rest)
+    → ((rest : List ℕ) → word ≢ codes "--before-context=" ++ rest)
+    → ((rest : List ℕ) → word ≢ codes "--after-context=" ++ rest)
     → (operand : Operand) (text : List ℕ) → word ≢ joined_word operand text
-no_joined word kinds text color extension pattern list edition format Kinds x = kinds x
-no_joined word kinds text color extension pattern list edition format Text x = text x
-no_joined word kinds text color extension pattern list edition format Color x = color x
-no_joined word kinds text color extension pattern list edition format Extension x = extension x
-no_joined word kinds text color extension pattern list edition format Pattern x = pattern x
-no_joined word kinds text color extension pattern list edition format Names x = list x
-no_joined word kinds text color extension pattern list edition format Edition x = edition x
-no_joined word kinds text color extension pattern list edition format Format x = format x
+no_joined word kinds text color extension pattern list edition format around before after Kinds x = kinds x
+no_joined word kinds text color extension pattern list edition format around before after Text x = text x
+no_joined word kinds text color extension pattern list edition format around before after Color x = color x
+no_joined word kinds text color extension pattern list edition format around before after Extension x = extension x
+no_joined word kinds text color extension pattern list edition format around before after Pattern x = pattern x
+no_joined word kinds text color extension pattern list edition format around before after Names x = list x
+no_joined word kinds text color extension pattern list edition format around before after Edition x = edition x
+no_joined word kinds text color extension pattern list edition format around before after Format x = format x
+no_joined word kinds text color extension pattern list edition format around before after Around x = around x
+no_joined word kinds text color extension pattern list edition format around before after Before x = before x
+no_joined word kinds text color extension pattern list edition format around before after After x = after x
+
+-- ---- what is no number: it takes the clause of `parse`
+
+pub count_unknown : {E : Type 0} (word : List ℕ) (error : E) → ParsesUnsigned 64 10 word (Err error) → (count : ℕ)
+    → IsCountWord word count → ⊥
+count_unknown word error none count is = none (is.numeral, subst (λ (n : ℕ). n < 2 ^ 64) is.count_is is.fits)
 
 -- ---- one word after another
 
@@ -90,7 +102,7 @@ pub word_rejected : {S A : Type 0} (has_colors : Bool) (bytes : S → List ℕ) 
     → AskSoFar has_colors (map bytes (take i words)) between middle
     → IsRejectedWord has_colors between middle word error
     → AreRejected has_colors (map bytes words) error
-word_rejected hc bytes words i item word between middle error within is word_is steps rejected = inr (
+word_rejected hc bytes words i item word between middle error within is word_is steps rejected = inr (inr (
   map bytes (take i words),
   map bytes (drop (i + 1) words),
   word,
@@ -99,7 +111,7 @@ word_rejected hc bytes words i item word between middle error within is word_is 
   around bytes words i item word within is word_is,
   steps,
   rejected,
-)
+))
 
 -- all words were taken
 pub all_taken : {S : Type 0} (has_colors : Bool) (bytes : S → List ℕ) (words : List S) (i : ℕ) (then : Next)

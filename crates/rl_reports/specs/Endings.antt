@@ -1,6 +1,5 @@
 -- How a call of the program ends.
-use Rattle.std.specs.Prelude.{◌≡◌, ◌⊎◌, ℕ, ◌==◌, Bool, true, false, cond, not, ◌&&◌, List, [], ◌∷◌, ◌++◌, length, codes, String, string_bytes, Option, Some, None, IfSome, ⊤}
-use denote.Ref.{Bor}
+use Rattle.std.specs.Prelude.{◌≡◌, ◌⊎◌, ℕ, ◌==◌, Bool, true, false, cond, not, ◌&&◌, List, [], ◌∷◌, ◌++◌, length, codes, String, string_bytes, Option, IfSome, ⊤}
 use Rattle.std.specs.Str.{chars}
 use Rattle.std.specs.Io.KnownBytes.{Appends, Keeps}
 use Rattle.rl_files.specs.Trees.{World, string_texts}
@@ -13,15 +12,14 @@ use Rattle.rl_program.specs.Streams.{AppendsBeginning}
 use Rattle.rl_program.specs.declared.ending.Ending.{Ending}
 use Rattle.rl_program.specs.declared.ending.Ending.TheVariants.{Done, FoundBad, Reported, Closed, Usage, Failed}
 use Rattle.rl_reports.specs.declared.command.Wish.{Wish}
-use Rattle.rl_reports.specs.declared.command.Wish.TheVariants.{Scan}
+use Rattle.rl_reports.specs.declared.command.Wish.TheVariants.{Scan, Help, Version, Files}
 use Rattle.rl_reports.specs.declared.command.Command.{Command}
 use Rattle.rl_reports.specs.declared.command.Console.{Console}
 use Rattle.rl_reports.specs.declared.runs.Tally.{Tally}
 use Rattle.rl_reports.specs.declared.words.WordError.{WordError}
 use Rattle.rl_reports.specs.declared.ending.CallError.{CallError}
 use Rattle.rl_reports.specs.declared.ending.CallError.TheVariants.{NoArguments, Word, Walk, List as NoList, NoFile, Write}
-use Rattle.rl_reports.specs.Listed.{AreWithListed}
-use Rattle.rl_reports.specs.Reports.{IsReadError}
+use Rattle.rl_reports.specs.Listed.{AreWithAllListed, IsFirstUnread}
 use Rattle.rl_reports.specs.Runs.{Streams, WritesWalk, WritesFront, asked_status}
 use Rattle.rl_reports.specs.Words.{Wishes, wishes_of, Asks, AreRejected, word_message}
 
@@ -61,7 +59,8 @@ finds_no_file has_paths tally = has_paths && not tally.visited
 abbrev pub RunsWith : Command → Option World → Bool → List Spot → Streams → ℕ → Type 0
 RunsWith command holds has_paths spots streams status =
     (tally : Tally) × IfSome holds (λ w. WritesWalk command w spots streams tally)
-    × (finds_no_file has_paths tally ≡ false) × (asked_status command.searches command.shown tally ≡ status)
+    × (finds_no_file has_paths tally ≡ false) × (asked_status command.wish command.searches command.shown tally
+    ≡ status)
 
 -- nothing was visited, though paths were named
 abbrev pub RunsInVain : Command → Option World → Bool → List Spot → Streams → Type 0
@@ -85,7 +84,8 @@ abbrev pub EndsText : {B : Type 0} → List ℕ → Option (List ℕ) → Option
 EndsText text old new Done = Appends old new text
 EndsText text old new ending = IsUnwritten ending × AppendsBeginning old new text
 
--- How a run over these places ends: by the status of what was found, or with an error where paths were named and nothing
+-- How a run over these places ends: by the status of what was found, or with an error where paths were named and
+-- nothing
 -- was visited, or where a beginning was written.
 abbrev pub EndsRun : {B : Type 0} → Command → Option World → Bool → List Spot → Streams → Ending (CallError B)
     → Type 0
@@ -111,55 +111,65 @@ IsListError file why (Failed (NoList said reason)) =
 IsListError file why (Failed (Walk error)) = error ≡ OutOfMemory
 IsListError file why _ = ⊥
 
--- how a run ends over paths and those that a file names: nothing is written where that can't be read
-abbrev pub EndsListed : {B : Type 0} → Command → List ℕ → Option World → List (List ℕ) → Streams
+-- how a run ends over paths and those that files name: nothing is written where one of these can't be read
+abbrev pub EndsListed : {B : Type 0} → Command → List (List ℕ) → Option World → List (List ℕ) → Streams
     → Ending (CallError B) → Type 0
-EndsListed command file holds paths streams ending =
-    (WritesNothing streams × ((why : PathError) × IfSome holds (λ w. IsReadError w file why)
-    × IsListError file why ending))
-    ⊎ ((all : List (List ℕ)) × IfSome holds (λ w. AreWithListed w file paths all)
+EndsListed command files holds paths streams ending =
+    (WritesNothing streams × ((file : List ℕ) × (why : PathError)
+    × IfSome holds (λ w. IsFirstUnread w files paths file why) × IsListError file why ending))
+    ⊎ ((all : List (List ℕ)) × IfSome holds (λ w. AreWithAllListed w files paths all)
     × EndsPaths command holds all streams ending)
 
-abbrev pub EndsFrom : {B : Type 0} → Option (Bor (List ℕ)) → Command → Bool → Option World → List (List ℕ) → Streams
+-- the same where no file names paths, or some do
+abbrev pub EndsFrom : {B : Type 0} → List (List ℕ) → Command → Bool → Option World → List (List ℕ) → Streams
     → Ending (CallError B) → Type 0
-EndsFrom None command is_terminal holds paths streams ending =
+EndsFrom [] command is_terminal holds paths streams ending =
     EndsPaths command holds (paths_read is_terminal paths) streams ending
-EndsFrom (Some file) command is_terminal holds paths streams ending =
-    EndsListed command file.now holds paths streams ending
+EndsFrom (file ∷ files) command is_terminal holds paths streams ending =
+    EndsListed command (file ∷ files) holds paths streams ending
 
 -- what names end with; where nothing is said, `rs`
 abbrev pub extensions_read : List (List ℕ) → List (List ℕ)
 extensions_read [] = codes "rs" ∷ []
 extensions_read (extension ∷ extensions) = extension ∷ extensions
 
--- The command looks for these texts and selects so, and is the same else.
-pub record IsSelecting (command : Command) (finds extensions excludes : List (List ℕ)) (selecting : Command)
+-- The command looks for these texts, selects so, and reads these lists of paths, and is the same else.
+pub record IsSelecting (command : Command) (finds extensions excludes lists : List (List ℕ)) (selecting : Command)
     : Type 0 where
-  pub same : (texts endings patterns paths : List (List ℕ))
-      → wishes_of selecting texts endings patterns paths ≡ wishes_of command texts endings patterns paths
+  pub same : (texts endings patterns files paths : List (List ℕ))
+      → wishes_of selecting texts endings patterns files paths ≡ wishes_of command texts endings patterns files paths
   pub finds_are : borrowed_texts selecting.finds.now ≡ finds
   pub extensions_are : borrowed_texts selecting.selection.extensions.now ≡ extensions_read extensions
   pub excludes_are : borrowed_texts selecting.selection.excludes.now ≡ excludes
+  pub lists_are : borrowed_texts selecting.files_from.now ≡ lists
 
 -- The command does what is asked for.
 pub record IsCommandFor (wishes : Wishes) (command : Command) : Type 0 where
-  pub asked : wishes_of command wishes.finds wishes.extensions wishes.excludes wishes.paths ≡ wishes
+  pub asked : wishes_of command wishes.finds wishes.extensions wishes.excludes wishes.files_from wishes.paths ≡ wishes
   pub finds_are : borrowed_texts command.finds.now ≡ wishes.finds
   pub extensions_are : borrowed_texts command.selection.extensions.now ≡ extensions_read wishes.extensions
   pub excludes_are : borrowed_texts command.selection.excludes.now ≡ wishes.excludes
+  pub lists_are : borrowed_texts command.files_from.now ≡ wishes.files_from
 
 -- how a call ends that scans: as the run over the paths
 abbrev pub EndsScan : {B : Type 0} → Wishes → Bool → Option World → Streams → Ending (CallError B) → Type 0
 EndsScan wishes is_terminal holds streams ending =
     (command : Command) × IsCommandFor wishes command
-    × EndsFrom command.files_from command is_terminal holds wishes.paths streams ending
+    × EndsFrom wishes.files_from command is_terminal holds wishes.paths streams ending
 
--- how a call ends that asks for this: as a scan, or as the writing of how the program is used, or of its version
-abbrev pub EndsWish : {B : Type 0} → Wish → Wishes → Bool → Option World → Streams → Ending (CallError B) → Type 0
-EndsWish Scan wishes is_terminal holds streams ending = EndsScan wishes is_terminal holds streams ending
-EndsWish _ wishes is_terminal holds streams ending =
+-- how the writing of some text ends
+abbrev pub EndsWriting : {B : Type 0} → Streams → Ending (CallError B) → Type 0
+EndsWriting streams ending =
     (text : List ℕ) × EndsText text streams.out_old streams.out_new ending
     × Keeps streams.err_old streams.err_new
+
+-- how a call ends that asks for this: as a run over files, or as the writing of how the program is used, or of its
+-- version
+abbrev pub EndsWish : {B : Type 0} → Wish → Wishes → Bool → Option World → Streams → Ending (CallError B) → Type 0
+EndsWish Scan wishes is_terminal holds streams ending = EndsScan wishes is_terminal holds streams ending
+EndsWish Files wishes is_terminal holds streams ending = EndsScan wishes is_terminal holds streams ending
+EndsWish Help wishes is_terminal holds streams ending = EndsWriting streams ending
+EndsWish Version wishes is_terminal holds streams ending = EndsWriting streams ending
 
 abbrev pub EndsAsked : {B : Type 0} → Wishes → Bool → Option World → Streams → Ending (CallError B) → Type 0
 EndsAsked wishes is_terminal holds streams ending =

@@ -1,9 +1,11 @@
 -- The paths that a file names. All are lists of bytes.
-use Rattle.std.specs.Prelude.{◌≡◌, ℕ, ◌==◌, cond, List, [], ◌∷◌, ◌++◌, length}
+use Rattle.std.specs.Prelude.{◌≡◌, ◌⊎◌, ℕ, ◌==◌, cond, List, [], ◌∷◌, ◌++◌, length}
 use Rattle.std.specs.List.{flat_map, list_any, slice_split}
 use Rattle.std.specs.Str.{IsUtf8}
 use Rattle.std.specs.declared.result.Result.TheVariants.{Ok}
 use Rattle.rl_files.specs.Trees.{World}
+use Rattle.rl_files.specs.declared.tree.PathError.{PathError}
+use Rattle.rl_reports.specs.Reports.{IsReadError}
 
 -- what ends a name: NUL, where there is one in the list, else LF
 abbrev pub separator_of : List ℕ → ℕ
@@ -21,3 +23,16 @@ names_listed list = flat_map listed_name (slice_split (λ b. b == separator_of l
 abbrev pub AreWithListed : World → List ℕ → List (List ℕ) → List (List ℕ) → Type 0
 AreWithListed w file paths all =
     (bytes : List ℕ) × (w.bytes file ≡ Ok bytes) × IsUtf8 bytes × (all ≡ paths ++ names_listed bytes)
+
+-- all paths: those before, and the names in these files, one file after another
+abbrev pub AreWithAllListed : World → List (List ℕ) → List (List ℕ) → List (List ℕ) → Type 0
+AreWithAllListed w [] paths all = all ≡ paths
+AreWithAllListed w (file ∷ files) paths all =
+    (some : List (List ℕ)) × AreWithListed w file paths some × AreWithAllListed w files some all
+
+-- this is the first of the files that can't be read, and why
+abbrev pub IsFirstUnread : World → List (List ℕ) → List (List ℕ) → List ℕ → PathError → Type 0
+IsFirstUnread w [] paths unread why = ⊥
+IsFirstUnread w (file ∷ files) paths unread why =
+    ((file ≡ unread) × IsReadError w unread why)
+    ⊎ ((some : List (List ℕ)) × AreWithListed w file paths some × IsFirstUnread w files some unread why)

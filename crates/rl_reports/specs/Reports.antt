@@ -1,6 +1,6 @@
 -- What is reported of what a walk visits. All are lists of bytes, but where `chars` makes characters of
 -- them.
-use Rattle.std.specs.Prelude.{◌≡◌, ◌⊎◌, ℕ, ◌==◌, Bool, true, false, cond, not, ◌&&◌, ◌||◌, List, [], ◌∷◌, ◌++◌, length, codes, string_bytes, encode_utf8_all, Option, Some, None}
+use Rattle.std.specs.Prelude.{◌≡◌, ◌⊎◌, ℕ, ◌==◌, Bool, true, false, cond, not, ◌&&◌, ◌||◌, List, [], ◌∷◌, ◌++◌, length, codes, string_bytes, encode_utf8_all, Option, Some, None, is_some}
 use denote.Ref.{Bor}
 use Rattle.std.specs.declared.result.Result.TheVariants.{Ok, Err}
 use Rattle.std.specs.Fmt.{decimal}
@@ -26,10 +26,12 @@ use Rattle.rl_sources.specs.declared.options.Shown.TheVariants.{All, Only, Bad, 
 use Rattle.rl_output.specs.declared.place.Place.{Place}
 use Rattle.rl_output.specs.declared.place.Place.TheVariants.{Bytes, Line, Whole}
 use Rattle.rl_reports.specs.declared.report.Report.{Report}
+use Rattle.rl_output.specs.declared.context.Context.{Context}
 use Rattle.rl_output.specs.Colors.{painted}
 use Rattle.rl_output.specs.Forms.{is_json}
 use Rattle.rl_output.specs.Fronts.{line_front}
 use Rattle.rl_sources.specs.Scans.{Scans, StopsAtError, error_end}
+use Rattle.rl_reports.specs.Words.{lists_files}
 
 -- the path of standard input
 abbrev pub is_input : List ℕ → Bool
@@ -60,21 +62,36 @@ abbrev pub IsShownPath : List ℕ → Option (Bor (List ℕ)) → Type 0
 IsShownPath path None = is_input path ≡ true
 IsShownPath path (Some shown) = (is_input path ≡ false) × (chars shown.now ≡ visible (chars path))
 
--- a path as it stands before each place: as it is printed, or in an object as it is; that of standard
--- input doesn't
-abbrev pub IsPathIn : Form → List ℕ → Option (Bor (List ℕ)) → Type 0
-IsPathIn form path None = is_input path ≡ true
-IsPathIn form path (Some shown) =
-    (is_input path ≡ false) × (chars shown.now ≡ cond (is_json form) (chars path) (visible (chars path)))
+-- a path as it is written, but that of standard input, which isn't: as it is, as in an object and before NUL, or as it
+-- is
+-- printed
+abbrev pub IsPathIn : Bool → List ℕ → Option (Bor (List ℕ)) → Type 0
+IsPathIn is_exact path None = is_input path ≡ true
+IsPathIn is_exact path (Some shown) =
+    (is_input path ≡ false) × (chars shown.now ≡ cond is_exact (chars path) (visible (chars path)))
 
 -- lines are printed, and not how many there are
 abbrev pub prints_lines : Output → Bool
 prints_lines output.Lines = true
 prints_lines _ = false
 
--- the line of the source stands below each
-abbrev pub shows_context : Command → Bool
-shows_context command = command.context && prints_lines command.output
+-- how many lines are shown on one side of that of a place: as is said of it, or of both
+abbrev pub side_lines : Option ℕ → Option ℕ → ℕ
+side_lines (Some own) around = own
+side_lines None (Some around) = around
+side_lines None None = 0
+
+-- it is said how many
+abbrev pub asks_context : Command → Bool
+asks_context command = is_some command.around || is_some command.before || is_some command.after
+
+-- how many lines of the source stand below each line, where that is said
+abbrev pub context_of : Command → Option Context
+context_of command = cond (asks_context command && prints_lines command.output)
+    (Some (record {
+      before = side_lines command.before command.around;
+      after = side_lines command.after command.around;
+    })) None
 
 -- How a file of this path is scanned.
 pub record IsOptionsFor (command : Command) (path : List ℕ) (options : Options) : Type 0 where
@@ -83,13 +100,13 @@ pub record IsOptionsFor (command : Command) (path : List ℕ) (options : Options
   pub matching : options.matching ≡ command.matching
   pub spelling : options.spelling ≡ command.spelling
   pub form : options.form ≡ command.form
-  pub context : options.context ≡ shows_context command
+  pub context : options.context ≡ context_of command
   pub by_line : options.by_line ≡ is_by_line command.places path
   pub rejects_strays : options.rejects_strays ≡ command.rejects_strays
   pub any_suffix : options.any_suffix ≡ command.any_suffix
   pub edition : options.edition ≡ command.edition
   pub explains : options.explains ≡ is_bad command.shown
-  pub before : IsPathIn command.form path options.path
+  pub before : IsPathIn (is_json command.form) path options.path
 
 -- the lines of a text, and its error where it has one
 abbrev pub IsScannedAs : Options → List ℕ → List ℕ → Option (Place × LexKind) → Type 0
@@ -127,21 +144,31 @@ error_text options shown (Some (place, kind)) =
 abbrev pub line_count : List ℕ → ℕ
 line_count lines = count_by (λ b. b == 10) lines
 
-abbrev pub count_line : Form → Option (Bor (List ℕ)) → ℕ → List ℕ
-count_line form None count = decimal count ++ codes "\n"
-count_line form (Some path) count =
-    painted form paint.Path path.now ++ (codes ":" ++ (decimal count ++ codes "\n"))
+-- what stands after a path with no place: NUL where that is asked for, else this
+abbrev pub after_path : Bool → List ℕ → List ℕ
+after_path nul usual = cond nul (0 ∷ []) usual
 
-abbrev pub path_line : Form → Option (Bor (List ℕ)) → List ℕ
-path_line form None = painted form paint.Path (codes "-") ++ codes "\n"
-path_line form (Some path) = painted form paint.Path path.now ++ codes "\n"
+abbrev pub count_line : Bool → Form → Option (Bor (List ℕ)) → ℕ → List ℕ
+count_line nul form None count = decimal count ++ codes "\n"
+count_line nul form (Some path) count =
+    painted form paint.Path path.now ++ (after_path nul (codes ":") ++ (decimal count ++ codes "\n"))
+
+abbrev pub path_line : Bool → Form → Option (Bor (List ℕ)) → List ℕ
+path_line nul form None = painted form paint.Path (codes "-") ++ after_path nul (codes "\n")
+path_line nul form (Some path) = painted form paint.Path path.now ++ after_path nul (codes "\n")
 
 -- what is printed of the lines of a file: where there are none, nothing
-abbrev pub printed_of : Output → Form → Option (Bor (List ℕ)) → List ℕ → List ℕ
-printed_of output.Lines form path lines = lines
-printed_of output.Count form path lines = cond (length lines == 0) [] (count_line form path (line_count lines))
-printed_of output.Path form path lines = cond (length lines == 0) [] (path_line form path)
-printed_of output.Nothing form path lines = []
+abbrev pub printed_of : Output → Bool → Form → Option (Bor (List ℕ)) → List ℕ → List ℕ
+printed_of output.Lines nul form path lines = lines
+printed_of output.Count nul form path lines =
+    cond (length lines == 0) [] (count_line nul form path (line_count lines))
+printed_of output.Path nul form path lines = cond (length lines == 0) [] (path_line nul form path)
+printed_of output.Nothing nul form path lines = []
+
+-- what is printed of a file that is listed, and not read
+abbrev pub listed_of : Output → Bool → Form → Option (Bor (List ℕ)) → List ℕ
+listed_of output.Nothing nul form path = []
+listed_of _ nul form path = path_line nul form path
 
 -- What is written on standard output and on standard error, and whether something was found.
 pub record Findings : Type 0 where
@@ -162,19 +189,29 @@ abbrev pub errors_of : Bool → List ℕ → List ℕ
 errors_of true error = []
 errors_of false error = error
 
--- What is reported of a text with these lines and this error, of whose path this is printed.
-pub record IsReportOf (output : Output) (options : Options) (path : Option (Bor (List ℕ))) (lines error : List ℕ)
+-- What is reported of a text with these lines and this error, of whose path this is printed with no place.
+pub record IsReportOf (command : Command) (options : Options) (path : Option (Bor (List ℕ))) (lines error : List ℕ)
     (printed : Findings) : Type 0 where
-  pub out : printed.out ≡ printed_of output options.form path (found_in options.explains lines error)
+  pub out : printed.out
+      ≡ printed_of command.output command.nul_after_paths options.form path (found_in options.explains lines error)
   pub errors : printed.errors ≡ errors_of options.explains error
   pub found : printed.found ≡ not (length (found_in options.explains lines error) == 0)
 
 -- what is reported of a text
 abbrev pub IsTextReport : Command → List ℕ → List ℕ → Findings → Type 0
 IsTextReport command path text printed =
-    (options : Options) × (shown : Option (Bor (List ℕ))) × (lines : List ℕ) × (error : Option (Place × LexKind))
-    × IsOptionsFor command path options × IsShownPath path shown × IsScannedAs options text lines error
-    × IsReportOf command.output options shown lines (encode_utf8_all (error_text options shown error)) printed
+    (options : Options) × (shown named : Option (Bor (List ℕ))) × (lines : List ℕ) × (error : Option (Place × LexKind))
+    × IsOptionsFor command path options × IsShownPath path shown × IsPathIn command.nul_after_paths path named
+    × IsScannedAs options text lines error
+    × IsReportOf command options named lines (encode_utf8_all (error_text options shown error)) printed
+
+-- What is reported of a file that is listed: its path.
+pub record IsListReport (command : Command) (path : List ℕ) (printed : Findings) : Type 0 where
+  pub named : Option (Bor (List ℕ))
+  pub named_is : IsPathIn command.nul_after_paths path named
+  pub out : printed.out ≡ listed_of command.output command.nul_after_paths command.form named
+  pub errors : printed.errors ≡ []
+  pub found : printed.found ≡ true
 
 -- Of a path that can't be read one line is reported.
 pub record IsErrorReport (path : List ℕ) (why : PathError) (printed : Findings) : Type 0 where
@@ -193,11 +230,17 @@ IsReadError w path why =
     (why ≡ OutOfMemory) ⊎ (w.bytes path ≡ Err why)
     ⊎ ((bytes : List ℕ) × (w.bytes path ≡ Ok bytes) × IsNotUtf8 bytes why)
 
--- what is reported of a file, or of a path that can't be gone into
-abbrev pub IsReport : Command → World → Visited → Findings → Type 0
-IsReport command w (FileAt path) printed =
+-- what is reported of a file that is read
+abbrev pub IsReadReport : Command → World → List ℕ → Findings → Type 0
+IsReadReport command w path printed =
     ((text : List ℕ) × (w.bytes path ≡ Ok text) × IsUtf8 text × IsTextReport command path text printed)
     ⊎ ((why : PathError) × IsReadError w path why × IsErrorReport path why printed)
+
+-- what is reported of a file, which is listed or read, or of a path that can't be gone into
+abbrev pub IsReport : Command → World → Visited → Findings → Type 0
+IsReport command w (FileAt path) printed =
+    ((lists_files command.wish ≡ true) × IsListReport command path printed)
+    ⊎ ((lists_files command.wish ≡ false) × IsReadReport command w path printed)
 IsReport command w (ErrorAt path why) printed = IsErrorReport path why printed
 
 -- nothing, and one after another

@@ -6,8 +6,11 @@ use Rattle.rl_files.specs.Walks.{Spot, Visited, Visits}
 use Rattle.rl_program.specs.Streams.{AppendsBeginning}
 use Rattle.rl_reports.specs.declared.command.Command.{Command}
 use Rattle.rl_sources.specs.declared.options.Shown.{Shown}
+use Rattle.rl_sources.specs.declared.options.Shown.TheVariants.{All}
+use Rattle.rl_reports.specs.declared.command.Wish.{Wish}
 use Rattle.rl_reports.specs.declared.runs.Tally.{Tally}
 use Rattle.rl_reports.specs.Reports.{Findings, IsReport, AreReports, is_alarm}
+use Rattle.rl_reports.specs.Words.{lists_files}
 
 -- The bytes that two writers held before and hold now: standard output and standard error.
 pub record Streams : Type 0 where
@@ -69,6 +72,7 @@ run_status shown tally = cond tally.failed 2 (cond (is_alarm shown && tally.foun
 abbrev pub find_status : Tally → ℕ
 find_status tally = cond tally.failed 2 (cond tally.found 0 1)
 
--- the status of a run, by whether a text was looked for, and what was wanted
-abbrev pub asked_status : Bool → Shown → Tally → ℕ
-asked_status searches shown tally = cond searches (find_status tally) (run_status shown tally)
+-- the status of a run, by whether files were listed, a text was looked for, and what was wanted
+abbrev pub asked_status : Wish → Bool → Shown → Tally → ℕ
+asked_status wish searches shown tally = cond (lists_files wish) (run_status All tally)
+    (cond searches (find_status tally) (run_status shown tally))

@@ -1,9 +1,9 @@
 -- What the words of a command line ask for. Words are lists of bytes.
-use Rattle.std.specs.Prelude.{◌≡◌, ◌≢◌, ◌⊎◌, ℕ, ◌==◌, Bool, true, false, cond, not, ◌||◌, List, [], ◌∷◌, ◌++◌, codes, encode_utf8, string_bytes, ⊤, Option, Some, None}
-use denote.Ref.{Bor}
+use Rattle.std.specs.Prelude.{◌≡◌, ◌≢◌, ◌⊎◌, ℕ, ◌==◌, Bool, true, false, cond, not, ◌||◌, ◌&&◌, List, [], ◌∷◌, ◌++◌, codes, encode_utf8, string_bytes, IsTrue, ⊤, Option, Some, None, ◌<◌, ◌^◌}
 use Prim.Native.Char.{code}
-use Rattle.std.specs.List.{All, starts_with}
+use Rattle.std.specs.List.{All, Any, starts_with}
 use Rattle.std.specs.Str.{chars, bytes_eq}
+use Rattle.std.specs.Str.Parse.{IsNumeral, digits_value, without_leading_plus}
 use Rattle.rl_files.specs.Globs.{borrowed_texts}
 use Rattle.rl_files.specs.Trees.{string_texts}
 use Rattle.rl_files.specs.Visible.{visible}
@@ -14,6 +14,7 @@ use Rattle.rl_reports.specs.declared.command.PlaceForm.TheVariants as form
 use Rattle.rl_reports.specs.declared.command.Output.{Output}
 use Rattle.rl_reports.specs.declared.command.Output.TheVariants as output
 use Rattle.rl_reports.specs.declared.command.Command.{Command}
+use Rattle.rl_output.specs.Forms.{has_extents}
 use Rattle.rl_output.specs.declared.form.Form.{Form}
 use Rattle.rl_output.specs.declared.form.Form.TheVariants as written
 use Rattle.rl_sources.specs.declared.options.Shown.{Shown}
@@ -21,7 +22,7 @@ use Rattle.rl_sources.specs.declared.options.Spelling.{Spelling}
 use Rattle.rl_sources.specs.declared.options.Spelling.TheVariants.{Value, Source}
 use Rattle.rl_sources.specs.declared.options.Shown.TheVariants as shown
 use Rattle.rl_reports.specs.declared.flags.Flag.{Flag}
-use Rattle.rl_reports.specs.declared.flags.Flag.TheVariants.{Bad, Hidden, Only, Find, IgnoreCase, WholeWords, Text, Json, Format, Context, Color, Bytes, Lines, NoStray, AnySuffix, Edition, AllDirectories, Extension, Exclude, FilesFrom, NoMessages, Count, Files, Quiet, Help, Version, Paths}
+use Rattle.rl_reports.specs.declared.flags.Flag.TheVariants.{Bad, Hidden, Only, Find, IgnoreCase, WholeWords, Text, Json, Format, Context, Before, After, Color, Bytes, Lines, NoStray, AnySuffix, Edition, AllDirectories, Extension, Exclude, FilesFrom, NoMessages, Count, FilesWithMatches, Nul, Quiet, Files, Help, Version, Paths}
 use Rattle.rl_reports.specs.declared.flags.Format.{Format as AnyFormat}
 use Rattle.rl_reports.specs.declared.flags.Format.TheVariants as format
 use Rattle.rl_types.specs.declared.before.Edition.{Edition as AnyEdition}
@@ -34,7 +35,7 @@ use Rattle.rl_reports.specs.declared.flags.When.{When}
 use Rattle.rl_reports.specs.declared.flags.When.TheVariants.{Auto, Always, Never}
 use Rattle.rl_reports.specs.declared.words.Asked.{Asked}
 use Rattle.rl_reports.specs.declared.words.WordError.{WordError}
-use Rattle.rl_reports.specs.declared.words.WordError.TheVariants.{Memory, UnknownOption, UnknownLetter, NoValue, UnknownKind, NoKinds, TwoChoices, NoText, EmptyText, BadAndFind, NoColor, UnknownColor, NoExtension, NoPattern, NoList, NoEdition, UnknownEdition, NoFormat, UnknownFormat}
+use Rattle.rl_reports.specs.declared.words.WordError.TheVariants.{Memory, UnknownOption, UnknownLetter, NoValue, UnknownKind, NoKinds, TwoChoices, NoText, EmptyText, BadAndFind, TextlessKinds, ObjectsOfPaths, NoColor, UnknownColor, NoExtension, NoPattern, NoList, NoEdition, UnknownEdition, NoFormat, UnknownFormat, NoCount, UnknownCount}
 use Rattle.rl_sources.specs.Options.{Names, words_of}
 use Rattle.rl_reports.specs.Meant.{IsMeant, option_part}
 
@@ -50,6 +51,8 @@ IsOptionWord Text word = word ≡ codes "--text"
 IsOptionWord Json word = word ≡ codes "--json"
 IsOptionWord Format word = word ≡ codes "--format"
 IsOptionWord Context word = word ≡ codes "--context"
+IsOptionWord Before word = word ≡ codes "--before-context"
+IsOptionWord After word = word ≡ codes "--after-context"
 IsOptionWord Color word = word ≡ codes "--color"
 IsOptionWord Bytes word = word ≡ codes "--bytes"
 IsOptionWord Lines word = word ≡ codes "--lines"
@@ -62,8 +65,10 @@ IsOptionWord Exclude word = word ≡ codes "--exclude"
 IsOptionWord FilesFrom word = word ≡ codes "--files-from"
 IsOptionWord NoMessages word = word ≡ codes "--no-messages"
 IsOptionWord Count word = word ≡ codes "--count"
-IsOptionWord Files word = word ≡ codes "--files-with-matches"
+IsOptionWord FilesWithMatches word = word ≡ codes "--files-with-matches"
+IsOptionWord Nul word = word ≡ codes "--null"
 IsOptionWord Quiet word = word ≡ codes "--quiet"
+IsOptionWord Files word = word ≡ codes "--files"
 IsOptionWord Help word = word ≡ codes "--help"
 IsOptionWord Version word = word ≡ codes "--version"
 IsOptionWord Paths word = word ≡ codes "--"
@@ -74,7 +79,11 @@ IsLetter Find c = c ≡ code "e"
 IsLetter IgnoreCase c = c ≡ code "i"
 IsLetter WholeWords c = c ≡ code "w"
 IsLetter Count c = c ≡ code "c"
-IsLetter Files c = c ≡ code "l"
+IsLetter FilesWithMatches c = c ≡ code "l"
+IsLetter Nul c = c ≡ code "Z"
+IsLetter Context c = c ≡ code "C"
+IsLetter Before c = c ≡ code "B"
+IsLetter After c = c ≡ code "A"
 IsLetter Quiet c = c ≡ code "q"
 IsLetter Help c = c ≡ code "h"
 IsLetter Version c = c ≡ code "V"
@@ -90,6 +99,9 @@ joined_word takes.Pattern text = codes "--exclude=" ++ text
 joined_word takes.List text = codes "--files-from=" ++ text
 joined_word takes.Edition text = codes "--edition=" ++ text
 joined_word takes.Format text = codes "--format=" ++ text
+joined_word takes.Around text = codes "--context=" ++ text
+joined_word takes.Before text = codes "--before-context=" ++ text
+joined_word takes.After text = codes "--after-context=" ++ text
 
 -- the option that takes it
 abbrev pub taken_by : Operand → Flag
@@ -101,6 +113,9 @@ taken_by takes.Pattern = Exclude
 taken_by takes.List = FilesFrom
 taken_by takes.Edition = Edition
 taken_by takes.Format = Format
+taken_by takes.Around = Context
+taken_by takes.Before = Before
+taken_by takes.After = After
 
 -- the word that says when lines have colours
 abbrev pub color_word : When → List ℕ
@@ -143,6 +158,19 @@ formatted has_colors written.Github format.Text = colored_form has_colors Auto
 formatted has_colors written.Plain format.Text = written.Plain
 formatted has_colors written.Colored format.Text = written.Colored
 
+-- the word is a number in base ten that fits into 64 bits; a plus may stand before it
+pub record IsCountWord (word : List ℕ) (count : ℕ) : Type 0 where
+  pub numeral : IsNumeral 10 (without_leading_plus word)
+  pub fits : count < 2 ^ 64
+  pub count_is : count ≡ digits_value 10 (without_leading_plus word)
+
+-- what an option takes is a number of lines
+abbrev pub IsSide : Operand → Type 0
+IsSide takes.Around = ⊤
+IsSide takes.Before = ⊤
+IsSide takes.After = ⊤
+IsSide _ = ⊥
+
 -- the kinds of literals, and `Verbatim` for those without a reading
 abbrev pub kind_list : List ℕ
 kind_list = codes "Str,ByteStr,CStr,Byte,Char,Int,Float,Bool,Verbatim"
@@ -179,11 +207,6 @@ wanted_of (shown.Only list) = OnlyWanted list.now
 wanted_of shown.Bad = BadWanted
 wanted_of shown.Hidden = HiddenWanted
 
--- the file that names paths, where there is one
-abbrev pub list_of : Option (Bor (List ℕ)) → Option (List ℕ)
-list_of None = None
-list_of (Some file) = Some file.now
-
 -- what a command line asks for
 pub record Wishes : Type 0 where
   pub wish : Wish
@@ -194,17 +217,20 @@ pub record Wishes : Type 0 where
   pub whole_words : Bool
   pub places : PlaceForm
   pub output : Output
+  pub nul_after_paths : Bool
   pub rejects_strays : Bool
   pub any_suffix : Bool
   pub edition : AnyEdition
-  pub context : Bool
+  pub around : Option ℕ
+  pub before : Option ℕ
+  pub after : Option ℕ
   pub spelling : Spelling
   pub form : Form
   pub all_directories : Bool
-  pub files_from : Option (List ℕ)
   pub tells_errors : Bool
   pub extensions : List (List ℕ)
   pub excludes : List (List ℕ)
+  pub files_from : List (List ℕ)
   pub paths : List (List ℕ)
 
 -- what is asked for where nothing is said
@@ -218,23 +244,26 @@ first_wishes has_colors = record {
   whole_words = false;
   places = form.Usual;
   output = output.Lines;
+  nul_after_paths = false;
   rejects_strays = false;
   any_suffix = false;
   edition = E2021;
-  context = false;
+  around = None;
+  before = None;
+  after = None;
   spelling = Value;
   form = colored_form has_colors Auto;
   all_directories = false;
-  files_from = None;
   tells_errors = true;
   extensions = [];
   excludes = [];
+  files_from = [];
   paths = [];
 }
 
 -- what the code holds
-abbrev pub wishes_of : Command → List (List ℕ) → List (List ℕ) → List (List ℕ) → List (List ℕ) → Wishes
-wishes_of command finds extensions excludes paths = record {
+abbrev pub wishes_of : Command → List (List ℕ) → List (List ℕ) → List (List ℕ) → List (List ℕ) → List (List ℕ) → Wishes
+wishes_of command finds extensions excludes lists paths = record {
   wish = command.wish;
   wanted = wanted_of command.shown;
   searches = command.searches;
@@ -243,23 +272,68 @@ wishes_of command finds extensions excludes paths = record {
   whole_words = command.matching.whole_words;
   places = command.places;
   output = command.output;
+  nul_after_paths = command.nul_after_paths;
   rejects_strays = command.rejects_strays;
   any_suffix = command.any_suffix;
   edition = command.edition;
-  context = command.context;
+  around = command.around;
+  before = command.before;
+  after = command.after;
   spelling = command.spelling;
   form = command.form;
   all_directories = command.selection.all;
-  files_from = list_of command.files_from;
   tells_errors = command.tells_errors;
   extensions = extensions;
   excludes = excludes;
+  files_from = lists;
   paths = paths;
 }
 
 abbrev pub wishes_in : {A : Type 0} → Asked A → Wishes
 wishes_in asked = wishes_of asked.command (borrowed_texts asked.finds.items) (borrowed_texts asked.extensions.items)
-    (borrowed_texts asked.excludes.items) (string_texts asked.paths.items)
+    (borrowed_texts asked.excludes.items) (borrowed_texts asked.lists.items) (string_texts asked.paths.items)
+
+-- the kinds whose contents may hold a text
+abbrev pub text_kind_list : List ℕ
+text_kind_list = codes "Str,ByteStr,CStr,Byte,Char"
+
+-- a word of the list is one of them
+abbrev pub HasTextKind : List ℕ → Type 0
+HasTextKind list = Any (λ word. Names text_kind_list word) (words_of list)
+
+-- literals that are wanted may hold a text
+abbrev pub MayHold : Wanted → Type 0
+MayHold AllWanted = ⊤
+MayHold (OnlyWanted list) = HasTextKind list
+MayHold BadWanted = ⊤
+MayHold HiddenWanted = ⊤
+
+-- paths are printed in place of lines, or how many lines there are
+abbrev pub lists_files : Wish → Bool
+lists_files wish.Files = true
+lists_files _ = false
+
+abbrev pub sums_lines : Output → Bool
+sums_lines output.Lines = false
+sums_lines output.Count = true
+sums_lines output.Path = true
+sums_lines output.Nothing = false
+
+abbrev pub prints_no_objects : Wish → Output → Bool
+prints_no_objects wish output = lists_files wish || sums_lines output
+
+-- What is asked for goes together: a text is looked for only where literals that are wanted may hold it, and objects
+-- and
+-- annotations are wanted only of lines.
+abbrev pub GoTogether : Wishes → Type 0
+GoTogether w =
+    (IsTrue w.searches → MayHold w.wanted) × ((has_extents w.form && prints_no_objects w.wish w.output) ≡ false)
+
+-- why it doesn't
+abbrev pub IsClash : {A : Type 0} → Wishes → WordError A → Type 0
+IsClash w TextlessKinds = IsTrue w.searches × (MayHold w.wanted → ⊥)
+IsClash w ObjectsOfPaths = (has_extents w.form && prints_no_objects w.wish w.output) ≡ true
+IsClash w _ = ⊥
 
 -- only one option may say which literals are wanted
 abbrev pub IsAllowed : Flag → Wishes → Type 0
@@ -289,7 +363,9 @@ with_flag WholeWords w = record w { whole_words = true }
 with_flag Text w = record w { spelling = Source }
 with_flag Json w = record w { form = written.Json }
 with_flag Format w = w
-with_flag Context w = record w { context = true }
+with_flag Context w = w
+with_flag Before w = w
+with_flag After w = w
 with_flag Color w = w
 with_flag Bytes w = record w { places = form.Bytes }
 with_flag Lines w = record w { places = form.Lines }
@@ -302,15 +378,19 @@ with_flag Exclude w = w
 with_flag FilesFrom w = w
 with_flag NoMessages w = record w { tells_errors = false }
 with_flag Count w = record w { output = output.Count }
-with_flag Files w = record w { output = output.Path }
+with_flag FilesWithMatches w = record w { output = output.Path }
+with_flag Nul w = record w { nul_after_paths = true }
 with_flag Quiet w = record w { output = output.Nothing }
+with_flag Files w = record w { wish = wish.Files }
 with_flag Help w = record w { wish = wish.Help }
 with_flag Version w = record w { wish = wish.Version }
 with_flag Paths w = w
 
 -- after `--only` stands a list of kinds, after `--find` a text, after `--color` when there are colours, after
 -- `--extension` what names end with, after `--exclude` a pattern, after `--files-from` a file, after
--- `--edition` one, after `--format` how lines are written, after `--` stand paths
+-- `--edition` one, after `--format` how lines are written, after `--context`, `--before-context` and `--after-context`
+-- how
+-- many lines, after `--` stand paths
 abbrev pub next_after : Flag → Next
 next_after Only = next.Operand takes.Kinds
 next_after Find = next.Operand takes.Text
@@ -320,6 +400,9 @@ next_after Exclude = next.Operand takes.Pattern
 next_after FilesFrom = next.Operand takes.List
 next_after Edition = next.Operand takes.Edition
 next_after Format = next.Operand takes.Format
+next_after Context = next.Operand takes.Around
+next_after Before = next.Operand takes.Before
+next_after After = next.Operand takes.After
 next_after Paths = next.Path
 next_after _ = next.Any
 
@@ -339,7 +422,7 @@ abbrev pub with_pattern : List ℕ → Wishes → Wishes
 with_pattern pattern w = record w { excludes = w.excludes ++ pattern ∷ [] }
 
 abbrev pub with_list : List ℕ → Wishes → Wishes
-with_list file w = record w { files_from = Some file }
+with_list file w = record w { files_from = w.files_from ++ file ∷ [] }
 
 -- a dot before an extension says nothing
 abbrev pub IsWithoutDot : List ℕ → List ℕ → Type 0
@@ -367,6 +450,12 @@ IsTaken has_colors takes.Edition old word new =
 IsTaken has_colors takes.Format old word new =
     (format : AnyFormat) × (word ≡ format_word format)
     × (new ≡ record old { form = formatted has_colors old.form format })
+IsTaken has_colors takes.Around old word new =
+    (count : ℕ) × IsCountWord word count × (new ≡ record old { around = Some count })
+IsTaken has_colors takes.Before old word new =
+    (count : ℕ) × IsCountWord word count × (new ≡ record old { before = Some count })
+IsTaken has_colors takes.After old word new =
+    (count : ℕ) × IsCountWord word count × (new ≡ record old { after = Some count })
 
 -- With these letters, one after another, so much is asked for, and such a word may stand next: what an option
 -- takes stands after its letter, or is the next word.
@@ -409,7 +498,7 @@ AskSoFar has_colors words then new = AreSteps has_colors next.Any (first_wishes 
 abbrev pub Asks : Bool → List (List ℕ) → Wishes → Type 0
 Asks has_colors words wishes =
     (then : Next) × AskSoFar has_colors words then wishes
-    × ((operand : Operand) → then ≢ next.Operand operand)
+    × ((operand : Operand) → then ≢ next.Operand operand) × GoTogether wishes
 
 -- what is wrong
 abbrev pub word_message : {A : Type 0} → WordError A → List ℕ
@@ -433,6 +522,10 @@ word_message TwoChoices = codes "--bad, --hidden and --only: one of them, once"
 word_message NoText = codes "-e, --find: which text? as in --find TODO"
 word_message EmptyText = codes "-e, --find: an empty text stands everywhere"
 word_message BadAndFind = codes "--bad, --hidden and -e, --find: one of them"
+word_message TextlessKinds =
+    codes "-e, --find looks in Str, ByteStr, CStr, Byte and Char, and --only names none of them"
+word_message ObjectsOfPaths =
+    codes "--json and --format json, github can't be used with -c, --count, -l, --files-with-matches, --files"
 word_message NoColor = codes "--color: when? one of auto, always, never"
 word_message (UnknownColor word) =
     codes "unknown colour '" ++ (string_bytes word ++ codes "': one of auto, always, never")
@@ -445,6 +538,9 @@ word_message (UnknownEdition word) =
 word_message NoFormat = codes "--format: which? one of text, json, github"
 word_message (UnknownFormat word) =
     codes "unknown format '" ++ (string_bytes word ++ codes "': one of text, json, github")
+word_message NoCount = codes "-C, -B, -A: how many lines? as in --context 2"
+word_message (UnknownCount word) =
+    codes "'" ++ (string_bytes word ++ codes "' is no number of lines: as in --context 2")
 
 -- why this option doesn't go with what is asked for
 abbrev pub IsRejectedFlag : {A : Type 0} → Flag → Wishes → WordError A → Type 0
@@ -468,6 +564,9 @@ IsRejectedText operand text (UnknownEdition said) =
 IsRejectedText operand text (UnknownFormat said) =
     (operand ≡ takes.Format) × ((format : AnyFormat) → text ≢ format_word format)
     × (chars (string_bytes said) ≡ visible (chars text))
+IsRejectedText operand text (UnknownCount said) =
+    IsSide operand × ((count : ℕ) → IsCountWord text count → ⊥)
+    × (chars (string_bytes said) ≡ visible (chars text))
 IsRejectedText operand text _ = ⊥
 
 -- why an option can't be asked for that takes this
@@ -480,7 +579,8 @@ IsRejectedJoined operand old text error =
 abbrev pub HasOptionPart : List ℕ → Type 0
 HasOptionPart word = (flag : Flag) × IsOptionWord flag (option_part word)
 
--- The error names the word as one of no option, and the option that it was likely meant to be; or the option that takes no
+-- The error names the word as one of no option, and the option that it was likely meant to be; or the option that takes
+-- no
 -- value, where it has one.
 abbrev pub NamesUnknown : {A : Type 0} → List ℕ → WordError A → Type 0
 NamesUnknown word (UnknownOption said meant) =
@@ -545,13 +645,17 @@ IsMissing takes.Pattern error = error ≡ NoPattern
 IsMissing takes.List error = error ≡ NoList
 IsMissing takes.Edition error = error ≡ NoEdition
 IsMissing takes.Format error = error ≡ NoFormat
+IsMissing takes.Around error = error ≡ NoCount
+IsMissing takes.Before error = error ≡ NoCount
+IsMissing takes.After error = error ≡ NoCount
 
--- Why the words can't be asked for: where they end, what an option takes is missing; or they ask for something
--- up to one that can't be asked for.
+-- Why the words can't be asked for: where they end, what an option takes is missing, or what they ask for doesn't go
+-- together; or they ask for something up to one that can't be asked for.
 abbrev pub AreRejected : {A : Type 0} → Bool → List (List ℕ) → WordError A → Type 0
 AreRejected has_colors words error =
     ((operand : Operand) × (old : Wishes) × IsMissing operand error
     × AskSoFar has_colors words (next.Operand operand) old)
+    ⊎ ((then : Next) × (wishes : Wishes) × AskSoFar has_colors words then wishes × IsClash wishes error)
     ⊎ ((before after : List (List ℕ)) × (word : List ℕ) × (first : Next) × (old : Wishes)
     × (words ≡ before ++ word ∷ after) × AskSoFar has_colors before first old
     × IsRejectedWord has_colors first old word error)

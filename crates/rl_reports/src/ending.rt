@@ -7,13 +7,15 @@ ghost use Rattle.rl_reports.specs.Endings.{extensions_read, finds_no_file, paths
 ghost use Rattle.rl_reports.specs.Runs.{asked_status};
 ghost use Rattle.rl_reports.specs.Words.{wishes_in};
 
+use crate::clash::lists_files;
 use crate::command::{Command, Console, Wish};
-use crate::listed::push_listed;
+use crate::listed::push_all_listed;
 use crate::report::visible_text;
 use crate::runs::{RunStop, Tally, run};
 use crate::words::{Asked, WordError, asked_by};
 use rl_files::{PathError, Selection, Tree, Walk, WalkError};
 use rl_program::{Ending, RunError, WriteError, write_bytes};
+use rl_sources::Shown;
 use std::alloc::{AllocError, Allocator, Global};
 use std::fmt;
 use std::io::Write;
@@ -52,7 +54,9 @@ Which files are read:
                        gitignore; may be said more than once
       --files-from FILE
                        also what FILE names: a path in each line, or NUL after
-                       each; `-` is standard input
+                       each; `-` is standard input; may be said more than once
+      --files          prints the path of each file that would be read, and
+                       reads none
 
 How it is printed:
       --bytes          places as LO..HI, in bytes, as those of standard input
@@ -60,12 +64,18 @@ How it is printed:
       --text           literals as they are written
       --json           an object of JSON for each line
       --format FORM    text; json, as --json; or github, annotations
-      --context        below each line that of the source, and the place marked
+  -C, --context NUM    below each line that of the source, the place marked, and
+                       NUM lines before and after that
+  -B, --before-context NUM
+                       the same, with NUM lines before
+  -A, --after-context NUM
+                       the same, with NUM lines after
       --color WHEN     auto, always or never; auto is on a terminal, unless
                        NO_COLOR is set or TERM is dumb
   -c, --count          how many lines each file has
   -l, --files-with-matches
                        the path of each file that has lines
+  -Z, --null           of -c, -l and --files: NUL after the path
   -q, --quiet          nothing
       --no-messages    no line for a file that can't be read to its end
       --               what follows is a PATH
@@ -102,7 +112,7 @@ pub enum CallError<A: Allocator = Global> {
     Word(WordError<A>),
     /// An allocation failed, or there was no end of directories.
     Walk(WalkError),
-    /// The file can't be read that names paths.
+    /// A file can't be read that names paths.
     List(String<A>, PathError),
     /// There was no file to read in what the paths name.
     NoFile,
@@ -176,9 +186,11 @@ fn add_usual<A: Allocator + Copy>(
 
 /// The status that a run ends with which found this.
 fn status_of(command: Command<'_>, tally: Tally) -> u8
-    ensures { result ≡ asked_status command.entry.searches command.entry.shown tally }
+    ensures { result ≡ asked_status command.entry.wish command.entry.searches command.entry.shown tally }
 {
-    if command.searches {
+    if lists_files(command.wish) {
+        tally.status(Shown::All)
+    } else if command.searches {
         tally.find_status()
     } else {
         tally.status(command.shown)
@@ -278,26 +290,26 @@ fn list_error<A: Allocator + Copy>(alloc: A, file: &str, why: PathError) -> Endi
     }
 }
 
-/// Scans the files that paths name, and those that a file names.
+/// Scans the files that paths name, and those that files name.
 fn scan_listed<A: Allocator + Copy, T: Tree, W: Write, E: Write>(
     alloc: A,
     command: Command<'_>,
-    file: &str,
+    files: &[&str],
     tree: &T,
     paths: &mut Vec<String<A>, A>,
     out: &mut W,
     err: &mut E,
 ) -> Ending<CallError<A>>
-    ensures { EndsListed command.entry file.now (T.holds tree.now) (string_texts paths.old.items) (record {
+    ensures { EndsListed command.entry (borrowed_texts files.now) (T.holds tree.now) (string_texts paths.old.items) (record {
       out_old = W.contents out.old;
       out_new = W.contents out.new;
       err_old = E.contents err.old;
       err_new = E.contents err.new;
     }) result }
 {
-    match push_listed(alloc, tree, file, paths) {
+    match push_all_listed(alloc, tree, files, paths) {
         Ok(()) => scan_paths(alloc, command, tree, paths, out, err),
-        Err(why) => list_error(alloc, file, why),
+        Err(unread) => list_error(alloc, unread.file, unread.why),
     }
 }
 
@@ -315,14 +327,15 @@ fn usual_unless<'a>(extensions: &'a [&'a str]) -> &'a [&'a str]
     }
 }
 
-/// The command with the texts that it looks for and with what it selects.
+/// The command with the texts that it looks for, with what it selects, and the files that name paths.
 fn selecting<'a>(
     command: Command<'a>,
     finds: &'a [&'a str],
     extensions: &'a [&'a str],
     excludes: &'a [&'a str],
+    lists: &'a [&'a str],
 ) -> Command<'a>
-    ensures { IsSelecting command.entry (borrowed_texts finds.now) (borrowed_texts extensions.now) (borrowed_texts excludes.now) result }
+    ensures { IsSelecting command.entry (borrowed_texts finds.now) (borrowed_texts extensions.now) (borrowed_texts excludes.now) (borrowed_texts lists.now) result }
 {
     Command {
         wish: command.wish,
@@ -334,16 +347,19 @@ fn selecting<'a>(
         form: command.form,
         places: command.places,
         output: command.output,
+        nul_after_paths: command.nul_after_paths,
         rejects_strays: command.rejects_strays,
         any_suffix: command.any_suffix,
         edition: command.edition,
-        context: command.context,
+        around: command.around,
+        before: command.before,
+        after: command.after,
         selection: Selection {
             all: command.selection.all,
             extensions: usual_unless(extensions),
             excludes,
         },
-        files_from: command.files_from,
+        files_from: lists,
         tells_errors: command.tells_errors,
     }
 }
@@ -370,6 +386,7 @@ fn scan_asked<A: Allocator + Copy, T: Tree, W: Write, E: Write>(
         finds,
         extensions,
         excludes,
+        lists,
         ..
     } = asked;
     let command = selecting(
@@ -377,10 +394,13 @@ fn scan_asked<A: Allocator + Copy, T: Tree, W: Write, E: Write>(
         finds.as_slice(),
         extensions.as_slice(),
         excludes.as_slice(),
+        lists.as_slice(),
     );
-    match command.files_from {
-        None => scan_named(alloc, command, is_terminal, tree, &mut paths, out, err),
-        Some(file) => scan_listed(alloc, command, file, tree, &mut paths, out, err),
+    let files = command.files_from;
+    if files.is_empty() {
+        scan_named(alloc, command, is_terminal, tree, &mut paths, out, err)
+    } else {
+        scan_listed(alloc, command, files, tree, &mut paths, out, err)
     }
 }
 
@@ -403,7 +423,7 @@ fn answer<A: Allocator + Copy, T: Tree, W: Write, E: Write>(
     match asked.command.wish {
         Wish::Help => write_text(out, HELP),
         Wish::Version => write_text(out, VERSION),
-        Wish::Scan => scan_asked(alloc, asked, is_terminal, tree, out, err),
+        Wish::Scan | Wish::Files => scan_asked(alloc, asked, is_terminal, tree, out, err),
     }
 }
 

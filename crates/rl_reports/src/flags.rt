@@ -6,7 +6,7 @@ ghost use Rattle.rl_reports.specs.declared.flags.Format.{Format as AnyFormat};
 ghost use Rattle.rl_types.specs.declared.before.Edition.{Edition as AnyEdition};
 ghost use Rattle.rl_reports.specs.declared.flags.Operand.{Operand};
 ghost use Rattle.rl_reports.specs.declared.flags.When.{When};
-ghost use Rattle.rl_reports.specs.Words.{IsLetter, IsOptionWord, joined_word, taken_by as flag_before, color_word, wishes_of, IsAllowed, GoesWithFind, MayStand, IsRejectedFlag, with_flag as flagged, next_after as follows, colored_form, recolored as with_colors, edition_word, format_word, formatted};
+ghost use Rattle.rl_reports.specs.Words.{IsCountWord, IsLetter, IsOptionWord, joined_word, taken_by as flag_before, color_word, wishes_of, IsAllowed, GoesWithFind, MayStand, IsRejectedFlag, with_flag as flagged, next_after as follows, colored_form, recolored as with_colors, edition_word, format_word, formatted};
 
 use crate::command::{Command, Output, PlaceForm, Wish};
 use crate::words::WordError;
@@ -26,6 +26,8 @@ pub(crate) enum Flag {
     Json,
     Format,
     Context,
+    Before,
+    After,
     Color,
     Bytes,
     Lines,
@@ -38,8 +40,10 @@ pub(crate) enum Flag {
     FilesFrom,
     NoMessages,
     Count,
-    Files,
+    FilesWithMatches,
+    Nul,
     Quiet,
+    Files,
     Help,
     Version,
     Paths,
@@ -64,6 +68,12 @@ pub(crate) enum Operand {
     Edition,
     /// How lines are written.
     Format,
+    /// How many lines are shown before and after that of a place.
+    Around,
+    /// How many are shown before it.
+    Before,
+    /// How many are shown after it.
+    After,
 }
 
 /// What the next word may be.
@@ -113,6 +123,8 @@ pub(crate) fn flag_of(word: &str) -> Option<Flag>
         "--json" => Some(Flag::Json),
         "--format" => Some(Flag::Format),
         "--context" => Some(Flag::Context),
+        "--before-context" => Some(Flag::Before),
+        "--after-context" => Some(Flag::After),
         "--color" => Some(Flag::Color),
         "--bytes" => Some(Flag::Bytes),
         "--lines" => Some(Flag::Lines),
@@ -125,8 +137,10 @@ pub(crate) fn flag_of(word: &str) -> Option<Flag>
         "--files-from" => Some(Flag::FilesFrom),
         "--no-messages" => Some(Flag::NoMessages),
         "--count" => Some(Flag::Count),
-        "--files-with-matches" => Some(Flag::Files),
+        "--files-with-matches" => Some(Flag::FilesWithMatches),
+        "--null" => Some(Flag::Nul),
         "--quiet" => Some(Flag::Quiet),
+        "--files" => Some(Flag::Files),
         "--help" => Some(Flag::Help),
         "--version" => Some(Flag::Version),
         "--" => Some(Flag::Paths),
@@ -144,7 +158,11 @@ pub(crate) fn letter_of(c: char) -> Option<Flag>
         'i' => Some(Flag::IgnoreCase),
         'w' => Some(Flag::WholeWords),
         'c' => Some(Flag::Count),
-        'l' => Some(Flag::Files),
+        'l' => Some(Flag::FilesWithMatches),
+        'Z' => Some(Flag::Nul),
+        'C' => Some(Flag::Context),
+        'B' => Some(Flag::Before),
+        'A' => Some(Flag::After),
         'q' => Some(Flag::Quiet),
         'h' => Some(Flag::Help),
         'V' => Some(Flag::Version),
@@ -191,6 +209,15 @@ pub(crate) fn joined_of(word: &str) -> Option<(Operand, &str)>
     if let Some(format) = after_front("--format=", word) {
         return Some((Operand::Format, format));
     }
+    if let Some(count) = after_front("--context=", word) {
+        return Some((Operand::Around, count));
+    }
+    if let Some(count) = after_front("--before-context=", word) {
+        return Some((Operand::Before, count));
+    }
+    if let Some(count) = after_front("--after-context=", word) {
+        return Some((Operand::After, count));
+    }
     None
 }
 
@@ -207,16 +234,19 @@ pub(crate) fn taken_by(operand: Operand) -> Flag
         Operand::List => Flag::FilesFrom,
         Operand::Edition => Flag::Edition,
         Operand::Format => Flag::Format,
+        Operand::Around => Flag::Context,
+        Operand::Before => Flag::Before,
+        Operand::After => Flag::After,
     }
 }
 
 /// The command with an option more; `None` where another option says already which literals are printed.
 fn with_flag(command: Command<'_>, flag: Flag) -> Option<Command<'_>>
-    ensures some { IfSome result (λ next. (finds extensions excludes paths : List (List ℕ))
-        → IsAllowed flag (wishes_of command.entry finds extensions excludes paths)
-        × (wishes_of next finds extensions excludes paths ≡ flagged flag (wishes_of command.entry finds extensions excludes paths))) }
-    ensures none { IfNone result ((finds extensions excludes paths : List (List ℕ))
-        → IsAllowed flag (wishes_of command.entry finds extensions excludes paths) → ⊥) }
+    ensures some { IfSome result (λ next. (finds extensions excludes lists paths : List (List ℕ))
+        → IsAllowed flag (wishes_of command.entry finds extensions excludes lists paths)
+        × (wishes_of next finds extensions excludes lists paths ≡ flagged flag (wishes_of command.entry finds extensions excludes lists paths))) }
+    ensures none { IfNone result ((finds extensions excludes lists paths : List (List ℕ))
+        → IsAllowed flag (wishes_of command.entry finds extensions excludes lists paths) → ⊥) }
 {
     let mut next = command;
     match (flag, command.shown) {
@@ -226,20 +256,22 @@ fn with_flag(command: Command<'_>, flag: Flag) -> Option<Command<'_>>
         (Flag::Bad | Flag::Hidden | Flag::Only, _) => return None,
         (Flag::Find | Flag::Color | Flag::Extension | Flag::Exclude, _) => {}
         (Flag::FilesFrom | Flag::Edition | Flag::Format | Flag::Paths, _) => {}
+        (Flag::Context | Flag::Before | Flag::After, _) => {}
         (Flag::NoMessages, _) => next.tells_errors = false,
         (Flag::IgnoreCase, _) => next.matching.ignores_case = true,
         (Flag::WholeWords, _) => next.matching.whole_words = true,
         (Flag::AllDirectories, _) => next.selection.all = true,
         (Flag::Text, _) => next.spelling = Spelling::Source,
         (Flag::Json, _) => next.form = Form::Json,
-        (Flag::Context, _) => next.context = true,
         (Flag::Bytes, _) => next.places = PlaceForm::Bytes,
         (Flag::Lines, _) => next.places = PlaceForm::Lines,
         (Flag::NoStray, _) => next.rejects_strays = true,
         (Flag::AnySuffix, _) => next.any_suffix = true,
         (Flag::Count, _) => next.output = Output::Count,
-        (Flag::Files, _) => next.output = Output::Path,
+        (Flag::FilesWithMatches, _) => next.output = Output::Path,
+        (Flag::Nul, _) => next.nul_after_paths = true,
         (Flag::Quiet, _) => next.output = Output::Nothing,
+        (Flag::Files, _) => next.wish = Wish::Files,
         (Flag::Help, _) => next.wish = Wish::Help,
         (Flag::Version, _) => next.wish = Wish::Version,
     }
@@ -249,8 +281,8 @@ fn with_flag(command: Command<'_>, flag: Flag) -> Option<Command<'_>>
 /// Whether an option goes with what is looked for: no text is where what is bad or hidden is wanted.
 fn goes_with_find(command: Command<'_>, flag: Flag) -> bool
     ensures { MatchBool result
-        ((finds extensions excludes paths : List (List ℕ)) → GoesWithFind flag (wishes_of command.entry finds extensions excludes paths))
-        ((finds extensions excludes paths : List (List ℕ)) → GoesWithFind flag (wishes_of command.entry finds extensions excludes paths) → ⊥) }
+        ((finds extensions excludes lists paths : List (List ℕ)) → GoesWithFind flag (wishes_of command.entry finds extensions excludes lists paths))
+        ((finds extensions excludes lists paths : List (List ℕ)) → GoesWithFind flag (wishes_of command.entry finds extensions excludes lists paths) → ⊥) }
 {
     match (flag, command.shown) {
         (Flag::Bad | Flag::Hidden, _) => !command.searches,
@@ -268,12 +300,12 @@ pub(crate) fn add_flag<A: Allocator>(
     command: Command<'_>,
     flag: Flag,
 ) -> Result<Command<'_>, WordError<A>>
-    ensures allowed { IfOk result (λ next. (finds extensions excludes paths : List (List ℕ))
-        → MayStand flag (wishes_of command.entry finds extensions excludes paths)) }
-    ensures wishes { IfOk result (λ next. (finds extensions excludes paths : List (List ℕ))
-        → wishes_of next finds extensions excludes paths ≡ flagged flag (wishes_of command.entry finds extensions excludes paths)) }
-    ensures rejected { IfErr result (λ error. (finds extensions excludes paths : List (List ℕ))
-        → IsRejectedFlag flag (wishes_of command.entry finds extensions excludes paths) error) }
+    ensures allowed { IfOk result (λ next. (finds extensions excludes lists paths : List (List ℕ))
+        → MayStand flag (wishes_of command.entry finds extensions excludes lists paths)) }
+    ensures wishes { IfOk result (λ next. (finds extensions excludes lists paths : List (List ℕ))
+        → wishes_of next finds extensions excludes lists paths ≡ flagged flag (wishes_of command.entry finds extensions excludes lists paths)) }
+    ensures rejected { IfErr result (λ error. (finds extensions excludes lists paths : List (List ℕ))
+        → IsRejectedFlag flag (wishes_of command.entry finds extensions excludes lists paths) error) }
 {
     let Some(next) = with_flag(command, flag) else {
         return Err(WordError::TwoChoices);
@@ -297,6 +329,9 @@ pub(crate) fn next_after(flag: Flag) -> Next
         Flag::FilesFrom => Next::Operand(Operand::List),
         Flag::Edition => Next::Operand(Operand::Edition),
         Flag::Format => Next::Operand(Operand::Format),
+        Flag::Context => Next::Operand(Operand::Around),
+        Flag::Before => Next::Operand(Operand::Before),
+        Flag::After => Next::Operand(Operand::After),
         Flag::Paths => Next::Path,
         _ => Next::Any,
     }
@@ -360,6 +395,18 @@ pub(crate) fn format_of(word: &str) -> Option<Format>
         "json" => Some(Format::Json),
         "github" => Some(Format::Github),
         _ => None,
+    }
+}
+
+/// How many lines a word says: a number in base ten.
+#[tactic(auto, using(crate::proofs::WordLemmas::count_unknown))]
+pub(crate) fn count_of(word: &str) -> Option<usize>
+    ensures known { IfSome result (IsCountWord word.now) }
+    ensures unknown { IfNone result ((count : ℕ) → IsCountWord word.now count → ⊥) }
+{
+    match word.parse::<usize>() {
+        Ok(count) => Some(count),
+        Err(_) => None,
     }
 }
 

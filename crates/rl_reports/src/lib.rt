@@ -1,6 +1,7 @@
 //! What is reported of the files that a walk visits, and the command line of the program that does so.
 #![tactic(auto)]
 
+mod clash;
 mod command;
 mod ending;
 mod flags;

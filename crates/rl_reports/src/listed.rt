@@ -1,19 +1,27 @@
-//! Paths that a file names.
+//! Paths that files name.
 
 ghost use Rattle.std.specs.Prelude.{◌≡◌, ◌==◌, ◌++◌, ◌<◌, OnOk, IfErr, IfSome};
 ghost use Rattle.std.specs.List.{flat_map, list_any, slice_split};
 ghost use Rattle.rl_files.specs.Trees.{string_texts};
-ghost use Rattle.rl_reports.specs.Listed.{AreWithListed, names_listed, listed_name, separator_of};
+ghost use Rattle.rl_files.specs.Globs.{borrowed_texts};
+ghost use Rattle.rl_reports.specs.Listed.{AreWithAllListed, AreWithListed, IsFirstUnread, names_listed, listed_name, separator_of};
 ghost use Rattle.rl_reports.specs.Reports.{IsReadError};
 
 use rl_files::{PathError, Tree};
 use std::alloc::{AllocError, Allocator};
 
+/// A file that can't be read, and why.
+#[derive(Clone, Copy)]
+pub(crate) struct Unread<'a> {
+    pub(crate) file: &'a str,
+    pub(crate) why: PathError,
+}
+
 /// Whether there is a NUL.
 fn has_nul(list: &[u8]) -> bool
     ensures { result ≡ list_any (λ b. b == 0) list.now }
 {
-    list.iter().any(|byte| *byte == 0)
+    list.contains(&0)
 }
 
 /// What ends a name: NUL, where there is one in the list, else LF.
@@ -64,7 +72,7 @@ fn push_parts<A: Allocator + Copy>(
 /// # Errors
 ///
 /// Why it can't be read; some of them may have been appended where memory ran out.
-pub(crate) fn push_listed<A: Allocator + Copy, T: Tree>(
+fn push_listed<A: Allocator + Copy, T: Tree>(
     alloc: A,
     tree: &T,
     file: &str,
@@ -86,4 +94,31 @@ pub(crate) fn push_listed<A: Allocator + Copy, T: Tree>(
         Ok(()) => Ok(()),
         Err(_) => Err(PathError::OutOfMemory),
     }
+}
+
+/// Appends the names in files, one file after another.
+///
+/// # Errors
+///
+/// The first file that can't be read, and why; names of files before it have been appended then.
+pub(crate) fn push_all_listed<'f, A: Allocator + Copy, T: Tree>(
+    alloc: A,
+    tree: &T,
+    files: &[&'f str],
+    paths: &mut Vec<String<A>, A>,
+) -> Result<(), Unread<'f>>
+    ensures all { OnOk result (IfSome (T.holds tree.now) (λ w.
+        AreWithAllListed w (borrowed_texts files.now) (string_texts paths.old.items) (string_texts paths.new.items))) }
+    ensures error { IfErr result (λ unread. IfSome (T.holds tree.now) (λ w.
+        IsFirstUnread w (borrowed_texts files.now) (string_texts paths.old.items) unread.file.now unread.why)) }
+{
+    let mut rest = files;
+    while let [file, after @ ..] = rest {
+        match push_listed(alloc, tree, file, paths) {
+            Ok(()) => {}
+            Err(why) => return Err(Unread { file, why }),
+        }
+        rest = after;
+    }
+    Ok(())
 }

@@ -3,16 +3,18 @@
 ghost use Rattle.std.specs.Prelude.{◌≡◌, ◌⊎◌, ◌++◌, [], OnOk, IfOk, IfSome, string_bytes, encode_utf8_all};
 ghost use Rattle.std.specs.Str.{chars, IsUtf8};
 ghost use Rattle.rl_files.specs.Visible.{visible};
-ghost use Rattle.rl_files.specs.Walks.{FileAt, visited};
+ghost use Rattle.rl_files.specs.Walks.{visited};
 ghost use Rattle.rl_files.specs.declared.tree.PathError.{PathError};
 ghost use Rattle.rl_output.specs.Fronts.{line_front};
 ghost use Rattle.rl_sources.specs.Scans.{error_end};
-ghost use Rattle.rl_reports.specs.Reports.{is_input as input, is_by_line as by_line, is_bad as bad, is_alarm as alarm, shows_context as context, IsShownPath, IsPathIn, IsOptionsFor, IsScannedAs, error_form, error_path, error_line_place, worded_place as as_words, error_text, line_count, count_line, path_line, printed_of, in_report, IsTextReport, IsErrorReport, IsNotUtf8, IsReport};
+ghost use Rattle.rl_reports.specs.Reports.{is_input as input, is_by_line as by_line, is_bad as bad, is_alarm as alarm, asks_context as asks, context_of as context, side_lines as on_side, IsShownPath, IsPathIn, IsListReport, IsOptionsFor, IsReadReport, IsScannedAs, error_form, error_path, error_line_place, worded_place as as_words, error_text, after_path as path_end, line_count, count_line, listed_of, path_line, printed_of, in_report, IsTextReport, IsErrorReport, IsNotUtf8, IsReport};
 
+use crate::clash::lists_files;
 use crate::command::{Command, Output, PlaceForm};
 use rl_files::{PathError, Tree, Visit, push_visible};
 use rl_sources::{
-    Form, Options, Paint, Place, ScanError, Shown, is_json, push_painted, push_source_error, scan,
+    Context, Form, Options, Paint, Place, ScanError, Shown, is_json, push_painted,
+    push_source_error, scan,
 };
 use rl_tokens::{LexKind, LineColumn};
 use std::alloc::{AllocError, Allocator, Global};
@@ -87,22 +89,45 @@ fn path_before<'a>(path: &str, shown: &'a str) -> Option<&'a str>
     Some(shown)
 }
 
-/// What stands before each place in a file whose path is printed so: in an object the path itself.
-fn path_in<'a>(form: Form, path: &'a str, shown: Option<&'a str>) -> Option<&'a str>
+/// How a path is written which is printed so: itself, where that is asked for.
+fn path_in<'a>(is_exact: bool, path: &'a str, shown: Option<&'a str>) -> Option<&'a str>
     requires { IsShownPath path.now shown }
-    ensures { IsPathIn form path.now result }
+    ensures { IsPathIn is_exact path.now result }
 {
-    if is_json(form) && shown.is_some() {
+    if is_exact && shown.is_some() {
         return Some(path);
     }
     shown
 }
 
-/// Whether the line of the source stands below each line: where lines are printed, and not how many there are.
-fn shows_context(command: Command<'_>) -> bool
+/// How many lines are shown on one side: as is said of it, or of both.
+fn side_lines(own: Option<usize>, around: Option<usize>) -> usize
+    ensures { result ≡ on_side own around }
+{
+    match (own, around) {
+        (Some(count), _) | (None, Some(count)) => count,
+        (None, None) => 0,
+    }
+}
+
+/// Whether it is said how many lines are shown about that of a place.
+fn asks_context(command: Command<'_>) -> bool
+    ensures { result ≡ asks command.entry }
+{
+    command.around.is_some() || command.before.is_some() || command.after.is_some()
+}
+
+/// How many lines of the source stand below each line, where that is said, and lines are printed, and not how many there are.
+fn context_of(command: Command<'_>) -> Option<Context>
     ensures { result ≡ context command.entry }
 {
-    command.context && matches!(command.output, Output::Lines)
+    if !asks_context(command) || !matches!(command.output, Output::Lines) {
+        return None;
+    }
+    Some(Context {
+        before: side_lines(command.before, command.around),
+        after: side_lines(command.after, command.around),
+    })
 }
 
 /// How a file is scanned, whose path is printed so.
@@ -116,13 +141,13 @@ fn options_for<'a>(command: Command<'a>, path: &'a str, shown: Option<&'a str>) 
         matching: command.matching,
         spelling: command.spelling,
         form: command.form,
-        context: shows_context(command),
+        context: context_of(command),
         by_line: is_by_line(command.places, path),
         rejects_strays: command.rejects_strays,
         any_suffix: command.any_suffix,
         edition: command.edition,
         explains: is_bad(command.shown),
-        path: path_in(command.form, path, shown),
+        path: path_in(is_json(command.form), path, shown),
     }
 }
 
@@ -221,19 +246,28 @@ fn count_lines(lines: &[u8]) -> usize
     lines.iter().filter(|byte| **byte == b'\n').count()
 }
 
+/// What stands after a path with no place: NUL where that is asked for, else this.
+fn after_path(nul: bool, usual: &str) -> &str
+    ensures { result.now ≡ path_end nul usual.now }
+{
+    if nul { "\0" } else { usual }
+}
+
 /// Appends the line that says how many lines a file has.
 fn push_count_line<A: Allocator>(
     out: &mut String<A>,
+    nul: bool,
     form: Form,
     path: Option<&str>,
     count: usize,
 ) -> Result<(), AllocError>
-    ensures { OnOk result (string_bytes out.new ≡ string_bytes out.old ++ count_line form path.entry count) }
+    ensures { OnOk result (string_bytes out.new ≡ string_bytes out.old ++ count_line nul form path.entry count) }
 {
     match path {
         Some(path) => {
             push_painted(out, form, Paint::Path, path)?;
-            writeln!(out, ":{count}")
+            out.push_str(after_path(nul, ":"))?;
+            writeln!(out, "{count}")
         }
         None => writeln!(out, "{count}"),
     }
@@ -242,34 +276,39 @@ fn push_count_line<A: Allocator>(
 /// Appends the line that names a file.
 fn push_path_line<A: Allocator>(
     out: &mut String<A>,
+    nul: bool,
     form: Form,
     path: Option<&str>,
 ) -> Result<(), AllocError>
-    ensures { OnOk result (string_bytes out.new ≡ string_bytes out.old ++ path_line form path.entry) }
+    ensures { OnOk result (string_bytes out.new ≡ string_bytes out.old ++ path_line nul form path.entry) }
 {
     push_painted(out, form, Paint::Path, path.unwrap_or("-"))?;
-    out.push_str("\n")?;
+    out.push_str(after_path(nul, "\n"))?;
     Ok(())
 }
 
-/// What is printed of the lines of a file.
+/// What is printed of the lines of a file, of whose path this is printed.
 fn written<A: Allocator + Copy>(
     alloc: A,
-    output: Output,
+    command: Command<'_>,
     form: Form,
     path: Option<&str>,
     lines: Vec<u8, A>,
 ) -> Result<Vec<u8, A>, AllocError>
-    ensures { IfOk result (λ out. out.items ≡ printed_of output form path.entry lines.items) }
+    ensures { IfOk result (λ out. out.items
+        ≡ printed_of command.entry.output command.entry.nul_after_paths form path.entry lines.items) }
 {
     if lines.is_empty() {
         return Ok(lines);
     }
+    let nul = command.nul_after_paths;
     let mut line = String::new(alloc);
-    match output {
+    match command.output {
         Output::Lines => return Ok(lines),
-        Output::Count => push_count_line(&mut line, form, path, count_lines(lines.as_slice()))?,
-        Output::Path => push_path_line(&mut line, form, path)?,
+        Output::Count => {
+            push_count_line(&mut line, nul, form, path, count_lines(lines.as_slice()))?
+        }
+        Output::Path => push_path_line(&mut line, nul, form, path)?,
         Output::Nothing => {}
     }
     Ok(line.into_bytes())
@@ -294,7 +333,8 @@ fn report_text<A: Allocator + Copy>(
         errors.clear();
     }
     let found = !scanned.lines.is_empty();
-    let out = written(alloc, command.output, options.form, before, scanned.lines)?;
+    let named = path_in(command.nul_after_paths, path, before);
+    let out = written(alloc, command, options.form, named, scanned.lines)?;
     Ok(Report { out, errors, found })
 }
 
@@ -332,6 +372,42 @@ fn report_bytes<A: Allocator + Copy>(
     }
 }
 
+/// What is printed of a file that is listed, of whose path this is printed.
+fn listed<A: Allocator>(
+    alloc: A,
+    command: Command<'_>,
+    path: Option<&str>,
+) -> Result<String<A>, AllocError>
+    ensures { IfOk result (λ out. string_bytes out
+        ≡ listed_of command.entry.output command.entry.nul_after_paths command.entry.form path.entry) }
+{
+    let mut line = String::new(alloc);
+    match command.output {
+        Output::Nothing => {}
+        _ => push_path_line(&mut line, command.nul_after_paths, command.form, path)?,
+    }
+    Ok(line)
+}
+
+/// What is reported of a file that is listed, and not read.
+fn report_listed<A: Allocator + Copy>(
+    alloc: A,
+    command: Command<'_>,
+    path: &str,
+) -> Result<Report<A>, AllocError>
+    ensures { IfOk result (λ r. IsListReport command.entry path.now (in_report r)) }
+{
+    let shown = visible_text(alloc, path)?;
+    let before = path_before(path, shown.as_str());
+    let named = path_in(command.nul_after_paths, path, before);
+    let line = listed(alloc, command, named)?;
+    Ok(Report {
+        out: line.into_bytes(),
+        errors: String::new(alloc),
+        found: true,
+    })
+}
+
 /// What is reported of a file, whose bytes are let go before the next is read.
 fn report_file<A: Allocator + Copy, T: Tree>(
     alloc: A,
@@ -340,7 +416,7 @@ fn report_file<A: Allocator + Copy, T: Tree>(
     path: &str,
 ) -> Result<Report<A>, AllocError>
     ensures { IfOk result (λ r. IfSome (T.holds tree.now)
-        (λ w. IsReport command.entry w (FileAt path.now) (in_report r))) }
+        (λ w. IsReadReport command.entry w path.now (in_report r))) }
 {
     let bytes = match tree.bytes(alloc, path) {
         Ok(bytes) => bytes,
@@ -352,7 +428,8 @@ fn report_file<A: Allocator + Copy, T: Tree>(
     }
 }
 
-/// What is reported of what a walk visits: of a file what is printed of its text, of what can't be read one line.
+/// What is reported of what a walk visits: of a file what is printed of its text, or its path where files are listed; of what
+/// can't be read one line.
 ///
 /// # Errors
 ///
@@ -367,6 +444,9 @@ pub fn report_of<A: Allocator + Copy, T: Tree>(
         (λ w. IsReport command.entry w (visited visit.now) (in_report r))) }
 {
     match visit {
+        Visit::File(path) if lists_files(command.wish) => {
+            report_listed(alloc, command, path.as_str())
+        }
         Visit::File(path) => report_file(alloc, command, tree, path.as_str()),
         Visit::Failed(path, error) => report_error(alloc, path.as_str(), *error),
     }

@@ -8,10 +8,11 @@ ghost use Rattle.rl_reports.specs.declared.flags.Operand.TheVariants as takes;
 ghost use Rattle.rl_reports.specs.declared.words.WordError.TheVariants.{Memory};
 ghost use Rattle.rl_reports.specs.Words.{IsKindWord, AreKindWords, IsUnknownKind, is_path_word, taken_by as flag_before, next_after as follows, NamesLetter, NamesUnknown, AreLetters, AreRejectedLetters, first_wishes, wishes_of, wishes_in, MayStand, with_kinds, with_path, with_text, with_pattern, with_list, IsWithoutDot, IsAdded, IsTaken, IsStep, Asks, IsRejectedFlag, IsRejectedText, IsRejectedJoined, IsRejectedWord, IsMissing, AreRejected};
 
+use crate::clash::clash_of;
 use crate::command::{Command, Output, PlaceForm, Wish};
 use crate::flags::{
-    Flag, Next, Operand, When, add_flag, after_front, edition_of, flag_of, form_in, form_when,
-    format_of, joined_of, letter_of, next_after, recolored, taken_by, when_of,
+    Flag, Next, Operand, When, add_flag, after_front, count_of, edition_of, flag_of, form_in,
+    form_when, format_of, joined_of, letter_of, next_after, recolored, taken_by, when_of,
 };
 use crate::meant::{meant_by, option_part};
 use crate::report::visible_text;
@@ -44,6 +45,10 @@ pub enum WordError<A: Allocator = Global> {
     EmptyText,
     /// A text is looked for in what is bad or hidden.
     BadAndFind,
+    /// A text is looked for in literals of kinds that hold none.
+    TextlessKinds,
+    /// Objects or annotations are asked for, and paths or counts are printed in place of lines.
+    ObjectsOfPaths,
     /// After `--color` no word stands.
     NoColor,
     /// After `--color` stands a word that is none of the three.
@@ -62,6 +67,10 @@ pub enum WordError<A: Allocator = Global> {
     NoFormat,
     /// After `--format` stands a word that is none of the three.
     UnknownFormat(String<A>),
+    /// After `--context`, `--before-context` or `--after-context` stands no word.
+    NoCount,
+    /// After one of these stands a word that says no number of lines.
+    UnknownCount(String<A>),
 }
 
 impl<A: Allocator> From<AllocError> for WordError<A> {
@@ -108,6 +117,14 @@ impl<A: Allocator> fmt::Display for WordError<A> {
             WordError::NoText => write!(f, "-e, --find: which text? as in --find TODO"),
             WordError::EmptyText => write!(f, "-e, --find: an empty text stands everywhere"),
             WordError::BadAndFind => write!(f, "--bad, --hidden and -e, --find: one of them"),
+            WordError::TextlessKinds => write!(
+                f,
+                "-e, --find looks in Str, ByteStr, CStr, Byte and Char, and --only names none of them"
+            ),
+            WordError::ObjectsOfPaths => write!(
+                f,
+                "--json and --format json, github can't be used with -c, --count, -l, --files-with-matches, --files"
+            ),
             WordError::NoColor => write!(f, "--color: when? one of auto, always, never"),
             WordError::UnknownColor(word) => {
                 write!(f, "unknown colour '{word}': one of auto, always, never")
@@ -125,6 +142,10 @@ impl<A: Allocator> fmt::Display for WordError<A> {
             WordError::NoFormat => write!(f, "--format: which? one of text, json, github"),
             WordError::UnknownFormat(word) => {
                 write!(f, "unknown format '{word}': one of text, json, github")
+            }
+            WordError::NoCount => write!(f, "-C, -B, -A: how many lines? as in --context 2"),
+            WordError::UnknownCount(word) => {
+                write!(f, "'{word}' is no number of lines: as in --context 2")
             }
         }
     }
@@ -158,6 +179,8 @@ pub(crate) struct Asked<'a, A: Allocator = Global> {
     pub extensions: Vec<&'a str, A>,
     /// Patterns of what is left out.
     pub excludes: Vec<&'a str, A>,
+    /// Files that name paths.
+    pub lists: Vec<&'a str, A>,
     next: Next,
 }
 
@@ -181,6 +204,7 @@ fn missing<A: Allocator>(operand: Operand) -> WordError<A>
         Operand::List => WordError::NoList,
         Operand::Edition => WordError::NoEdition,
         Operand::Format => WordError::NoFormat,
+        Operand::Around | Operand::Before | Operand::After => WordError::NoCount,
     }
 }
 
@@ -340,6 +364,48 @@ impl<'a, A: Allocator + Copy> Asked<'a, A> {
         Ok(())
     }
 
+    /// Takes how many lines are shown before and after that of a place.
+    fn take_around(&mut self, alloc: A, word: &str) -> Result<(), WordError<A>>
+        ensures taken { OnOk result
+            (IsTaken false takes.Around (wishes_in self.old) word.now (wishes_in self.new)) }
+        ensures next { OnOk result (self.new.next ≡ self.old.next) }
+        ensures rejected { IfErr result (IsRejectedText takes.Around word.now) }
+    {
+        let Some(count) = count_of(word) else {
+            return Err(WordError::UnknownCount(visible_text(alloc, word)?));
+        };
+        self.command.around = Some(count);
+        Ok(())
+    }
+
+    /// Takes how many lines are shown before that of a place.
+    fn take_before(&mut self, alloc: A, word: &str) -> Result<(), WordError<A>>
+        ensures taken { OnOk result
+            (IsTaken false takes.Before (wishes_in self.old) word.now (wishes_in self.new)) }
+        ensures next { OnOk result (self.new.next ≡ self.old.next) }
+        ensures rejected { IfErr result (IsRejectedText takes.Before word.now) }
+    {
+        let Some(count) = count_of(word) else {
+            return Err(WordError::UnknownCount(visible_text(alloc, word)?));
+        };
+        self.command.before = Some(count);
+        Ok(())
+    }
+
+    /// Takes how many lines are shown after that of a place.
+    fn take_after(&mut self, alloc: A, word: &str) -> Result<(), WordError<A>>
+        ensures taken { OnOk result
+            (IsTaken false takes.After (wishes_in self.old) word.now (wishes_in self.new)) }
+        ensures next { OnOk result (self.new.next ≡ self.old.next) }
+        ensures rejected { IfErr result (IsRejectedText takes.After word.now) }
+    {
+        let Some(count) = count_of(word) else {
+            return Err(WordError::UnknownCount(visible_text(alloc, word)?));
+        };
+        self.command.after = Some(count);
+        Ok(())
+    }
+
     /// Takes what the names of files end with.
     fn take_extension(&mut self, text: &'a str) -> Result<(), WordError<A>>
         ensures taken { OnOk result
@@ -365,12 +431,16 @@ impl<'a, A: Allocator + Copy> Asked<'a, A> {
         }
     }
 
-    /// Takes the file that names paths.
-    fn take_list(&mut self, file: &'a str)
-        ensures wishes { wishes_in self.new ≡ with_list file.now (wishes_in self.old) }
-        ensures next { self.new.next ≡ self.old.next }
+    /// Takes a file that names paths.
+    fn take_list(&mut self, file: &'a str) -> Result<(), WordError<A>>
+        ensures wishes { OnOk result (wishes_in self.new ≡ with_list file.now (wishes_in self.old)) }
+        ensures next { OnOk result (self.new.next ≡ self.old.next) }
+        ensures rejected { IfErr result (IsRejectedText takes.List file.now) }
     {
-        self.command.files_from = Some(file);
+        match self.lists.push(file) {
+            Ok(()) => Ok(()),
+            Err(_) => Err(WordError::Memory),
+        }
     }
 
     /// Takes what an option takes; any word may stand after that.
@@ -393,12 +463,12 @@ impl<'a, A: Allocator + Copy> Asked<'a, A> {
             Operand::Color => self.take_color(alloc, has_colors, text),
             Operand::Extension => self.take_extension(text),
             Operand::Pattern => self.take_pattern(text),
-            Operand::List => {
-                self.take_list(text);
-                Ok(())
-            }
+            Operand::List => self.take_list(text),
             Operand::Edition => self.take_edition(alloc, text),
             Operand::Format => self.take_format(alloc, has_colors, text),
+            Operand::Around => self.take_around(alloc, text),
+            Operand::Before => self.take_before(alloc, text),
+            Operand::After => self.take_after(alloc, text),
         }
     }
 
@@ -504,7 +574,7 @@ impl<'a, A: Allocator + Copy> Asked<'a, A> {
 
 /// What is asked for where nothing is said.
 fn first_command<'a>(has_colors: bool) -> Command<'a>
-    ensures { wishes_of result [] [] [] [] ≡ first_wishes has_colors }
+    ensures { wishes_of result [] [] [] [] [] ≡ first_wishes has_colors }
 {
     Command {
         wish: Wish::Scan,
@@ -517,10 +587,13 @@ fn first_command<'a>(has_colors: bool) -> Command<'a>
         },
         places: PlaceForm::Usual,
         output: Output::Lines,
+        nul_after_paths: false,
         rejects_strays: false,
         any_suffix: false,
         edition: Edition::E2021,
-        context: false,
+        around: None,
+        before: None,
+        after: None,
         spelling: Spelling::Value,
         form: form_when(has_colors, When::Auto),
         selection: Selection {
@@ -528,7 +601,7 @@ fn first_command<'a>(has_colors: bool) -> Command<'a>
             extensions: &[],
             excludes: &[],
         },
-        files_from: None,
+        files_from: &[],
         tells_errors: true,
     }
 }
@@ -537,7 +610,8 @@ fn first_command<'a>(has_colors: bool) -> Command<'a>
 ///
 /// # Errors
 ///
-/// The first word that can't be asked for, or at the end what the last option takes is missing, as by `NoKinds`.
+/// The first word that can't be asked for; or at the end what the last option takes is missing, as by `NoKinds`, or what is asked
+/// for doesn't go together: `TextlessKinds`, `ObjectsOfPaths`.
 pub(crate) fn asked_by<A: Allocator + Copy>(
     alloc: A,
     has_colors: bool,
@@ -552,6 +626,7 @@ pub(crate) fn asked_by<A: Allocator + Copy>(
         finds: Vec::new(alloc),
         extensions: Vec::new(alloc),
         excludes: Vec::new(alloc),
+        lists: Vec::new(alloc),
         next: Next::Any,
     };
     for word in words {
@@ -562,6 +637,9 @@ pub(crate) fn asked_by<A: Allocator + Copy>(
     }
     if let Some(operand) = operand_of(asked.next) {
         return Err(missing(operand));
+    }
+    if let Some(error) = clash_of(asked.command) {
+        return Err(error);
     }
     Ok(asked)
 }

@@ -86,6 +86,9 @@ const TYPED: &str = "1u8 256u8 -128i8 129i8 1u9
 const BEFORE: &str = "f\"a\" c'b' #\"c\"# 1u8\"d\" 128i8 -128i8
  -(128i8) /**/ 128i8 5 - 128i8";
 
+/// A word and hashes, and hashes after a number, right before quotes.
+const PREFIXED: &str = "é x_9##\"é\"## 1#\"c\"";
+
 /// What a file of the tree holds that is a text.
 fn text_at(path: &str) -> Option<&'static str> {
     match path {
@@ -105,6 +108,7 @@ fn text_at(path: &str) -> Option<&'static str> {
         "many" => Some(MANY),
         "typed" => Some(TYPED),
         "before" => Some(BEFORE),
+        "prefixed" => Some(PREFIXED),
         "hides" => Some(HIDES),
         "trojan.rs" => Some(TROJAN),
         "marked" => Some(MARKED),

@@ -13,20 +13,22 @@ use Rattle.rl_flaws.specs.BadPieces.{is_of_unit}
 use Rattle.rl_flaws.specs.Flawed.{AreFlawsOf, FlawsState, GivesFlaw, IsPlaceInLeft, StandsInLeft, TakesFlaw}
 use Rattle.rl_flaws.specs.declared.bad_piece.BadPiece.{BadPiece}
 use Rattle.rl_sources.specs.declared.finding.Finding.{Finding}
-use Rattle.rl_sources.specs.declared.finding.Reason.{Reason}
 use Rattle.rl_reading.specs.declared.found.Found.{Found}
 use Rattle.rl_sources.specs.declared.finding.Reason.TheVariants as reason
 use Rattle.rl_sources.specs.declared.options.Options.{Options}
 use Rattle.rl_output.specs.declared.place.Place.{Place}
-use Rattle.rl_sources.specs.Findings.{FindsFlaw, IsFlawFinding, IsLimitFinding, IsPieceOf, IsShownPiece, IsWholeFinding, IsWrongBy}
+use Rattle.rl_sources.specs.Findings.{FindsFlaw, IsFlawFinding, IsLimitFinding, IsPieceOf, IsShownPiece, IsWholeFinding, IsWrong}
 use Rattle.rl_output.specs.Spots.{bytes_before}
+use Rattle.rl_sources.specs.Prefixes.{reserved_prefix}
+use Rattle.rl_sources.specs.declared.finding.Wrong.TheVariants as wrong
+use Rattle.rl_types.specs.declared.type_errors.TypeError.{TypeError}
 use Rattle.rl_sources.specs.Held.{IsCutAt}
 use Rattle.rl_sources.specs.InFile.{AreCuts, IsFlawsOver}
 use Rattle.rl_sources.proofs.InFileLemmas.{file_cut, file_within}
 use Rattle.rl_sources.proofs.ReasonLemmas.{flaw_cut, has_place}
 use Rattle.rl_sources.specs.Places.{IsPlaceIn}
 use Rattle.rl_output.specs.Fronts.{line_front}
-use Rattle.rl_sources.specs.Scans.{AreAllFlawLines, AreFlawLines, AreReasonLines, IsFindingLine, IsLimitLine, IsOwnFindingLine, IsWholeLine, finding_end}
+use Rattle.rl_sources.specs.Scans.{AreAllFlawLines, AreFlawLines, AreReasonLines, IsFindingLine, IsLimitLine, IsOwnFindingLine, IsReservedLine, IsTypeLine, finding_end}
 
 -- ---- what the cursor gives stands in the text
 
@@ -173,12 +175,35 @@ flaw_lines options whole text read lo flaw start old new (inl e) other u is are 
 
 -- ---- what is wrong with a literal as a whole
 
-pub whole_line : (options : Options) (whole text : List ℕ) (found : Option Found) (lo : ℕ) (why : Reason)
-    (finding : Finding) (old new : List ℕ) → IsWrongBy options (bytes_before whole lo) text found why
-    → IsWholeFinding (chars text) why finding → Appends (IsFindingLine options whole (chars text) lo finding) old new
-    → Appends (IsWholeLine options whole text found lo) old new
-whole_line options whole text found lo why finding old new bad is (line, shows, f) =
-    (line, (why, finding, bad, is, shows), f)
+pub reserved_line : (options : Options) (whole text both : List ℕ) (found : Option Found) (lo start : ℕ)
+    (finding : Finding) (old new : List ℕ) → IsWrong options (bytes_before whole lo) text found wrong.Reserved
+    → both ≡ reserved_prefix (bytes_before whole lo) text ++ chars text
+    → start + length (reserved_prefix (bytes_before whole lo) text) ≡ lo
+    → IsWholeFinding both reason.Reserved finding → Appends (IsFindingLine options whole both start finding) old new
+    → Appends (IsReservedLine options whole text found lo) old new
+reserved_line options whole text both found lo start finding old new bad both_is start_is is (line, shows, f) =
+    let prefix = reserved_prefix (bytes_before whole lo) text in (
+      line,
+      (
+        prefix,
+        start,
+        finding,
+        bad,
+        refl,
+        start_is,
+        subst (λ (z : List ℕ). IsWholeFinding z reason.Reserved finding) both_is is,
+        subst (λ (z : List ℕ). IsFindingLine options whole z start finding line) both_is shows,
+      ),
+      f,
+    )
+
+pub type_line : (options : Options) (whole text : List ℕ) (found : Option Found) (lo : ℕ) (error : TypeError)
+    (finding : Finding) (old new : List ℕ) → IsWrong options (bytes_before whole lo) text found (wrong.Type error)
+    → IsWholeFinding (chars text) (reason.Type error) finding
+    → Appends (IsFindingLine options whole (chars text) lo finding) old new
+    → Appends (IsTypeLine options whole text found lo) old new
+type_line options whole text found lo error finding old new bad is (line, shows, f) =
+    (line, (error, finding, bad, is, shows), f)
 
 -- ---- any of these
 
@@ -192,10 +217,15 @@ pub limit_says : (options : Options) (whole text : List ℕ) (found : Option Fou
     → Appends (AreReasonLines options whole text found lo) old new
 limit_says options whole text found lo old new (line, shows, f) = (line, inr (inl shows), f)
 
-pub whole_says : (options : Options) (whole text : List ℕ) (found : Option Found) (lo : ℕ) (old new : List ℕ)
-    → Appends (IsWholeLine options whole text found lo) old new
+pub reserved_says : (options : Options) (whole text : List ℕ) (found : Option Found) (lo : ℕ) (old new : List ℕ)
+    → Appends (IsReservedLine options whole text found lo) old new
     → Appends (AreReasonLines options whole text found lo) old new
-whole_says options whole text found lo old new (line, shows, f) = (line, inr (inr shows), f)
+reserved_says options whole text found lo old new (line, shows, f) = (line, inr (inr (inl shows)), f)
+
+pub type_says : (options : Options) (whole text : List ℕ) (found : Option Found) (lo : ℕ) (old new : List ℕ)
+    → Appends (IsTypeLine options whole text found lo) old new
+    → Appends (AreReasonLines options whole text found lo) old new
+type_says options whole text found lo old new (line, shows, f) = (line, inr (inr (inr shows)), f)
 
 -- ---- the places of findings
 

@@ -7,6 +7,7 @@ pub mod SearchLemmas
 pub mod ReasonLemmas
 pub mod InFileLemmas
 pub mod FlawLineLemmas
+pub mod PrefixLemmas
 pub mod HiddenLemmas
 pub mod WriteLemmas
 pub mod JsonLemmas

@@ -150,19 +150,22 @@ passes_unasked options before text found (Some f) none asked is = absurd (none-s
 passes_unasked options before text found None none asked is = none (inl is)
 
 -- that Rust has no type for what was found, or has one, as a minus before it was judged
-pub error_behind : (before text : List ℕ) (f : Found) (o : Option Found) (negated : Bool) (r : Option TypeError) → o ≡ Some f
+pub error_after : (before text : List ℕ) (f : Found) (o : Option Found) (negated : Bool) (r : Option TypeError) → o
+    ≡ Some f
     → negated ≡ may_negate before
     → IfSome r (λ e. HasTypeError e f.kind (chars text) f.magnitude negated (suffix_in text f.body))
     → IfSome r (HasFoundError before text o)
-error_behind before text f o negated r is same h =
+error_after before text f o negated r is same h =
     subst (λ (z : Option Found). IfSome r (HasFoundError before text z)) (sym is)
-    (subst (λ (n : Bool). IfSome r (λ e. HasTypeError e f.kind (chars text) f.magnitude n (suffix_in text f.body))) same h)
+    (subst (λ (n : Bool). IfSome r (λ e. HasTypeError e f.kind (chars text) f.magnitude n (suffix_in text f.body))) same
+    h)
 
-pub type_behind : (before text : List ℕ) (f : Found) (o : Option Found) (negated : Bool) (r : Option TypeError) → o ≡ Some f
+pub type_after : (before text : List ℕ) (f : Found) (o : Option Found) (negated : Bool) (r : Option TypeError) → o
+    ≡ Some f
     → negated ≡ may_negate before
     → IfNone r (HasType f.kind (chars text) f.magnitude negated (suffix_in text f.body))
     → IfNone r (HasFoundType before text o)
-type_behind before text f o negated r is same h =
+type_after before text f o negated r is same h =
     subst (λ (z : Option Found). IfNone r (HasFoundType before text z)) (sym is)
     (subst (λ (n : Bool). IfNone r (HasType f.kind (chars text) f.magnitude n (suffix_in text f.body))) same h)
 
@@ -180,7 +183,8 @@ no_error_found before text None error has is = is
 no_error_found before text (Some f) error has is =
     no_both error f.kind (chars text) f.magnitude (may_negate before) (suffix_in text f.body) is has
 
-not_bad : (options : Options) (before text : List ℕ) (found : Option Found) (bad : Wrong) → IsRight options before text found
+not_bad : (options : Options) (before text : List ℕ) (found : Option Found) (bad : Wrong)
+    → IsRight options before text found
     → IsWrong options before text found bad → ⊥
 not_bad options before text found (wrong.Flaw flaw) right is = no_flaw_found (chars text) flaw right.0 is
 not_bad options before text found wrong.Reserved right is = false≢true (sym right.1 ∙ is.1)
@@ -190,7 +194,8 @@ not_bad options before text found (wrong.Type error) right is = elim right.2 [
 ]
 
 -- what was looked for says whether a literal is picked
-pub picks_found : (options : Options) (before text : List ℕ) (found : Option Found) (label : List ℕ) (bad : Option Wrong)
+pub picks_found : (options : Options) (before text : List ℕ) (found : Option Found) (label : List ℕ)
+    (bad : Option Wrong)
     (r b : Bool) → r ≡ is_some bad → IfSome bad (IsWrong options before text found)
     → IfNone bad (LooksForFlaws options → IsRight options before text found)
     → IsTrue b ↔ Picks options.shown label (IsTrue r) → IsTrue b ↔ IsPicked options before text found label
@@ -228,7 +233,8 @@ not_held soughts options whole text lo old none = ([], (None, none, refl), sym (
 
 -- texts are looked for
 pub picked_held : (soughts : List (Bor (List ℕ))) (options : Options) (whole text : List ℕ) (lo hi : ℕ)
-    (old new : List ℕ) → false ≡ (length soughts == 0) → Appends (IsHeldLine (borrowed_texts soughts) options whole text lo) old new
+    (old new : List ℕ) → false ≡ (length soughts == 0) → Appends
+    (IsHeldLine (borrowed_texts soughts) options whole text lo) old new
     → Appends (IsPickedLine (borrowed_texts soughts) options whole text lo hi) old new
 picked_held [] options whole text lo hi old new some line = absurd (false≢true some)
 picked_held (s ∷ ss) options whole text lo hi old new some line = line
@@ -254,7 +260,8 @@ picked_line options whole text found label lo hi old new is_label read picked (s
     (shown, (label, text, found, is_label, refl, read, inl (picked, is)), e)
 
 -- nothing of a text that isn't picked
-pub not_picked : (options : Options) (whole text : List ℕ) (found : Option Found) (label : List ℕ) (lo hi : ℕ) (old : List ℕ)
+pub not_picked : (options : Options) (whole text : List ℕ) (found : Option Found) (label : List ℕ) (lo hi : ℕ)
+    (old : List ℕ)
     → IsLabelOf (chars text) label → IsFoundIn text found
     → (IsPicked options (bytes_before whole lo) text found label → ⊥)
     → Appends (IsShownLiteral options whole (chars text) lo hi) old old

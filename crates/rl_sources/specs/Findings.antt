@@ -27,7 +27,7 @@ use Rattle.rl_sources.specs.declared.finding.Reason.TheVariants as reason
 -- what is wrong, in words, and by a name that stays
 abbrev pub reason_message : Reason → List ℕ
 reason_message (reason.Flaw kind) = flaw_message kind
-reason_message reason.Reserved = codes "a reserved prefix stands right before it"
+reason_message reason.Reserved = codes "reserved prefix"
 reason_message (reason.Type error) = type_error_message error
 
 abbrev pub reason_id : Reason → List ℕ
@@ -48,7 +48,7 @@ pub record IsFoundIn (text : List ℕ) (found : Option Found) : Type 0 where
   pub none : IfNone found (HasNoReading (chars text))
   pub some : IfSome found (IsFound text)
 
--- Rust has no type for what was found behind these bytes, or has one. A text without a reading is a float by its suffix.
+-- Rust has no type for what was found after these bytes, or has one. A text without a reading is a float by its suffix.
 abbrev pub HasFoundError : List ℕ → List ℕ → Option Found → TypeError → Type 0
 HasFoundError before text None error = ⊥
 HasFoundError before text (Some found) error =
@@ -59,7 +59,8 @@ HasFoundType before text None = ⊤
 HasFoundType before text (Some found) =
     HasType found.kind (chars text) found.magnitude (may_negate before) (suffix_in text found.body)
 
--- What is wrong with the text of a literal, in bytes, which stands behind these, of what was found: it has flaws; what stands right
+-- What is wrong with the text of a literal, in bytes, which stands after these, of what was found: it has flaws; what
+-- stands right
 -- before it is reserved in the edition; or Rust has no type for it, where that is asked for.
 abbrev pub IsWrong : Options → List ℕ → List ℕ → Option Found → Wrong → Type 0
 IsWrong options before text found (wrong.Flaw flaw) = FindsFlaw (chars text) flaw
@@ -78,12 +79,6 @@ IsRight options before text found =
 -- something is
 abbrev pub IsBad : Options → List ℕ → List ℕ → Option Found → Type 0
 IsBad options before text found = (why : Wrong) × IsWrong options before text found why
-
--- it is wrong by this reason, which is that of the whole literal
-abbrev pub IsWrongBy : Options → List ℕ → List ℕ → Option Found → Reason → Type 0
-IsWrongBy options before text found (reason.Flaw kind) = ⊥
-IsWrongBy options before text found reason.Reserved = IsWrong options before text found wrong.Reserved
-IsWrongBy options before text found (reason.Type error) = IsWrong options before text found (wrong.Type error)
 
 -- the bytes from `lo` to `hi` are a text
 abbrev pub IsSlice : List ℕ → ℕ → ℕ → Type 0
@@ -118,7 +113,7 @@ pub record IsLimitFinding (text : List ℕ) (flaw : Flaw) (finding : Finding) : 
   pub from_is : finding.from ≡ 0
   pub to_is : finding.to ≡ byte_len text
 
--- What is wrong with a literal as a whole: place and piece are the literal.
+-- What is wrong with a text as a whole: place and piece are the text.
 pub record IsWholeFinding (text : List ℕ) (why : Reason) (finding : Finding) : Type 0 where
   pub reason_is : finding.reason ≡ why
   pub lo_is : finding.lo ≡ 0

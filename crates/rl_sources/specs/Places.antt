@@ -1,8 +1,10 @@
 -- Places of a source, as they are printed.
-use Rattle.std.specs.Prelude.{◌≡◌, ◌⊎◌, ℕ, ◌+◌, ◌-◌, Bool, false, true, not, ◌&&◌, List, [], ◌++◌}
+use Rattle.std.specs.Prelude.{◌≡◌, ℕ, ◌+◌, ◌-◌, false, true, cond, List, [], ◌++◌, Option, Some, None}
+use Rattle.std.specs.Str.{chars}
 use Rattle.rl_text.specs.Texts.{byte_len}
 use Rattle.rl_lexer.specs.declared.lines.LineColumn.{LineColumn}
-use Rattle.rl_output.specs.Contexts.{IsBeforeInLine, context_lines}
+use Rattle.rl_output.specs.Contexts.{HasLinesBefore, after_first_line, context_lines, shown_lines}
+use Rattle.rl_output.specs.declared.context.Context.{Context}
 use Rattle.rl_output.specs.Forms.{has_extents}
 use Rattle.rl_output.specs.Spots.{IsExtentOf, IsSpotAt}
 use Rattle.rl_output.specs.declared.place.Place.{Place}
@@ -25,23 +27,29 @@ IsPlaceIn options text lo hi (Line at) =
     (has_extents options.form ≡ false) × (options.by_line ≡ true) × IsLineColumnAt text lo at
 IsPlaceIn options text lo hi (Whole extent) = (has_extents options.form ≡ true) × IsExtentOf text lo hi extent
 
--- whether the line of the source where a place begins stands below each line
-abbrev pub has_context : Options → Bool
-has_context options = options.context && not (has_extents options.form)
+-- how many lines of the source stand below each line, before and after that of its place, where some do
+abbrev pub context_for : Options → Option Context
+context_for options = cond (has_extents options.form) None options.context
 
--- What is shown of the source for these bytes of it: the line where they begin, and carets below them.
-pub record IsContextOf (whole : List ℕ) (lo hi : ℕ) (shown : List ℕ) : Type 0 where
+-- What is shown of the source for these bytes of it: lines before the one where they begin, that line with carets below
+-- them,
+-- and lines after it.
+pub record IsContextOf (context : Context) (whole : List ℕ) (lo hi : ℕ) (shown : List ℕ) : Type 0 where
   pub rest : List ℕ
   pub before : List ℕ
+  pub last : List ℕ
   pub begins : lo + byte_len rest ≡ byte_len whole
-  pub line : IsBeforeInLine whole rest before
-  pub shown_is : shown ≡ context_lines before rest (hi - lo)
+  pub lines : HasLinesBefore context.before whole rest last before
+  pub shown_is : shown ≡ shown_lines context.before (chars last) ++ (context_lines before rest (hi - lo)
+      ++ shown_lines context.after (after_first_line rest))
 
 -- the same where that is wanted, else nothing
+abbrev pub IsContextFor : Option Context → List ℕ → ℕ → ℕ → List ℕ → Type 0
+IsContextFor None whole lo hi shown = shown ≡ []
+IsContextFor (Some context) whole lo hi shown = IsContextOf context whole lo hi shown
+
 abbrev pub IsContextIn : Options → List ℕ → ℕ → ℕ → List ℕ → Type 0
-IsContextIn options whole lo hi shown =
-    ((has_context options ≡ true) × IsContextOf whole lo hi shown)
-    ⊎ ((has_context options ≡ false) × (shown ≡ []))
+IsContextIn options whole lo hi shown = IsContextFor (context_for options) whole lo hi shown
 
 -- such a line of these bytes of the source, and below it what is shown of the source for them
 abbrev pub WithContext : (List ℕ → Type 0) → Options → List ℕ → ℕ → ℕ → List ℕ → Type 0

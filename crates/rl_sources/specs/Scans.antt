@@ -2,7 +2,7 @@
 -- for one that says why it is bad; or a line for each character that turns or hides text. Texts and what is shown are
 -- lists of characters, what
 -- is written lists of bytes.
-use Rattle.std.specs.Prelude.{◌∷◌, ◌≡◌, ◌≢◌, ◌⊎◌, ◌↔◌, ℕ, ◌+◌, Bool, List, [], ◌++◌, IsTrue, codes, encode_utf8_all, Option, Some, None}
+use Rattle.std.specs.Prelude.{◌∷◌, ◌≡◌, ◌≢◌, ◌⊎◌, ◌↔◌, ℕ, ◌+◌, Bool, List, [], ◌++◌, IsTrue, codes, encode_utf8_all, length, Option, Some, None}
 use Rattle.std.specs.List.{All}
 use Rattle.std.specs.Io.KnownBytes.{Appends, Keeps}
 use Rattle.rl_text.specs.Texts.{byte_len}
@@ -40,9 +40,13 @@ use Rattle.rl_sources.specs.declared.options.Shown.TheVariants as asked
 use Rattle.rl_sources.specs.declared.scan_error.ScanError.{ScanError}
 use Rattle.rl_sources.specs.declared.scan_error.ScanError.TheVariants.{Fault, Source}
 use Rattle.rl_output.specs.Spots.{bytes_before}
-use Rattle.rl_sources.specs.Findings.{AreFlawsLeft, IsBad, IsFlawFinding, IsFoundIn, IsLimitFinding, IsPieceOf, IsRight, IsWholeFinding, IsWrongBy, reason_id, reason_message}
+use Rattle.rl_sources.specs.Findings.{AreFlawsLeft, IsBad, IsFlawFinding, IsFoundIn, IsLimitFinding, IsPieceOf, IsRight, IsWholeFinding, IsWrong, reason_id, reason_message}
 use Rattle.rl_sources.specs.declared.finding.Finding.{Finding}
 use Rattle.rl_sources.specs.declared.finding.Reason.{Reason}
+use Rattle.rl_sources.specs.declared.finding.Reason.TheVariants as reason
+use Rattle.rl_sources.specs.declared.finding.Wrong.TheVariants as wrong
+use Rattle.rl_sources.specs.Prefixes.{reserved_prefix}
+use Rattle.rl_types.specs.declared.type_errors.TypeError.{TypeError}
 use Rattle.rl_reading.specs.declared.found.Found.{Found}
 use Rattle.std.specs.Str.{chars}
 use Rattle.rl_files.specs.Globs.{borrowed_texts}
@@ -139,19 +143,31 @@ IsLimitLine options whole text lo shown =
     IsToken (lf_text text) × ((flaw : Flaw) × (finding : Finding) × ExplainsLimit text flaw
     × IsLimitFinding text flaw finding × IsFindingLine options whole text lo finding shown)
 
--- the line of what is wrong with a literal as a whole, its text in bytes: what stands right before it is reserved, or Rust has no
--- type for it
-abbrev pub IsWholeLine : Options → List ℕ → List ℕ → Option Found → ℕ → List ℕ → Type 0
-IsWholeLine options whole text found lo shown =
-    (why : Reason) × (finding : Finding) × IsWrongBy options (bytes_before whole lo) text found why
-    × IsWholeFinding (chars text) why finding × IsFindingLine options whole (chars text) lo finding shown
+-- the line of a literal, its text in bytes, with the prefix right before it that is reserved: of both together, from
+-- where the prefix
+-- begins
+abbrev pub IsReservedLine : Options → List ℕ → List ℕ → Option Found → ℕ → List ℕ → Type 0
+IsReservedLine options whole text found lo shown =
+    (prefix : List ℕ) × (start : ℕ) × (finding : Finding)
+    × IsWrong options (bytes_before whole lo) text found wrong.Reserved
+    × (prefix ≡ reserved_prefix (bytes_before whole lo) text) × (start + length prefix ≡ lo)
+    × IsWholeFinding (prefix ++ chars text) reason.Reserved finding
+    × IsFindingLine options whole (prefix ++ chars text) start finding shown
 
--- the lines that say why a literal, its text in bytes, which begins at this byte of the whole source, is bad: one for each of its
--- flaws, or the one of an integer past 128 bits, or of what is wrong with it as a whole
+-- the line of a literal, its text in bytes, that Rust has no type for
+abbrev pub IsTypeLine : Options → List ℕ → List ℕ → Option Found → ℕ → List ℕ → Type 0
+IsTypeLine options whole text found lo shown =
+    (error : TypeError) × (finding : Finding) × IsWrong options (bytes_before whole lo) text found (wrong.Type error)
+    × IsWholeFinding (chars text) (reason.Type error) finding
+    × IsFindingLine options whole (chars text) lo finding shown
+
+-- the lines that say why a literal, its text in bytes, which begins at this byte of the whole source, is bad: one for
+-- each of its
+-- flaws, or the one of an integer past 128 bits, of a reserved prefix, or of a literal that Rust has no type for
 abbrev pub AreReasonLines : Options → List ℕ → List ℕ → Option Found → ℕ → List ℕ → Type 0
 AreReasonLines options whole text found lo shown =
     AreAllFlawLines options whole (chars text) lo shown ⊎ IsLimitLine options whole (chars text) lo shown
-    ⊎ IsWholeLine options whole text found lo shown
+    ⊎ IsReservedLine options whole text found lo shown ⊎ IsTypeLine options whole text found lo shown
 
 -- the lines of a literal, its text in bytes, of what was found: where it is asked for, and it is bad, those that say
 -- why; else its
@@ -174,7 +190,8 @@ IsLineAtRange None options whole text lo shown = shown ≡ []
 IsLineAtRange (Some range) options whole text lo shown =
     IsPlacedLine options whole text (lo + range.0) (lo + range.1) shown
 
--- what is shown where these are looked for: where the contents of the literal hold one, the literal's line, at the place of
+-- what is shown where these are looked for: where the contents of the literal hold one, the literal's line, at the
+-- place of
 -- what gives that which stands first; else nothing
 abbrev pub IsHeldLine : List (List ℕ) → Options → List ℕ → List ℕ → ℕ → List ℕ → Type 0
 IsHeldLine soughts options whole text lo shown =
@@ -187,7 +204,7 @@ IsPickedLine [] options whole text lo hi shown = IsLineIn options whole text lo 
 IsPickedLine (sought ∷ soughts) options whole text lo hi shown =
     IsHeldLine (sought ∷ soughts) options whole text lo shown
 
--- the literal, its text in bytes, behind these, of what was found, is picked, whose line begins with this word
+-- the literal, its text in bytes, after these, of what was found, is picked, whose line begins with this word
 abbrev pub IsPicked : Options → List ℕ → List ℕ → Option Found → List ℕ → Type 0
 IsPicked options before text found label = Picks options.shown label (IsBad options before text found)
 

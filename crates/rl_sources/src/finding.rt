@@ -48,7 +48,7 @@ impl Reason {
     {
         match self {
             Reason::Flaw(kind) => kind.words(),
-            Reason::Reserved => "a reserved prefix stands right before it",
+            Reason::Reserved => "reserved prefix",
             Reason::Type(error) => error.words(),
         }
     }

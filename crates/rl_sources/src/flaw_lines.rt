@@ -7,21 +7,23 @@ ghost use Rattle.rl_file_reasons.specs.FileTexts.{IsPlaceInFile, lf_text};
 ghost use Rattle.rl_flaws.specs.BadPieces.{is_of_unit};
 ghost use Rattle.rl_reasons.specs.declared.flaws.FlawKind.TheVariants.{TooLarge};
 ghost use Rattle.rl_lines.specs.Lines.{Appends};
-ghost use Rattle.rl_sources.specs.Findings.{FindsFlaw, IsFlawFinding, IsLimitFinding, IsWholeFinding, IsWrong, IsWrongBy};
+ghost use Rattle.rl_sources.specs.Findings.{FindsFlaw, IsFlawFinding, IsLimitFinding, IsWholeFinding, IsWrong};
 ghost use Rattle.rl_output.specs.Spots.{bytes_before};
 ghost use Rattle.rl_sources.specs.Held.{IsCutAt};
 ghost use Rattle.rl_sources.specs.InFile.{AreCuts, IsFlawsOver, StandsInFile};
-ghost use Rattle.rl_sources.specs.Scans.{AreAllFlawLines, AreFlawLines, AreReasonLines, IsLimitLine, IsWholeLine};
+ghost use Rattle.rl_sources.specs.Scans.{AreAllFlawLines, AreFlawLines, AreReasonLines, IsLimitLine, IsReservedLine, IsTypeLine};
 ghost use Rattle.rl_sources.specs.Steps.{BeginsRest};
 
 use crate::finding::{Finding, Reason, Wrong};
 use crate::in_file::{ReadPlace, front_of, place_at, read_text};
 use crate::literal::Literal;
 use crate::options::Options;
+use crate::prefix::with_prefix;
 use crate::reason::push_finding;
 use rl_flaws::{BadPiece, Flaws, is_of_unit};
 use rl_output::Places;
 use rl_reasons::{Flaw, FlawKind};
+use rl_types::TypeError;
 use std::alloc::{AllocError, Allocator};
 
 /// A place in the file, in bytes of the text.
@@ -194,24 +196,51 @@ fn whole_of(text: &str, reason: Reason) -> Finding
     }
 }
 
-/// Appends the line of what is wrong with a literal as a whole.
-fn push_whole<'t, A: Allocator>(
+/// Appends the line of a literal right after what is reserved with it.
+fn push_reserved<'t, A: Allocator>(
     out: &mut String<A>,
     options: &Options<'_>,
     literal: &Literal<'_, 't>,
     places: &mut Places<'t>,
-    reason: Reason,
 ) -> Result<(), AllocError>
     requires rest { BeginsRest literal.now.token.now places.old literal.now.rest.now }
-    requires wrong { IsWrongBy options.now (bytes_before (chars places.old) literal.now.token.now.lo)
-        literal.now.token.now.text.now literal.now.found.now reason }
+    requires wrong { IsWrong options.now (bytes_before (chars places.old) literal.now.token.now.lo)
+        literal.now.token.now.text.now literal.now.found.now Wrong.Reserved }
     ensures shown { OnOk result (Appends
-        (IsWholeLine options.now (chars places.old) literal.now.token.now.text.now literal.now.found.now
+        (IsReservedLine options.now (chars places.old) literal.now.token.now.text.now literal.now.found.now
         literal.now.token.now.lo)
         (chars (string_bytes out.old)) (chars (string_bytes out.new))) }
     ensures same { places.new ≡ places.old }
 {
-    let finding = whole_of(literal.token.text, reason);
+    let (token, rest) = with_prefix(*literal.token, literal.rest, places);
+    let whole = Literal {
+        token: &token,
+        rest,
+        found: literal.found,
+        wrong: literal.wrong,
+    };
+    let finding = whole_of(token.text, Reason::Reserved);
+    push_finding(out, options, &whole, places, finding)
+}
+
+/// Appends the line of a literal that Rust has no type for.
+fn push_typeless<'t, A: Allocator>(
+    out: &mut String<A>,
+    options: &Options<'_>,
+    literal: &Literal<'_, 't>,
+    places: &mut Places<'t>,
+    error: TypeError,
+) -> Result<(), AllocError>
+    requires rest { BeginsRest literal.now.token.now places.old literal.now.rest.now }
+    requires wrong { IsWrong options.now (bytes_before (chars places.old) literal.now.token.now.lo)
+        literal.now.token.now.text.now literal.now.found.now (Wrong.Type error) }
+    ensures shown { OnOk result (Appends
+        (IsTypeLine options.now (chars places.old) literal.now.token.now.text.now literal.now.found.now
+        literal.now.token.now.lo)
+        (chars (string_bytes out.old)) (chars (string_bytes out.new))) }
+    ensures same { places.new ≡ places.old }
+{
+    let finding = whole_of(literal.token.text, Reason::Type(error));
     push_finding(out, options, literal, places, finding)
 }
 
@@ -237,7 +266,7 @@ pub(crate) fn push_wrong<'t, A: Allocator>(
     match wrong {
         Wrong::Flaw(flaw) if is_limit(flaw) => push_limit(out, options, literal, places, flaw),
         Wrong::Flaw(flaw) => push_flaws(alloc, out, options, literal, places, flaw),
-        Wrong::Reserved => push_whole(out, options, literal, places, Reason::Reserved),
-        Wrong::Type(error) => push_whole(out, options, literal, places, Reason::Type(error)),
+        Wrong::Reserved => push_reserved(out, options, literal, places),
+        Wrong::Type(error) => push_typeless(out, options, literal, places, error),
     }
 }

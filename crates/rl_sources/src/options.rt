@@ -3,7 +3,7 @@
 ghost use Rattle.std.specs.Prelude.{◌↔◌, IsTrue};
 ghost use Rattle.rl_sources.specs.Options.{Names, Picks};
 
-use rl_output::Form;
+use rl_output::{Context, Form};
 use rl_types::Edition;
 
 /// How a literal is printed.
@@ -53,9 +53,9 @@ pub struct Options<'a> {
     pub spelling: Spelling,
     /// How each line is written.
     pub form: Form,
-    /// Whether the line of the source where a place begins stands below each line, with carets under the place; not in the
-    /// forms `Json` and `Github`.
-    pub context: bool,
+    /// Where it is given, the line of the source where a place begins stands below each line, with carets under the place, and so many
+    /// lines before and after it; not in the forms `Json` and `Github`.
+    pub context: Option<Context>,
     /// Whether places are printed as lines and columns, and not as bytes.
     pub by_line: bool,
     /// Whether a stray character is an error, as it is in Rust.
@@ -83,7 +83,7 @@ impl Default for Options<'_> {
       matching = record { ignores_case = false; whole_words = false };
       spelling = Value;
       form = Plain;
-      context = false;
+      context = None;
       by_line = false;
       rejects_strays = false;
       explains = false;
@@ -103,7 +103,7 @@ impl Default for Options<'_> {
             },
             spelling: Spelling::Value,
             form: Form::Plain,
-            context: false,
+            context: None,
             by_line: false,
             rejects_strays: false,
             explains: false,

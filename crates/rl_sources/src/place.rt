@@ -6,11 +6,11 @@ ghost use Rattle.rl_text.specs.Texts.{byte_len};
 ghost use Rattle.rl_lexer.specs.Cursors.{IsCursorState};
 ghost use Rattle.rl_lines.specs.Lines.{Appends};
 ghost use Rattle.rl_sources.specs.Held.{IsCutAt};
-ghost use Rattle.rl_sources.specs.Places.{IsContextIn, IsContextOf, IsPlaceIn, has_context};
+ghost use Rattle.rl_sources.specs.Places.{IsContextIn, IsContextOf, IsPlaceIn, context_for as wanted_context};
 ghost use Rattle.rl_sources.specs.Steps.{BeginsRest};
 
 use crate::options::Options;
-use rl_output::{Place, Places, Spot, has_extents, push_context};
+use rl_output::{Context, Place, Places, Spot, has_extents, push_context};
 use rl_tokens::{LineColumn, SourceToken};
 use std::alloc::{AllocError, Allocator};
 
@@ -60,19 +60,23 @@ pub(crate) fn place_inside<'t>(
     place_of(options, places, inside, lo, hi)
 }
 
-/// Whether the line of the source where a place begins stands below each line.
+/// How many lines of the source stand below each line, about that of its place, where some do.
 #[inline(always)]
-fn shows_context(options: &Options<'_>) -> bool
-    ensures { result ≡ has_context options.now }
+fn context_for(options: &Options<'_>) -> Option<Context>
+    ensures { result ≡ wanted_context options.now }
 {
-    options.context && !has_extents(options.form)
+    if has_extents(options.form) {
+        return None;
+    }
+    options.context
 }
 
-/// Appends the line of the source where the bytes from `lo` to `hi` begin, and carets below them; the rest of the text begins at the
-/// first.
+/// Appends the line of the source where the bytes from `lo` to `hi` begin, with carets below them, and lines before and after it; the
+/// rest of the text begins at the first.
 #[inline(never)]
 fn push_context_at<'t, A: Allocator>(
     out: &mut String<A>,
+    context: Context,
     places: &mut Places<'t>,
     rest: &'t str,
     lo: usize,
@@ -80,12 +84,13 @@ fn push_context_at<'t, A: Allocator>(
 ) -> Result<(), AllocError>
     requires text { IsCursorState places.old rest.now }
     requires lo { lo + length rest.now ≡ length places.old }
-    ensures context { OnOk result (Appends (IsContextOf (chars places.old) lo hi)
+    ensures context { OnOk result (Appends (IsContextOf context (chars places.old) lo hi)
         (chars (string_bytes out.old)) (chars (string_bytes out.new))) }
     ensures same { places.new ≡ places.old }
 {
-    let before = places.line_before(rest);
-    push_context(out, before, rest, hi.saturating_sub(lo))
+    let (lines, before) = places.lines_before(rest, context.before);
+    let bytes = hi.saturating_sub(lo);
+    push_context(out, context, lines, before, rest, bytes)
 }
 
 /// Appends what stands below the line of these bytes, where that is wanted.
@@ -104,10 +109,10 @@ pub(crate) fn push_context_of<'t, A: Allocator>(
         (chars (string_bytes out.old)) (chars (string_bytes out.new))) }
     ensures same { places.new ≡ places.old }
 {
-    if !shows_context(options) {
-        return Ok(());
+    match context_for(options) {
+        Some(context) => push_context_at(out, context, places, rest, lo, hi),
+        None => Ok(()),
     }
-    push_context_at(out, places, rest, lo, hi)
 }
 
 /// Appends what stands below the line of bytes of a token's text, where that is wanted; the rest of the source begins with the token.

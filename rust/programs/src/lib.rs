@@ -6,8 +6,7 @@
 
 #[cfg_attr(not(feature = "rendered"), allow(dead_code))]
 #[allow(unused_imports, unused_variables)]
-// (`contains` for `any` in the sources: when they change next)
-#[allow(clippy::style, clippy::complexity, clippy::pedantic, clippy::manual_contains)]
+#[allow(clippy::style, clippy::complexity, clippy::pedantic)]
 #[rustfmt::skip]
 mod proved;
 pub mod rattle_std;

@@ -4,10 +4,16 @@
 use navyspindle_programs::rattle_std::alloc::Global;
 use navyspindle_programs::rattle_std::{string::String as Line, vec::Vec as Bytes};
 use navyspindle_programs::rl_sources::{
-    push_source_error, scan, Form, Options, ScanError, Shown, Spelling,
+    push_source_error, scan, Context, Form, Options, ScanError, Shown, Spelling,
 };
 use std::io::Write;
 use std::process::{Command, Stdio};
+
+/// The line of a place alone.
+const LINE: Context = Context {
+    before: 0,
+    after: 0,
+};
 
 /// What is printed of a source, and of its error.
 fn printed(options: Options<'_>, text: &str) -> String {
@@ -92,7 +98,7 @@ fn annotations_of_what_hides_text() {
 fn context_of_what_is_bad() {
     let options = Options {
         by_line: true,
-        context: true,
+        context: Some(LINE),
         ..bad(Form::Plain, Some("a.rs"))
     };
     assert_eq!(
@@ -113,7 +119,7 @@ fn context_of_what_is_bad() {
 #[test]
 fn context_of_literals() {
     let options = Options {
-        context: true,
+        context: Some(LINE),
         ..Options::default()
     };
     assert_eq!(
@@ -153,7 +159,7 @@ fn context_of_words_alone() {
     for form in [Form::Json, Form::Github] {
         let options = bad(form, Some("a.rs"));
         let context = Options {
-            context: true,
+            context: Some(LINE),
             ..options
         };
         let lines = printed(context, "1u9 \"\\q\"");

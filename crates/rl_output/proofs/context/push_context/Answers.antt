@@ -1,18 +1,13 @@
-use Rattle.rl_text.proofs.Common.{ap, chars, codes, on_ok_weaker, string_bytes, ◌++◌, ◌∙◌}
-use Rattle.rl_output.specs.Contexts.{carets, first_line, line_text, marks_below}
-use Rattle.rl_output.specs.Spots.{covered}
-use Rattle.rl_output.proofs.ContextLemmas.{eight_parts}
+use Rattle.rl_text.proofs.Common.{ap, chars, on_ok_weaker, string_bytes, ◌++◌, ◌∙◌}
+use Rattle.rl_output.specs.Contexts.{after_first_line, context_lines, shown_lines}
+use Rattle.rl_output.proofs.Pieces.{three_pieces}
 use Rattle.rl_output.proofs.context.push_context.Goals as goal
 
 pub returns : goal.returns
-returns g c = on_ok_weaker c.push_ascii-4.result (λ last. eight_parts _ _ _ _ _ _ _ _ _ (codes "    ")
-    (line_text (chars c.args.before.now)) (line_text (first_line (chars c.args.rest.now))) (codes "\n") (codes "    ")
-    (marks_below 32 9 (chars c.args.before.now))
-    (carets (first_line (covered c.args.bytes (chars c.args.rest.now)))) (codes "\n")
-    c.in_ok-push_ascii.ensures c.in_ok-push_line.ensures
-    (c.in_ok-push_line-2.ensures
-    ∙ ap (λ z. chars (string_bytes c.push_line.new.out) ++ line_text z) c.first_line.ensures)
-    c.in_ok-push_ascii-2.ensures c.in_ok-push_ascii-3.ensures c.in_ok-push_marks.ensures
-    (c.in_ok-push_carets.ensures
-    ∙ ap (λ z. chars (string_bytes c.push_marks.new.out) ++ carets z) (c.first_line-2.ensures
-    ∙ ap first_line c.front_covered.ensures.covered)) last) c.push_ascii-4.ensures
+returns g c = on_ok_weaker c.push_shown_lines-2.result (λ last. three_pieces _ _ _ _
+    (shown_lines c.args.context.before (chars c.args.lines.now))
+    (context_lines (chars c.args.before.now) (chars c.args.rest.now) c.args.bytes)
+    (shown_lines c.args.context.after (after_first_line (chars c.args.rest.now))) c.in_ok-push_shown_lines.ensures
+    c.in_ok-push_marked_line.ensures
+    (last ∙ ap (λ z. chars (string_bytes c.push_marked_line.new.out) ++ shown_lines c.args.context.after z)
+    c.after_first_line.ensures)) c.push_shown_lines-2.ensures

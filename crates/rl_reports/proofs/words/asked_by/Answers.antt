@@ -1,4 +1,6 @@
-use Rattle.rl_text.proofs.Common.{arith, inl, map, string_bytes, subst}
+use Rattle.rl_text.proofs.Common.{arith, inl, inr, map, string_bytes, subst}
+use Rattle.rl_files.specs.Globs.{borrowed_texts}
+use Rattle.rl_files.specs.Trees.{string_texts}
 use Rattle.rl_reports.specs.declared.flags.Next.{Next}
 use Rattle.rl_reports.specs.Words.{AskSoFar, wishes_in}
 use Rattle.rl_reports.proofs.WordLemmas.{all_taken, word_taken, word_rejected}
@@ -20,7 +22,21 @@ returns-clause-asked g c = (
   all_taken c.args.has_colors string_bytes c.args.words.now c.loop-word.word-index c.loop-word.asked.next
       (wishes_in c.loop-word.asked) (omega (arith, c.loop-word-test.false)) c.loop-word.invariant,
   c.in_default.ensures.none,
+  c.in_default-clash_of.ensures.none (borrowed_texts c.loop-word.asked.finds.items)
+      (borrowed_texts c.loop-word.asked.extensions.items) (borrowed_texts c.loop-word.asked.excludes.items)
+      (borrowed_texts c.loop-word.asked.lists.items) (string_texts c.loop-word.asked.paths.items),
 )
+
+pub returns-in-Some-clash_of-clause-rejected : goal.returns-in-Some-clash_of-clause-rejected
+returns-in-Some-clash_of-clause-rejected g c = inr (inl (
+  c.loop-word.asked.next,
+  wishes_in c.loop-word.asked,
+  all_taken c.args.has_colors string_bytes c.args.words.now c.loop-word.word-index c.loop-word.asked.next
+      (wishes_in c.loop-word.asked) (omega (arith, c.loop-word-test.false)) c.loop-word.invariant,
+  c.in-Some-clash_of.ensures.some (borrowed_texts c.loop-word.asked.finds.items)
+      (borrowed_texts c.loop-word.asked.extensions.items) (borrowed_texts c.loop-word.asked.excludes.items)
+      (borrowed_texts c.loop-word.asked.lists.items) (string_texts c.loop-word.asked.paths.items),
+))
 
 pub returns-in-Some-clause-rejected : goal.returns-in-Some-clause-rejected
 returns-in-Some-clause-rejected g c = inl (

@@ -1,6 +1,6 @@
 use Rattle.rl_text.proofs.Common.{ap, arith, chars, on_ok_weaker, refl, ◌∙◌, ℕ, string_bytes, ◌++◌}
 use Rattle.rl_lexer.proofs.ErrorKinds.{char_len}
-use Rattle.rl_output.specs.Contexts.{context_lines}
+use Rattle.rl_output.specs.Contexts.{after_first_line, context_lines, shown_lines}
 use Rattle.rl_sources.proofs.place.push_context_at.Goals as goal
 
 pub returns-clause-context : goal.returns-clause-context
@@ -8,17 +8,19 @@ returns-clause-context g c = on_ok_weaker c.push_context.result (λ written. (
   _,
   record {
     rest = chars c.args.rest.now;
-    before = chars c.line_before-before.result.now;
+    before = chars c.lines_before.result.1.now;
+    last = c.lines_before.result.0.now;
     begins = omega (
       arith,
       c.requires.lo,
       char_len c.args.rest.now c.requires.text.following.is_text,
       char_len c.args.places.now c.requires.text.is_text,
     );
-    line = c.line_before-before.ensures.line;
+    lines = c.lines_before.ensures.lines;
     shown_is = refl;
   },
-  written
-      ∙ ap (λ (n : ℕ). chars (string_bytes c.args.out.now)
-      ++ context_lines (chars c.line_before-before.result.now) (chars c.args.rest.now) n) c.saturating_sub.ensures,
+  written ∙ ap (λ (n : ℕ). chars (string_bytes c.args.out.now)
+      ++ (shown_lines c.args.context.before (chars c.lines_before.result.0.now)
+      ++ (context_lines (chars c.lines_before.result.1.now) (chars c.args.rest.now) n
+      ++ shown_lines c.args.context.after (after_first_line (chars c.args.rest.now))))) c.saturating_sub-bytes.ensures,
 )) c.push_context.ensures

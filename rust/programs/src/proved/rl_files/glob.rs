@@ -163,7 +163,7 @@ fn without_slash(path: &[u8]) -> &[u8] {
 
 /// Whether a path has a slash.
 fn has_slash(path: &[u8]) -> bool {
-    path.iter().any(|byte| *byte == b'/')
+    path.contains(&b'/')
 }
 
 /// A path without the slash at its front.

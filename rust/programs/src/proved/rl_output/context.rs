@@ -1,5 +1,5 @@
 // Rendered from crates/rl_output/src/context.rt by tools/render, which erases contracts: change that file, and render anew.
-//! The line of a source where a place stands, and carets below it.
+//! The line of a source where a place stands, carets below it, and lines before and after it.
 
 use crate::rattle_std::prelude::{String};
 use crate::rl_output::member::push_ascii;
@@ -8,8 +8,17 @@ use crate::rl_files::{needs_escape, push_visible};
 use crate::rl_text::text::{before, begins_with, split_char};
 use crate::rattle_std::alloc::{AllocError, Allocator};
 
-/// How far the line stands in.
+/// How far a line stands in.
 const MARGIN: &str = "    ";
+
+/// How many lines are shown before and after that of a place.
+#[derive(Clone, Copy)]
+pub struct Context {
+    /// Before it.
+    pub before: usize,
+    /// After it.
+    pub after: usize,
+}
 
 /// Whether a character, which stands before this, ends a line.
 fn ends_line(c: char, after: &str) -> bool {
@@ -102,14 +111,46 @@ fn push_carets<A: Allocator>(out: &mut String<A>, text: &str) -> Result<(), Allo
     push_marks(out, text, '^', '^')
 }
 
-/// Appends the line where a place begins, and below it carets under the place, up to the end of that line. `before` stands in that line
-/// before the place, `rest` begins with it, and so many bytes of that are in it. A tab before the place is one in the line of carets
-/// too.
-///
-/// # Errors
-///
-/// An allocation failure. A beginning may have been appended then.
-pub fn push_context<A: Allocator>(
+/// The text after its first line.
+fn after_first_line(text: &str) -> &str {
+    let mut rest = text;
+    while let Some((c, after)) = split_char(rest) {
+        if c == '\n' {
+            return after;
+        }
+        rest = after;
+    }
+    rest
+}
+
+/// Appends the first line of a text, as it is shown.
+fn push_shown_line<A: Allocator>(out: &mut String<A>, text: &str) -> Result<(), AllocError> {
+    push_ascii(out, MARGIN)?;
+    push_line(out, first_line(text))?;
+    push_ascii(out, "\n")
+}
+
+/// Appends the first lines of a text, so many, or all where there are fewer.
+fn push_shown_lines<A: Allocator>(
+    out: &mut String<A>,
+    text: &str,
+    count: usize,
+) -> Result<(), AllocError> {
+    let mut rest = text;
+    let mut left = count;
+    while left > 0 {
+        if rest.is_empty() {
+            return Ok(());
+        }
+        push_shown_line(out, rest)?;
+        rest = after_first_line(rest);
+        left -= 1;
+    }
+    Ok(())
+}
+
+/// Appends the line where a place begins, and below it carets under the place, up to the end of that line.
+fn push_marked_line<A: Allocator>(
     out: &mut String<A>,
     before: &str,
     rest: &str,
@@ -123,4 +164,24 @@ pub fn push_context<A: Allocator>(
     push_marks(out, before, ' ', '\t')?;
     push_carets(out, first_line(front_covered(rest, bytes)))?;
     push_ascii(out, "\n")
+}
+
+/// Appends the line where a place begins, with carets below it under the place, up to the end of that line, and lines before and after
+/// it. `lines` stands before that line: its first lines are shown, as many as are wanted. `before` stands in the line before the place,
+/// `rest` begins with it, and so many bytes of that are in it. A tab before the place is one in the line of carets too.
+///
+/// # Errors
+///
+/// An allocation failure. A beginning may have been appended then.
+pub fn push_context<A: Allocator>(
+    out: &mut String<A>,
+    context: Context,
+    lines: &str,
+    before: &str,
+    rest: &str,
+    bytes: usize,
+) -> Result<(), AllocError> {
+    push_shown_lines(out, lines, context.before)?;
+    push_marked_line(out, before, rest, bytes)?;
+    push_shown_lines(out, after_first_line(rest), context.after)
 }

@@ -1,6 +1,6 @@
 // Rendered from crates/rl_output/src/lib.rt by tools/render, which erases contracts: change that file, and render anew.
 //! What a line of the programs looks like: places, colours, strings of JSON, annotations of GitHub, and the line of the source
-//! with a mark below.
+//! with a mark below, and lines about it.
 
 mod color;
 mod context;
@@ -8,12 +8,13 @@ mod error_id;
 mod form;
 mod github;
 mod json_string;
+mod last_lines;
 mod member;
 mod place;
 mod spot;
 
 pub use crate::rl_output::color::{Paint, push_error_word, push_painted};
-pub use crate::rl_output::context::{first_line, push_context};
+pub use crate::rl_output::context::{Context, first_line, push_context};
 pub use crate::rl_output::error_id::id_of;
 pub use crate::rl_output::form::{Form, has_extents, is_github, is_json};
 pub use crate::rl_output::github::{Level, push_annotation_end, push_data};

@@ -1,6 +1,7 @@
 // Rendered from crates/rl_output/src/spot.rt by tools/render, which erases contracts: change that file, and render anew.
 //! Lines and columns of places in a text, a column in characters and in bytes.
 
+use crate::rl_output::last_lines::last_lines;
 use crate::rl_lexer::without_mark;
 use crate::rl_text::text::{before, split_char};
 
@@ -130,10 +131,11 @@ fn extent_from(text: &str, rest: &str, start: Spot, lo: usize, hi: usize) -> Ext
     Extent { lo, hi, start, end }
 }
 
-/// What stands in the line of a place before it, where a rest of the text begins at that place.
-fn before_in_line<'t>(text: &'t str, rest: &str, spot: Spot) -> &'t str {
+/// The lines before that of a place, and what stands in that line before it, where a rest of the text begins at the place.
+fn before_in_line<'t>(text: &'t str, rest: &str, spot: Spot) -> (&'t str, &'t str) {
     let front = before(text, rest);
-    &front[front.len() + 1 - spot.byte_column..]
+    let (lines, inside) = front.split_at(front.len() + 1 - spot.byte_column);
+    (without_mark(lines), inside)
 }
 
 /// The places of a text. From one place to a later one only what stands between them is gone over; an earlier one is looked for
@@ -187,9 +189,11 @@ impl<'t> Places<'t> {
         extent_from(self.text, rest, start, lo, hi)
     }
 
-    /// What stands in the line of a place before it, where a rest of the text begins there.
-    pub fn line_before(&mut self, rest: &'t str) -> &'t str {
+    /// The last lines before that of a place, so many, or all where there are fewer, and what stands in that line before the place,
+    /// where a rest of the text begins there.
+    pub fn lines_before(&mut self, rest: &'t str, count: usize) -> (&'t str, &'t str) {
         let spot = self.at(rest);
-        before_in_line(self.text, rest, spot)
+        let (lines, inside) = before_in_line(self.text, rest, spot);
+        (last_lines(lines, count), inside)
     }
 }

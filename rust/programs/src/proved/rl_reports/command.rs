@@ -13,6 +13,8 @@ pub enum Wish {
     Help,
     /// Which version it is.
     Version,
+    /// Which files would be read.
+    Files,
 }
 
 /// How places are printed.
@@ -60,18 +62,24 @@ pub struct Command<'a> {
     pub places: PlaceForm,
     /// What is printed of their lines.
     pub output: Output,
+    /// Whether NUL stands after a path that is printed without a place, in place of a colon or the line's end.
+    pub nul_after_paths: bool,
     /// Whether a stray character is an error, as it is in Rust.
     pub rejects_strays: bool,
     /// Whether a literal may have any suffix and any value, as where a macro takes it.
     pub any_suffix: bool,
     /// The edition, by which a word or hashes right before a quote are reserved.
     pub edition: Edition,
-    /// Whether the line of the source stands below each line.
-    pub context: bool,
+    /// How many lines of the source are shown before and after that of a place, where that is said.
+    pub around: Option<usize>,
+    /// How many are shown before it, where that is said.
+    pub before: Option<usize>,
+    /// How many are shown after it, where that is said.
+    pub after: Option<usize>,
     /// Which files are read of directories.
     pub selection: Selection<'a>,
-    /// The file that names more paths, where there is one.
-    pub files_from: Option<&'a str>,
+    /// The files that name more paths, in order.
+    pub files_from: &'a [&'a str],
     /// Whether it is told of each file that it can't be read to its end.
     pub tells_errors: bool,
 }

@@ -2,13 +2,15 @@
 //! A call of the program, and how it ends.
 
 use crate::rattle_std::prelude::{String, Vec};
+use crate::rl_reports::clash::lists_files;
 use crate::rl_reports::command::{Command, Console, Wish};
-use crate::rl_reports::listed::push_listed;
+use crate::rl_reports::listed::push_all_listed;
 use crate::rl_reports::report::visible_text;
 use crate::rl_reports::runs::{RunStop, Tally, run};
 use crate::rl_reports::words::{Asked, WordError, asked_by};
 use crate::rl_files::{PathError, Selection, Tree, Walk, WalkError};
 use crate::rl_program::{Ending, RunError, WriteError, write_bytes};
+use crate::rl_sources::Shown;
 use crate::rattle_std::alloc::{AllocError, Allocator, Global};
 use crate::rattle_std::fmt;
 use crate::rattle_std::io::Write;
@@ -47,7 +49,9 @@ Which files are read:
                        gitignore; may be said more than once
       --files-from FILE
                        also what FILE names: a path in each line, or NUL after
-                       each; `-` is standard input
+                       each; `-` is standard input; may be said more than once
+      --files          prints the path of each file that would be read, and
+                       reads none
 
 How it is printed:
       --bytes          places as LO..HI, in bytes, as those of standard input
@@ -55,12 +59,18 @@ How it is printed:
       --text           literals as they are written
       --json           an object of JSON for each line
       --format FORM    text; json, as --json; or github, annotations
-      --context        below each line that of the source, and the place marked
+  -C, --context NUM    below each line that of the source, the place marked, and
+                       NUM lines before and after that
+  -B, --before-context NUM
+                       the same, with NUM lines before
+  -A, --after-context NUM
+                       the same, with NUM lines after
       --color WHEN     auto, always or never; auto is on a terminal, unless
                        NO_COLOR is set or TERM is dumb
   -c, --count          how many lines each file has
   -l, --files-with-matches
                        the path of each file that has lines
+  -Z, --null           of -c, -l and --files: NUL after the path
   -q, --quiet          nothing
       --no-messages    no line for a file that can't be read to its end
       --               what follows is a PATH
@@ -96,7 +106,7 @@ pub enum CallError<A: Allocator = Global> {
     Word(WordError<A>),
     /// An allocation failed, or there was no end of directories.
     Walk(WalkError),
-    /// The file can't be read that names paths.
+    /// A file can't be read that names paths.
     List(String<A>, PathError),
     /// There was no file to read in what the paths name.
     NoFile,
@@ -154,7 +164,9 @@ fn add_usual<A: Allocator + Copy>(
 
 /// The status that a run ends with which found this.
 fn status_of(command: Command<'_>, tally: Tally) -> u8 {
-    if command.searches {
+    if lists_files(command.wish) {
+        tally.status(Shown::All)
+    } else if command.searches {
         tally.find_status()
     } else {
         tally.status(command.shown)
@@ -228,19 +240,19 @@ fn list_error<A: Allocator + Copy>(alloc: A, file: &str, why: PathError) -> Endi
     }
 }
 
-/// Scans the files that paths name, and those that a file names.
+/// Scans the files that paths name, and those that files name.
 fn scan_listed<A: Allocator + Copy, T: Tree, W: Write, E: Write>(
     alloc: A,
     command: Command<'_>,
-    file: &str,
+    files: &[&str],
     tree: &T,
     paths: &mut Vec<String<A>, A>,
     out: &mut W,
     err: &mut E,
 ) -> Ending<CallError<A>> {
-    match push_listed(alloc, tree, file, paths) {
+    match push_all_listed(alloc, tree, files, paths) {
         Ok(()) => scan_paths(alloc, command, tree, paths, out, err),
-        Err(why) => list_error(alloc, file, why),
+        Err(unread) => list_error(alloc, unread.file, unread.why),
     }
 }
 
@@ -256,12 +268,13 @@ fn usual_unless<'a>(extensions: &'a [&'a str]) -> &'a [&'a str] {
     }
 }
 
-/// The command with the texts that it looks for and with what it selects.
+/// The command with the texts that it looks for, with what it selects, and the files that name paths.
 fn selecting<'a>(
     command: Command<'a>,
     finds: &'a [&'a str],
     extensions: &'a [&'a str],
     excludes: &'a [&'a str],
+    lists: &'a [&'a str],
 ) -> Command<'a> {
     Command {
         wish: command.wish,
@@ -273,16 +286,19 @@ fn selecting<'a>(
         form: command.form,
         places: command.places,
         output: command.output,
+        nul_after_paths: command.nul_after_paths,
         rejects_strays: command.rejects_strays,
         any_suffix: command.any_suffix,
         edition: command.edition,
-        context: command.context,
+        around: command.around,
+        before: command.before,
+        after: command.after,
         selection: Selection {
             all: command.selection.all,
             extensions: usual_unless(extensions),
             excludes,
         },
-        files_from: command.files_from,
+        files_from: lists,
         tells_errors: command.tells_errors,
     }
 }
@@ -302,6 +318,7 @@ fn scan_asked<A: Allocator + Copy, T: Tree, W: Write, E: Write>(
         finds,
         extensions,
         excludes,
+        lists,
         ..
     } = asked;
     let command = selecting(
@@ -309,10 +326,13 @@ fn scan_asked<A: Allocator + Copy, T: Tree, W: Write, E: Write>(
         finds.as_slice(),
         extensions.as_slice(),
         excludes.as_slice(),
+        lists.as_slice(),
     );
-    match command.files_from {
-        None => scan_named(alloc, command, is_terminal, tree, &mut paths, out, err),
-        Some(file) => scan_listed(alloc, command, file, tree, &mut paths, out, err),
+    let files = command.files_from;
+    if files.is_empty() {
+        scan_named(alloc, command, is_terminal, tree, &mut paths, out, err)
+    } else {
+        scan_listed(alloc, command, files, tree, &mut paths, out, err)
     }
 }
 
@@ -328,7 +348,7 @@ fn answer<A: Allocator + Copy, T: Tree, W: Write, E: Write>(
     match asked.command.wish {
         Wish::Help => write_text(out, HELP),
         Wish::Version => write_text(out, VERSION),
-        Wish::Scan => scan_asked(alloc, asked, is_terminal, tree, out, err),
+        Wish::Scan | Wish::Files => scan_asked(alloc, asked, is_terminal, tree, out, err),
     }
 }
 

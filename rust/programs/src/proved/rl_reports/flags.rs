@@ -19,6 +19,8 @@ pub(crate) enum Flag {
     Json,
     Format,
     Context,
+    Before,
+    After,
     Color,
     Bytes,
     Lines,
@@ -31,8 +33,10 @@ pub(crate) enum Flag {
     FilesFrom,
     NoMessages,
     Count,
-    Files,
+    FilesWithMatches,
+    Nul,
     Quiet,
+    Files,
     Help,
     Version,
     Paths,
@@ -57,6 +61,12 @@ pub(crate) enum Operand {
     Edition,
     /// How lines are written.
     Format,
+    /// How many lines are shown before and after that of a place.
+    Around,
+    /// How many are shown before it.
+    Before,
+    /// How many are shown after it.
+    After,
 }
 
 /// What the next word may be.
@@ -103,6 +113,8 @@ pub(crate) fn flag_of(word: &str) -> Option<Flag> {
         "--json" => Some(Flag::Json),
         "--format" => Some(Flag::Format),
         "--context" => Some(Flag::Context),
+        "--before-context" => Some(Flag::Before),
+        "--after-context" => Some(Flag::After),
         "--color" => Some(Flag::Color),
         "--bytes" => Some(Flag::Bytes),
         "--lines" => Some(Flag::Lines),
@@ -115,8 +127,10 @@ pub(crate) fn flag_of(word: &str) -> Option<Flag> {
         "--files-from" => Some(Flag::FilesFrom),
         "--no-messages" => Some(Flag::NoMessages),
         "--count" => Some(Flag::Count),
-        "--files-with-matches" => Some(Flag::Files),
+        "--files-with-matches" => Some(Flag::FilesWithMatches),
+        "--null" => Some(Flag::Nul),
         "--quiet" => Some(Flag::Quiet),
+        "--files" => Some(Flag::Files),
         "--help" => Some(Flag::Help),
         "--version" => Some(Flag::Version),
         "--" => Some(Flag::Paths),
@@ -131,7 +145,11 @@ pub(crate) fn letter_of(c: char) -> Option<Flag> {
         'i' => Some(Flag::IgnoreCase),
         'w' => Some(Flag::WholeWords),
         'c' => Some(Flag::Count),
-        'l' => Some(Flag::Files),
+        'l' => Some(Flag::FilesWithMatches),
+        'Z' => Some(Flag::Nul),
+        'C' => Some(Flag::Context),
+        'B' => Some(Flag::Before),
+        'A' => Some(Flag::After),
         'q' => Some(Flag::Quiet),
         'h' => Some(Flag::Help),
         'V' => Some(Flag::Version),
@@ -170,6 +188,15 @@ pub(crate) fn joined_of(word: &str) -> Option<(Operand, &str)> {
     if let Some(format) = after_front("--format=", word) {
         return Some((Operand::Format, format));
     }
+    if let Some(count) = after_front("--context=", word) {
+        return Some((Operand::Around, count));
+    }
+    if let Some(count) = after_front("--before-context=", word) {
+        return Some((Operand::Before, count));
+    }
+    if let Some(count) = after_front("--after-context=", word) {
+        return Some((Operand::After, count));
+    }
     None
 }
 
@@ -184,6 +211,9 @@ pub(crate) fn taken_by(operand: Operand) -> Flag {
         Operand::List => Flag::FilesFrom,
         Operand::Edition => Flag::Edition,
         Operand::Format => Flag::Format,
+        Operand::Around => Flag::Context,
+        Operand::Before => Flag::Before,
+        Operand::After => Flag::After,
     }
 }
 
@@ -197,20 +227,22 @@ fn with_flag(command: Command<'_>, flag: Flag) -> Option<Command<'_>> {
         (Flag::Bad | Flag::Hidden | Flag::Only, _) => return None,
         (Flag::Find | Flag::Color | Flag::Extension | Flag::Exclude, _) => {}
         (Flag::FilesFrom | Flag::Edition | Flag::Format | Flag::Paths, _) => {}
+        (Flag::Context | Flag::Before | Flag::After, _) => {}
         (Flag::NoMessages, _) => next.tells_errors = false,
         (Flag::IgnoreCase, _) => next.matching.ignores_case = true,
         (Flag::WholeWords, _) => next.matching.whole_words = true,
         (Flag::AllDirectories, _) => next.selection.all = true,
         (Flag::Text, _) => next.spelling = Spelling::Source,
         (Flag::Json, _) => next.form = Form::Json,
-        (Flag::Context, _) => next.context = true,
         (Flag::Bytes, _) => next.places = PlaceForm::Bytes,
         (Flag::Lines, _) => next.places = PlaceForm::Lines,
         (Flag::NoStray, _) => next.rejects_strays = true,
         (Flag::AnySuffix, _) => next.any_suffix = true,
         (Flag::Count, _) => next.output = Output::Count,
-        (Flag::Files, _) => next.output = Output::Path,
+        (Flag::FilesWithMatches, _) => next.output = Output::Path,
+        (Flag::Nul, _) => next.nul_after_paths = true,
         (Flag::Quiet, _) => next.output = Output::Nothing,
+        (Flag::Files, _) => next.wish = Wish::Files,
         (Flag::Help, _) => next.wish = Wish::Help,
         (Flag::Version, _) => next.wish = Wish::Version,
     }
@@ -255,6 +287,9 @@ pub(crate) fn next_after(flag: Flag) -> Next {
         Flag::FilesFrom => Next::Operand(Operand::List),
         Flag::Edition => Next::Operand(Operand::Edition),
         Flag::Format => Next::Operand(Operand::Format),
+        Flag::Context => Next::Operand(Operand::Around),
+        Flag::Before => Next::Operand(Operand::Before),
+        Flag::After => Next::Operand(Operand::After),
         Flag::Paths => Next::Path,
         _ => Next::Any,
     }
@@ -305,6 +340,14 @@ pub(crate) fn format_of(word: &str) -> Option<Format> {
         "json" => Some(Format::Json),
         "github" => Some(Format::Github),
         _ => None,
+    }
+}
+
+/// How many lines a word says: a number in base ten.
+pub(crate) fn count_of(word: &str) -> Option<usize> {
+    match word.parse::<usize>() {
+        Ok(count) => Some(count),
+        Err(_) => None,
     }
 }
 

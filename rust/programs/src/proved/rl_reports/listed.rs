@@ -1,13 +1,20 @@
 // Rendered from crates/rl_reports/src/listed.rt by tools/render, which erases contracts: change that file, and render anew.
-//! Paths that a file names.
+//! Paths that files name.
 
 use crate::rattle_std::prelude::{String, Vec};
 use crate::rl_files::{PathError, Tree};
 use crate::rattle_std::alloc::{AllocError, Allocator};
 
+/// A file that can't be read, and why.
+#[derive(Clone, Copy)]
+pub(crate) struct Unread<'a> {
+    pub(crate) file: &'a str,
+    pub(crate) why: PathError,
+}
+
 /// Whether there is a NUL.
 fn has_nul(list: &[u8]) -> bool {
-    list.iter().any(|byte| *byte == 0)
+    list.contains(&0)
 }
 
 /// What ends a name: NUL, where there is one in the list, else LF.
@@ -49,7 +56,7 @@ fn push_parts<A: Allocator + Copy>(
 /// # Errors
 ///
 /// Why it can't be read; some of them may have been appended where memory ran out.
-pub(crate) fn push_listed<A: Allocator + Copy, T: Tree>(
+fn push_listed<A: Allocator + Copy, T: Tree>(
     alloc: A,
     tree: &T,
     file: &str,
@@ -67,4 +74,26 @@ pub(crate) fn push_listed<A: Allocator + Copy, T: Tree>(
         Ok(()) => Ok(()),
         Err(_) => Err(PathError::OutOfMemory),
     }
+}
+
+/// Appends the names in files, one file after another.
+///
+/// # Errors
+///
+/// The first file that can't be read, and why; names of files before it have been appended then.
+pub(crate) fn push_all_listed<'f, A: Allocator + Copy, T: Tree>(
+    alloc: A,
+    tree: &T,
+    files: &[&'f str],
+    paths: &mut Vec<String<A>, A>,
+) -> Result<(), Unread<'f>> {
+    let mut rest = files;
+    while let [file, after @ ..] = rest {
+        match push_listed(alloc, tree, file, paths) {
+            Ok(()) => {}
+            Err(why) => return Err(Unread { file, why }),
+        }
+        rest = after;
+    }
+    Ok(())
 }

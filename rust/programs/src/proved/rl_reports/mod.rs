@@ -1,6 +1,7 @@
 // Rendered from crates/rl_reports/src/lib.rt by tools/render, which erases contracts: change that file, and render anew.
 //! What is reported of the files that a walk visits, and the command line of the program that does so.
 
+mod clash;
 mod command;
 mod ending;
 mod flags;

@@ -2,10 +2,11 @@
 //! The words of the command line.
 
 use crate::rattle_std::prelude::{String, Vec};
+use crate::rl_reports::clash::clash_of;
 use crate::rl_reports::command::{Command, Output, PlaceForm, Wish};
 use crate::rl_reports::flags::{
-    Flag, Next, Operand, When, add_flag, after_front, edition_of, flag_of, form_in, form_when,
-    format_of, joined_of, letter_of, next_after, recolored, taken_by, when_of,
+    Flag, Next, Operand, When, add_flag, after_front, count_of, edition_of, flag_of, form_in,
+    form_when, format_of, joined_of, letter_of, next_after, recolored, taken_by, when_of,
 };
 use crate::rl_reports::meant::{meant_by, option_part};
 use crate::rl_reports::report::visible_text;
@@ -37,6 +38,10 @@ pub enum WordError<A: Allocator = Global> {
     EmptyText,
     /// A text is looked for in what is bad or hidden.
     BadAndFind,
+    /// A text is looked for in literals of kinds that hold none.
+    TextlessKinds,
+    /// Objects or annotations are asked for, and paths or counts are printed in place of lines.
+    ObjectsOfPaths,
     /// After `--color` no word stands.
     NoColor,
     /// After `--color` stands a word that is none of the three.
@@ -55,6 +60,10 @@ pub enum WordError<A: Allocator = Global> {
     NoFormat,
     /// After `--format` stands a word that is none of the three.
     UnknownFormat(String<A>),
+    /// After `--context`, `--before-context` or `--after-context` stands no word.
+    NoCount,
+    /// After one of these stands a word that says no number of lines.
+    UnknownCount(String<A>),
 }
 
 impl<A: Allocator> From<AllocError> for WordError<A> {
@@ -91,6 +100,14 @@ impl<A: Allocator> fmt::Display for WordError<A> {
             WordError::NoText => write!(f, "-e, --find: which text? as in --find TODO"),
             WordError::EmptyText => write!(f, "-e, --find: an empty text stands everywhere"),
             WordError::BadAndFind => write!(f, "--bad, --hidden and -e, --find: one of them"),
+            WordError::TextlessKinds => write!(
+                f,
+                "-e, --find looks in Str, ByteStr, CStr, Byte and Char, and --only names none of them"
+            ),
+            WordError::ObjectsOfPaths => write!(
+                f,
+                "--json and --format json, github can't be used with -c, --count, -l, --files-with-matches, --files"
+            ),
             WordError::NoColor => write!(f, "--color: when? one of auto, always, never"),
             WordError::UnknownColor(word) => {
                 write!(f, "unknown colour '{word}': one of auto, always, never")
@@ -108,6 +125,10 @@ impl<A: Allocator> fmt::Display for WordError<A> {
             WordError::NoFormat => write!(f, "--format: which? one of text, json, github"),
             WordError::UnknownFormat(word) => {
                 write!(f, "unknown format '{word}': one of text, json, github")
+            }
+            WordError::NoCount => write!(f, "-C, -B, -A: how many lines? as in --context 2"),
+            WordError::UnknownCount(word) => {
+                write!(f, "'{word}' is no number of lines: as in --context 2")
             }
         }
     }
@@ -136,6 +157,8 @@ pub(crate) struct Asked<'a, A: Allocator = Global> {
     pub extensions: Vec<&'a str, A>,
     /// Patterns of what is left out.
     pub excludes: Vec<&'a str, A>,
+    /// Files that name paths.
+    pub lists: Vec<&'a str, A>,
     next: Next,
 }
 
@@ -155,6 +178,7 @@ fn missing<A: Allocator>(operand: Operand) -> WordError<A> {
         Operand::List => WordError::NoList,
         Operand::Edition => WordError::NoEdition,
         Operand::Format => WordError::NoFormat,
+        Operand::Around | Operand::Before | Operand::After => WordError::NoCount,
     }
 }
 
@@ -271,6 +295,33 @@ impl<'a, A: Allocator + Copy> Asked<'a, A> {
         Ok(())
     }
 
+    /// Takes how many lines are shown before and after that of a place.
+    fn take_around(&mut self, alloc: A, word: &str) -> Result<(), WordError<A>> {
+        let Some(count) = count_of(word) else {
+            return Err(WordError::UnknownCount(visible_text(alloc, word)?));
+        };
+        self.command.around = Some(count);
+        Ok(())
+    }
+
+    /// Takes how many lines are shown before that of a place.
+    fn take_before(&mut self, alloc: A, word: &str) -> Result<(), WordError<A>> {
+        let Some(count) = count_of(word) else {
+            return Err(WordError::UnknownCount(visible_text(alloc, word)?));
+        };
+        self.command.before = Some(count);
+        Ok(())
+    }
+
+    /// Takes how many lines are shown after that of a place.
+    fn take_after(&mut self, alloc: A, word: &str) -> Result<(), WordError<A>> {
+        let Some(count) = count_of(word) else {
+            return Err(WordError::UnknownCount(visible_text(alloc, word)?));
+        };
+        self.command.after = Some(count);
+        Ok(())
+    }
+
     /// Takes what the names of files end with.
     fn take_extension(&mut self, text: &'a str) -> Result<(), WordError<A>> {
         match self.extensions.push(without_dot(text)) {
@@ -287,9 +338,12 @@ impl<'a, A: Allocator + Copy> Asked<'a, A> {
         }
     }
 
-    /// Takes the file that names paths.
-    fn take_list(&mut self, file: &'a str) {
-        self.command.files_from = Some(file);
+    /// Takes a file that names paths.
+    fn take_list(&mut self, file: &'a str) -> Result<(), WordError<A>> {
+        match self.lists.push(file) {
+            Ok(()) => Ok(()),
+            Err(_) => Err(WordError::Memory),
+        }
     }
 
     /// Takes what an option takes; any word may stand after that.
@@ -307,12 +361,12 @@ impl<'a, A: Allocator + Copy> Asked<'a, A> {
             Operand::Color => self.take_color(alloc, has_colors, text),
             Operand::Extension => self.take_extension(text),
             Operand::Pattern => self.take_pattern(text),
-            Operand::List => {
-                self.take_list(text);
-                Ok(())
-            }
+            Operand::List => self.take_list(text),
             Operand::Edition => self.take_edition(alloc, text),
             Operand::Format => self.take_format(alloc, has_colors, text),
+            Operand::Around => self.take_around(alloc, text),
+            Operand::Before => self.take_before(alloc, text),
+            Operand::After => self.take_after(alloc, text),
         }
     }
 
@@ -403,10 +457,13 @@ fn first_command<'a>(has_colors: bool) -> Command<'a> {
         },
         places: PlaceForm::Usual,
         output: Output::Lines,
+        nul_after_paths: false,
         rejects_strays: false,
         any_suffix: false,
         edition: Edition::E2021,
-        context: false,
+        around: None,
+        before: None,
+        after: None,
         spelling: Spelling::Value,
         form: form_when(has_colors, When::Auto),
         selection: Selection {
@@ -414,7 +471,7 @@ fn first_command<'a>(has_colors: bool) -> Command<'a> {
             extensions: &[],
             excludes: &[],
         },
-        files_from: None,
+        files_from: &[],
         tells_errors: true,
     }
 }
@@ -423,7 +480,8 @@ fn first_command<'a>(has_colors: bool) -> Command<'a> {
 ///
 /// # Errors
 ///
-/// The first word that can't be asked for, or at the end what the last option takes is missing, as by `NoKinds`.
+/// The first word that can't be asked for; or at the end what the last option takes is missing, as by `NoKinds`, or what is asked
+/// for doesn't go together: `TextlessKinds`, `ObjectsOfPaths`.
 pub(crate) fn asked_by<A: Allocator + Copy>(
     alloc: A,
     has_colors: bool,
@@ -435,6 +493,7 @@ pub(crate) fn asked_by<A: Allocator + Copy>(
         finds: Vec::new(alloc),
         extensions: Vec::new(alloc),
         excludes: Vec::new(alloc),
+        lists: Vec::new(alloc),
         next: Next::Any,
     };
     for word in words {
@@ -445,6 +504,9 @@ pub(crate) fn asked_by<A: Allocator + Copy>(
     }
     if let Some(operand) = operand_of(asked.next) {
         return Err(missing(operand));
+    }
+    if let Some(error) = clash_of(asked.command) {
+        return Err(error);
     }
     Ok(asked)
 }

@@ -44,7 +44,7 @@ impl Reason {
     pub(crate) fn words(self) -> &'static str {
         match self {
             Reason::Flaw(kind) => kind.words(),
-            Reason::Reserved => "a reserved prefix stands right before it",
+            Reason::Reserved => "reserved prefix",
             Reason::Type(error) => error.words(),
         }
     }

@@ -6,10 +6,12 @@ use crate::rl_sources::finding::{Finding, Reason, Wrong};
 use crate::rl_sources::in_file::{ReadPlace, front_of, place_at, read_text};
 use crate::rl_sources::literal::Literal;
 use crate::rl_sources::options::Options;
+use crate::rl_sources::prefix::with_prefix;
 use crate::rl_sources::reason::push_finding;
 use crate::rl_flaws::{BadPiece, Flaws, is_of_unit};
 use crate::rl_output::Places;
 use crate::rl_reasons::{Flaw, FlawKind};
+use crate::rl_types::TypeError;
 use crate::rattle_std::alloc::{AllocError, Allocator};
 
 /// A place in the file, in bytes of the text.
@@ -128,15 +130,33 @@ fn whole_of(text: &str, reason: Reason) -> Finding {
     }
 }
 
-/// Appends the line of what is wrong with a literal as a whole.
-fn push_whole<'t, A: Allocator>(
+/// Appends the line of a literal right after what is reserved with it.
+fn push_reserved<'t, A: Allocator>(
     out: &mut String<A>,
     options: &Options<'_>,
     literal: &Literal<'_, 't>,
     places: &mut Places<'t>,
-    reason: Reason,
 ) -> Result<(), AllocError> {
-    let finding = whole_of(literal.token.text, reason);
+    let (token, rest) = with_prefix(*literal.token, literal.rest, places);
+    let whole = Literal {
+        token: &token,
+        rest,
+        found: literal.found,
+        wrong: literal.wrong,
+    };
+    let finding = whole_of(token.text, Reason::Reserved);
+    push_finding(out, options, &whole, places, finding)
+}
+
+/// Appends the line of a literal that Rust has no type for.
+fn push_typeless<'t, A: Allocator>(
+    out: &mut String<A>,
+    options: &Options<'_>,
+    literal: &Literal<'_, 't>,
+    places: &mut Places<'t>,
+    error: TypeError,
+) -> Result<(), AllocError> {
+    let finding = whole_of(literal.token.text, Reason::Type(error));
     push_finding(out, options, literal, places, finding)
 }
 
@@ -153,7 +173,7 @@ pub(crate) fn push_wrong<'t, A: Allocator>(
     match wrong {
         Wrong::Flaw(flaw) if is_limit(flaw) => push_limit(out, options, literal, places, flaw),
         Wrong::Flaw(flaw) => push_flaws(alloc, out, options, literal, places, flaw),
-        Wrong::Reserved => push_whole(out, options, literal, places, Reason::Reserved),
-        Wrong::Type(error) => push_whole(out, options, literal, places, Reason::Type(error)),
+        Wrong::Reserved => push_reserved(out, options, literal, places),
+        Wrong::Type(error) => push_typeless(out, options, literal, places, error),
     }
 }

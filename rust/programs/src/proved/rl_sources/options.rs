@@ -1,7 +1,7 @@
 // Rendered from crates/rl_sources/src/options.rt by tools/render, which erases contracts: change that file, and render anew.
 //! How a source is scanned.
 
-use crate::rl_output::Form;
+use crate::rl_output::{Context, Form};
 use crate::rl_types::Edition;
 
 /// How a literal is printed.
@@ -51,9 +51,9 @@ pub struct Options<'a> {
     pub spelling: Spelling,
     /// How each line is written.
     pub form: Form,
-    /// Whether the line of the source where a place begins stands below each line, with carets under the place; not in the
-    /// forms `Json` and `Github`.
-    pub context: bool,
+    /// Where it is given, the line of the source where a place begins stands below each line, with carets under the place, and so many
+    /// lines before and after it; not in the forms `Json` and `Github`.
+    pub context: Option<Context>,
     /// Whether places are printed as lines and columns, and not as bytes.
     pub by_line: bool,
     /// Whether a stray character is an error, as it is in Rust.
@@ -80,7 +80,7 @@ impl Default for Options<'_> {
             },
             spelling: Spelling::Value,
             form: Form::Plain,
-            context: false,
+            context: None,
             by_line: false,
             rejects_strays: false,
             explains: false,

@@ -3,7 +3,7 @@
 
 use crate::rattle_std::prelude::{String};
 use crate::rl_sources::options::Options;
-use crate::rl_output::{Place, Places, Spot, has_extents, push_context};
+use crate::rl_output::{Context, Place, Places, Spot, has_extents, push_context};
 use crate::rl_tokens::{LineColumn, SourceToken};
 use crate::rattle_std::alloc::{AllocError, Allocator};
 
@@ -41,24 +41,29 @@ pub(crate) fn place_inside<'t>(
     place_of(options, places, inside, lo, hi)
 }
 
-/// Whether the line of the source where a place begins stands below each line.
+/// How many lines of the source stand below each line, about that of its place, where some do.
 #[inline(always)]
-fn shows_context(options: &Options<'_>) -> bool {
-    options.context && !has_extents(options.form)
+fn context_for(options: &Options<'_>) -> Option<Context> {
+    if has_extents(options.form) {
+        return None;
+    }
+    options.context
 }
 
-/// Appends the line of the source where the bytes from `lo` to `hi` begin, and carets below them; the rest of the text begins at the
-/// first.
+/// Appends the line of the source where the bytes from `lo` to `hi` begin, with carets below them, and lines before and after it; the
+/// rest of the text begins at the first.
 #[inline(never)]
 fn push_context_at<'t, A: Allocator>(
     out: &mut String<A>,
+    context: Context,
     places: &mut Places<'t>,
     rest: &'t str,
     lo: usize,
     hi: usize,
 ) -> Result<(), AllocError> {
-    let before = places.line_before(rest);
-    push_context(out, before, rest, hi.saturating_sub(lo))
+    let (lines, before) = places.lines_before(rest, context.before);
+    let bytes = hi.saturating_sub(lo);
+    push_context(out, context, lines, before, rest, bytes)
 }
 
 /// Appends what stands below the line of these bytes, where that is wanted.
@@ -71,10 +76,10 @@ pub(crate) fn push_context_of<'t, A: Allocator>(
     lo: usize,
     hi: usize,
 ) -> Result<(), AllocError> {
-    if !shows_context(options) {
-        return Ok(());
+    match context_for(options) {
+        Some(context) => push_context_at(out, context, places, rest, lo, hi),
+        None => Ok(()),
     }
-    push_context_at(out, places, rest, lo, hi)
 }
 
 /// Appends what stands below the line of bytes of a token's text, where that is wanted; the rest of the source begins with the token.

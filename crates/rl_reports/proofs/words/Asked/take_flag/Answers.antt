@@ -5,4 +5,5 @@ use Rattle.rl_reports.proofs.words.Asked.take_flag.Goals as goal
 pub returns-in-Err-clause-rejected : goal.returns-in-Err-clause-rejected
 returns-in-Err-clause-rejected g c = c.in-Err.ensures.rejected (borrowed_texts c.args.self.now.finds.items)
     (borrowed_texts c.args.self.now.extensions.items)
-    (borrowed_texts c.args.self.now.excludes.items) (string_texts c.args.self.now.paths.items)
+    (borrowed_texts c.args.self.now.excludes.items) (borrowed_texts c.args.self.now.lists.items)
+    (string_texts c.args.self.now.paths.items)

@@ -10,4 +10,5 @@ returns-in-Err-clause-rejected g c = inl
     (subst (λ (flag : Flag). IsRejectedFlag flag (wishes_in c.args.self.now) c.in-Err.error) c.taken_by.ensures
     (c.in-Err.ensures.rejected (borrowed_texts c.args.self.now.finds.items)
     (borrowed_texts c.args.self.now.extensions.items)
-    (borrowed_texts c.args.self.now.excludes.items) (string_texts c.args.self.now.paths.items)))
+    (borrowed_texts c.args.self.now.excludes.items) (borrowed_texts c.args.self.now.lists.items)
+    (string_texts c.args.self.now.paths.items)))

@@ -1,0 +1,45 @@
+//! The last of some lines.
+
+ghost use Rattle.std.specs.Prelude.{◌≤◌, drop, length};
+ghost use Rattle.rl_output.specs.Contexts.{AreLastLines, AreWholeLines, IsThroughEnd};
+
+/// The bytes through the last LF among them.
+fn through_end(bytes: &[u8]) -> &[u8]
+    ensures cut { IsThroughEnd bytes.now result.now }
+    ensures within { length result.now ≤ length bytes.now }
+{
+    let mut left = bytes;
+    while let [rest @ .., byte] = left {
+        if *byte == b'\n' {
+            return left;
+        }
+        left = rest;
+    }
+    left
+}
+
+/// Where the last of some lines begin, so many, or all where there are fewer.
+fn last_lines_at(lines: &[u8], count: usize) -> usize
+    requires { AreWholeLines lines.now }
+    ensures last { AreLastLines count lines.now (drop result lines.now) }
+    ensures within { result ≤ length lines.now }
+{
+    let mut left = lines;
+    let mut wanted = count;
+    while wanted > 0 {
+        let [rest @ .., _] = left else {
+            return 0;
+        };
+        left = through_end(rest);
+        wanted -= 1;
+    }
+    left.len()
+}
+
+/// The last of some lines, so many, or all where there are fewer.
+pub(crate) fn last_lines(lines: &str, count: usize) -> &str
+    requires { AreWholeLines lines.now }
+    ensures { AreLastLines count lines.now result.now }
+{
+    &lines[last_lines_at(lines.as_bytes(), count)..]
+}

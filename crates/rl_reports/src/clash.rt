@@ -1,0 +1,67 @@
+//! Whether what the words ask for goes together.
+
+ghost use Rattle.std.specs.Prelude.{◌≡◌, ◌↔◌, ℕ, List, IfNone, IfSome, IsTrue, MatchBool};
+ghost use Rattle.rl_reports.specs.Words.{GoTogether, HasTextKind, IsClash, MayHold, lists_files as lists, prints_no_objects as no_objects, sums_lines as sums, wanted_of, wishes_of};
+
+use crate::command::{Command, Output, Wish};
+use crate::words::WordError;
+use rl_output::has_extents;
+use rl_sources::{Shown, names};
+use std::alloc::Allocator;
+
+/// The kinds of literals whose contents may hold a text.
+const TEXT_KINDS: &str = "Str,ByteStr,CStr,Byte,Char";
+
+/// Whether a word of a list is a kind whose contents may hold a text; commas separate the words.
+fn has_text_kind(list: &str) -> bool
+    ensures { IsTrue result ↔ HasTextKind list.now }
+{
+    list.split(',').any(|word| names(TEXT_KINDS, word))
+}
+
+/// Whether literals that are wanted may hold a text.
+fn may_hold(shown: Shown<'_>) -> bool
+    ensures { IsTrue result ↔ MayHold (wanted_of shown.entry) }
+{
+    match shown {
+        Shown::Only(list) => has_text_kind(list),
+        Shown::All | Shown::Bad | Shown::Hidden => true,
+    }
+}
+
+/// Whether the files are listed that would be read.
+pub(crate) fn lists_files(wish: Wish) -> bool
+    ensures { result ≡ lists wish }
+{
+    matches!(wish, Wish::Files)
+}
+
+/// Whether paths are printed in place of lines, or how many lines there are.
+fn sums_lines(output: Output) -> bool
+    ensures { result ≡ sums output }
+{
+    matches!(output, Output::Count | Output::Path)
+}
+
+/// Whether what is printed is no object of JSON and no annotation.
+fn prints_no_objects(command: Command<'_>) -> bool
+    ensures { result ≡ no_objects command.entry.wish command.entry.output }
+{
+    lists_files(command.wish) || sums_lines(command.output)
+}
+
+/// What doesn't go together of what is asked for: `None` where all does.
+pub(crate) fn clash_of<A: Allocator>(command: Command<'_>) -> Option<WordError<A>>
+    ensures some { IfSome result (λ error. (finds extensions excludes lists paths : List (List ℕ))
+        → IsClash (wishes_of command.entry finds extensions excludes lists paths) error) }
+    ensures none { IfNone result ((finds extensions excludes lists paths : List (List ℕ))
+        → GoTogether (wishes_of command.entry finds extensions excludes lists paths)) }
+{
+    if command.searches && !may_hold(command.shown) {
+        return Some(WordError::TextlessKinds);
+    }
+    if has_extents(command.form) && prints_no_objects(command) {
+        return Some(WordError::ObjectsOfPaths);
+    }
+    None
+}

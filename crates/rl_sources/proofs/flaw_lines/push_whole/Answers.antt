@@ -1,8 +1,0 @@
-use Rattle.rl_text.proofs.Common.{chars, on_ok_weaker}
-use Rattle.rl_sources.proofs.FlawLineLemmas.{whole_line}
-use Rattle.rl_sources.proofs.flaw_lines.push_whole.Goals as goal
-
-pub returns-clause-shown : goal.returns-clause-shown
-returns-clause-shown g c = on_ok_weaker c.push_finding.result (whole_line c.args.options.now (chars c.args.places.now)
-    c.args.literal.now.token.now.text.now c.args.literal.now.found.now c.args.literal.now.token.now.lo c.args.reason
-    c.whole_of-finding.result _ _ c.requires.wrong c.whole_of-finding.ensures.finding) c.push_finding.ensures.shown

@@ -1,0 +1,50 @@
+// Rendered from crates/rl_reports/src/clash.rt by tools/render, which erases contracts: change that file, and render anew.
+//! Whether what the words ask for goes together.
+
+use crate::rl_reports::command::{Command, Output, Wish};
+use crate::rl_reports::words::WordError;
+use crate::rl_output::has_extents;
+use crate::rl_sources::{Shown, names};
+use crate::rattle_std::alloc::Allocator;
+
+/// The kinds of literals whose contents may hold a text.
+const TEXT_KINDS: &str = "Str,ByteStr,CStr,Byte,Char";
+
+/// Whether a word of a list is a kind whose contents may hold a text; commas separate the words.
+fn has_text_kind(list: &str) -> bool {
+    list.split(',').any(|word| names(TEXT_KINDS, word))
+}
+
+/// Whether literals that are wanted may hold a text.
+fn may_hold(shown: Shown<'_>) -> bool {
+    match shown {
+        Shown::Only(list) => has_text_kind(list),
+        Shown::All | Shown::Bad | Shown::Hidden => true,
+    }
+}
+
+/// Whether the files are listed that would be read.
+pub(crate) fn lists_files(wish: Wish) -> bool {
+    matches!(wish, Wish::Files)
+}
+
+/// Whether paths are printed in place of lines, or how many lines there are.
+fn sums_lines(output: Output) -> bool {
+    matches!(output, Output::Count | Output::Path)
+}
+
+/// Whether what is printed is no object of JSON and no annotation.
+fn prints_no_objects(command: Command<'_>) -> bool {
+    lists_files(command.wish) || sums_lines(command.output)
+}
+
+/// What doesn't go together of what is asked for: `None` where all does.
+pub(crate) fn clash_of<A: Allocator>(command: Command<'_>) -> Option<WordError<A>> {
+    if command.searches && !may_hold(command.shown) {
+        return Some(WordError::TextlessKinds);
+    }
+    if has_extents(command.form) && prints_no_objects(command) {
+        return Some(WordError::ObjectsOfPaths);
+    }
+    None
+}
