@@ -152,18 +152,22 @@ step x d b ds bs up down hd hb all_ds all_bs e more = go (d == b) refl
   where
     ours : List ℕ
     ours = ds ++ zeros up
+
     least : List ℕ
     least = bs ++ zeros down
+
     long : length ours ≡ length least
     long = padded ds up ∙ e ∙ sym (padded bs down)
+
     other : (l : Bool) → (d == b) ≡ false → nat_lt b d ≡ l → Ordered l x (d ∷ ours) (b ∷ least)
     other true n h =
         let less = less_stays (x * 10 + digit_value b) (x * 10 + digit_value d) least ours
-            (omega (arith, less_digit b d hb hd h)) (all_padded bs down all_bs) (sym long) in
+        (omega (arith, less_digit b d hb hd h)) (all_padded bs down all_bs) (sym long) in
         omega (arith, less)
     other false n h =
         less_stays (x * 10 + digit_value d) (x * 10 + digit_value b) ours least
         (omega (arith, more_digit b d hb hd n h)) (all_padded ds up all_ds) long
+
     go : (t : Bool) → (d == b) ≡ t → Ordered (cond t (not_below ds bs) (nat_lt b d)) x (d ∷ ours) (b ∷ least)
     go true h =
         subst (λ c. Ordered (not_below ds bs) x (c ∷ ours) (b ∷ least)) (sym (eqb-true d b h))
@@ -203,9 +207,9 @@ more_digits [] bs up down f all l = absurd f
 more_digits (d ∷ ds) bs up down f all l =
     let p = and_parts (is_ascii_digit d) (list_all is_ascii_digit ds) f.0 in
     let more : onto 0 (bs ++ zeros down) < onto (0 * 10 + digit_value d) (ds ++ zeros up) =
-        longer (0 * 10 + digit_value d) (ds ++ zeros up) (bs ++ zeros down)
-        (omega (arith, first_value d p.0 f.1)) (all_padded bs down all)
-        (omega (arith, l, padded bs down, padded ds up)) in
+    longer (0 * 10 + digit_value d) (ds ++ zeros up) (bs ++ zeros down)
+    (omega (arith, first_value d p.0 f.1)) (all_padded bs down all)
+    (omega (arith, l, padded bs down, padded ds up)) in
     go more
   where
     go : onto 0 (bs ++ zeros down) < onto (0 * 10 + digit_value d) (ds ++ zeros up)
@@ -266,12 +270,14 @@ zeros_kept (d ∷ ds) = go (d == 48) refl (zeros_kept ds)
   where
     go : (b : Bool) → (d == 48) ≡ b → place_value 10 (without_zeros ds) ≡ place_value 10 ds
         → place_value 10 (cond b (without_zeros ds) (d ∷ ds)) ≡ place_value 10 (d ∷ ds)
-    go true h more = more ∙ sym (ap (λ c. digit_value c * 10 ^ length ds + place_value 10 ds) (eqb-true d 48 h) ∙ omega arith)
+    go true h more = more ∙ sym (ap (λ c. digit_value c * 10 ^ length ds + place_value 10 ds) (eqb-true d 48 h)
+        ∙ omega arith)
     go false h more = refl
 
 first_left : (ds : List ℕ) → list_all is_ascii_digit ds ≡ true → (without_zeros ds ≡ []) ⊎ IsFirst (without_zeros ds)
 first_left [] h = inl refl
-first_left (d ∷ ds) h = go (d == 48) refl (first_left ds (and_parts (is_ascii_digit d) (list_all is_ascii_digit ds) h).1)
+first_left (d ∷ ds) h = go (d == 48) refl (first_left ds (and_parts (is_ascii_digit d) (list_all is_ascii_digit ds)
+    h).1)
   where
     go : (b : Bool) → (d == 48) ≡ b → (without_zeros ds ≡ []) ⊎ IsFirst (without_zeros ds)
         → (cond b (without_zeros ds) (d ∷ ds) ≡ []) ⊎ IsFirst (cond b (without_zeros ds) (d ∷ ds))
@@ -312,7 +318,7 @@ pub none_reach : (n bs : List ℕ) (count : ℕ) → IsBound bs → count ≡ le
 none_reach n bs count bound is none reaches =
     let f = bound_first bs bound in
     let some : 0 * 10 ^ 0 < place_value 10 bs * 10 ^ lowered n =
-        more_digits bs [] (lowered n) 0 f refl (long bs f) in
+    more_digits bs [] (lowered n) 0 f refl (long bs f) in
     let zero : significand n ≡ 0 = sym (ours_value n) ∙ no_length (ours_of n) (sym is ∙ none) in
     let nothing : significand n * 10 ^ raised n ≡ 0 = ap (λ v. v * 10 ^ raised n) zero ∙ no_times (10 ^ raised n) in
     absurd (omega (arith, some, nothing, reaches))
@@ -326,11 +332,11 @@ none_reach n bs count bound is none reaches =
 exactly : (m : Bool) (count places bound power value : ℕ) → IsCapped power value → count < 2 ^ 64 → places < 2 ^ 64
     → bound ≤ 309
     → (bound + places + cond m power 0 < count + cond (not m) power 0
-      → bound + (places + cond m value 0) < count + cond m 0 value)
+    → bound + (places + cond m value 0) < count + cond m 0 value)
     × ((count + cond (not m) power 0 < bound + places + cond m power 0
-      → count + cond m 0 value < bound + (places + cond m value 0))
+    → count + cond m 0 value < bound + (places + cond m value 0))
     × (count + cond (not m) power 0 ≡ bound + places + cond m power 0
-      → count + cond m 0 value ≡ bound + (places + cond m value 0)))
+    → count + cond m 0 value ≡ bound + (places + cond m value 0)))
 exactly true count places bound power value (inl e) c p b = (
   λ h. omega (arith, e, h),
   (λ h. omega (arith, e, h), λ h. omega (arith, e, h)),
@@ -361,15 +367,14 @@ pub record IsMeasured (n bs : List ℕ) (count places power : ℕ) : Type 0 wher
 
 rows : (n bs : List ℕ) (count places power : ℕ) → (s : IsMeasured n bs count places power)
     → (length bs + places + cond (has_minus n) power 0 < count + cond (not (has_minus n)) power 0
-      → length bs + lowered n < length (ours_of n) + raised n)
+    → length bs + lowered n < length (ours_of n) + raised n)
     × ((count + cond (not (has_minus n)) power 0 < length bs + places + cond (has_minus n) power 0
-      → length (ours_of n) + raised n < length bs + lowered n)
+    → length (ours_of n) + raised n < length bs + lowered n)
     × (count + cond (not (has_minus n)) power 0 ≡ length bs + places + cond (has_minus n) power 0
-      → length (ours_of n) + raised n ≡ length bs + lowered n))
+    → length (ours_of n) + raised n ≡ length bs + lowered n))
 rows n bs count places power s =
     let e = exactly (has_minus n) count places (length bs) power (exponent n) s.power_is s.count_fits s.places_fit
-        s.short in
-    (
+    s.short in (
       λ h. omega (arith, e.0 h, s.count_is, s.places_are),
       (λ h. omega (arith, e.1.0 h, s.count_is, s.places_are), λ h. omega (arith, e.1.1 h, s.count_is, s.places_are)),
     )
@@ -380,9 +385,9 @@ pub reach_more : (n bs : List ℕ) (count places power : ℕ) → IsMeasured n b
 reach_more n bs count places power s h =
     let f = bound_first bs s.bound in
     let more = more_digits (ours_of n) bs (raised n) (lowered n) (ours_first n count s.count_is s.some)
-        (first_digits bs f) ((rows n bs count places power s).0 h) in
+    (first_digits bs f) ((rows n bs count places power s).0 h) in
     let same : place_value 10 (ours_of n) * 10 ^ raised n ≡ significand n * 10 ^ raised n =
-        ap (λ v. v * 10 ^ raised n) (ours_value n) in
+    ap (λ v. v * 10 ^ raised n) (ours_value n) in
     omega (arith, more, same)
 
 pub reach_less : (n bs : List ℕ) (count places power : ℕ) → IsMeasured n bs count places power
@@ -391,9 +396,9 @@ pub reach_less : (n bs : List ℕ) (count places power : ℕ) → IsMeasured n b
 reach_less n bs count places power s h reaches =
     let f = ours_first n count s.count_is s.some in
     let less = more_digits bs (ours_of n) (lowered n) (raised n) (bound_first bs s.bound)
-        (first_digits (ours_of n) f) ((rows n bs count places power s).1.0 h) in
+    (first_digits (ours_of n) f) ((rows n bs count places power s).1.0 h) in
     let same : place_value 10 (ours_of n) * 10 ^ raised n ≡ significand n * 10 ^ raised n =
-        ap (λ v. v * 10 ^ raised n) (ours_value n) in
+    ap (λ v. v * 10 ^ raised n) (ours_value n) in
     absurd (omega (arith, less, same, reaches))
 
 pub reach_same : (n bs : List ℕ) (count places power : ℕ) → IsMeasured n bs count places power
@@ -404,9 +409,9 @@ reach_same n bs count places power s h r is =
     let f = bound_first bs s.bound in
     let g = ours_first n count s.count_is s.some in
     let c = same_digits (ours_of n) bs (raised n) (lowered n) (first_digits (ours_of n) g) (first_digits bs f)
-        ((rows n bs count places power s).1.1 h) in
+    ((rows n bs count places power s).1.1 h) in
     let same : place_value 10 (ours_of n) * 10 ^ raised n ≡ significand n * 10 ^ raised n =
-        ap (λ v. v * 10 ^ raised n) (ours_value n) in
+    ap (λ v. v * 10 ^ raised n) (ours_value n) in
     go (not_below (ours_of n) bs) c (sym is) same
   where
     go : (t : Bool)

@@ -74,8 +74,8 @@ cut_numeral text numeral suffix t cut utf8 typed =
     let whole : chars text ≡ chars numeral ++ suffix = ap chars cut ∙ chars-append numeral suffix utf8
     ∙ ap (λ z. chars numeral ++ z) (suffix_ascii suffix t typed) in
     let long : length (chars text) - length suffix ≡ length (chars numeral) =
-        ap (λ z. length z - length suffix) whole
-        ∙ ap (λ n. n - length suffix) (length-append (chars numeral) suffix) ∙ omega arith in
+    ap (λ z. length z - length suffix) whole
+    ∙ ap (λ n. n - length suffix) (length-append (chars numeral) suffix) ∙ omega arith in
     ap (λ n. take n (chars text)) long ∙ ap (λ z. take (length (chars numeral)) z) whole
     ∙ take-append_seam (chars numeral) suffix
 

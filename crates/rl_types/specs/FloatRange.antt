@@ -1,4 +1,5 @@
--- Decimal numbers that round to infinity. A numeral is what stands before a float's suffix, a list of characters: digits with
+-- Decimal numbers that round to infinity. A numeral is what stands before a float's suffix, a list of characters:
+-- digits with
 -- underscores among them, perhaps a dot, perhaps a letter and an exponent.
 use Rattle.std.specs.Prelude.{ℕ, ◌+◌, ◌-◌, ◌*◌, ◌^◌, ◌≤◌, ◌==◌, Bool, List, [], ◌∷◌, filter, length, take, if◌then◌else◌}
 use Rattle.std.specs.Char.{is_ascii_digit}

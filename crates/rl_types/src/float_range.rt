@@ -167,11 +167,7 @@ fn is_not_below(digits: &str, bound: &str) -> bool
 fn value_if(condition: bool, value: u128) -> u128
     ensures { result ≡ cond condition value 0 }
 {
-    if condition {
-        value
-    } else {
-        0
-    }
+    if condition { value } else { 0 }
 }
 
 /// Whether a number is at least the one that the digits of the bound spell.

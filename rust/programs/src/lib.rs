@@ -13,7 +13,7 @@ pub mod rattle_std;
 
 use navyspindle::rendered::{
     rl_file_reasons, rl_flaws, rl_forms, rl_lexer, rl_parts, rl_reading, rl_reasons, rl_settings,
-    rl_text, rl_types,
+    rl_text, rl_types, rl_writing,
 };
 #[cfg(not(feature = "rendered"))]
 use proved::{

@@ -11,7 +11,8 @@ abbrev pub invariant-loop-wanted : goal.invariant-loop-wanted
 invariant-loop-wanted l = record {
   utf8 : shadow (Utf8 l.rest);
   left : shadow (Utf8 l.left);
-  same : not_below (digits_only (chars l.left)) (chars l.rest) ≡ not_below (digits_only (chars l.digits)) (chars l.bound);
+  same : not_below (digits_only (chars l.left)) (chars l.rest)
+      ≡ not_below (digits_only (chars l.digits)) (chars l.bound);
 }
 
 abbrev pub decreases-loop-wanted : goal.decreases-loop-wanted

@@ -15,10 +15,10 @@ pub returns-then-ours-least-clause-yes : goal.returns-then-ours-least-clause-yes
 returns-then-ours-least-clause-yes c =
     let n : List ℕ = chars c.args.numeral.now in
     let s = measured n c.args.bound.now _ _ _ _ c.count_digits-count.result c.count_digits-places.result
-        c.capped_value-power.result c.requires.bound c.requires.short c.split_letter.ensures.before
-        c.split_letter.ensures.after c.skip_zeros-digits.ensures c.count_digits-count.ensures.count
-        c.if-count-eq0.false c.after_point.ensures c.count_digits-places.ensures.count
-        c.capped_value-power.ensures.value c.count_digits-count.ensures.fits c.count_digits-places.ensures.fits in
+    c.capped_value-power.result c.requires.bound c.requires.short c.split_letter.ensures.before
+    c.split_letter.ensures.after c.skip_zeros-digits.ensures c.count_digits-count.ensures.count
+    c.if-count-eq0.false c.after_point.ensures c.count_digits-places.ensures.count
+    c.capped_value-power.ensures.value c.count_digits-count.ensures.fits c.count_digits-places.ensures.fits in
     let minus = c.has_minus-is_divided.ensures ∙ ap (list_any (λ (z : ℕ). z == 45)) c.split_letter.ensures.after in
     let up = c.value_if.ensures ∙ ap (λ m. cond (not m) c.capped_value-power.result 0) minus in
     let down = c.value_if-2.ensures ∙ ap (λ m. cond m c.capped_value-power.result 0) minus in
@@ -30,10 +30,10 @@ pub returns-then-ours-least-2-clause-no : goal.returns-then-ours-least-2-clause-
 returns-then-ours-least-2-clause-no c =
     let n : List ℕ = chars c.args.numeral.now in
     let s = measured n c.args.bound.now _ _ _ _ c.count_digits-count.result c.count_digits-places.result
-        c.capped_value-power.result c.requires.bound c.requires.short c.split_letter.ensures.before
-        c.split_letter.ensures.after c.skip_zeros-digits.ensures c.count_digits-count.ensures.count
-        c.if-count-eq0.false c.after_point.ensures c.count_digits-places.ensures.count
-        c.capped_value-power.ensures.value c.count_digits-count.ensures.fits c.count_digits-places.ensures.fits in
+    c.capped_value-power.result c.requires.bound c.requires.short c.split_letter.ensures.before
+    c.split_letter.ensures.after c.skip_zeros-digits.ensures c.count_digits-count.ensures.count
+    c.if-count-eq0.false c.after_point.ensures c.count_digits-places.ensures.count
+    c.capped_value-power.ensures.value c.count_digits-count.ensures.fits c.count_digits-places.ensures.fits in
     let minus = c.has_minus-is_divided.ensures ∙ ap (list_any (λ (z : ℕ). z == 45)) c.split_letter.ensures.after in
     let up = c.value_if.ensures ∙ ap (λ m. cond (not m) c.capped_value-power.result 0) minus in
     let down = c.value_if-2.ensures ∙ ap (λ m. cond m c.capped_value-power.result 0) minus in
@@ -45,10 +45,10 @@ pub returns-clause-yes : goal.returns-clause-yes
 returns-clause-yes c =
     let n : List ℕ = chars c.args.numeral.now in
     let s = measured n c.args.bound.now _ _ _ _ c.count_digits-count.result c.count_digits-places.result
-        c.capped_value-power.result c.requires.bound c.requires.short c.split_letter.ensures.before
-        c.split_letter.ensures.after c.skip_zeros-digits.ensures c.count_digits-count.ensures.count
-        c.if-count-eq0.false c.after_point.ensures c.count_digits-places.ensures.count
-        c.capped_value-power.ensures.value c.count_digits-count.ensures.fits c.count_digits-places.ensures.fits in
+    c.capped_value-power.result c.requires.bound c.requires.short c.split_letter.ensures.before
+    c.split_letter.ensures.after c.skip_zeros-digits.ensures c.count_digits-count.ensures.count
+    c.if-count-eq0.false c.after_point.ensures c.count_digits-places.ensures.count
+    c.capped_value-power.ensures.value c.count_digits-count.ensures.fits c.count_digits-places.ensures.fits in
     let minus = c.has_minus-is_divided.ensures ∙ ap (list_any (λ (z : ℕ). z == 45)) c.split_letter.ensures.after in
     let up = c.value_if.ensures ∙ ap (λ m. cond (not m) c.capped_value-power.result 0) minus in
     let down = c.value_if-2.ensures ∙ ap (λ m. cond m c.capped_value-power.result 0) minus in
@@ -64,10 +64,10 @@ pub returns-clause-no : goal.returns-clause-no
 returns-clause-no c =
     let n : List ℕ = chars c.args.numeral.now in
     let s = measured n c.args.bound.now _ _ _ _ c.count_digits-count.result c.count_digits-places.result
-        c.capped_value-power.result c.requires.bound c.requires.short c.split_letter.ensures.before
-        c.split_letter.ensures.after c.skip_zeros-digits.ensures c.count_digits-count.ensures.count
-        c.if-count-eq0.false c.after_point.ensures c.count_digits-places.ensures.count
-        c.capped_value-power.ensures.value c.count_digits-count.ensures.fits c.count_digits-places.ensures.fits in
+    c.capped_value-power.result c.requires.bound c.requires.short c.split_letter.ensures.before
+    c.split_letter.ensures.after c.skip_zeros-digits.ensures c.count_digits-count.ensures.count
+    c.if-count-eq0.false c.after_point.ensures c.count_digits-places.ensures.count
+    c.capped_value-power.ensures.value c.count_digits-count.ensures.fits c.count_digits-places.ensures.fits in
     let minus = c.has_minus-is_divided.ensures ∙ ap (list_any (λ (z : ℕ). z == 45)) c.split_letter.ensures.after in
     let up = c.value_if.ensures ∙ ap (λ m. cond (not m) c.capped_value-power.result 0) minus in
     let down = c.value_if-2.ensures ∙ ap (λ m. cond m c.capped_value-power.result 0) minus in

@@ -24,7 +24,7 @@ pub loop-c-preserved : goal.loop-c-preserved
 loop-c-preserved c =
     let (front, cut, ahead, after) = c.loop-c.invariant.passed in
     let next = letter_next front (chars c.in-Some.after.now) c.in-Some.c
-        (sym c.is_exponent_letter.ensures ∙ c.if-is_exponent_letter.false) in
+    (sym c.is_exponent_letter.ensures ∙ c.if-is_exponent_letter.false) in
     record {
       utf8 = search rules;
       passed = (
