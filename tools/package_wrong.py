@@ -124,7 +124,7 @@ WRONG = [Wrong(*row) for row in [
      'an escape of a byte string is a character'),
     ('places.rs', "range: segment.lo..segment.hi,", "range: segment.lo..segment.hi.min(segment.lo + 9),",
      'a segment has nine bytes at most'),
-    # style.rs
+    # style.rs, style_settings.rs
     ('style.rs', "Case::Lower => rl_style::Case::Lower,", "Case::Lower => rl_style::Case::Upper,",
      'lower case is upper case'),
     ('style.rs', "exponent_letter: self.exponent_letter.map(Case::proved),", "exponent_letter: self.hex_digits.map(Case::proved),",
@@ -137,6 +137,9 @@ WRONG = [Wrong(*row) for row in [
      'what is as long as before is returned as it was'),
     ('style.rs', "hidden: self.hidden,", "hidden: self.raw,",
      'what hides text is escaped where raw strings are dropped'),
+    ('style_settings.rs', ".octal(size_of(settings, OCTAL_GROUPS)?)", ".octal(size_of(settings, BINARY_GROUPS)?)",
+     'octal digits stand in groups of binary ones'),
+    # restyle.rs
     ('restyle.rs', "&source[..literal.token.lo]", "&source[..literal.token.hi]",
      'a literal stands after itself'),
     # write.rs

@@ -95,6 +95,8 @@ mod source;
 mod strings;
 #[cfg(feature = "style")]
 mod style;
+#[cfg(all(feature = "settings", feature = "style"))]
+mod style_settings;
 #[cfg(feature = "flaws")]
 mod types;
 mod unicode;

@@ -1,8 +1,8 @@
 //! Literals written anew, held against the rows of `style.txt`, which `tools/style_model.py` writes of a model's answers.
 
 use navyspindle::{
-    is_token, rewrite, rewrite_after, write_integer, Base, Case, DigitGroups, FlawKind, IntegerStyle,
-    Lit, Separator, Style,
+    is_token, rewrite, rewrite_after, write_integer, Base, Case, DigitGroups, FlawKind,
+    IntegerStyle, Lit, Separator, Style,
 };
 use std::borrow::Cow;
 

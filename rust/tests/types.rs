@@ -136,9 +136,17 @@ fn floats_are_out_of_range_where_std_reads_infinity() {
                         let in_f32 = plain.parse::<f32>().expect("a float").is_infinite();
                         let in_f64 = plain.parse::<f64>().expect("a float").is_infinite();
                         infinite += usize::from(in_f32) + usize::from(in_f64);
-                        assert_eq!(Lit::new(&text).type_error(false).is_some(), in_f64, "{text}");
+                        assert_eq!(
+                            Lit::new(&text).type_error(false).is_some(),
+                            in_f64,
+                            "{text}"
+                        );
                         let text = format!("{text}f32");
-                        assert_eq!(Lit::new(&text).type_error(false).is_some(), in_f32, "{text}");
+                        assert_eq!(
+                            Lit::new(&text).type_error(false).is_some(),
+                            in_f32,
+                            "{text}"
+                        );
                     }
                 }
             }
