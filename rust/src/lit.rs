@@ -76,7 +76,7 @@ macro_rules! each_kind {
 }
 
 impl<'t> Lit<'t> {
-    /// What `syn` reads the text as, all of it: `Verbatim` exactly where it has no reading, and for integers past 128 bits.
+    /// What `syn` reads the text as, all of it: `Verbatim` exactly where it has no reading, as an integer past 128 bits has none.
     ///
     /// `syn` reads some texts that Rust rejects, since it is given tokens alone: `0b102` is a float to it, `1e` an integer with
     /// the suffix `e`, and `'''` a character. Whoever takes texts from outside asks [`Lit::parse`].

@@ -531,7 +531,7 @@ impl Style {
         }
     }
 
-    /// The same with escapes in place of raw strings that hold neither a backslash nor a quote, or with those that stand there. After
+    /// The same without the `r` and the hashes of raw strings that hold neither a backslash nor a quote, or with those that stand there. After
     /// a hash or a dot a raw string without `b` or `c` stays ([`rewrite_after`]).
     ///
     /// ```
@@ -552,7 +552,7 @@ impl Style {
 
     /// The same with escapes by number for characters that turn or hide text, or with what stands there: control characters but LF and
     /// TAB, what turns the direction of text, and what has no width, as a joiner of emoji has none; variation selectors from U+FE00 to
-    /// U+FE0F stay. A raw string that holds one gets escapes, where [`Style::drop_raw`] could.
+    /// U+FE0F stay. A raw string that holds one gets escapes, but for one without `b` or `c` after a hash or a dot ([`rewrite_after`]).
     ///
     /// ```
     /// use navyspindle::{rewrite, Style};
