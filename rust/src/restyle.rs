@@ -39,7 +39,7 @@ pub struct Restyles<'t> {
 
 /// The edits that bring the literals of a whole Rust source into a style, in order; [`Restyles::apply`] makes them.
 ///
-/// It is proved that the source is cut into the same tokens then, each literal aside, which is the same as [`rewrite`] says: of
+/// It is proved that the source is cut into the same tokens then, each literal aside, which is the same as [`rewrite`](crate::rewrite) says: of
 /// every source in which each character belongs to a token and each quote holds one character, as in all that rustc takes. These stay as
 /// they are: literals that Rust rejects, strings that hold a CR, numbers after one dot, which may be fields (`t.0`), and all
 /// of a source that begins with an interpreter's line (`#!`, and not `#![`). A macro sees how a literal is written, by `stringify!`, by
