@@ -108,16 +108,11 @@ pub record IsOptionsFor (command : Command) (path : List ℕ) (options : Options
   pub explains : options.explains ≡ is_bad command.shown
   pub before : IsPathIn (is_json command.form) path options.path
 
--- the lines of a text, and its error where it has one
+-- the lines of a text, and its error where it has one that has no line
 abbrev pub IsScannedAs : Options → List ℕ → List ℕ → Option (Place × LexKind) → Type 0
 IsScannedAs options text lines None = (any : Bool) × Scans options (chars text) (Some []) (Some lines) any
 IsScannedAs options text lines (Some (place, kind)) =
     (shown : List ℕ) × StopsAtError options (chars text) shown place kind × (lines ≡ encode_utf8_all shown)
-
--- how the line of a text's error is written: as the others, where errors are among what is found; else
--- plain, since it goes to standard error
-abbrev pub error_form : Options → Form
-error_form options = cond options.explains options.form Plain
 
 -- a place by its bytes, or by its line and column
 abbrev pub worded_place : Bool → Place → Place
@@ -126,19 +121,12 @@ worded_place by_line (Line at) = Line at
 worded_place by_line (Whole e) =
     cond by_line (Line (record { line = e.start.line; column = e.start.column })) (Bytes e.lo e.hi)
 
--- the place in that line, and the path before it, of which this is printed
-abbrev pub error_line_place : Options → Place → Place
-error_line_place options place = cond options.explains place (worded_place options.by_line place)
-
-abbrev pub error_path : Options → Option (Bor (List ℕ)) → Option (Bor (List ℕ))
-error_path options shown = cond options.explains options.path shown
-
--- the line of a text's error, in characters; nothing where it has none
-abbrev pub error_text : Options → Option (Bor (List ℕ)) → Option (Place × LexKind) → List ℕ
-error_text options shown None = []
-error_text options shown (Some (place, kind)) =
-    line_front (error_form options) (error_path options shown) (error_line_place options place)
-    ++ error_end (error_form options) kind
+-- the line of a text's error that isn't found, in characters, plain, since it goes to standard error, after the path as it
+-- is printed; nothing where there is none
+abbrev pub error_text : Bool → Option (Bor (List ℕ)) → Option (Place × LexKind) → List ℕ
+error_text by_line shown None = []
+error_text by_line shown (Some (place, kind)) =
+    line_front Plain shown (worded_place by_line place) ++ error_end Plain kind
 
 -- how many lines there are
 abbrev pub line_count : List ℕ → ℕ
@@ -179,23 +167,13 @@ pub record Findings : Type 0 where
 abbrev pub in_report : {A : Type 0} → Report A → Findings
 in_report report = record { out = report.out.items; errors = string_bytes report.errors; found = report.found }
 
--- what is found in a text: its lines, and its error where what is bad is asked for
-abbrev pub found_in : Bool → List ℕ → List ℕ → List ℕ
-found_in true lines error = lines ++ error
-found_in false lines error = lines
-
--- what is reported of it beside that: its error where that isn't found
-abbrev pub errors_of : Bool → List ℕ → List ℕ
-errors_of true error = []
-errors_of false error = error
-
 -- What is reported of a text with these lines and this error, of whose path this is printed with no place.
 pub record IsReportOf (command : Command) (options : Options) (path : Option (Bor (List ℕ))) (lines error : List ℕ)
     (printed : Findings) : Type 0 where
   pub out : printed.out
-      ≡ printed_of command.output command.nul_after_paths options.form path (found_in options.explains lines error)
-  pub errors : printed.errors ≡ errors_of options.explains error
-  pub found : printed.found ≡ not (length (found_in options.explains lines error) == 0)
+      ≡ printed_of command.output command.nul_after_paths options.form path lines
+  pub errors : printed.errors ≡ error
+  pub found : printed.found ≡ not (length lines == 0)
 
 -- what is reported of a text
 abbrev pub IsTextReport : Command → List ℕ → List ℕ → Findings → Type 0
@@ -203,7 +181,7 @@ IsTextReport command path text printed =
     (options : Options) × (shown named : Option (Bor (List ℕ))) × (lines : List ℕ) × (error : Option (Place × LexKind))
     × IsOptionsFor command path options × IsShownPath path shown × IsPathIn command.nul_after_paths path named
     × IsScannedAs options text lines error
-    × IsReportOf command options named lines (encode_utf8_all (error_text options shown error)) printed
+    × IsReportOf command options named lines (encode_utf8_all (error_text options.by_line shown error)) printed
 
 -- What is reported of a file that is listed: its path.
 pub record IsListReport (command : Command) (path : List ℕ) (printed : Findings) : Type 0 where

@@ -7,7 +7,7 @@ ghost use Rattle.rl_files.specs.Walks.{visited};
 ghost use Rattle.rl_files.specs.declared.tree.PathError.{PathError};
 ghost use Rattle.rl_output.specs.Fronts.{line_front};
 ghost use Rattle.rl_sources.specs.Scans.{error_end};
-ghost use Rattle.rl_reports.specs.Reports.{is_input as input, is_by_line as by_line, is_bad as bad, is_alarm as alarm, asks_context as asks, context_of as context, side_lines as on_side, IsShownPath, IsPathIn, IsListReport, IsOptionsFor, IsReadReport, IsScannedAs, error_form, error_path, error_line_place, worded_place as as_words, error_text, after_path as path_end, line_count, count_line, listed_of, path_line, printed_of, in_report, IsTextReport, IsErrorReport, IsNotUtf8, IsReport};
+ghost use Rattle.rl_reports.specs.Reports.{is_input as input, is_by_line as by_line, is_bad as bad, is_alarm as alarm, asks_context as asks, context_of as context, side_lines as on_side, IsShownPath, IsPathIn, IsListReport, IsOptionsFor, IsReadReport, IsScannedAs, worded_place as as_words, error_text, after_path as path_end, line_count, count_line, listed_of, path_line, printed_of, in_report, IsTextReport, IsErrorReport, IsNotUtf8, IsReport};
 
 use crate::clash::lists_files;
 use crate::command::{Command, Output, PlaceForm};
@@ -30,7 +30,7 @@ pub struct Report<A: Allocator = Global> {
     pub found: bool,
 }
 
-/// The lines of a source, and its error where it has one.
+/// The lines of a source, and its error where it has one that has no line.
 #[derive(Drop)]
 struct Scanned<A: Allocator = Global> {
     lines: Vec<u8, A>,
@@ -170,18 +170,6 @@ fn scan_text<A: Allocator + Copy>(
     }
 }
 
-/// How the line of a source's error is written: as the others, where errors are among what is found; else plain, since
-/// it goes to standard error.
-fn error_form(options: Options<'_>) -> Form
-    ensures { result ≡ error_form options.entry }
-{
-    if options.explains {
-        options.form
-    } else {
-        Form::Plain
-    }
-}
-
 /// A place by its bytes, or by its line and column.
 fn worded_place(by_line: bool, place: Place) -> Place
     ensures { result ≡ as_words by_line place }
@@ -196,44 +184,22 @@ fn worded_place(by_line: bool, place: Place) -> Place
     }
 }
 
-/// The place in the line of a source's error.
-fn error_line_place(options: Options<'_>, place: Place) -> Place
-    ensures { result ≡ error_line_place options.entry place }
-{
-    if options.explains {
-        return place;
-    }
-    worded_place(options.by_line, place)
-}
-
-/// The path in the line of a source's error, which is printed so.
-fn error_path<'a>(options: Options<'a>, shown: Option<&'a str>) -> Option<&'a str>
-    ensures { result ≡ error_path options.entry shown.entry }
-{
-    if options.explains {
-        options.path
-    } else {
-        shown
-    }
-}
-
-/// The line of a source's error; nothing where there is none.
+/// The line of a source's error that isn't among what is found, as it goes to standard error; nothing where there is none.
 fn error_line<A: Allocator + Copy>(
     alloc: A,
-    options: Options<'_>,
+    by_line: bool,
     shown: Option<&str>,
     error: Option<(Place, LexKind)>,
 ) -> Result<String<A>, AllocError>
     ensures { IfOk result (λ line. string_bytes line
-        ≡ encode_utf8_all (error_text options.entry shown.entry error)) }
+        ≡ encode_utf8_all (error_text by_line shown.entry error)) }
 {
     let mut line = String::new(alloc);
     match error {
         None => Ok(line),
         Some((place, kind)) => {
-            let path = error_path(options, shown);
-            let place = error_line_place(options, place);
-            push_source_error(&mut line, error_form(options), path, place, kind)?;
+            let place = worded_place(by_line, place);
+            push_source_error(&mut line, Form::Plain, shown, place, kind)?;
             Ok(line)
         }
     }
@@ -326,12 +292,8 @@ fn report_text<A: Allocator + Copy>(
     let shown = visible_text(alloc, path)?;
     let before = path_before(path, shown.as_str());
     let options = options_for(command, path, before);
-    let mut scanned = scan_text(alloc, options, text)?;
-    let mut errors = error_line(alloc, options, before, scanned.error)?;
-    if options.explains {
-        scanned.lines.extend_from_slice(errors.as_bytes())?;
-        errors.clear();
-    }
+    let scanned = scan_text(alloc, options, text)?;
+    let errors = error_line(alloc, options.by_line, before, scanned.error)?;
     let found = !scanned.lines.is_empty();
     let named = path_in(command.nul_after_paths, path, before);
     let out = written(alloc, command, options.form, named, scanned.lines)?;

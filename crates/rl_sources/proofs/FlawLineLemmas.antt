@@ -2,6 +2,7 @@
 use Rattle.rl_text.proofs.Common.{◌≡◌, ◌≤◌, ◌+◌, ℕ, true, false, List, [], ◌∷◌, ◌++◌, Option, Some, None, inl, inr, length, refl, sym, ap, subst, ◌∙◌, arith, append_assoc, append-nil, encode_utf8_all, encodes-chars, IsUtf8, chars}
 use Rattle.rl_text.specs.Texts.{byte_len}
 use Rattle.rl_lexer.proofs.CutLemmas.{byte_len-append}
+use Rattle.rl_lexer.specs.declared.lex_error.LexKind.{LexKind}
 use Rattle.rl_lines.specs.Lines.{Appends}
 use Rattle.rl_reading.specs.declared.quoted_forms.QuotedForm.{QuotedForm}
 use Rattle.rl_reading.specs.declared.quoted_forms.QuotedForm.TheVariants.{Cooked as CookedForm, Raw as RawForm, Single as SingleForm}
@@ -28,7 +29,7 @@ use Rattle.rl_sources.proofs.InFileLemmas.{file_cut, file_within}
 use Rattle.rl_sources.proofs.ReasonLemmas.{flaw_cut, has_place}
 use Rattle.rl_sources.specs.Places.{IsPlaceIn}
 use Rattle.rl_output.specs.Fronts.{line_front}
-use Rattle.rl_sources.specs.Scans.{AreAllFlawLines, AreFlawLines, AreReasonLines, IsFindingLine, IsLimitLine, IsOwnFindingLine, IsReservedLine, IsTypeLine, finding_end}
+use Rattle.rl_sources.specs.Scans.{AreAllFlawLines, AreFlawLines, AreReasonLines, IsFindingLine, IsLimitLine, IsOwnErrorLine, IsOwnFindingLine, IsReservedLine, IsTypeLine, error_end, finding_end}
 
 -- ---- what the cursor gives stands in the text
 
@@ -97,6 +98,13 @@ finding_line options whole text lo finding place piece old a new at is begun end
     let front = line_front options.form options.path place in
     let end = finding_end options.form text finding.reason piece in
     (front ++ end, (place, piece, at, is, refl), ended ∙ ap (λ z. z ++ end) begun ∙ append_assoc old front end)
+
+pub error_line : (options : Options) (whole : List ℕ) (at : ℕ) (kind : LexKind) (place : Place) (old new : List ℕ)
+    → IsPlaceIn options whole at at place
+    → new ≡ old ++ (line_front options.form options.path place ++ error_end options.form kind)
+    → Appends (IsOwnErrorLine options whole at kind) old new
+error_line options whole at kind place old new is written =
+    (line_front options.form options.path place ++ error_end options.form kind, (place, is, refl), written)
 
 -- what is shown so far of what the cursor gives: with the lines of what is left it is the lines of all
 pub record GoesOn (options : Options) (whole text : List ℕ) (lo : ℕ) (start now : FlawsState) (old new : List ℕ) : Type

@@ -13,6 +13,7 @@ use Rattle.rl_lexer.specs.Lexemes.{LiteralForm, IdentifierForm, DelimiterForm, M
 use Rattle.rl_lexer.specs.Sources.{source_text, source_end, source_view, source_kind, SourceKind, PlainKind, RawIdentifierKind, LifetimeKind, DocCommentKind, StrayKind, CutSource, IsBorrowedSource, TakesSource, IsLiteralText, IsNoLiteral, PassesTo}
 use Rattle.rl_lexer.specs.declared.sources.SourceToken.{SourceToken}
 use Rattle.rl_lexer.specs.declared.lex_error.LexError.{LexError}
+use Rattle.rl_lexer.specs.declared.lex_error.LexKind.{LexKind}
 use Rattle.rl_text.proofs.TailLemmas.{tail_step, cut_boundary, cut_drop}
 use Rattle.rl_lexer.proofs.ErrorKinds.{char_len, chars_some}
 use Rattle.rl_program.specs.Streams.{AppendsBeginning}
@@ -23,8 +24,8 @@ use Rattle.rl_output.specs.declared.place.Place.{Place}
 use Rattle.rl_sources.specs.declared.step.Step.{Step}
 use Rattle.rl_sources.specs.declared.step.Step.TheVariants.{More, End, Error}
 use Rattle.rl_sources.specs.Places.{IsPlaceIn}
-use Rattle.rl_sources.specs.Scans.{IsShownLiteral, IsShownToken, IsShown, IsNoStray, ShowsUpTo, ShowsFront, IsErrorAt}
-use Rattle.rl_sources.specs.Steps.{BeginsRest, IsCursorOver, Adds, IsUnshown, TakesShown, IsStepOf}
+use Rattle.rl_sources.specs.Scans.{IsShownLiteral, IsShownToken, IsShown, IsNoStray, ShowsUpTo, ShowsPart, ShowsSource, IsErrorAt, IsErrorLine}
+use Rattle.rl_sources.specs.Steps.{BeginsRest, IsCursorOver, Adds, Completes, IsUnshown, TakesShown, IsStepOf, IsStopAt}
 
 -- nothing more
 pub adds_none : (options : Options) (whole rest piece : List ℕ) → piece ≡ [] → Adds options whole rest rest piece
@@ -120,29 +121,62 @@ begins_rest tokens next places rest l stands takes same =
     }) in
     subst (λ (r : List ℕ). BeginsRest l places r) (sym same) (whole places stands.text_is)
 
--- the source stops at an error
-pub stops : (options : Options) (text : List ℕ) (old : CursorState) (places : List ℕ) (start piece : List ℕ)
-    (e : LexError) (place : Place) → old.text ≡ text → IsCursorOver old places
-    → Adds options (chars text) start (chars old.rest) piece → IsErrorAt options.rejects_strays e.kind (chars old.rest)
-    → e.at + length old.rest ≡ length old.text → IsPlaceIn options (chars places) e.at e.at place → (at : ℕ)
-    × (rest : List ℕ) × Adds options (chars text) start rest piece × IsErrorAt options.rejects_strays e.kind rest
-    × (at + byte_len rest ≡ byte_len (chars text)) × IsPlaceIn options (chars text) at at place
-stops options text old places start piece e place same stands adds error at is_place = (
-  e.at,
-  chars old.rest,
-  adds,
-  error,
-  omega (
-    arith,
-    at,
-    ap length same,
-    ap (λ t. byte_len (chars t)) same,
-    char_len old.rest
-        stands.cursor.following.is_text,
-    char_len old.text stands.cursor.is_text,
-  ),
-  subst (λ (t : List ℕ). IsPlaceIn options (chars t) e.at e.at place) (stands.text_is ∙ same) is_place,
+-- where an error stands, in bytes of the source's characters
+error_place : (text : List ℕ) (stop : CursorState) (places : List ℕ) (e : LexError) → stop.text ≡ text
+    → IsCursorOver stop places → e.at + length stop.rest ≡ length stop.text
+    → e.at + byte_len (chars stop.rest) ≡ byte_len (chars text)
+error_place text stop places e same stands at = omega (
+  arith,
+  at,
+  ap length same,
+  ap (λ t. byte_len (chars t)) same,
+  char_len stop.rest stands.cursor.following.is_text,
+  char_len stop.text stands.cursor.is_text,
 )
+
+-- the source stops at an error
+pub stopped : (options : Options) (old stop : CursorState) (places piece longer : List ℕ) (new : CursorState)
+    (later : List ℕ) (e : LexError) (step : Step) → stop.text ≡ old.text → IsCursorOver stop places
+    → Adds options (chars old.text) (chars old.rest) (chars stop.rest) piece
+    → IsErrorAt options.rejects_strays e.kind (chars stop.rest) → e.at + length stop.rest ≡ length stop.text
+    → IsStopAt options (chars places) e.at e.kind piece longer step → IsStepOf options old longer new later step
+stopped options old stop places piece longer new later e More same stands adds error at is = absurd is
+stopped options old stop places piece longer new later e End same stands adds error at
+    (said, (line, is_line, longer_is)) = record {
+      ends = λ cuts shown shows. inr (record {
+        said = said;
+        before = shown ++ piece;
+        at = e.at;
+        kind = e.kind;
+        up_to = record {
+          cuts = cuts ++ adds.more;
+          rest = chars stop.rest;
+          shows = adds.goes_on cuts shown shows;
+          error = error;
+          rest_place = error_place old.text stop places e same stands at;
+        };
+        line = line;
+        line_is = subst (λ (t : List ℕ). IsErrorLine options (chars t) e.at e.kind line) (stands.text_is ∙ same) is_line;
+        shown_is = ap (λ (z : List ℕ). shown ++ z) longer_is ∙ sym (append_assoc shown piece line);
+      });
+    }
+stopped options old stop places piece longer new later e (Error place kind) same stands adds error at
+    (unsaid, kind_is, is_place, nothing) = (
+      e.at,
+      chars stop.rest,
+      subst (λ (z : List ℕ). Adds options (chars old.text) (chars old.rest) (chars stop.rest) z) (sym nothing) adds,
+      subst (λ (k : LexKind). IsErrorAt options.rejects_strays k (chars stop.rest)) (sym kind_is) error,
+      error_place old.text stop places e same stands at,
+      subst (λ (t : List ℕ). IsPlaceIn options (chars t) e.at e.at place) (stands.text_is ∙ same) is_place,
+      unsaid,
+    )
+
+-- the source ends
+pub completes : (options : Options) (whole old piece : List ℕ) → Adds options whole old [] piece
+    → Completes options whole old piece
+completes options whole old piece adds = record {
+  ends = λ cuts shown shows. inl (cuts ++ adds.more, adds.goes_on cuts shown shows);
+}
 
 -- two pieces, one after the other
 pub adds_join : (options : Options) (whole a b d first last : List ℕ) → Adds options whole a b first
@@ -318,6 +352,14 @@ any_more any more shown lines utf8 is more_is =
     subst (λ (b : Bool). IsTrue b ↔ ((shown ++ chars lines) ≢ [])) (sym more_is)
     (any_cases any (length lines == 0) shown lines utf8 is refl)
 
+-- the lines, after what was written before
+pub lines_written : (options : Options) (whole rest lines : List ℕ) (any : Bool) (old mid new : Option (List ℕ))
+    (has : HasWritten options whole rest any old mid) → IsUtf8 lines → AppendsBytes mid new lines
+    → AppendsBytes old new (encode_utf8_all (has.shown ++ chars lines))
+lines_written options whole rest lines any old mid new has utf8 appends =
+    subst (λ z. AppendsBytes old new z) (sym (lines_bytes has.shown lines utf8))
+    (Appends-trans old mid new (encode_utf8_all has.shown) lines has.written appends)
+
 -- lines more
 pub written_more : (options : Options) (whole rest next lines : List ℕ) (any more : Bool)
     (old mid new : Option (List ℕ)) → HasWritten options whole rest any old mid
@@ -328,18 +370,22 @@ written_more options whole rest next lines any more old mid new has adds utf8 ap
   shown = has.shown ++ chars lines;
   shows = adds.goes_on has.cuts has.shown has.shows;
   any_is = any_more any more has.shown lines utf8 has.any_is more_is;
-  written = subst (λ z. AppendsBytes old new z) (sym (lines_bytes has.shown lines utf8))
-      (Appends-trans old mid new (encode_utf8_all has.shown) lines has.written appends);
+  written = lines_written options whole rest lines any old mid new has utf8 appends;
 }
 
+-- with this piece what is shown up to the rest is what is shown of a part of the source
+abbrev pub ShowsOn : Options → List ℕ → List ℕ → List ℕ → Type 0
+ShowsOn options whole rest piece = (cuts : List CutSource) (shown : List ℕ) → ShowsUpTo options whole cuts rest shown
+    → ShowsPart options whole (shown ++ piece)
+
 -- a beginning of the lines
-pub written_beginning : (options : Options) (whole rest next lines : List ℕ) (any : Bool)
+pub written_beginning : (options : Options) (whole rest lines : List ℕ) (any : Bool)
     (old mid new : Option (List ℕ)) → HasWritten options whole rest any old mid
-    → Adds options whole rest next (chars lines) → IsUtf8 lines → AppendsBeginning mid new lines → (shown : List ℕ)
-    × ShowsFront options whole shown × AppendsBeginning old new (encode_utf8_all shown)
-written_beginning options whole rest next lines any old mid new has adds utf8 (count, appends) = (
+    → ShowsOn options whole rest (chars lines) → IsUtf8 lines → AppendsBeginning mid new lines → (shown : List ℕ)
+    × ShowsPart options whole shown × AppendsBeginning old new (encode_utf8_all shown)
+written_beginning options whole rest lines any old mid new has shows utf8 (count, appends) = (
   has.shown ++ chars lines,
-  (has.cuts ++ adds.more, next, adds.goes_on has.cuts has.shown has.shows),
+  shows has.cuts has.shown has.shows,
   (
     length (encode_utf8_all has.shown) + count,
     subst (λ z. AppendsBytes old new z)
@@ -349,10 +395,19 @@ written_beginning options whole rest next lines any old mid new has adds utf8 (c
   ),
 )
 
--- a front of the source, whatever the step
-pub step_adds : (options : Options) (old : CursorState) (piece : List ℕ) (new : CursorState) (places : List ℕ)
-    (step : Step) → IsStepOf options old piece new places step → (rest : List ℕ)
-    × Adds options (chars old.text) (chars old.rest) rest piece
-step_adds options old piece new places More goes = (chars new.rest, goes.adds)
-step_adds options old piece new places End adds = ([], adds)
-step_adds options old piece new places (Error place kind) (at, rest, adds, error, rest_place, is_place) = (rest, adds)
+part_of_all : (options : Options) (whole shown : List ℕ) → ShowsSource options whole shown
+    → ShowsPart options whole shown
+part_of_all options whole shown (inl (cuts, shows)) = inl (cuts, [], shows)
+part_of_all options whole shown (inr stops) = inr stops
+
+-- a part of the source, whatever the step
+pub step_shows : (options : Options) (old : CursorState) (piece : List ℕ) (new : CursorState) (places : List ℕ)
+    (step : Step) → IsStepOf options old piece new places step
+    → ShowsOn options (chars old.text) (chars old.rest) piece
+step_shows options old piece new places More goes cuts shown shows =
+    inl (cuts ++ goes.adds.more, chars new.rest, goes.adds.goes_on cuts shown shows)
+step_shows options old piece new places End all cuts shown shows =
+    part_of_all options (chars old.text) (shown ++ piece) (all.ends cuts shown shows)
+step_shows options old piece new places (Error place kind) (at, rest, adds, error, rest_place, is_place, unsaid) cuts shown
+    shows =
+    inl (cuts ++ adds.more, rest, adds.goes_on cuts shown shows)

@@ -1,5 +1,5 @@
 -- What a scan has written after a step.
-use Rattle.rl_text.proofs.Common.{Bool, IsUtf8, List, Option, [], ap, chars, encodes-chars, false, length, not, refl, subst, sym, ℕ, ◌==◌, ◌||◌, ◌∙◌, ◌≡◌}
+use Rattle.rl_text.proofs.Common.{Bool, IsUtf8, List, Option, [], ap, chars, encodes-chars, false, length, not, refl, subst, sym, ℕ, ◌++◌, ◌==◌, ◌||◌, ◌∙◌, ◌≡◌}
 use Rattle.std.specs.Io.KnownBytes.{Appends}
 use Rattle.rl_text.specs.Texts.{byte_len}
 use Rattle.rl_lexer.specs.Cursors.{CursorState}
@@ -16,8 +16,8 @@ use Rattle.std.proofs.lemmas.Bool.{false≢true}
 use Rattle.rl_sources.specs.Hidden.{ShowsHidden}
 use Rattle.rl_sources.specs.Places.{IsPlaceIn}
 use Rattle.rl_sources.specs.Scans.{ScansHidden, ScansTokens, FailsHidden, FailsTokens}
-use Rattle.rl_sources.specs.Steps.{Adds, IsStepOf}
-use Rattle.rl_sources.proofs.ScanLemmas.{HasWritten, any_more, written_more, written_beginning, step_adds}
+use Rattle.rl_sources.specs.Steps.{Adds, Completes, IsStepOf}
+use Rattle.rl_sources.proofs.ScanLemmas.{HasWritten, ShowsOn, any_more, lines_written, written_more, written_beginning, step_shows}
 
 -- the step's piece, with the text as the scan has it
 of_text : (options : Options) (text : List ℕ) (old : CursorState) (rest piece : List ℕ) → old.text ≡ text
@@ -32,10 +32,10 @@ pub write_fails : {A : Type 0} (options : Options) (text lines : List ℕ) (old 
     → IsUtf8 lines → (fault ≡ Write) × AppendsBeginning mid after lines
     → FailsTokens {A = A} options (chars text) out after (Fault fault)
 write_fails {A = A} options text lines old new places step any out mid after fault same has is utf8 (fault_is, begins) =
-    let found = step_adds options old (chars lines) new places step is in
     subst (λ (f : RunFault A). FailsTokens {A = A} options (chars text) out after (Fault f)) (sym fault_is)
-    (written_beginning options (chars text) (chars old.rest) found.0 lines any out mid after has
-    (of_text options text old found.0 (chars lines) same found.1) utf8 begins)
+    (written_beginning options (chars text) (chars old.rest) lines any out mid after has
+    (subst (λ (t : List ℕ). ShowsOn options (chars t) (chars old.rest) (chars lines)) same
+    (step_shows options old (chars lines) new places step is)) utf8 begins)
 
 -- there is more
 pub writes_on : (options : Options) (text lines : List ℕ) (old new : CursorState) (places : List ℕ) (any more : Bool)
@@ -52,9 +52,13 @@ pub writes_all : (options : Options) (text lines : List ℕ) (old new : CursorSt
     → IsStepOf options old (chars lines) new places End → IsUtf8 lines → Appends mid after lines → more
     ≡ (any || not (length lines == 0)) → ScansTokens options (chars text) out after more
 writes_all options text lines old new places any more out mid after same has is utf8 appends more_is =
-    let all = written_more options (chars text) (chars old.rest) [] lines any more out mid after has
-    (of_text options text old [] (chars lines) same is) utf8 appends more_is in
-    (all.cuts, all.shown, all.shows, all.any_is, all.written)
+    let all : Completes options (chars text) (chars old.rest) (chars lines) = subst
+    (λ (t : List ℕ). Completes options (chars t) (chars old.rest) (chars lines)) same is in (
+      has.shown ++ chars lines,
+      all.ends has.cuts has.shown has.shows,
+      any_more any more has.shown lines utf8 has.any_is more_is,
+      lines_written options (chars text) (chars old.rest) lines any out mid after has utf8 appends,
+    )
 
 -- the source has an error
 pub writes_up_to : (A : Type 0) (options : Options) (text lines : List ℕ) (old new : CursorState) (places : List ℕ)
@@ -63,17 +67,20 @@ pub writes_up_to : (A : Type 0) (options : Options) (text lines : List ℕ) (old
     → IsStepOf options old (chars lines) new places (Error place kind) → IsUtf8 lines → Appends mid after lines → more
     ≡ (any || not (length lines == 0)) → FailsTokens {A = A} options (chars text) out after (Source place kind)
 writes_up_to A options text lines old new places place kind any more out mid after same has
-    (at, rest, adds, error, rest_place, is_place) utf8 appends more_is =
+    (at, rest, adds, error, rest_place, is_place, unsaid) utf8 appends more_is =
     let all = written_more options (chars text) (chars old.rest) rest lines any more out mid after has
     (of_text options text old rest (chars lines) same adds) utf8 appends more_is in (
       all.shown,
       record {
-        cuts = all.cuts;
-        rest = rest;
-        shows = all.shows;
-        error = error;
+        unsaid = unsaid;
         at = at;
-        rest_place = rest_place ∙ ap (λ t. byte_len (chars t)) same;
+        stops = record {
+          cuts = all.cuts;
+          rest = rest;
+          shows = all.shows;
+          error = error;
+          rest_place = rest_place ∙ ap (λ t. byte_len (chars t)) same;
+        };
         place_is = subst (λ (t : List ℕ). IsPlaceIn options (chars t) at at place) same is_place;
       },
       all.written,

@@ -2,7 +2,7 @@
 -- for one that says why it is bad; or a line for each character that turns or hides text. Texts and what is shown are
 -- lists of characters, what
 -- is written lists of bytes.
-use Rattle.std.specs.Prelude.{◌∷◌, ◌≡◌, ◌≢◌, ◌⊎◌, ◌↔◌, ℕ, ◌+◌, Bool, List, [], ◌++◌, IsTrue, codes, encode_utf8_all, length, Option, Some, None}
+use Rattle.std.specs.Prelude.{◌∷◌, ◌≡◌, ◌≢◌, ◌⊎◌, ◌↔◌, ℕ, ◌+◌, Bool, false, true, List, [], ◌++◌, IsTrue, codes, encode_utf8_all, length, Option, Some, None}
 use Rattle.std.specs.List.{All}
 use Rattle.std.specs.Io.KnownBytes.{Appends, Keeps}
 use Rattle.rl_text.specs.Texts.{byte_len}
@@ -255,23 +255,59 @@ IsErrorAt rejects_strays kind rest =
     ⊎ (IsTrue rejects_strays × (kind ≡ StrayCharacter)
     × ((after : List ℕ) × SourceBefore rest StrayKind after))
 
+-- the line of a source's error at this byte of it: its place, and what is wrong
+abbrev pub IsOwnErrorLine : Options → List ℕ → ℕ → LexKind → List ℕ → Type 0
+IsOwnErrorLine options whole at kind shown =
+    (place : Place) × IsPlaceIn options whole at at place
+    × (shown ≡ line_front options.form options.path place ++ error_end options.form kind)
+
+-- the same, and below it what is shown of the source for the place
+abbrev pub IsErrorLine : Options → List ℕ → ℕ → LexKind → List ℕ → Type 0
+IsErrorLine options whole at kind shown =
+    WithContext (IsOwnErrorLine options whole at kind) options whole at at shown
+
 -- This is what is shown of the source up to its first error, which is of this kind and stands at
--- this place.
-pub record StopsAtError (options : Options) (whole shown : List ℕ) (place : Place) (kind : LexKind)
-    : Type 0 where
+-- this byte.
+pub record ShowsUpToError (options : Options) (whole shown : List ℕ) (at : ℕ) (kind : LexKind) : Type 0 where
   pub cuts : List CutSource
   pub rest : List ℕ
   pub shows : ShowsUpTo options whole cuts rest shown
   pub error : IsErrorAt options.rejects_strays kind rest
-  pub at : ℕ
   pub rest_place : at + byte_len rest ≡ byte_len whole
+
+-- The same, where lines don't say what is wrong; the error has this place.
+pub record StopsAtError (options : Options) (whole shown : List ℕ) (place : Place) (kind : LexKind)
+    : Type 0 where
+  pub unsaid : options.explains ≡ false
+  pub at : ℕ
+  pub stops : ShowsUpToError options whole shown at kind
   pub place_is : IsPlaceIn options whole at at place
 
--- What was written is what is shown of the whole source, token after token, and it says whether that is
+-- The same with the line of the error, where lines say what is wrong.
+pub record ShowsError (options : Options) (whole shown : List ℕ) : Type 0 where
+  pub said : options.explains ≡ true
+  pub before : List ℕ
+  pub at : ℕ
+  pub kind : LexKind
+  pub up_to : ShowsUpToError options whole before at kind
+  pub line : List ℕ
+  pub line_is : IsErrorLine options whole at kind line
+  pub shown_is : shown ≡ before ++ line
+
+-- this is what is shown of a part of the source: of a front of it, or up to its first error and that error's line
+abbrev pub ShowsPart : Options → List ℕ → List ℕ → Type 0
+ShowsPart options whole shown = ShowsFront options whole shown ⊎ ShowsError options whole shown
+
+-- this is what is shown of the source: of all its tokens, or up to its first error and that error's line
+abbrev pub ShowsSource : Options → List ℕ → List ℕ → Type 0
+ShowsSource options whole shown =
+    ((cuts : List CutSource) × ShowsUpTo options whole cuts [] shown) ⊎ ShowsError options whole shown
+
+-- What was written is what is shown of the source, token after token, and it says whether that is
 -- anything.
 abbrev pub ScansTokens : Options → List ℕ → Option (List ℕ) → Option (List ℕ) → Bool → Type 0
 ScansTokens options whole old new any =
-    (cuts : List CutSource) × (shown : List ℕ) × ShowsUpTo options whole cuts [] shown
+    (shown : List ℕ) × ShowsSource options whole shown
     × (IsTrue any ↔ (shown ≢ [])) × Appends old new (encode_utf8_all shown)
 
 -- The same of what turns or hides text in it.
@@ -291,7 +327,7 @@ abbrev pub Scans : Options → List ℕ → Option (List ℕ) → Option (List �
 Scans options whole old new any = ScansFor options.shown options whole old new any
 
 -- What was written of the tokens before an error: what is shown of the source up to the place of the error; of a
--- front of it where an allocation failed; a beginning of that where a write failed.
+-- front of it where an allocation failed; a beginning of that, or of what is shown of all of it, where a write failed.
 abbrev pub FailsTokens : {A : Type 0} → Options → List ℕ → Option (List ℕ) → Option (List ℕ)
     → ScanError A → Type 0
 FailsTokens options whole old new (Source place kind) =
@@ -300,7 +336,7 @@ FailsTokens options whole old new (Source place kind) =
 FailsTokens options whole old new (Fault Memory) =
     (shown : List ℕ) × ShowsFront options whole shown × Appends old new (encode_utf8_all shown)
 FailsTokens options whole old new (Fault Write) =
-    (shown : List ℕ) × ShowsFront options whole shown
+    (shown : List ℕ) × ShowsPart options whole shown
     × AppendsBeginning old new (encode_utf8_all shown)
 FailsTokens options whole old new (Fault _) = ⊥
 

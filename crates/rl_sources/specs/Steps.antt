@@ -1,10 +1,12 @@
 -- Steps of a scan.
-use Rattle.std.specs.Prelude.{◌≡◌, ◌≢◌, ◌⊎◌, ℕ, ◌+◌, ◌<◌, ◌≤◌, Bool, List, [], ◌++◌, length, IsTrue, Option, IfNone, IfSome}
+use Rattle.std.specs.Prelude.{◌≡◌, ◌≢◌, ◌⊎◌, ℕ, ◌+◌, ◌<◌, ◌≤◌, Bool, false, true, List, [], ◌++◌, length, IsTrue, Option, IfNone, IfSome}
 use Rattle.std.specs.Str.{chars}
 use Rattle.rl_text.specs.Texts.{byte_len, IsTail}
 use Rattle.rl_lexer.specs.Cursors.{CursorState, IsCursorState}
 use Rattle.rl_lexer.specs.Sources.{CutSource, StrayKind, source_view, TakesSource, IsLiteralText}
 use Rattle.rl_lexer.specs.declared.lex_error.LexError.{LexError}
+use Rattle.rl_lexer.specs.declared.lex_error.LexKind.{LexKind}
+use Rattle.rl_lines.specs.Lines.{Appends}
 use Rattle.rl_lexer.specs.declared.sources.SourceToken.{SourceToken}
 use Rattle.rl_reasons.specs.declared.flaws.Flaw.{Flaw}
 use Rattle.rl_sources.specs.declared.literal.Literal.{Literal}
@@ -15,7 +17,7 @@ use Rattle.rl_sources.specs.declared.step.Step.TheVariants.{More, End, Error}
 use Rattle.rl_sources.specs.Places.{IsPlaceIn}
 use Rattle.rl_sources.specs.Findings.{IsFoundIn, IsRight, IsWrong}
 use Rattle.rl_output.specs.Spots.{bytes_before}
-use Rattle.rl_sources.specs.Scans.{ShowsUpTo, IsErrorAt}
+use Rattle.rl_sources.specs.Scans.{ShowsSource, ShowsUpTo, IsErrorAt, IsErrorLine}
 
 -- flaws are looked for: the line of a bad literal says why it is bad, or bad ones are shown
 abbrev pub LooksForFlaws : Options → Type 0
@@ -62,6 +64,11 @@ pub record Adds (options : Options) (whole old new piece : List ℕ) : Type 0 wh
   pub goes_on : (cuts : List CutSource) (shown : List ℕ) → ShowsUpTo options whole cuts old shown
       → ShowsUpTo options whole (cuts ++ more) new (shown ++ piece)
 
+-- Whatever is shown of the source up to the old rest: with this piece it is what is shown of all of it.
+pub record Completes (options : Options) (whole old piece : List ℕ) : Type 0 where
+  pub ends : (cuts : List CutSource) (shown : List ℕ) → ShowsUpTo options whole cuts old shown
+      → ShowsSource options whole (shown ++ piece)
+
 -- From the old cursor to the new one nothing is shown.
 pub record IsUnshown (options : Options) (old new : CursorState) : Type 0 where
   pub adds : Adds options (chars old.text) (chars old.rest) (chars new.rest) []
@@ -96,14 +103,23 @@ pub record GoesOn (options : Options) (old : CursorState) (piece : List ℕ) (ne
   pub text_is : new.text ≡ old.text
   pub shorter : length new.rest < length old.rest
 
--- What was gathered is what is shown from the old cursor on: up to the new one, up to the end, or
+-- What comes after an error of this kind at this byte: the end, once its line was appended, where lines say what is
+-- wrong; else that error, at its place.
+abbrev pub IsStopAt : Options → List ℕ → ℕ → LexKind → List ℕ → List ℕ → Step → Type 0
+IsStopAt options whole at kind old new More = ⊥
+IsStopAt options whole at kind old new End =
+    (options.explains ≡ true) × Appends (IsErrorLine options whole at kind) old new
+IsStopAt options whole at kind old new (Error place other) =
+    (options.explains ≡ false) × (other ≡ kind) × IsPlaceIn options whole at at place × (new ≡ old)
+
+-- What was gathered is what is shown from the old cursor on: up to the new one, of all that is left, or
 -- up to an error.
 abbrev pub IsStepOf : Options → CursorState → List ℕ → CursorState → List ℕ → Step → Type 0
 IsStepOf options old piece new places More = GoesOn options old piece new places
 IsStepOf options old piece new places End =
-    Adds options (chars old.text) (chars old.rest) [] piece
+    Completes options (chars old.text) (chars old.rest) piece
 IsStepOf options old piece new places (Error place kind) =
     (at : ℕ) × (rest : List ℕ) × Adds options (chars old.text) (chars old.rest) rest piece
     × IsErrorAt options.rejects_strays kind rest
     × (at + byte_len rest ≡ byte_len (chars old.text))
-    × IsPlaceIn options (chars old.text) at at place
+    × IsPlaceIn options (chars old.text) at at place × (options.explains ≡ false)

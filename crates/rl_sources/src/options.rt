@@ -60,7 +60,7 @@ pub struct Options<'a> {
     pub by_line: bool,
     /// Whether a stray character is an error, as it is in Rust.
     pub rejects_strays: bool,
-    /// Whether the lines of a bad literal say why it is bad.
+    /// Whether lines say what is wrong: those of a bad literal why it is bad, and a last one the error that ends the source.
     pub explains: bool,
     /// Whether a literal may have any suffix, as where a macro takes it, and any value.
     pub any_suffix: bool,

@@ -1,8 +1,9 @@
 //! Why a literal of a source is bad.
 
-ghost use Rattle.std.specs.Prelude.{◌≡◌, ◌≤◌, ◌++◌, ◌↔◌, [], IsTrue, OnOk, string_bytes};
+ghost use Rattle.std.specs.Prelude.{◌≡◌, ◌≤◌, ◌+◌, ◌++◌, ◌↔◌, [], IsTrue, OnOk, length, string_bytes};
 ghost use Rattle.std.specs.Str.{chars};
 ghost use Rattle.rl_text.specs.Texts.{byte_len};
+ghost use Rattle.rl_lexer.specs.Cursors.{IsCursorState};
 ghost use Rattle.rl_lexer.specs.LexErrors.{lex_message};
 ghost use Rattle.rl_lines.specs.Lines.{Appends};
 ghost use Rattle.rl_output.specs.ErrorIds.{error_id};
@@ -10,19 +11,19 @@ ghost use Rattle.rl_output.specs.Fronts.{line_front};
 ghost use Rattle.rl_output.specs.Github.{annotation_end, message_text};
 ghost use Rattle.rl_sources.specs.Findings.{IsPieceOf, IsSlice, reason_id, reason_message};
 ghost use Rattle.rl_sources.specs.Held.{IsCutAt};
-ghost use Rattle.rl_sources.specs.Scans.{IsFindingLine, error_end, error_reason, error_words, finding_end};
+ghost use Rattle.rl_sources.specs.Scans.{IsErrorLine, IsFindingLine, error_end, error_reason, error_words, finding_end};
 ghost use Rattle.rl_sources.specs.Steps.{BeginsRest};
 
 use crate::finding::{Finding, Reason};
 use crate::json::{push_json_error, push_json_finding};
 use crate::literal::Literal;
 use crate::options::Options;
-use crate::place::{place_inside, push_context_inside};
+use crate::place::{place_inside, place_of, push_context_inside, push_context_of};
 use rl_files::push_visible;
 use rl_output::{
     Form, Level, Place, Places, id_of, push_annotation_end, push_error_word, push_front,
 };
-use rl_tokens::LexKind;
+use rl_tokens::{LexError, LexKind};
 use std::alloc::{AllocError, Allocator};
 
 /// Whether the bytes from `lo` to `hi` are a text.
@@ -193,4 +194,23 @@ pub fn push_source_error<A: Allocator>(
 {
     push_front(out, Level::Error, form, path, &place)?;
     push_error_end(out, form, kind)
+}
+
+/// Appends the line of a source's error, and what stands below it; the rest of the source begins with the error.
+#[inline(never)]
+pub(crate) fn push_error_line<'t, A: Allocator>(
+    out: &mut String<A>,
+    options: &Options<'_>,
+    places: &mut Places<'t>,
+    rest: &'t str,
+    error: LexError,
+) -> Result<(), AllocError>
+    requires text { IsCursorState places.old rest.now }
+    requires at { error.at + length rest.now ≡ length places.old }
+    ensures { OnOk result (Appends (IsErrorLine options.now (chars places.old) error.at error.kind)
+        (chars (string_bytes out.old)) (chars (string_bytes out.new))) }
+{
+    let place = place_of(options, places, rest, error.at, error.at);
+    push_source_error(out, options.form, options.path, place, error.kind)?;
+    push_context_of(out, options, places, rest, error.at, error.at)
 }

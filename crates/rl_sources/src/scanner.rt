@@ -84,11 +84,12 @@ fn scan_hidden<A: Allocator + Copy, W: Write>(
 /// line, but each character that turns or hides text, wherever it stands, with its number. In the form `Json` a line is an
 /// object: `path`, `lo`, `hi`, `line`, `column`, and of a literal `kind`, `text`, `value` and `suffix`, of a flaw `text`,
 /// `error` and `piece`, of such a character `hidden`. Tokens are cut by [`Sources`]; the words `true` and `false` are literals
-/// too. Lines are written as they are made, 64 KB at once; with `Hidden` all at once. Returns whether any line was written.
+/// too. With `explains` the first error of the source has a line too, the last one. Lines are written as they are made, 64 KB at
+/// once; with `Hidden` all at once. Returns whether any line was written.
 ///
 /// # Errors
 ///
-/// `Source` at the first error of the source, after the lines of all literals before it; never with `Hidden`. `Memory`
+/// `Source` at the first error of the source, after the lines of all literals before it; never with `Hidden` or `explains`. `Memory`
 /// where an allocation failed, after the lines of some of the first. `Write` where a write failed;
 /// a beginning of the lines may have been written then.
 pub fn scan<A: Allocator + Copy, W: Write>(

@@ -12,7 +12,7 @@ ghost use Rattle.rl_sources.specs.Held.{IsCutAt};
 ghost use Rattle.rl_sources.specs.Scans.{IsErrorAt, IsHeldLine, IsLineAt, IsLineEnd, IsLineIn, IsPickedLine, IsPlacedLine, IsPrintedAs, IsShownLiteral};
 ghost use Rattle.rl_output.specs.declared.form.Form.TheVariants.{Github};
 ghost use Rattle.rl_sources.specs.declared.options.Spelling.TheVariants.{Value};
-ghost use Rattle.rl_sources.specs.Steps.{BeginsRest, EndsUnshown, IsAcceptedToken, IsCursorOver, IsLiteralOf, IsStepOf, StopsUnshown, TakesShown};
+ghost use Rattle.rl_sources.specs.Steps.{BeginsRest, EndsUnshown, IsAcceptedToken, IsCursorOver, IsLiteralOf, IsStepOf, IsStopAt, StopsUnshown, TakesShown};
 ghost use Rattle.rl_sources.specs.Findings.{IsFoundIn};
 
 use crate::flaw_lines::push_wrong;
@@ -22,6 +22,7 @@ use crate::judge::{reason_of, wrong_in};
 use crate::literal::{Literal, kind_of};
 use crate::options::{Options, Spelling};
 use crate::place::{place_inside, place_of, push_context_inside, push_context_of};
+use crate::reason::push_error_line;
 use rl_files::{make_visible, push_visible};
 use rl_lines::{bare_value, label_of, push_bare, push_found};
 use rl_output::{Form, Level, Place, Places, first_line, push_annotation_end, push_front};
@@ -396,6 +397,28 @@ pub(crate) enum Step {
     Error(Place, LexKind),
 }
 
+/// What comes after an error of the source, whose rest begins with it: the end, once its line was appended, where lines say what
+/// is wrong; else the error.
+fn stop_at<'t, A: Allocator>(
+    out: &mut String<A>,
+    options: &Options<'_>,
+    places: &mut Places<'t>,
+    rest: &'t str,
+    error: LexError,
+) -> Result<Step, AllocError>
+    requires text { IsCursorState places.old rest.now }
+    requires at { error.at + length rest.now ≡ length places.old }
+    ensures { IfOk result (IsStopAt options.now (chars places.old) error.at error.kind
+        (chars (string_bytes out.old)) (chars (string_bytes out.new))) }
+{
+    if options.explains {
+        push_error_line(out, options, places, rest, error)?;
+        return Ok(Step::End);
+    }
+    let place = place_of(options, places, rest, error.at, error.at);
+    Ok(Step::Error(place, error.kind))
+}
+
 /// Gathers the lines of literals, as many as are to be written at once.
 pub(crate) fn gather<'t, A: Allocator + Copy>(
     alloc: A,
@@ -418,8 +441,7 @@ pub(crate) fn gather<'t, A: Allocator + Copy>(
             Ok(None) => return Ok(Step::End),
             Err(error) => {
                 let rest = places.rest_at(error.at);
-                let place = place_of(&options, places, rest, error.at, error.at);
-                return Ok(Step::Error(place, error.kind));
+                return stop_at(out, &options, places, rest, error);
             }
         }
     }

@@ -2,10 +2,8 @@
 //! makes of objects. All that is expected is counted by hand.
 
 use navyspindle_programs::rattle_std::alloc::Global;
-use navyspindle_programs::rattle_std::{string::String as Line, vec::Vec as Bytes};
-use navyspindle_programs::rl_sources::{
-    push_source_error, scan, Context, Form, Options, ScanError, Shown, Spelling,
-};
+use navyspindle_programs::rattle_std::vec::Vec as Bytes;
+use navyspindle_programs::rl_sources::{scan, Context, Form, Options, Shown, Spelling};
 use std::io::Write;
 use std::process::{Command, Stdio};
 
@@ -15,20 +13,14 @@ const LINE: Context = Context {
     after: 0,
 };
 
-/// What is printed of a source, and of its error.
+/// What is printed of a source.
 fn printed(options: Options<'_>, text: &str) -> String {
     let mut out = Bytes::new(Global);
-    let end = scan(Global, options, text, &mut out);
-    let mut shown = String::from_utf8(out.as_slice().to_vec()).expect("lines are UTF-8");
-    match end {
-        Ok(any) => assert_eq!(any, !shown.is_empty()),
-        Err(ScanError::Source(place, kind)) => {
-            let mut line = Line::new(Global);
-            push_source_error(&mut line, options.form, options.path, place, kind).expect("memory");
-            shown.push_str(line.as_str());
-        }
-        Err(_) => panic!("a write failed, or there was no memory"),
-    }
+    let Ok(any) = scan(Global, options, text, &mut out) else {
+        panic!("the source has an error, or there was no memory");
+    };
+    let shown = String::from_utf8(out.as_slice().to_vec()).expect("lines are UTF-8");
+    assert_eq!(any, !shown.is_empty());
     shown
 }
 
@@ -104,14 +96,17 @@ fn context_of_what_is_bad() {
     assert_eq!(
         printed(
             options,
-            "\u{feff}\tlet b = b\"\\%\"; //\u{202e}\r\n \u{e9}\u{e9} 1u9\n"
+            "\u{feff}\tlet b = b\"\\%\"; //\u{202e}\r\n \u{e9}\u{e9} 1u9\n\t/* \u{e9}\n*"
         ),
         "a.rs:1:13: error: unknown escape: \\%\n\
          \x20   \tlet b = b\"\\%\"; //\\u{202e}\n\
          \x20   \t           ^\n\
          a.rs:2:5: error: unknown suffix: 1u9\n\
          \x20    \u{e9}\u{e9} 1u9\n\
-         \x20       ^^^\n"
+         \x20       ^^^\n\
+         a.rs:3:2: error: unclosed block comment\n\
+         \x20   \t/* \u{e9}\n\
+         \x20   \t^\n"
     );
 }
 

@@ -1,7 +1,8 @@
 use Rattle.rl_text.proofs.Common.{List, ap, arith, chars, chars-nil, inl, inr, refl, string_bytes, subst, sym, ℕ, ◌∙◌}
+use Rattle.std.proofs.lemmas.Result.{IfOk-weaker}
 use Rattle.rl_lexer.specs.Cursors.{IsCursorState}
 use Rattle.rl_sources.specs.Steps.{Adds}
-use Rattle.rl_sources.proofs.ScanLemmas.{adds_literal, adds_none, adds_unshown, begins_rest, rest_boundary, rest_is, stands_before, stands_on, stops}
+use Rattle.rl_sources.proofs.ScanLemmas.{adds_literal, adds_none, adds_unshown, begins_rest, completes, rest_boundary, rest_is, stands_before, stands_on, stopped}
 use Rattle.rl_sources.proofs.step.gather.Goals as goal
 
 pub loop-options-init : goal.loop-options-init
@@ -40,8 +41,8 @@ rest_at-rest-requires-in-Err g c =
     rest_boundary error.stop.text c.loop-options.places error.stop.rest c.in-Err.error.at stands.cursor stands.text_is
     error.place
 
-pub place_of-place-requires-clause-text : goal.place_of-place-requires-clause-text
-place_of-place-requires-clause-text g c =
+pub stop_at-requires-clause-text : goal.stop_at-requires-clause-text
+stop_at-requires-clause-text g c =
     let error = c.in-Err.ensures.error in
     let stands = stands_before c.args.options c.loop-options.tokens error.stop c.loop-options.places
     c.loop-options.invariant.stands error.unshown in
@@ -73,17 +74,18 @@ returns-in-Ok-None g c =
     let adds = adds_unshown c.args.options c.args.tokens.now.text (chars c.args.tokens.now.rest)
     (chars (string_bytes c.loop-options.out)) c.loop-options.tokens ends.0 c.loop-options.invariant.text_is
     c.loop-options.invariant.adds ends.1 in
-    subst (λ (r : List ℕ). Adds c.args.options (chars c.args.tokens.now.text) (chars c.args.tokens.now.rest) r
-    (chars (string_bytes c.loop-options.out))) (ap chars ends.2 ∙ chars-nil) adds
+    completes c.args.options (chars c.args.tokens.now.text) (chars c.args.tokens.now.rest)
+    (chars (string_bytes c.loop-options.out))
+    (subst (λ (r : List ℕ). Adds c.args.options (chars c.args.tokens.now.text) (chars c.args.tokens.now.rest) r
+    (chars (string_bytes c.loop-options.out))) (ap chars ends.2 ∙ chars-nil) adds)
 
 pub returns-in-Err : goal.returns-in-Err
 returns-in-Err g c =
     let before = c.loop-options.invariant in
     let error = c.in-Err.ensures.error in
-    stops c.args.options c.args.tokens.now.text error.stop c.loop-options.places _ _ c.in-Err.error
-    c.place_of-place.result
-    (error.unshown.same ∙ before.text_is) (stands_before c.args.options c.loop-options.tokens error.stop
-    c.loop-options.places before.stands error.unshown)
+    IfOk-weaker c.stop_at.result _ _ (λ step is. stopped c.args.options c.args.tokens.now error.stop
+    c.loop-options.places _ _ _ _ c.in-Err.error step (error.unshown.same ∙ before.text_is)
+    (stands_before c.args.options c.loop-options.tokens error.stop c.loop-options.places before.stands error.unshown)
     (adds_unshown c.args.options c.args.tokens.now.text (chars c.args.tokens.now.rest)
     (chars (string_bytes c.loop-options.out)) c.loop-options.tokens error.stop before.text_is before.adds error.unshown)
-    error.error error.place c.place_of-place.ensures.place
+    error.error error.place is) c.stop_at.ensures

@@ -22,7 +22,7 @@ pub struct Report<A: Allocator = Global> {
     pub found: bool,
 }
 
-/// The lines of a source, and its error where it has one.
+/// The lines of a source, and its error where it has one that has no line.
 struct Scanned<A: Allocator = Global> {
     lines: Vec<u8, A>,
     error: Option<(Place, LexKind)>,
@@ -134,16 +134,6 @@ fn scan_text<A: Allocator + Copy>(
     }
 }
 
-/// How the line of a source's error is written: as the others, where errors are among what is found; else plain, since
-/// it goes to standard error.
-fn error_form(options: Options<'_>) -> Form {
-    if options.explains {
-        options.form
-    } else {
-        Form::Plain
-    }
-}
-
 /// A place by its bytes, or by its line and column.
 fn worded_place(by_line: bool, place: Place) -> Place {
     match place {
@@ -156,27 +146,10 @@ fn worded_place(by_line: bool, place: Place) -> Place {
     }
 }
 
-/// The place in the line of a source's error.
-fn error_line_place(options: Options<'_>, place: Place) -> Place {
-    if options.explains {
-        return place;
-    }
-    worded_place(options.by_line, place)
-}
-
-/// The path in the line of a source's error, which is printed so.
-fn error_path<'a>(options: Options<'a>, shown: Option<&'a str>) -> Option<&'a str> {
-    if options.explains {
-        options.path
-    } else {
-        shown
-    }
-}
-
-/// The line of a source's error; nothing where there is none.
+/// The line of a source's error that isn't among what is found, as it goes to standard error; nothing where there is none.
 fn error_line<A: Allocator + Copy>(
     alloc: A,
-    options: Options<'_>,
+    by_line: bool,
     shown: Option<&str>,
     error: Option<(Place, LexKind)>,
 ) -> Result<String<A>, AllocError> {
@@ -184,9 +157,8 @@ fn error_line<A: Allocator + Copy>(
     match error {
         None => Ok(line),
         Some((place, kind)) => {
-            let path = error_path(options, shown);
-            let place = error_line_place(options, place);
-            push_source_error(&mut line, error_form(options), path, place, kind)?;
+            let place = worded_place(by_line, place);
+            push_source_error(&mut line, Form::Plain, shown, place, kind)?;
             Ok(line)
         }
     }
@@ -266,12 +238,8 @@ fn report_text<A: Allocator + Copy>(
     let shown = visible_text(alloc, path)?;
     let before = path_before(path, shown.as_str());
     let options = options_for(command, path, before);
-    let mut scanned = scan_text(alloc, options, text)?;
-    let mut errors = error_line(alloc, options, before, scanned.error)?;
-    if options.explains {
-        scanned.lines.extend_from_slice(errors.as_bytes())?;
-        errors.clear();
-    }
+    let scanned = scan_text(alloc, options, text)?;
+    let errors = error_line(alloc, options.by_line, before, scanned.error)?;
     let found = !scanned.lines.is_empty();
     let named = path_in(command.nul_after_paths, path, before);
     let out = written(alloc, command, options.form, named, scanned.lines)?;

@@ -6,12 +6,12 @@ use crate::rl_sources::finding::{Finding, Reason};
 use crate::rl_sources::json::{push_json_error, push_json_finding};
 use crate::rl_sources::literal::Literal;
 use crate::rl_sources::options::Options;
-use crate::rl_sources::place::{place_inside, push_context_inside};
+use crate::rl_sources::place::{place_inside, place_of, push_context_inside, push_context_of};
 use crate::rl_files::push_visible;
 use crate::rl_output::{
     Form, Level, Place, Places, id_of, push_annotation_end, push_error_word, push_front,
 };
-use crate::rl_tokens::LexKind;
+use crate::rl_tokens::{LexError, LexKind};
 use crate::rattle_std::alloc::{AllocError, Allocator};
 
 /// Whether the bytes from `lo` to `hi` are a text.
@@ -145,4 +145,18 @@ pub fn push_source_error<A: Allocator>(
 ) -> Result<(), AllocError> {
     push_front(out, Level::Error, form, path, &place)?;
     push_error_end(out, form, kind)
+}
+
+/// Appends the line of a source's error, and what stands below it; the rest of the source begins with the error.
+#[inline(never)]
+pub(crate) fn push_error_line<'t, A: Allocator>(
+    out: &mut String<A>,
+    options: &Options<'_>,
+    places: &mut Places<'t>,
+    rest: &'t str,
+    error: LexError,
+) -> Result<(), AllocError> {
+    let place = place_of(options, places, rest, error.at, error.at);
+    push_source_error(out, options.form, options.path, place, error.kind)?;
+    push_context_of(out, options, places, rest, error.at, error.at)
 }

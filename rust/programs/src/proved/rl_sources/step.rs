@@ -9,6 +9,7 @@ use crate::rl_sources::judge::{reason_of, wrong_in};
 use crate::rl_sources::literal::{Literal, kind_of};
 use crate::rl_sources::options::{Options, Spelling};
 use crate::rl_sources::place::{place_inside, place_of, push_context_inside, push_context_of};
+use crate::rl_sources::reason::push_error_line;
 use crate::rl_files::{make_visible, push_visible};
 use crate::rl_lines::{bare_value, label_of, push_bare, push_found};
 use crate::rl_output::{Form, Level, Place, Places, first_line, push_annotation_end, push_front};
@@ -289,6 +290,23 @@ pub(crate) enum Step {
     Error(Place, LexKind),
 }
 
+/// What comes after an error of the source, whose rest begins with it: the end, once its line was appended, where lines say what
+/// is wrong; else the error.
+fn stop_at<'t, A: Allocator>(
+    out: &mut String<A>,
+    options: &Options<'_>,
+    places: &mut Places<'t>,
+    rest: &'t str,
+    error: LexError,
+) -> Result<Step, AllocError> {
+    if options.explains {
+        push_error_line(out, options, places, rest, error)?;
+        return Ok(Step::End);
+    }
+    let place = place_of(options, places, rest, error.at, error.at);
+    Ok(Step::Error(place, error.kind))
+}
+
 /// Gathers the lines of literals, as many as are to be written at once.
 pub(crate) fn gather<'t, A: Allocator + Copy>(
     alloc: A,
@@ -306,8 +324,7 @@ pub(crate) fn gather<'t, A: Allocator + Copy>(
             Ok(None) => return Ok(Step::End),
             Err(error) => {
                 let rest = places.rest_at(error.at);
-                let place = place_of(&options, places, rest, error.at, error.at);
-                return Ok(Step::Error(place, error.kind));
+                return stop_at(out, &options, places, rest, error);
             }
         }
     }
