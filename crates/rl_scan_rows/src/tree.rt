@@ -89,6 +89,9 @@ const BEFORE: &str = "f\"a\" c'b' #\"c\"# 1u8\"d\" 128i8 -128i8
 /// A word and hashes, and hashes after a number, right before quotes.
 const PREFIXED: &str = "é x_9##\"é\"## 1#\"c\"";
 
+/// Stray characters, one of them hidden, beside a literal and an open quote.
+const STRAYS: &str = "a \\ 1u9 `\u{200b}`\n\t😀 \"b";
+
 /// What a file of the tree holds that is a text.
 fn text_at(path: &str) -> Option<&'static str> {
     match path {
@@ -109,6 +112,7 @@ fn text_at(path: &str) -> Option<&'static str> {
         "typed" => Some(TYPED),
         "before" => Some(BEFORE),
         "prefixed" => Some(PREFIXED),
+        "strays" => Some(STRAYS),
         "hides" => Some(HIDES),
         "trojan.rs" => Some(TROJAN),
         "marked" => Some(MARKED),

@@ -99,12 +99,13 @@ finding_line options whole text lo finding place piece old a new at is begun end
     let end = finding_end options.form text finding.reason piece in
     (front ++ end, (place, piece, at, is, refl), ended ∙ ap (λ z. z ++ end) begun ∙ append_assoc old front end)
 
-pub error_line : (options : Options) (whole : List ℕ) (at : ℕ) (kind : LexKind) (place : Place) (old new : List ℕ)
-    → IsPlaceIn options whole at at place
-    → new ≡ old ++ (line_front options.form options.path place ++ error_end options.form kind)
-    → Appends (IsOwnErrorLine options whole at kind) old new
-error_line options whole at kind place old new is written =
-    (line_front options.form options.path place ++ error_end options.form kind, (place, is, refl), written)
+pub error_line : (options : Options) (whole : List ℕ) (lo hi : ℕ) (kind : LexKind) (piece : List ℕ) (place : Place)
+    (old a new : List ℕ) → IsPlaceIn options whole lo hi place → a ≡ old ++ line_front options.form options.path place
+    → new ≡ a ++ error_end options.form kind piece → Appends (IsOwnErrorLine options whole lo hi kind piece) old new
+error_line options whole lo hi kind piece place old a new is begun ended =
+    let front = line_front options.form options.path place in
+    let end = error_end options.form kind piece in
+    (front ++ end, (place, is, refl), ended ∙ ap (λ z. z ++ end) begun ∙ append_assoc old front end)
 
 -- what is shown so far of what the cursor gives: with the lines of what is left it is the lines of all
 pub record GoesOn (options : Options) (whole text : List ℕ) (lo : ℕ) (start now : FlawsState) (old new : List ℕ) : Type

@@ -1,5 +1,7 @@
 -- Objects of JSON, piece by piece.
-use Rattle.rl_text.proofs.Common.{◌≡◌, ◌⊎◌, ℕ, List, [], ◌∷◌, ◌++◌, refl, sym, ap, subst, ◌∙◌, inl, inr, lit<, append_assoc, append-nil, IsAscii, IsUtf8, chars, chars_from_encodes, codes, encode_utf8}
+use Rattle.rl_text.proofs.Common.{◌≡◌, ◌==◌, ◌⊎◌, ℕ, suc, true, false, List, [], ◌∷◌, ◌++◌, refl, sym, ap, subst, ◌∙◌, inl, inr, length, lit<, rules, append_assoc, append-nil, IsAscii, IsUtf8, chars, chars-nil, chars_from_encodes, codes, encode_utf8, encodes-chars}
+use Rattle.std.specs.Prelude.{encode_utf8_all}
+use Rattle.std.proofs.lemmas.Bool.{false≢true}
 use Rattle.std.specs.Fmt.{decimal}
 use Rattle.std.proofs.lemmas.Grind.{flat_map-append}
 use Rattle.std.proofs.lemmas.Str.{IsAscii-append}
@@ -17,7 +19,7 @@ use Rattle.rl_reading.specs.NumberShapes.{AreDigits}
 use Rattle.rl_lines.proofs.PrintLemmas.{truth_chars}
 use Rattle.rl_lines.specs.Lines.{Appends, kind_label}
 use Rattle.rl_sources.specs.Held.{AreContentsOf}
-use Rattle.rl_sources.specs.Json.{more_numbers, number_array, json_value, literal_members, IsJsonLiteral, IsJsonValueOf}
+use Rattle.rl_sources.specs.Json.{more_numbers, number_array, json_value, literal_members, piece_member, IsJsonLiteral, IsJsonValueOf}
 use Rattle.rl_output.specs.Members.{string_member}
 use Rattle.rl_output.specs.JsonStrings.{json_string}
 use Rattle.rl_sources.proofs.ReasonLemmas.{error_id_low, id_low, lex_low, reason_low}
@@ -153,3 +155,22 @@ verbatim_is text old a b d new none e g h j = (
   four_parts old a b d new (string_member (codes "kind") (codes "Verbatim")) (string_member (codes "text") text)
       (codes ",\"value\":null") (string_member (codes "suffix") [] ++ codes "}\n") e g h j,
 )
+
+-- the member of a piece, where there is none, and where there is one
+pub no_piece : (piece old : List ℕ) → (length piece == 0) ≡ true → old ≡ old ++ piece_member (chars piece)
+no_piece [] old none = sym (append-nil old) ∙ ap (λ (z : List ℕ). old ++ piece_member z) (sym chars-nil)
+no_piece (b ∷ bs) old none = absurd (false≢true (sym (not_empty (length bs)) ∙ none))
+  where
+    not_empty : (n : ℕ) → (suc n == 0) ≡ false
+    not_empty n = search rules
+
+pub some_piece : (piece old new : List ℕ) → (length piece == 0) ≡ false → IsUtf8 piece
+    → new ≡ old ++ string_member (codes "piece") (chars piece) → new ≡ old ++ piece_member (chars piece)
+some_piece piece old new some utf8 e = go (chars piece) refl
+  where
+    go : (cs : List ℕ) → chars piece ≡ cs → new ≡ old ++ piece_member (chars piece)
+    go [] none =
+        let empty : piece ≡ [] = sym (encodes-chars piece utf8) ∙ ap encode_utf8_all none in
+        absurd (false≢true (sym some ∙ ap (λ (z : List ℕ). length z == 0) empty))
+    go (c ∷ cs) is = e ∙ ap (λ (z : List ℕ). old ++ string_member (codes "piece") z) is
+        ∙ ap (λ (z : List ℕ). old ++ piece_member z) (sym is)

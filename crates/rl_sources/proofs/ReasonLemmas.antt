@@ -264,45 +264,33 @@ error_id_low UnclosedGroup = refl
 error_id_low TooDeep = refl
 error_id_low Memory = refl
 
--- the line of a source's error
-pub source_error : (kind : LexKind) (word old a new : List ℕ) → IsUtf8 a → chars a ≡ chars old ++ word
-    → new ≡ a ++ (codes ": " ++ (lex_message kind ++ codes "\n"))
-    → chars new ≡ chars old ++ (word ++ error_reason (lex_message kind) [])
-source_error kind word old a new utf8 said written =
-    words_written (lex_message kind) (codes "\n") a new (lex_low kind) refl utf8 written
-    ∙ ap (λ z. z ++ error_reason (lex_message kind) []) said
-    ∙ append_assoc (chars old) word (error_reason (lex_message kind) [])
-
 -- without a piece
-pub error_alone : (why : Reason) (piece old new : List ℕ) → (length piece == 0) ≡ true → IsUtf8 old
-    → new ≡ old ++ (codes ": " ++ (reason_message why ++ codes "\n"))
-    → chars new ≡ chars old ++ error_reason (reason_message why) (chars piece)
-error_alone why [] old new none utf8 written =
-    words_written (reason_message why) (codes "\n") old new (reason_low why) refl utf8 written
-    ∙ ap (λ z. chars old ++ error_reason (reason_message why) z) (sym chars-nil)
-error_alone why (b ∷ bs) old new none utf8 written = absurd (false≢true (sym (not_empty (length bs)) ∙ none))
+pub error_alone : (message piece old new : List ℕ) → list_all is_ascii message ≡ true → (length piece == 0) ≡ true
+    → IsUtf8 old → new ≡ old ++ (codes ": " ++ (message ++ codes "\n"))
+    → chars new ≡ chars old ++ error_reason message (chars piece)
+error_alone message [] old new low none utf8 written =
+    words_written message (codes "\n") old new low refl utf8 written
+    ∙ ap (λ z. chars old ++ error_reason message z) (sym chars-nil)
+error_alone message (b ∷ bs) old new low none utf8 written = absurd (false≢true (sym (not_empty (length bs)) ∙ none))
   where
     not_empty : (n : ℕ) → (suc n == 0) ≡ false
     not_empty n = search rules
 
 -- with one
-pub error_of_piece : (why : Reason) (piece old a b new : List ℕ) → (length piece == 0) ≡ false → IsUtf8 piece
-    → IsUtf8 old → IsUtf8 b → a ≡ old ++ (codes ": " ++ (reason_message why ++ codes ": "))
+pub error_of_piece : (message piece old a b new : List ℕ) → list_all is_ascii message ≡ true
+    → (length piece == 0) ≡ false → IsUtf8 piece → IsUtf8 old → IsUtf8 b
+    → a ≡ old ++ (codes ": " ++ (message ++ codes ": "))
     → chars b ≡ chars a ++ visible (chars piece) → new ≡ b ++ codes "\n"
-    → chars new ≡ chars old ++ error_reason (reason_message why) (chars piece)
-error_of_piece why piece old a b new some utf8 u v begun shown ended = go (chars piece) refl shown
+    → chars new ≡ chars old ++ error_reason message (chars piece)
+error_of_piece message piece old a b new low some utf8 u v begun shown ended = go (chars piece) refl shown
   where
-    message : List ℕ
-    message = reason_message why
-
     tail : (cs : List ℕ) → chars b ≡ chars a ++ visible cs → chars new
         ≡ chars old ++ (codes ": " ++ (message ++ (codes ": " ++ (visible cs ++ codes "\n"))))
     tail cs e =
         pushed b new (codes "\n") v ended
         ∙ ap (λ z. chars b ++ z) (chars-IsAscii (codes "\n") (low_text (codes "\n") refl))
         ∙ ap (λ z. z ++ codes "\n") e
-        ∙ ap (λ z. (z ++ visible cs) ++ codes "\n") (words_written message (codes ": ") old a (reason_low why) refl u
-        begun)
+        ∙ ap (λ z. (z ++ visible cs) ++ codes "\n") (words_written message (codes ": ") old a low refl u begun)
         ∙ append_assoc (chars old ++ (codes ": " ++ (message ++ codes ": "))) (visible cs) (codes "\n")
         ∙ append_assoc (chars old) (codes ": " ++ (message ++ codes ": ")) (visible cs ++ codes "\n")
         ∙ ap (λ z. chars old ++ z) (append_assoc (codes ": ") (message ++ codes ": ") (visible cs ++ codes "\n")

@@ -1,5 +1,5 @@
 -- What is shown of a source, token after token.
-use Rattle.rl_text.proofs.Common.{AllByRecursion, Bool, IsCharBoundary, IsTrue, IsUtf8, List, Option, [], ap, append_assoc, arith, chars, chars-nil, drop, encode_utf8_all, encodes-append, encodes-chars, eqb-true, false, inl, inr, length, not, refl, subst, sym, take, true, ℕ, ◌++◌, ◌+◌, ◌-◌, ◌==◌, ◌||◌, ◌∙◌, ◌∷◌, ◌≡◌, ◌≢◌}
+use Rattle.rl_text.proofs.Common.{AllByRecursion, Bool, IsCharBoundary, IsTrue, IsUtf8, List, Option, [], ap, append_assoc, arith, chars, chars-nil, drop, encode_utf8_all, encodes-append, encodes-chars, eqb-true, false, inl, inr, length, not, refl, subst, sym, take, true, ℕ, ◌++◌, ◌+◌, ◌-◌, ◌==◌, ◌||◌, ◌&&◌, ◌∙◌, ◌∷◌, ◌≡◌, ◌≢◌}
 use Rattle.std.specs.Prelude.{◌↔◌}
 use Rattle.std.specs.Io.KnownBytes.{Appends as AppendsBytes}
 use Rattle.std.proofs.KnownBytes.{Appends-trans}
@@ -20,12 +20,13 @@ use Rattle.rl_program.specs.Streams.{AppendsBeginning}
 use Rattle.rl_lines.specs.Lines.{Appends, Joins}
 use Rattle.rl_lines.proofs.JoinLemmas.{joins_append, joins_one}
 use Rattle.rl_sources.specs.declared.options.Options.{Options}
-use Rattle.rl_output.specs.declared.place.Place.{Place}
 use Rattle.rl_sources.specs.declared.step.Step.{Step}
 use Rattle.rl_sources.specs.declared.step.Step.TheVariants.{More, End, Error}
+use Rattle.rl_lexer.specs.declared.lex_error.LexKind.TheVariants.{StrayCharacter}
+use Rattle.rl_sources.specs.Options.{ends_at_strays, finds_strays}
 use Rattle.rl_sources.specs.Places.{IsPlaceIn}
-use Rattle.rl_sources.specs.Scans.{IsShownLiteral, IsShownToken, IsShown, IsNoStray, ShowsUpTo, ShowsPart, ShowsSource, IsErrorAt, IsErrorLine}
-use Rattle.rl_sources.specs.Steps.{BeginsRest, IsCursorOver, Adds, Completes, IsUnshown, TakesShown, IsStepOf, IsStopAt}
+use Rattle.rl_sources.specs.Scans.{IsShownLiteral, IsShownStray, IsShownToken, IsShown, IsNoStray, ShowsUpTo, ShowsPart, ShowsSource, IsErrorAt, IsErrorLine}
+use Rattle.rl_sources.specs.Steps.{BeginsRest, IsCursorOver, Adds, Completes, IsUnshown, MayShow, TakesShown, IsStepOf, IsStopAt}
 
 -- nothing more
 pub adds_none : (options : Options) (whole rest piece : List ℕ) → piece ≡ [] → Adds options whole rest rest piece
@@ -52,7 +53,7 @@ shown_cut options whole l w shown is h =
 -- one token more
 adds_one : (options : Options) (start : List ℕ) (old new : CursorState) (l : SourceToken) (piece longer : List ℕ)
     → Adds options (chars old.text) start (chars old.rest) piece → TakesSource old l new
-    → (IsTrue options.rejects_strays → source_view l.form ≢ StrayKind)
+    → (IsTrue (ends_at_strays options) → source_view l.form ≢ StrayKind)
     → Appends (IsShownToken options (chars old.text) (source_view l.form) (chars l.text.now) l.lo l.hi) piece longer
     → Adds options (chars old.text) start (chars new.rest) longer
 adds_one options start old new l piece longer adds takes accepted (last, is_last, longer_is) =
@@ -84,7 +85,7 @@ adds_one options start old new l piece longer adds takes accepted (last, is_last
 pub adds_token : (options : Options) (text start : List ℕ) (old new : CursorState) (places : List ℕ) (l : SourceToken)
     (piece longer : List ℕ) → old.text ≡ text → places ≡ old.text
     → Adds options (chars text) start (chars old.rest) piece → TakesSource old l new
-    → (IsTrue options.rejects_strays → source_view l.form ≢ StrayKind)
+    → (IsTrue (ends_at_strays options) → source_view l.form ≢ StrayKind)
     → Appends (IsShownToken options (chars places) (source_view l.form) (chars l.text.now) l.lo l.hi) piece longer
     → Adds options (chars text) start (chars new.rest) longer
 adds_token options text start old new places l piece longer same seen adds takes accepted shown =
@@ -138,7 +139,7 @@ error_place text stop places e same stands at = omega (
 pub stopped : (options : Options) (old stop : CursorState) (places piece longer : List ℕ) (new : CursorState)
     (later : List ℕ) (e : LexError) (step : Step) → stop.text ≡ old.text → IsCursorOver stop places
     → Adds options (chars old.text) (chars old.rest) (chars stop.rest) piece
-    → IsErrorAt options.rejects_strays e.kind (chars stop.rest) → e.at + length stop.rest ≡ length stop.text
+    → IsErrorAt (ends_at_strays options) e.kind (chars stop.rest) → e.at + length stop.rest ≡ length stop.text
     → IsStopAt options (chars places) e.at e.kind piece longer step → IsStepOf options old longer new later step
 stopped options old stop places piece longer new later e More same stands adds error at is = absurd is
 stopped options old stop places piece longer new later e End same stands adds error at
@@ -156,7 +157,7 @@ stopped options old stop places piece longer new later e End same stands adds er
           rest_place = error_place old.text stop places e same stands at;
         };
         line = line;
-        line_is = subst (λ (t : List ℕ). IsErrorLine options (chars t) e.at e.kind line) (stands.text_is ∙ same) is_line;
+        line_is = subst (λ (t : List ℕ). IsErrorLine options (chars t) e.at e.at e.kind [] line) (stands.text_is ∙ same) is_line;
         shown_is = ap (λ (z : List ℕ). shown ++ z) longer_is ∙ sym (append_assoc shown piece line);
       });
     }
@@ -165,7 +166,7 @@ stopped options old stop places piece longer new later e (Error place kind) same
       e.at,
       chars stop.rest,
       subst (λ (z : List ℕ). Adds options (chars old.text) (chars old.rest) (chars stop.rest) z) (sym nothing) adds,
-      subst (λ (k : LexKind). IsErrorAt options.rejects_strays k (chars stop.rest)) (sym kind_is) error,
+      subst (λ (k : LexKind). IsErrorAt (ends_at_strays options) k (chars stop.rest)) (sym kind_is) error,
       error_place old.text stop places e same stands at,
       subst (λ (t : List ℕ). IsPlaceIn options (chars t) e.at e.at place) (stands.text_is ∙ same) is_place,
       unsaid,
@@ -192,24 +193,36 @@ adds_join options whole a b d first last p q = record {
 
 -- ---- tokens of which nothing is shown
 
-nothing_of : (options : Options) (whole text : List ℕ) (kind : SourceKind) (lo hi : ℕ) → (IsLiteralText kind text → ⊥)
-    → IsShownToken options whole kind text lo hi []
-nothing_of options whole text (PlainKind LiteralForm) lo hi other = absurd (other tt)
-nothing_of options whole text (PlainKind IdentifierForm) lo hi other = inr (λ b e. other (b, e), refl)
+nothing_of : (options : Options) (whole text : List ℕ) (kind : SourceKind) (lo hi : ℕ)
+    → (MayShow options kind text → ⊥) → IsShownToken options whole kind text lo hi []
+nothing_of options whole text (PlainKind LiteralForm) lo hi other = absurd (other (inl tt))
+nothing_of options whole text (PlainKind IdentifierForm) lo hi other = inr (λ b e. other (inl (b, e)), refl)
 nothing_of options whole text (PlainKind (DelimiterForm c)) lo hi other = refl
 nothing_of options whole text (PlainKind (MarkForm c)) lo hi other = refl
 nothing_of options whole text RawIdentifierKind lo hi other = refl
 nothing_of options whole text LifetimeKind lo hi other = refl
 nothing_of options whole text DocCommentKind lo hi other = refl
-nothing_of options whole text StrayKind lo hi other = refl
+nothing_of options whole text StrayKind lo hi other = go (finds_strays options) refl
+  where
+    go : (b : Bool) → finds_strays options ≡ b → IsShownStray b options whole text lo hi []
+    go true finds = absurd (other (inr (finds, refl)))
+    go false none = refl
 
-joins_nothing : (options : Options) (whole : List ℕ) (ws : List CutSource) → AllByRecursion IsNoLiteral ws
-    → Joins (IsShown options whole) ws []
-joins_nothing options whole [] each = refl
-joins_nothing options whole (w ∷ ws) each =
+-- where strays aren't rejected, nothing is shown of what is no literal
+no_literal_shown : (options : Options) (kind : SourceKind) (text : List ℕ) → options.rejects_strays ≡ false
+    → (IsLiteralText kind text → ⊥) → MayShow options kind text → ⊥
+no_literal_shown options kind text lax other (inl is) = other is
+no_literal_shown options kind text lax other (inr (finds, is)) =
+    false≢true (sym (ap (λ (b : Bool). b && options.explains) lax) ∙ finds)
+
+joins_nothing : (options : Options) (whole : List ℕ) (ws : List CutSource) → options.rejects_strays ≡ false
+    → AllByRecursion IsNoLiteral ws → Joins (IsShown options whole) ws []
+joins_nothing options whole [] lax each = refl
+joins_nothing options whole (w ∷ ws) lax each =
     joins_append (IsShown options whole) (w ∷ []) ws [] [] (joins_one (IsShown options whole) w []
-    (nothing_of options whole (source_text w.token) (source_kind w.token) w.at (source_end w) each.0))
-    (joins_nothing options whole ws each.1)
+    (nothing_of options whole (source_text w.token) (source_kind w.token) w.at (source_end w)
+    (no_literal_shown options (source_kind w.token) (source_text w.token) lax each.0)))
+    (joins_nothing options whole ws lax each.1)
 
 pub unshown_passed : (options : Options) (old new : CursorState) → options.rejects_strays ≡ false → PassesTo old new
     → IsUnshown options old new
@@ -218,9 +231,9 @@ unshown_passed options old new lax p = record {
     more = p.cuts;
     goes_on = λ cuts shown shows. record {
       are_cuts = p.goes_on cuts shows.are_cuts;
-      accepted = λ rejects. absurd (false≢true (sym lax ∙ rejects));
+      accepted = λ ends. absurd (false≢true (sym (ap (λ (b : Bool). b && not options.explains) lax) ∙ ends));
       lines = joins_append (IsShown options (chars old.text)) cuts p.cuts shown [] shows.lines
-          (joins_nothing options (chars old.text) p.cuts p.others);
+          (joins_nothing options (chars old.text) p.cuts lax p.others);
     };
   };
   same = p.same;
@@ -228,8 +241,8 @@ unshown_passed options old new lax p = record {
 }
 
 pub unshown_more : (options : Options) (a b d : CursorState) (l : SourceToken) → IsUnshown options a b
-    → TakesSource b l d → (IsTrue options.rejects_strays → source_view l.form ≢ StrayKind)
-    → (IsLiteralText (source_view l.form) (chars l.text.now) → ⊥) → IsUnshown options a d
+    → TakesSource b l d → (IsTrue (ends_at_strays options) → source_view l.form ≢ StrayKind)
+    → (MayShow options (source_view l.form) (chars l.text.now) → ⊥) → IsUnshown options a d
 unshown_more options a b d l u takes accepted other = record {
   adds = adds_token options a.text (chars a.rest) b d b.text l [] [] u.same refl u.adds takes accepted
       ([], nothing_of options (chars b.text) (chars l.text.now) (source_view l.form) l.lo l.hi other, refl);
@@ -257,15 +270,49 @@ shown_literal options whole text (PlainKind LiteralForm) lo hi shown is h = h
 shown_literal options whole text (PlainKind IdentifierForm) lo hi shown is h = inl (is.0, is.1, h)
 shown_literal options whole text kind lo hi shown is h = absurd is
 
-no_stray : (text : List ℕ) (kind : SourceKind) → IsLiteralText kind text → kind ≢ StrayKind
-no_stray text kind is same = subst (λ k. IsLiteralText k text) same is
+-- a stray that may be shown is a finding
+pub shown_stray : (options : Options) (whole text : List ℕ) (kind : SourceKind) (lo hi : ℕ) (old new : List ℕ)
+    → kind ≡ StrayKind → MayShow options kind text
+    → Appends (IsErrorLine options whole lo hi StrayCharacter text) old new
+    → Appends (IsShownToken options whole kind text lo hi) old new
+shown_stray options whole text kind lo hi old new is may (line, is_line, e) = (
+  line,
+  subst (λ (k : SourceKind). IsShownToken options whole k text lo hi line) (sym is) (go (finds_strays options) refl),
+  e,
+)
+  where
+    go : (b : Bool) → finds_strays options ≡ b → IsShownStray b options whole text lo hi line
+    go true finds = is_line
+    go false none = absurd (elim may [
+      | inl literal ↦ subst (λ (k : SourceKind). IsLiteralText k text) is literal
+      | inr found ↦ false≢true (sym none ∙ found.0)
+    ])
 
-pub adds_literal : (options : Options) (text start : List ℕ) (old new : CursorState) (places : List ℕ) (l : SourceToken)
+-- what else may be shown is a literal
+pub shown_other : (options : Options) (whole text : List ℕ) (kind : SourceKind) (lo hi : ℕ) (old new : List ℕ)
+    → kind ≢ StrayKind → MayShow options kind text → Appends (IsShownLiteral options whole text lo hi) old new
+    → Appends (IsShownToken options whole kind text lo hi) old new
+shown_other options whole text kind lo hi old new other (inl is) (shown, is_shown, e) =
+    (shown, shown_literal options whole text kind lo hi shown is is_shown, e)
+shown_other options whole text kind lo hi old new other (inr found) shown = absurd (other found.1)
+
+-- where a stray ends the source, what may be shown is none
+no_stray : (options : Options) (text : List ℕ) (kind : SourceKind) → MayShow options kind text
+    → IsTrue (ends_at_strays options) → kind ≢ StrayKind
+no_stray options text kind (inl is) ends same = subst (λ k. IsLiteralText k text) same is
+no_stray options text kind (inr found) ends same = go options.rejects_strays options.explains ends found.0
+  where
+    go : (r e : Bool) → IsTrue (r && not e) → IsTrue (r && e) → ⊥
+    go true true ends finds = false≢true ends
+    go true false ends finds = false≢true finds
+    go false e ends finds = false≢true ends
+
+pub adds_shown : (options : Options) (text start : List ℕ) (old new : CursorState) (places : List ℕ) (l : SourceToken)
     (piece longer : List ℕ) → old.text ≡ text → places ≡ old.text
     → Adds options (chars text) start (chars old.rest) piece → (t : TakesShown options old l new)
-    → Appends (IsShownLiteral options (chars places) (chars l.text.now) l.lo l.hi) piece longer
+    → Appends (IsShownToken options (chars places) (source_view l.form) (chars l.text.now) l.lo l.hi) piece longer
     → Adds options (chars text) start (chars new.rest) longer
-adds_literal options text start old new places l piece longer same seen adds t (last, is_last, longer_is) =
+adds_shown options text start old new places l piece longer same seen adds t shown =
     let between = t.between in
     let nothing : Adds options (chars text) (chars old.rest) (chars between.rest) [] = subst
     (λ (z : List ℕ). Adds options (chars z) (chars old.rest) (chars between.rest) []) same t.unshown.adds in
@@ -273,12 +320,7 @@ adds_literal options text start old new places l piece longer same seen adds t (
     (λ (z : List ℕ). Adds options (chars text) start (chars between.rest) z) (append-nil piece)
     (adds_join options (chars text) start (chars old.rest) (chars between.rest) piece [] adds nothing) in
     adds_token options text start between new places l piece longer (t.unshown.same ∙ same) (seen ∙ sym t.unshown.same)
-    before t.takes (λ _. no_stray (chars l.text.now) (source_view l.form) t.is_literal) (
-      last,
-      shown_literal options (chars places) (chars l.text.now) (source_view l.form) l.lo l.hi last t.is_literal
-          is_last,
-      longer_is,
-    )
+    before t.takes (no_stray options (chars l.text.now) (source_view l.form) t.may_show) shown
 
 pub adds_unshown : (options : Options) (text start piece : List ℕ) (old new : CursorState) → old.text ≡ text
     → Adds options (chars text) start (chars old.rest) piece → IsUnshown options old new

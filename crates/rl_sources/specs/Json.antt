@@ -57,7 +57,14 @@ finding_members text reason piece =
     ++ (string_member (codes "error") (reason_message reason)
     ++ (string_member (codes "piece") piece ++ codes "}\n")))
 
--- the members of a source's error, by a name that stays and in words, and the object's end
-abbrev pub error_members : LexKind → List ℕ
-error_members kind =
-    string_member (codes "id") (error_id kind) ++ (string_member (codes "error") (lex_message kind) ++ codes "}\n")
+-- the member of a piece, where there is one
+abbrev pub piece_member : List ℕ → List ℕ
+piece_member [] = []
+piece_member (c ∷ cs) = string_member (codes "piece") (c ∷ cs)
+
+-- the members of a source's error, by a name that stays and in words, with the piece where there is one, and the object's
+-- end
+abbrev pub error_members : LexKind → List ℕ → List ℕ
+error_members kind piece =
+    string_member (codes "id") (error_id kind) ++ (string_member (codes "error") (lex_message kind)
+    ++ (piece_member piece ++ codes "}\n"))

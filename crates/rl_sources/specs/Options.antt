@@ -1,8 +1,9 @@
--- Which literals are shown.
-use Rattle.std.specs.Prelude.{◌≡◌, ℕ, ◌==◌, List, map, ⊤}
+-- Which literals are shown, and what stray characters are.
+use Rattle.std.specs.Prelude.{◌≡◌, ℕ, ◌==◌, Bool, not, ◌&&◌, List, map, ⊤}
 use Prim.Native.Char.{code}
 use Rattle.std.specs.List.{slice_split, Any}
 use Rattle.std.specs.Char.{to_ascii_lowercase}
+use Rattle.rl_sources.specs.declared.options.Options.{Options}
 use Rattle.rl_sources.specs.declared.options.Shown.{Shown}
 use Rattle.rl_sources.specs.declared.options.Shown.TheVariants.{All, Only, Bad, Hidden}
 
@@ -24,3 +25,10 @@ Picks All label is_bad = ⊤
 Picks (Only list) label is_bad = Names list.now label
 Picks Bad label is_bad = is_bad
 Picks Hidden label is_bad = ⊥
+
+-- where stray characters are rejected, the first ends the source, but where lines say what is wrong: there each is a finding
+abbrev pub ends_at_strays : Options → Bool
+ends_at_strays options = options.rejects_strays && not options.explains
+
+abbrev pub finds_strays : Options → Bool
+finds_strays options = options.rejects_strays && options.explains

@@ -53,7 +53,7 @@ use Rattle.rl_files.specs.Globs.{borrowed_texts}
 use Rattle.rl_sources.specs.Held.{IsFirstHeld}
 use Rattle.rl_sources.specs.Hidden.{ShowsHidden}
 use Rattle.rl_sources.specs.Json.{IsJsonLiteral, finding_members, error_members}
-use Rattle.rl_sources.specs.Options.{Picks}
+use Rattle.rl_sources.specs.Options.{Picks, ends_at_strays, finds_strays}
 use Rattle.rl_sources.specs.Places.{IsPlaceIn, WithContext}
 
 -- what is printed of a literal: the line of its text as a literal, or the text as it is written
@@ -103,11 +103,22 @@ finding_end Colored text reason piece = error_words Colored (reason_message reas
 finding_end Json text reason piece = finding_members text reason piece
 finding_end Github text reason piece = annotation_end (reason_id reason) (message_text (reason_message reason) piece)
 
-abbrev pub error_end : Form → LexKind → List ℕ
-error_end Plain kind = error_words Plain (lex_message kind) []
-error_end Colored kind = error_words Colored (lex_message kind) []
-error_end Json kind = error_members kind
-error_end Github kind = annotation_end (error_id kind) (lex_message kind)
+abbrev pub error_end : Form → LexKind → List ℕ → List ℕ
+error_end Plain kind piece = error_words Plain (lex_message kind) piece
+error_end Colored kind piece = error_words Colored (lex_message kind) piece
+error_end Json kind piece = error_members kind piece
+error_end Github kind piece = annotation_end (error_id kind) (message_text (lex_message kind) piece)
+
+-- the line of an error in these bytes of the whole source: its place, what is wrong, and the piece, where there is one
+abbrev pub IsOwnErrorLine : Options → List ℕ → ℕ → ℕ → LexKind → List ℕ → List ℕ → Type 0
+IsOwnErrorLine options whole lo hi kind piece shown =
+    (place : Place) × IsPlaceIn options whole lo hi place
+    × (shown ≡ line_front options.form options.path place ++ error_end options.form kind piece)
+
+-- the same, and below it what is shown of the source for the place
+abbrev pub IsErrorLine : Options → List ℕ → ℕ → ℕ → LexKind → List ℕ → List ℕ → Type 0
+IsErrorLine options whole lo hi kind piece shown =
+    WithContext (IsOwnErrorLine options whole lo hi kind piece) options whole lo hi shown
 
 -- the line of a finding in a text that begins at this byte of the whole source: its place, what is wrong, and the piece
 abbrev pub IsOwnFindingLine : Options → List ℕ → List ℕ → ℕ → Finding → List ℕ → Type 0
@@ -217,14 +228,20 @@ IsShownLiteral options whole text lo hi shown =
     × IsPickedLine (borrowed_texts options.finds.now) options whole text lo hi shown)
     ⊎ ((IsPicked options (bytes_before whole lo) bytes found label → ⊥) × (shown ≡ [])))
 
+-- what is shown of a stray character: its line, where these are findings, else nothing
+abbrev pub IsShownStray : Bool → Options → List ℕ → List ℕ → ℕ → ℕ → List ℕ → Type 0
+IsShownStray true options whole text lo hi shown = IsErrorLine options whole lo hi StrayCharacter text shown
+IsShownStray false options whole text lo hi shown = shown ≡ []
+
 -- what is shown of a token: of a literal, and of the words `true` and `false`, what is shown of
--- that literal; of anything else nothing
+-- that literal; of a stray character what is shown of that; of anything else nothing
 abbrev pub IsShownToken : Options → List ℕ → SourceKind → List ℕ → ℕ → ℕ → List ℕ → Type 0
 IsShownToken options whole (PlainKind LiteralForm) text lo hi shown =
     IsShownLiteral options whole text lo hi shown
 IsShownToken options whole (PlainKind IdentifierForm) text lo hi shown =
     ((b : Bool) × (text ≡ truth_text b) × IsShownLiteral options whole text lo hi shown)
     ⊎ (((b : Bool) → text ≢ truth_text b) × (shown ≡ []))
+IsShownToken options whole StrayKind text lo hi shown = IsShownStray (finds_strays options) options whole text lo hi shown
 IsShownToken options whole _ text lo hi shown = shown ≡ []
 
 abbrev pub IsShown : Options → List ℕ → CutSource → List ℕ → Type 0
@@ -235,12 +252,12 @@ IsShown options whole w shown =
 abbrev pub IsNoStray : CutSource → Type 0
 IsNoStray w = source_kind w.token ≢ StrayKind
 
--- The source is cut into these tokens up to the rest, no stray among them where strays are
--- rejected, and this is what is shown of them, in order.
+-- The source is cut into these tokens up to the rest, no stray among them where a stray ends the
+-- source, and this is what is shown of them, in order.
 pub record ShowsUpTo (options : Options) (whole : List ℕ) (cuts : List CutSource) (rest shown : List ℕ)
     : Type 0 where
   pub are_cuts : IsCutUpTo whole cuts rest
-  pub accepted : IsTrue options.rejects_strays → All IsNoStray cuts
+  pub accepted : IsTrue (ends_at_strays options) → All IsNoStray cuts
   pub lines : Joins (IsShown options whole) cuts shown
 
 -- this is what is shown of a front of the source
@@ -248,23 +265,12 @@ abbrev pub ShowsFront : Options → List ℕ → List ℕ → Type 0
 ShowsFront options whole shown =
     (cuts : List CutSource) × (rest : List ℕ) × ShowsUpTo options whole cuts rest shown
 
--- an error of this kind begins the rest: no token begins it, or a stray where strays are rejected
+-- an error of this kind begins the rest: no token begins it, or a stray where a stray ends the source
 abbrev pub IsErrorAt : Bool → LexKind → List ℕ → Type 0
-IsErrorAt rejects_strays kind rest =
+IsErrorAt ends_at_strays kind rest =
     SourceErrorAt kind rest
-    ⊎ (IsTrue rejects_strays × (kind ≡ StrayCharacter)
+    ⊎ (IsTrue ends_at_strays × (kind ≡ StrayCharacter)
     × ((after : List ℕ) × SourceBefore rest StrayKind after))
-
--- the line of a source's error at this byte of it: its place, and what is wrong
-abbrev pub IsOwnErrorLine : Options → List ℕ → ℕ → LexKind → List ℕ → Type 0
-IsOwnErrorLine options whole at kind shown =
-    (place : Place) × IsPlaceIn options whole at at place
-    × (shown ≡ line_front options.form options.path place ++ error_end options.form kind)
-
--- the same, and below it what is shown of the source for the place
-abbrev pub IsErrorLine : Options → List ℕ → ℕ → LexKind → List ℕ → Type 0
-IsErrorLine options whole at kind shown =
-    WithContext (IsOwnErrorLine options whole at kind) options whole at at shown
 
 -- This is what is shown of the source up to its first error, which is of this kind and stands at
 -- this byte.
@@ -272,7 +278,7 @@ pub record ShowsUpToError (options : Options) (whole shown : List ℕ) (at : ℕ
   pub cuts : List CutSource
   pub rest : List ℕ
   pub shows : ShowsUpTo options whole cuts rest shown
-  pub error : IsErrorAt options.rejects_strays kind rest
+  pub error : IsErrorAt (ends_at_strays options) kind rest
   pub rest_place : at + byte_len rest ≡ byte_len whole
 
 -- The same, where lines don't say what is wrong; the error has this place.
@@ -291,7 +297,7 @@ pub record ShowsError (options : Options) (whole shown : List ℕ) : Type 0 wher
   pub kind : LexKind
   pub up_to : ShowsUpToError options whole before at kind
   pub line : List ℕ
-  pub line_is : IsErrorLine options whole at kind line
+  pub line_is : IsErrorLine options whole at at kind [] line
   pub shown_is : shown ≡ before ++ line
 
 -- this is what is shown of a part of the source: of a front of it, or up to its first error and that error's line

@@ -3,7 +3,7 @@ use Rattle.std.specs.Prelude.{◌≡◌, ◌≢◌, ◌⊎◌, ℕ, ◌+◌, ◌
 use Rattle.std.specs.Str.{chars}
 use Rattle.rl_text.specs.Texts.{byte_len, IsTail}
 use Rattle.rl_lexer.specs.Cursors.{CursorState, IsCursorState}
-use Rattle.rl_lexer.specs.Sources.{CutSource, StrayKind, source_view, TakesSource, IsLiteralText}
+use Rattle.rl_lexer.specs.Sources.{CutSource, SourceKind, StrayKind, source_view, TakesSource, IsLiteralText}
 use Rattle.rl_lexer.specs.declared.lex_error.LexError.{LexError}
 use Rattle.rl_lexer.specs.declared.lex_error.LexKind.{LexKind}
 use Rattle.rl_lines.specs.Lines.{Appends}
@@ -14,6 +14,7 @@ use Rattle.rl_sources.specs.declared.options.Options.{Options}
 use Rattle.rl_sources.specs.declared.options.Shown.TheVariants.{Bad}
 use Rattle.rl_sources.specs.declared.step.Step.{Step}
 use Rattle.rl_sources.specs.declared.step.Step.TheVariants.{More, End, Error}
+use Rattle.rl_sources.specs.Options.{ends_at_strays, finds_strays}
 use Rattle.rl_sources.specs.Places.{IsPlaceIn}
 use Rattle.rl_sources.specs.Findings.{IsFoundIn, IsRight, IsWrong}
 use Rattle.rl_output.specs.Spots.{bytes_before}
@@ -31,10 +32,14 @@ pub record HasPlace (text : List ℕ) (flaw : Flaw) : Type 0 where
   pub lo_is : flaw.lo ≡ byte_len front
   pub within : flaw.hi ≤ byte_len text
 
--- where strays are rejected, no token is one
+-- where a stray ends the source, no token is one
 abbrev pub IsAcceptedToken : Bool → Option SourceToken → Type 0
-IsAcceptedToken rejects_strays token =
-    IfSome token (λ l. IsTrue rejects_strays → source_view l.form ≢ StrayKind)
+IsAcceptedToken ends_at_strays token =
+    IfSome token (λ l. IsTrue ends_at_strays → source_view l.form ≢ StrayKind)
+
+-- something may be shown of such a token: of a literal, and of a stray where these are findings
+abbrev pub MayShow : Options → SourceKind → List ℕ → Type 0
+MayShow options kind text = IsLiteralText kind text ⊎ (IsTrue (finds_strays options) × (kind ≡ StrayKind))
 
 -- The token begins the rest of the text, at its place.
 pub record BeginsRest (token : SourceToken) (text rest : List ℕ) : Type 0 where
@@ -75,13 +80,13 @@ pub record IsUnshown (options : Options) (old new : CursorState) : Type 0 where
   pub same : new.text ≡ old.text
   pub following : IsTail old.rest new.rest
 
--- After tokens of which nothing is shown comes this literal.
+-- After tokens of which nothing is shown comes this one, of which something may be.
 pub record TakesShown (options : Options) (old : CursorState) (l : SourceToken) (new : CursorState)
     : Type 0 where
   pub between : CursorState
   pub unshown : IsUnshown options old between
   pub takes : TakesSource between l new
-  pub is_literal : IsLiteralText (source_view l.form) (chars l.text.now)
+  pub may_show : MayShow options (source_view l.form) (chars l.text.now)
 
 -- Nothing is shown up to the end.
 abbrev pub EndsUnshown : Options → CursorState → Type 0
@@ -91,7 +96,7 @@ EndsUnshown options old = (end : CursorState) × IsUnshown options old end × (e
 pub record StopsUnshown (options : Options) (old : CursorState) (e : LexError) : Type 0 where
   pub stop : CursorState
   pub unshown : IsUnshown options old stop
-  pub error : IsErrorAt options.rejects_strays e.kind (chars stop.rest)
+  pub error : IsErrorAt (ends_at_strays options) e.kind (chars stop.rest)
   pub place : e.at + length stop.rest ≡ length stop.text
 
 -- What was gathered is what is shown from the old cursor on, up to the new one, where there is
@@ -108,7 +113,7 @@ pub record GoesOn (options : Options) (old : CursorState) (piece : List ℕ) (ne
 abbrev pub IsStopAt : Options → List ℕ → ℕ → LexKind → List ℕ → List ℕ → Step → Type 0
 IsStopAt options whole at kind old new More = ⊥
 IsStopAt options whole at kind old new End =
-    (options.explains ≡ true) × Appends (IsErrorLine options whole at kind) old new
+    (options.explains ≡ true) × Appends (IsErrorLine options whole at at kind []) old new
 IsStopAt options whole at kind old new (Error place other) =
     (options.explains ≡ false) × (other ≡ kind) × IsPlaceIn options whole at at place × (new ≡ old)
 
@@ -120,6 +125,6 @@ IsStepOf options old piece new places End =
     Completes options (chars old.text) (chars old.rest) piece
 IsStepOf options old piece new places (Error place kind) =
     (at : ℕ) × (rest : List ℕ) × Adds options (chars old.text) (chars old.rest) rest piece
-    × IsErrorAt options.rejects_strays kind rest
+    × IsErrorAt (ends_at_strays options) kind rest
     × (at + byte_len rest ≡ byte_len (chars old.text))
     × IsPlaceIn options (chars old.text) at at place × (options.explains ≡ false)

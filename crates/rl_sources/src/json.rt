@@ -9,7 +9,7 @@ ghost use Rattle.rl_forms.specs.Reading.{HasNoReading, truth_text};
 ghost use Rattle.rl_lines.specs.Lines.{Appends};
 ghost use Rattle.rl_reading.specs.Founds.{IsFound};
 ghost use Rattle.rl_output.specs.Members.{string_member};
-ghost use Rattle.rl_sources.specs.Json.{more_numbers, number_array, IsJsonLiteral, IsJsonValueOf, finding_members, error_members};
+ghost use Rattle.rl_sources.specs.Json.{more_numbers, number_array, IsJsonLiteral, IsJsonValueOf, finding_members, error_members, piece_member};
 
 use crate::finding::Reason;
 use crate::held::{byte_contents, bytes_contents};
@@ -248,15 +248,29 @@ pub(crate) fn push_json_finding<A: Allocator>(
     push_ascii(out, "}\n")
 }
 
-/// Appends the members of a source's error, by a name that stays and in words, and the end of its object.
+/// Appends the member of a piece, where there is one.
+fn push_piece<A: Allocator>(out: &mut String<A>, piece: &str) -> Result<(), AllocError>
+    ensures { OnOk result (chars (string_bytes out.new)
+        ≡ chars (string_bytes out.old) ++ piece_member (chars piece.now)) }
+{
+    if piece.is_empty() {
+        return Ok(());
+    }
+    push_member(out, "piece", piece)
+}
+
+/// Appends the members of a source's error, by a name that stays and in words, with the piece where there is one, and the end of its
+/// object.
 pub(crate) fn push_json_error<A: Allocator>(
     out: &mut String<A>,
     kind: LexKind,
+    piece: &str,
 ) -> Result<(), AllocError>
     ensures { OnOk result (chars (string_bytes out.new)
-        ≡ chars (string_bytes out.old) ++ error_members kind) }
+        ≡ chars (string_bytes out.old) ++ error_members kind (chars piece.now)) }
 {
     push_member(out, "id", id_of(kind))?;
     push_member(out, "error", kind.words())?;
+    push_piece(out, piece)?;
     push_ascii(out, "}\n")
 }

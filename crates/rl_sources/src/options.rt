@@ -1,7 +1,7 @@
 //! How a source is scanned.
 
-ghost use Rattle.std.specs.Prelude.{◌↔◌, IsTrue};
-ghost use Rattle.rl_sources.specs.Options.{Names, Picks};
+ghost use Rattle.std.specs.Prelude.{◌≡◌, ◌↔◌, IsTrue};
+ghost use Rattle.rl_sources.specs.Options.{Names, Picks, ends_at_strays as strays_end, finds_strays as strays_found};
 
 use rl_output::{Context, Form};
 use rl_types::Edition;
@@ -58,7 +58,8 @@ pub struct Options<'a> {
     pub context: Option<Context>,
     /// Whether places are printed as lines and columns, and not as bytes.
     pub by_line: bool,
-    /// Whether a stray character is an error, as it is in Rust.
+    /// Whether a stray character is wrong, as it is in Rust: with `explains` a finding of its own, else an error that ends the
+    /// source.
     pub rejects_strays: bool,
     /// Whether lines say what is wrong: those of a bad literal why it is bad, and a last one the error that ends the source.
     pub explains: bool,
@@ -112,6 +113,20 @@ impl Default for Options<'_> {
             path: None,
         }
     }
+}
+
+/// Whether a stray character ends the source.
+pub(crate) fn ends_at_strays(options: &Options<'_>) -> bool
+    ensures { result ≡ strays_end options.now }
+{
+    options.rejects_strays && !options.explains
+}
+
+/// Whether a stray character is a finding.
+pub(crate) fn finds_strays(options: &Options<'_>) -> bool
+    ensures { result ≡ strays_found options.now }
+{
+    options.rejects_strays && options.explains
 }
 
 /// Whether this is one of the words of a list, in any case of its letters; commas separate the words.

@@ -1,6 +1,8 @@
 //! Why a literal of a source is bad.
 
-ghost use Rattle.std.specs.Prelude.{◌≡◌, ◌≤◌, ◌+◌, ◌++◌, ◌↔◌, [], IsTrue, OnOk, length, string_bytes};
+ghost use Rattle.std.specs.Prelude.{◌≡◌, ◌≤◌, ◌+◌, ◌++◌, ◌↔◌, [], true, IsTrue, OnOk, length, string_bytes};
+ghost use Rattle.std.specs.Char.{is_ascii};
+ghost use Rattle.std.specs.List.{list_all};
 ghost use Rattle.std.specs.Str.{chars};
 ghost use Rattle.rl_text.specs.Texts.{byte_len};
 ghost use Rattle.rl_lexer.specs.Cursors.{IsCursorState};
@@ -23,7 +25,7 @@ use rl_files::push_visible;
 use rl_output::{
     Form, Level, Place, Places, id_of, push_annotation_end, push_error_word, push_front,
 };
-use rl_tokens::{LexError, LexKind};
+use rl_tokens::LexKind;
 use std::alloc::{AllocError, Allocator};
 
 /// Whether the bytes from `lo` to `hi` are a text.
@@ -46,13 +48,13 @@ fn piece_of(text: &str, finding: Finding) -> &str
 /// Appends what is wrong: a message, and a piece of the text where there is one.
 fn push_reason<A: Allocator>(
     out: &mut String<A>,
-    reason: Reason,
+    words: &str,
     piece: &str,
 ) -> Result<(), AllocError>
+    requires { list_all is_ascii words.now ≡ true }
     ensures { OnOk result (chars (string_bytes out.new)
-        ≡ chars (string_bytes out.old) ++ error_reason (reason_message reason) (chars piece.now)) }
+        ≡ chars (string_bytes out.old) ++ error_reason words.now (chars piece.now)) }
 {
-    let words = reason.words();
     if piece.is_empty() {
         return writeln!(out, ": {words}");
     }
@@ -62,18 +64,19 @@ fn push_reason<A: Allocator>(
     Ok(())
 }
 
-/// Appends that a literal is wrong, and what is.
-fn push_finding_words<A: Allocator>(
+/// Appends that something is wrong, and what is.
+fn push_error_words<A: Allocator>(
     out: &mut String<A>,
     form: Form,
-    reason: Reason,
+    words: &str,
     piece: &str,
 ) -> Result<(), AllocError>
+    requires { list_all is_ascii words.now ≡ true }
     ensures { OnOk result (chars (string_bytes out.new) ≡ chars (string_bytes out.old)
-        ++ error_words form (reason_message reason) (chars piece.now)) }
+        ++ error_words form words.now (chars piece.now)) }
 {
     push_error_word(out, form)?;
-    push_reason(out, reason, piece)
+    push_reason(out, words, piece)
 }
 
 /// Appends what stands after the place in the annotation of a finding.
@@ -102,7 +105,7 @@ fn push_finding_end<A: Allocator>(
     match form {
         Form::Json => push_json_finding(out, text, reason, piece),
         Form::Github => push_finding_annotation(out, reason, piece),
-        Form::Plain | Form::Colored => push_finding_words(out, form, reason, piece),
+        Form::Plain | Form::Colored => push_error_words(out, form, reason.words(), piece),
     }
 }
 
@@ -140,25 +143,16 @@ pub(crate) fn push_finding<'t, A: Allocator>(
     )
 }
 
-/// Appends that a source is wrong, and what is.
-fn push_error_words<A: Allocator>(
+/// Appends what stands after the place in the annotation of a source's error.
+fn push_error_annotation<A: Allocator>(
     out: &mut String<A>,
-    form: Form,
     kind: LexKind,
+    piece: &str,
 ) -> Result<(), AllocError>
     ensures { OnOk result (chars (string_bytes out.new) ≡ chars (string_bytes out.old)
-        ++ error_words form (lex_message kind) []) }
+        ++ annotation_end (error_id kind) (message_text (lex_message kind) (chars piece.now))) }
 {
-    push_error_word(out, form)?;
-    writeln!(out, ": {kind}")
-}
-
-/// Appends what stands after the place in the annotation of a source's error.
-fn push_error_annotation<A: Allocator>(out: &mut String<A>, kind: LexKind) -> Result<(), AllocError>
-    ensures { OnOk result (chars (string_bytes out.new) ≡ chars (string_bytes out.old)
-        ++ annotation_end (error_id kind) (lex_message kind)) }
-{
-    push_annotation_end(out, id_of(kind), kind.words(), "")
+    push_annotation_end(out, id_of(kind), kind.words(), piece)
 }
 
 /// Appends what stands after the place in the line of a source's error.
@@ -166,14 +160,15 @@ fn push_error_end<A: Allocator>(
     out: &mut String<A>,
     form: Form,
     kind: LexKind,
+    piece: &str,
 ) -> Result<(), AllocError>
     ensures { OnOk result (chars (string_bytes out.new) ≡ chars (string_bytes out.old)
-        ++ error_end form kind) }
+        ++ error_end form kind (chars piece.now)) }
 {
     match form {
-        Form::Json => push_json_error(out, kind),
-        Form::Github => push_error_annotation(out, kind),
-        Form::Plain | Form::Colored => push_error_words(out, form, kind),
+        Form::Json => push_json_error(out, kind, piece),
+        Form::Github => push_error_annotation(out, kind, piece),
+        Form::Plain | Form::Colored => push_error_words(out, form, kind.words(), piece),
     }
 }
 
@@ -190,27 +185,34 @@ pub fn push_source_error<A: Allocator>(
     kind: LexKind,
 ) -> Result<(), AllocError>
     ensures { OnOk result (chars (string_bytes out.new) ≡ chars (string_bytes out.old)
-        ++ (line_front form path.entry place ++ error_end form kind)) }
+        ++ (line_front form path.entry place ++ error_end form kind [])) }
 {
     push_front(out, Level::Error, form, path, &place)?;
-    push_error_end(out, form, kind)
+    push_error_end(out, form, kind, "")
 }
 
-/// Appends the line of a source's error, and what stands below it; the rest of the source begins with the error.
+/// Appends the line of an error in these bytes of a source, with a piece of that where there is one, and what stands below it; the
+/// rest of the source begins with the bytes.
 #[inline(never)]
 pub(crate) fn push_error_line<'t, A: Allocator>(
     out: &mut String<A>,
     options: &Options<'_>,
     places: &mut Places<'t>,
     rest: &'t str,
-    error: LexError,
+    range: (usize, usize),
+    kind: LexKind,
+    piece: &str,
 ) -> Result<(), AllocError>
     requires text { IsCursorState places.old rest.now }
-    requires at { error.at + length rest.now ≡ length places.old }
-    ensures { OnOk result (Appends (IsErrorLine options.now (chars places.old) error.at error.kind)
+    requires lo { range.0 + length rest.now ≡ length places.old }
+    ensures shown { OnOk result (Appends
+        (IsErrorLine options.now (chars places.old) range.0 range.1 kind (chars piece.now))
         (chars (string_bytes out.old)) (chars (string_bytes out.new))) }
+    ensures same { places.new ≡ places.old }
 {
-    let place = place_of(options, places, rest, error.at, error.at);
-    push_source_error(out, options.form, options.path, place, error.kind)?;
-    push_context_of(out, options, places, rest, error.at, error.at)
+    let (lo, hi) = range;
+    let place = place_of(options, places, rest, lo, hi);
+    push_front(out, Level::Error, options.form, options.path, &place)?;
+    push_error_end(out, options.form, kind, piece)?;
+    push_context_of(out, options, places, rest, lo, hi)
 }

@@ -1,18 +1,18 @@
 //! What is shown of the tokens of a source, one after another.
 
-ghost use Rattle.std.specs.Prelude.{◌≡◌, ◌+◌, ◌<◌, ◌≤◌, ◌++◌, [], length, codes, IfSome, IfOk, IfErr, OnOk, MatchOption, string_bytes};
+ghost use Rattle.std.specs.Prelude.{◌≡◌, ◌↔◌, ◌+◌, ◌<◌, ◌≤◌, ◌++◌, [], length, codes, IsTrue, IfSome, IfOk, IfErr, OnOk, MatchOption, string_bytes};
 ghost use Rattle.std.specs.Str.{chars};
 ghost use Rattle.rl_text.specs.Texts.{byte_len};
 ghost use Rattle.rl_lexer.specs.Cursors.{IsCursorState};
-ghost use Rattle.rl_lexer.specs.Sources.{TakesSource};
+ghost use Rattle.rl_lexer.specs.Sources.{StrayKind, TakesSource, source_view};
 ghost use Rattle.rl_files.specs.Globs.{borrowed_texts};
 ghost use Rattle.rl_files.specs.Visible.{visible};
 ghost use Rattle.rl_lines.specs.Lines.{Appends};
 ghost use Rattle.rl_sources.specs.Held.{IsCutAt};
-ghost use Rattle.rl_sources.specs.Scans.{IsErrorAt, IsHeldLine, IsLineAt, IsLineEnd, IsLineIn, IsPickedLine, IsPlacedLine, IsPrintedAs, IsShownLiteral};
+ghost use Rattle.rl_sources.specs.Scans.{IsErrorAt, IsHeldLine, IsLineAt, IsLineEnd, IsLineIn, IsPickedLine, IsPlacedLine, IsPrintedAs, IsShownLiteral, IsShownToken};
 ghost use Rattle.rl_output.specs.declared.form.Form.TheVariants.{Github};
 ghost use Rattle.rl_sources.specs.declared.options.Spelling.TheVariants.{Value};
-ghost use Rattle.rl_sources.specs.Steps.{BeginsRest, EndsUnshown, IsAcceptedToken, IsCursorOver, IsLiteralOf, IsStepOf, IsStopAt, StopsUnshown, TakesShown};
+ghost use Rattle.rl_sources.specs.Steps.{BeginsRest, EndsUnshown, IsAcceptedToken, IsCursorOver, IsLiteralOf, IsStepOf, IsStopAt, MayShow, StopsUnshown, TakesShown};
 ghost use Rattle.rl_sources.specs.Findings.{IsFoundIn};
 
 use crate::flaw_lines::push_wrong;
@@ -20,7 +20,7 @@ use crate::held::first_held_at;
 use crate::json::push_json_literal;
 use crate::judge::{reason_of, wrong_in};
 use crate::literal::{Literal, kind_of};
-use crate::options::{Options, Spelling};
+use crate::options::{Options, Spelling, ends_at_strays, finds_strays};
 use crate::place::{place_inside, place_of, push_context_inside, push_context_of};
 use crate::reason::push_error_line;
 use rl_files::{make_visible, push_visible};
@@ -308,22 +308,55 @@ fn push_literal_token<'t, A: Allocator + Copy>(
     push_picked(alloc, out, options, &literal, places)
 }
 
+/// Whether a token is a stray character.
+fn is_stray(token: &SourceToken<'_>) -> bool
+    ensures { IsTrue result ↔ (source_view token.now.form ≡ StrayKind) }
+{
+    matches!(token.form, SourceForm::Stray)
+}
+
+/// Appends what is shown of a literal, or of a stray character where these are findings.
+#[inline(always)]
+fn push_token<'t, A: Allocator + Copy>(
+    alloc: A,
+    out: &mut String<A>,
+    options: &Options<'_>,
+    token: SourceToken<'t>,
+    rest: &'t str,
+    places: &mut Places<'t>,
+) -> Result<(), AllocError>
+    requires begins { BeginsRest token places.old rest.now }
+    requires shown { MayShow options.now (source_view token.form) (chars token.text.now) }
+    ensures shown { OnOk result (Appends
+        (IsShownToken options.now (chars places.old) (source_view token.entry.form) (chars token.entry.text.now)
+        token.entry.lo token.entry.hi)
+        (chars (string_bytes out.old)) (chars (string_bytes out.new))) }
+    ensures same { places.new ≡ places.old }
+{
+    if is_stray(&token) {
+        let range = (token.lo, token.hi);
+        let kind = LexKind::StrayCharacter;
+        return push_error_line(out, options, places, rest, range, kind, token.text);
+    }
+    push_literal_token(alloc, out, options, token, rest, places)
+}
+
 /// Cuts off the next token: `None` at the end of the source.
 #[inline(always)]
 fn next_token<'t>(
-    rejects_strays: bool,
+    ends_at_strays: bool,
     tokens: &mut Sources<'t>,
 ) -> Result<Option<SourceToken<'t>>, LexError>
     ensures token { IfOk result (λ token. MatchOption token (tokens.old.rest ≡ [])
         (λ l. TakesSource tokens.old l tokens.new)) }
-    ensures accepted { IfOk result (IsAcceptedToken rejects_strays) }
+    ensures accepted { IfOk result (IsAcceptedToken ends_at_strays) }
     ensures shorter { IfOk result (λ token. IfSome token
         (λ l. length tokens.new.rest < length tokens.old.rest)) }
-    ensures error { IfErr result (λ e. IsErrorAt rejects_strays e.kind (chars tokens.old.rest)) }
+    ensures error { IfErr result (λ e. IsErrorAt ends_at_strays e.kind (chars tokens.old.rest)) }
     ensures place { IfErr result (λ e. e.at + length tokens.old.rest ≡ length tokens.old.text) }
 {
     match tokens.next() {
-        Some(token) if rejects_strays && matches!(token.form, SourceForm::Stray) => Err(LexError {
+        Some(token) if ends_at_strays && matches!(token.form, SourceForm::Stray) => Err(LexError {
             kind: LexKind::StrayCharacter,
             at: token.lo,
         }),
@@ -335,8 +368,15 @@ fn next_token<'t>(
     }
 }
 
-/// Cuts off the tokens up to the next literal and that one, where a stray character is an error: `None` where the source
-/// ends before one comes.
+/// Whether something may be shown of a token: of a literal, and of a stray character where these are findings.
+fn may_show(options: &Options<'_>, token: &SourceToken<'_>) -> bool
+    ensures { IsTrue result ↔ MayShow options.now (source_view token.now.form) (chars token.now.text.now) }
+{
+    token.is_literal() || finds_strays(options) && is_stray(token)
+}
+
+/// Cuts off the tokens up to the next literal and that one, where a stray character is an error or a finding, and then up to
+/// that too: `None` where the source ends before one comes.
 fn next_strictly<'t>(
     options: Options<'_>,
     tokens: &mut Sources<'t>,
@@ -348,10 +388,11 @@ fn next_strictly<'t>(
         (λ l. length tokens.new.rest < length tokens.old.rest)) }
     ensures error { IfErr result (StopsUnshown options.entry tokens.old) }
 {
+    let ends = ends_at_strays(&options);
     loop {
-        match next_token(options.rejects_strays, tokens) {
+        match next_token(ends, tokens) {
             Ok(Some(token)) => {
-                if token.is_literal() {
+                if may_show(&options, &token) {
                     return Ok(Some(token));
                 }
             }
@@ -361,7 +402,7 @@ fn next_strictly<'t>(
     }
 }
 
-/// Cuts off the tokens up to the next literal and that one: `None` where the source ends before one comes.
+/// Cuts off the tokens up to the next one of which something may be shown: `None` where the source ends before one comes.
 #[inline(always)]
 fn next_literal<'t>(
     options: Options<'_>,
@@ -412,7 +453,8 @@ fn stop_at<'t, A: Allocator>(
         (chars (string_bytes out.old)) (chars (string_bytes out.new))) }
 {
     if options.explains {
-        push_error_line(out, options, places, rest, error)?;
+        let range = (error.at, error.at);
+        push_error_line(out, options, places, rest, range, error.kind, "")?;
         return Ok(Step::End);
     }
     let place = place_of(options, places, rest, error.at, error.at);
@@ -436,7 +478,7 @@ pub(crate) fn gather<'t, A: Allocator + Copy>(
         match next_literal(options, tokens) {
             Ok(Some(token)) => {
                 let rest = places.rest_at(token.lo);
-                push_literal_token(alloc, out, &options, token, rest, places)?
+                push_token(alloc, out, &options, token, rest, places)?
             }
             Ok(None) => return Ok(Step::End),
             Err(error) => {

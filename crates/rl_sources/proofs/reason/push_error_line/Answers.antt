@@ -4,10 +4,12 @@ use Rattle.rl_sources.proofs.FlawLineLemmas.{error_line}
 use Rattle.rl_sources.proofs.StepLemmas.{in_context}
 use Rattle.rl_sources.proofs.reason.push_error_line.Goals as goal
 
-pub returns : goal.returns
-returns g c = on_ok_weaker c.push_context_of.result (in_context
-    (IsOwnErrorLine c.args.options.now (chars c.args.places.now) c.args.error.at c.args.error.kind)
-    c.args.options.now (chars c.args.places.now) c.args.error.at c.args.error.at _ _ _
-    (error_line c.args.options.now (chars c.args.places.now) c.args.error.at c.args.error.kind
-    c.place_of-place.result _ _ c.place_of-place.ensures.place c.in_ok-push_source_error.ensures))
+pub returns-clause-shown : goal.returns-clause-shown
+returns-clause-shown g c = on_ok_weaker c.push_context_of.result (in_context
+    (IsOwnErrorLine c.args.options.now (chars c.args.places.now) c.args.range.0 c.args.range.1 c.args.kind
+    (chars c.args.piece.now))
+    c.args.options.now (chars c.args.places.now) c.args.range.0 c.args.range.1 _ _ _
+    (error_line c.args.options.now (chars c.args.places.now) c.args.range.0 c.args.range.1 c.args.kind
+    (chars c.args.piece.now) c.place_of-place.result _ _ _ c.place_of-place.ensures.place c.in_ok-push_front.ensures
+    c.in_ok-push_error_end.ensures))
     (rw c.place_of-place.ensures.same at c.push_context_of.ensures.context)

@@ -2,7 +2,7 @@ use Rattle.rl_text.proofs.Common.{List, ap, arith, chars, chars-nil, inl, inr, r
 use Rattle.std.proofs.lemmas.Result.{IfOk-weaker}
 use Rattle.rl_lexer.specs.Cursors.{IsCursorState}
 use Rattle.rl_sources.specs.Steps.{Adds}
-use Rattle.rl_sources.proofs.ScanLemmas.{adds_literal, adds_none, adds_unshown, begins_rest, completes, rest_boundary, rest_is, stands_before, stands_on, stopped}
+use Rattle.rl_sources.proofs.ScanLemmas.{adds_none, adds_shown, adds_unshown, begins_rest, completes, rest_boundary, rest_is, stands_before, stands_on, stopped}
 use Rattle.rl_sources.proofs.step.gather.Goals as goal
 
 pub loop-options-init : goal.loop-options-init
@@ -23,8 +23,8 @@ rest_at-rest-requires g c =
     rest_boundary takes.between.text c.loop-options.places takes.between.rest c.in-Ok-Some.token.lo stands.cursor
     stands.text_is takes.takes.place
 
-pub push_literal_token-requires : goal.push_literal_token-requires
-push_literal_token-requires g c =
+pub push_token-requires-clause-begins : goal.push_token-requires-clause-begins
+push_token-requires-clause-begins g c =
     let takes = rw c.in-Ok-Some.field-0-is at c.in-Ok-Some.ensures.literal in
     let stands = stands_before c.args.options c.loop-options.tokens takes.between c.loop-options.places
     c.loop-options.invariant.stands takes.unshown in
@@ -32,6 +32,9 @@ push_literal_token-requires g c =
     c.in-Ok-Some.token
     stands takes.takes (rest_is takes.between.text c.loop-options.places takes.between.rest c.rest_at-rest.result.now
     c.in-Ok-Some.token.lo stands.cursor stands.text_is takes.takes.place c.rest_at-rest.ensures)
+
+pub push_token-requires-clause-shown : goal.push_token-requires-clause-shown
+push_token-requires-clause-shown g c = (rw c.in-Ok-Some.field-0-is at c.in-Ok-Some.ensures.literal).may_show
 
 pub rest_at-rest-requires-in-Err : goal.rest_at-rest-requires-in-Err
 rest_at-rest-requires-in-Err g c =
@@ -57,13 +60,13 @@ loop-options-preserved g c =
     let takes = rw c.in-Ok-Some.field-0-is at c.in-Ok-Some.ensures.literal in
     let shorter = rw c.in-Ok-Some.field-0-is at c.in-Ok-Some.ensures.shorter in
     record {
-      stands = stands_on takes.between c.next_literal.new.tokens c.loop-options.places c.push_literal_token.new.places
+      stands = stands_on takes.between c.next_literal.new.tokens c.loop-options.places c.push_token.new.places
           c.in-Ok-Some.token (stands_before c.args.options c.loop-options.tokens takes.between c.loop-options.places
-          before.stands takes.unshown) takes.takes c.push_literal_token.ensures.same;
+          before.stands takes.unshown) takes.takes c.push_token.ensures.same;
       text_is = takes.takes.same ∙ takes.unshown.same ∙ before.text_is;
-      adds = adds_literal c.args.options c.args.tokens.now.text _ c.loop-options.tokens c.next_literal.new.tokens
+      adds = adds_shown c.args.options c.args.tokens.now.text _ c.loop-options.tokens c.next_literal.new.tokens
           c.loop-options.places c.in-Ok-Some.token _ _ before.text_is before.stands.text_is before.adds takes
-          c.in_ok-push_literal_token-in-Ok-Some.ensures.shown;
+          c.in_ok-push_token-in-Ok-Some.ensures.shown;
       not_longer = omega (arith, shorter, before.not_longer);
       shorter = inr (omega (arith, shorter, before.not_longer));
     }

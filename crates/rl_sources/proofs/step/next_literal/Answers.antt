@@ -6,7 +6,7 @@ use Rattle.rl_sources.proofs.step.next_literal.Goals as goal
 pub returns-in-Some-clause-literal : goal.returns-in-Some-clause-literal
 returns-in-Some-clause-literal c =
     let found = c.in-Some.ensures.found in
-    record { between = found.between; unshown = unshown_passed c.args.options c.args.tokens.now found.between c.if-options.false found.passes; takes = found.takes; is_literal = found.is_literal }
+    record { between = found.between; unshown = unshown_passed c.args.options c.args.tokens.now found.between c.if-options.false found.passes; takes = found.takes; may_show = inl found.is_literal }
 
 pub returns-in-Some-error-clause-error : goal.returns-in-Some-error-clause-error
 returns-in-Some-error-clause-error c = record {

@@ -182,12 +182,23 @@ pub(crate) fn push_json_finding<A: Allocator>(
     push_ascii(out, "}\n")
 }
 
-/// Appends the members of a source's error, by a name that stays and in words, and the end of its object.
+/// Appends the member of a piece, where there is one.
+fn push_piece<A: Allocator>(out: &mut String<A>, piece: &str) -> Result<(), AllocError> {
+    if piece.is_empty() {
+        return Ok(());
+    }
+    push_member(out, "piece", piece)
+}
+
+/// Appends the members of a source's error, by a name that stays and in words, with the piece where there is one, and the end of its
+/// object.
 pub(crate) fn push_json_error<A: Allocator>(
     out: &mut String<A>,
     kind: LexKind,
+    piece: &str,
 ) -> Result<(), AllocError> {
     push_member(out, "id", id_of(kind))?;
     push_member(out, "error", kind.words())?;
+    push_piece(out, piece)?;
     push_ascii(out, "}\n")
 }

@@ -56,7 +56,8 @@ pub struct Options<'a> {
     pub context: Option<Context>,
     /// Whether places are printed as lines and columns, and not as bytes.
     pub by_line: bool,
-    /// Whether a stray character is an error, as it is in Rust.
+    /// Whether a stray character is wrong, as it is in Rust: with `explains` a finding of its own, else an error that ends the
+    /// source.
     pub rejects_strays: bool,
     /// Whether lines say what is wrong: those of a bad literal why it is bad, and a last one the error that ends the source.
     pub explains: bool,
@@ -89,6 +90,16 @@ impl Default for Options<'_> {
             path: None,
         }
     }
+}
+
+/// Whether a stray character ends the source.
+pub(crate) fn ends_at_strays(options: &Options<'_>) -> bool {
+    options.rejects_strays && !options.explains
+}
+
+/// Whether a stray character is a finding.
+pub(crate) fn finds_strays(options: &Options<'_>) -> bool {
+    options.rejects_strays && options.explains
 }
 
 /// Whether this is one of the words of a list, in any case of its letters; commas separate the words.

@@ -11,7 +11,7 @@ use crate::rl_files::push_visible;
 use crate::rl_output::{
     Form, Level, Place, Places, id_of, push_annotation_end, push_error_word, push_front,
 };
-use crate::rl_tokens::{LexError, LexKind};
+use crate::rl_tokens::LexKind;
 use crate::rattle_std::alloc::{AllocError, Allocator};
 
 /// Whether the bytes from `lo` to `hi` are a text.
@@ -30,10 +30,9 @@ fn piece_of(text: &str, finding: Finding) -> &str {
 /// Appends what is wrong: a message, and a piece of the text where there is one.
 fn push_reason<A: Allocator>(
     out: &mut String<A>,
-    reason: Reason,
+    words: &str,
     piece: &str,
 ) -> Result<(), AllocError> {
-    let words = reason.words();
     if piece.is_empty() {
         return writeln!(out, ": {words}");
     }
@@ -43,15 +42,15 @@ fn push_reason<A: Allocator>(
     Ok(())
 }
 
-/// Appends that a literal is wrong, and what is.
-fn push_finding_words<A: Allocator>(
+/// Appends that something is wrong, and what is.
+fn push_error_words<A: Allocator>(
     out: &mut String<A>,
     form: Form,
-    reason: Reason,
+    words: &str,
     piece: &str,
 ) -> Result<(), AllocError> {
     push_error_word(out, form)?;
-    push_reason(out, reason, piece)
+    push_reason(out, words, piece)
 }
 
 /// Appends what stands after the place in the annotation of a finding.
@@ -74,7 +73,7 @@ fn push_finding_end<A: Allocator>(
     match form {
         Form::Json => push_json_finding(out, text, reason, piece),
         Form::Github => push_finding_annotation(out, reason, piece),
-        Form::Plain | Form::Colored => push_finding_words(out, form, reason, piece),
+        Form::Plain | Form::Colored => push_error_words(out, form, reason.words(), piece),
     }
 }
 
@@ -103,19 +102,13 @@ pub(crate) fn push_finding<'t, A: Allocator>(
     )
 }
 
-/// Appends that a source is wrong, and what is.
-fn push_error_words<A: Allocator>(
-    out: &mut String<A>,
-    form: Form,
-    kind: LexKind,
-) -> Result<(), AllocError> {
-    push_error_word(out, form)?;
-    writeln!(out, ": {kind}")
-}
-
 /// Appends what stands after the place in the annotation of a source's error.
-fn push_error_annotation<A: Allocator>(out: &mut String<A>, kind: LexKind) -> Result<(), AllocError> {
-    push_annotation_end(out, id_of(kind), kind.words(), "")
+fn push_error_annotation<A: Allocator>(
+    out: &mut String<A>,
+    kind: LexKind,
+    piece: &str,
+) -> Result<(), AllocError> {
+    push_annotation_end(out, id_of(kind), kind.words(), piece)
 }
 
 /// Appends what stands after the place in the line of a source's error.
@@ -123,11 +116,12 @@ fn push_error_end<A: Allocator>(
     out: &mut String<A>,
     form: Form,
     kind: LexKind,
+    piece: &str,
 ) -> Result<(), AllocError> {
     match form {
-        Form::Json => push_json_error(out, kind),
-        Form::Github => push_error_annotation(out, kind),
-        Form::Plain | Form::Colored => push_error_words(out, form, kind),
+        Form::Json => push_json_error(out, kind, piece),
+        Form::Github => push_error_annotation(out, kind, piece),
+        Form::Plain | Form::Colored => push_error_words(out, form, kind.words(), piece),
     }
 }
 
@@ -144,19 +138,24 @@ pub fn push_source_error<A: Allocator>(
     kind: LexKind,
 ) -> Result<(), AllocError> {
     push_front(out, Level::Error, form, path, &place)?;
-    push_error_end(out, form, kind)
+    push_error_end(out, form, kind, "")
 }
 
-/// Appends the line of a source's error, and what stands below it; the rest of the source begins with the error.
+/// Appends the line of an error in these bytes of a source, with a piece of that where there is one, and what stands below it; the
+/// rest of the source begins with the bytes.
 #[inline(never)]
 pub(crate) fn push_error_line<'t, A: Allocator>(
     out: &mut String<A>,
     options: &Options<'_>,
     places: &mut Places<'t>,
     rest: &'t str,
-    error: LexError,
+    range: (usize, usize),
+    kind: LexKind,
+    piece: &str,
 ) -> Result<(), AllocError> {
-    let place = place_of(options, places, rest, error.at, error.at);
-    push_source_error(out, options.form, options.path, place, error.kind)?;
-    push_context_of(out, options, places, rest, error.at, error.at)
+    let (lo, hi) = range;
+    let place = place_of(options, places, rest, lo, hi);
+    push_front(out, Level::Error, options.form, options.path, &place)?;
+    push_error_end(out, options.form, kind, piece)?;
+    push_context_of(out, options, places, rest, lo, hi)
 }

@@ -7,7 +7,7 @@ use crate::rl_sources::held::first_held_at;
 use crate::rl_sources::json::push_json_literal;
 use crate::rl_sources::judge::{reason_of, wrong_in};
 use crate::rl_sources::literal::{Literal, kind_of};
-use crate::rl_sources::options::{Options, Spelling};
+use crate::rl_sources::options::{Options, Spelling, ends_at_strays, finds_strays};
 use crate::rl_sources::place::{place_inside, place_of, push_context_inside, push_context_of};
 use crate::rl_sources::reason::push_error_line;
 use crate::rl_files::{make_visible, push_visible};
@@ -223,14 +223,32 @@ fn push_literal_token<'t, A: Allocator + Copy>(
     push_picked(alloc, out, options, &literal, places)
 }
 
+/// Appends what is shown of a literal, or of a stray character where these are findings.
+#[inline(always)]
+fn push_token<'t, A: Allocator + Copy>(
+    alloc: A,
+    out: &mut String<A>,
+    options: &Options<'_>,
+    token: SourceToken<'t>,
+    rest: &'t str,
+    places: &mut Places<'t>,
+) -> Result<(), AllocError> {
+    if matches!(token.form, SourceForm::Stray) {
+        let range = (token.lo, token.hi);
+        let kind = LexKind::StrayCharacter;
+        return push_error_line(out, options, places, rest, range, kind, token.text);
+    }
+    push_literal_token(alloc, out, options, token, rest, places)
+}
+
 /// Cuts off the next token: `None` at the end of the source.
 #[inline(always)]
 fn next_token<'t>(
-    rejects_strays: bool,
+    ends_at_strays: bool,
     tokens: &mut Sources<'t>,
 ) -> Result<Option<SourceToken<'t>>, LexError> {
     match tokens.next() {
-        Some(token) if rejects_strays && matches!(token.form, SourceForm::Stray) => Err(LexError {
+        Some(token) if ends_at_strays && matches!(token.form, SourceForm::Stray) => Err(LexError {
             kind: LexKind::StrayCharacter,
             at: token.lo,
         }),
@@ -242,16 +260,22 @@ fn next_token<'t>(
     }
 }
 
-/// Cuts off the tokens up to the next literal and that one, where a stray character is an error: `None` where the source
-/// ends before one comes.
+/// Whether something may be shown of a token: of a literal, and of a stray character where these are findings.
+fn may_show(options: &Options<'_>, token: &SourceToken<'_>) -> bool {
+    token.is_literal() || finds_strays(options) && matches!(token.form, SourceForm::Stray)
+}
+
+/// Cuts off the tokens up to the next literal and that one, where a stray character is an error or a finding, and then up to
+/// that too: `None` where the source ends before one comes.
 fn next_strictly<'t>(
     options: Options<'_>,
     tokens: &mut Sources<'t>,
 ) -> Result<Option<SourceToken<'t>>, LexError> {
+    let ends = ends_at_strays(&options);
     loop {
-        match next_token(options.rejects_strays, tokens) {
+        match next_token(ends, tokens) {
             Ok(Some(token)) => {
-                if token.is_literal() {
+                if may_show(&options, &token) {
                     return Ok(Some(token));
                 }
             }
@@ -261,7 +285,7 @@ fn next_strictly<'t>(
     }
 }
 
-/// Cuts off the tokens up to the next literal and that one: `None` where the source ends before one comes.
+/// Cuts off the tokens up to the next one of which something may be shown: `None` where the source ends before one comes.
 #[inline(always)]
 fn next_literal<'t>(
     options: Options<'_>,
@@ -300,7 +324,8 @@ fn stop_at<'t, A: Allocator>(
     error: LexError,
 ) -> Result<Step, AllocError> {
     if options.explains {
-        push_error_line(out, options, places, rest, error)?;
+        let range = (error.at, error.at);
+        push_error_line(out, options, places, rest, range, error.kind, "")?;
         return Ok(Step::End);
     }
     let place = place_of(options, places, rest, error.at, error.at);
@@ -319,7 +344,7 @@ pub(crate) fn gather<'t, A: Allocator + Copy>(
         match next_literal(options, tokens) {
             Ok(Some(token)) => {
                 let rest = places.rest_at(token.lo);
-                push_literal_token(alloc, out, &options, token, rest, places)?
+                push_token(alloc, out, &options, token, rest, places)?
             }
             Ok(None) => return Ok(Step::End),
             Err(error) => {
