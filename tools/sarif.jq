@@ -4,7 +4,6 @@
 #
 # Columns are counted in characters. Standard input has no path: its artifact is `-`.
 def uri: sub("^(\\./+)+"; "") | split("/") | map(@uri) | join("/");
-def rule: .id // "hidden-character";
 def message:
   if has("hidden") then .hidden
   elif has("piece") and .piece != "" then "\(.error): \(.piece)"
@@ -12,7 +11,7 @@ def message:
   else error("an object of neither --bad nor --hidden") end;
 def result:
   {
-    ruleId: rule,
+    ruleId: .id,
     level: "error",
     message: {text: message},
     locations: [{
@@ -26,7 +25,7 @@ def result:
   version: "2.1.0",
   "$schema": "https://json.schemastore.org/sarif-2.1.0.json",
   runs: [{
-    tool: {driver: {name: "rl_scan", rules: (map(rule) | unique | map({id: .}))}},
+    tool: {driver: {name: "rl_scan", rules: (map(.id) | unique | map({id: .}))}},
     columnKind: "unicodeCodePoints",
     results: map(result)
   }]

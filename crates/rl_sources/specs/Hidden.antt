@@ -46,12 +46,17 @@ four_digits n = padded_integral (format_spec 32 0 4 4 (2 ^ 64 - 1)) false [] (di
 abbrev pub character_words : ℕ → List ℕ
 character_words c = codes "U+" ++ (four_digits c ++ direction_name c)
 
--- what stands after the place in its line: the words, the member of its object, or the message of its annotation
+-- what it is, by a name that stays
+abbrev pub hidden_id : List ℕ
+hidden_id = codes "hidden"
+
+-- what stands after the place in its line: the words, the members of its object, or the message of its annotation
 abbrev pub hidden_end : Form → ℕ → List ℕ
 hidden_end Plain c = chars (character_words c) ++ codes "\n"
 hidden_end Colored c = chars (character_words c) ++ codes "\n"
-hidden_end Json c = string_member (codes "hidden") (chars (character_words c)) ++ codes "}\n"
-hidden_end Github c = annotation_end (codes "hidden") (chars (character_words c))
+hidden_end Json c =
+    string_member (codes "id") hidden_id ++ (string_member (codes "hidden") (chars (character_words c)) ++ codes "}\n")
+hidden_end Github c = annotation_end hidden_id (chars (character_words c))
 
 -- The line of a character of the whole source, of which so much stands after it, and below it what is shown of the
 -- source for it.

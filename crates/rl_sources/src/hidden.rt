@@ -6,7 +6,7 @@ ghost use Rattle.rl_lexer.specs.Cursors.{IsCursorState};
 ghost use Rattle.rl_lines.specs.Lines.{Appends};
 ghost use Rattle.rl_output.specs.Github.{annotation_end};
 ghost use Rattle.rl_output.specs.Members.{string_member};
-ghost use Rattle.rl_sources.specs.Hidden.{IsHiddenLine, IsShownCharacter, ShowsHidden, character_words, direction_name as name_of, hidden_end, hides as is_hider, is_layout as layout};
+ghost use Rattle.rl_sources.specs.Hidden.{IsHiddenLine, IsShownCharacter, ShowsHidden, character_words, direction_name as name_of, hidden_end, hidden_id, hides as is_hider, is_layout as layout};
 
 use crate::options::Options;
 use crate::place::{place_of, push_context_of};
@@ -15,6 +15,9 @@ use rl_lexer::without_mark;
 use rl_output::{Form, Level, Places, push_annotation_end, push_ascii, push_front, push_member};
 use rl_tokens::text::{begins_with, split_char};
 use std::alloc::{AllocError, Allocator};
+
+/// What a character that turns or hides text is, by a name that stays.
+const HIDDEN_ID: &str = "hidden";
 
 /// Whether a character is a control character of the layout: a tab, an LF, a form feed, or a CR before an LF.
 fn is_layout(c: char, after: &str) -> bool
@@ -74,11 +77,13 @@ fn push_hidden_words<A: Allocator>(out: &mut String<A>, words: &str) -> Result<(
     push_ascii(out, "\n")
 }
 
-/// Appends the member of a character, and the object's end.
+/// Appends the members of a character, and the object's end.
 fn push_hidden_member<A: Allocator>(out: &mut String<A>, words: &str) -> Result<(), AllocError>
     ensures { OnOk result (chars (string_bytes out.new)
-        ≡ chars (string_bytes out.old) ++ (string_member (codes "hidden") (chars words.now) ++ codes "}\n")) }
+        ≡ chars (string_bytes out.old) ++ (string_member (codes "id") hidden_id
+        ++ (string_member (codes "hidden") (chars words.now) ++ codes "}\n"))) }
 {
+    push_member(out, "id", HIDDEN_ID)?;
     push_member(out, "hidden", words)?;
     push_ascii(out, "}\n")
 }
@@ -86,9 +91,9 @@ fn push_hidden_member<A: Allocator>(out: &mut String<A>, words: &str) -> Result<
 /// Appends what stands after the place in the annotation of a character.
 fn push_hidden_annotation<A: Allocator>(out: &mut String<A>, words: &str) -> Result<(), AllocError>
     ensures { OnOk result (chars (string_bytes out.new)
-        ≡ chars (string_bytes out.old) ++ annotation_end (codes "hidden") (chars words.now)) }
+        ≡ chars (string_bytes out.old) ++ annotation_end hidden_id (chars words.now)) }
 {
-    push_annotation_end(out, "hidden", words, "")
+    push_annotation_end(out, HIDDEN_ID, words, "")
 }
 
 /// Appends what stands after the place in the line of a character.

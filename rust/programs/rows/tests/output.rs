@@ -203,7 +203,7 @@ fn sarif() {
     };
     let expected = format!(
         "{{\"version\":\"2.1.0\",\"$schema\":\"https://json.schemastore.org/sarif-2.1.0.json\",\"runs\":[{{\"tool\":{{\"driver\":\
-         {{\"name\":\"rl_scan\",\"rules\":[{{\"id\":\"hidden-character\"}},{{\"id\":\"unknown-escape\"}},{{\"id\":\"unknown-suffix\"}}]}}}},\
+         {{\"name\":\"rl_scan\",\"rules\":[{{\"id\":\"hidden\"}},{{\"id\":\"unknown-escape\"}},{{\"id\":\"unknown-suffix\"}}]}}}},\
          \"columnKind\":\"unicodeCodePoints\",\"results\":[{},{},{}]}}]}}\n",
         result(
             "unknown-escape",
@@ -218,7 +218,7 @@ fn sarif() {
             [2, 3, 2, 6]
         ),
         result(
-            "hidden-character",
+            "hidden",
             "U+202E RIGHT-TO-LEFT OVERRIDE",
             "-",
             [1, 1, 1, 2]

@@ -10,6 +10,9 @@ use crate::rl_output::{Form, Level, Places, push_annotation_end, push_ascii, pus
 use crate::rl_tokens::text::{begins_with, split_char};
 use crate::rattle_std::alloc::{AllocError, Allocator};
 
+/// What a character that turns or hides text is, by a name that stays.
+const HIDDEN_ID: &str = "hidden";
+
 /// Whether a character is a control character of the layout: a tab, an LF, a form feed, or a CR before an LF.
 fn is_layout(c: char, after: &str) -> bool {
     matches!(c, '\t' | '\n' | '\u{c}') || c == '\r' && begins_with(after, '\n')
@@ -56,15 +59,16 @@ fn push_hidden_words<A: Allocator>(out: &mut String<A>, words: &str) -> Result<(
     push_ascii(out, "\n")
 }
 
-/// Appends the member of a character, and the object's end.
+/// Appends the members of a character, and the object's end.
 fn push_hidden_member<A: Allocator>(out: &mut String<A>, words: &str) -> Result<(), AllocError> {
+    push_member(out, "id", HIDDEN_ID)?;
     push_member(out, "hidden", words)?;
     push_ascii(out, "}\n")
 }
 
 /// Appends what stands after the place in the annotation of a character.
 fn push_hidden_annotation<A: Allocator>(out: &mut String<A>, words: &str) -> Result<(), AllocError> {
-    push_annotation_end(out, "hidden", words, "")
+    push_annotation_end(out, HIDDEN_ID, words, "")
 }
 
 /// Appends what stands after the place in the line of a character.

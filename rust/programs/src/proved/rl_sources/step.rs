@@ -223,6 +223,11 @@ fn push_literal_token<'t, A: Allocator + Copy>(
     push_picked(alloc, out, options, &literal, places)
 }
 
+/// Whether a token is a stray character.
+fn is_stray(token: &SourceToken<'_>) -> bool {
+    matches!(token.form, SourceForm::Stray)
+}
+
 /// Appends what is shown of a literal, or of a stray character where these are findings.
 #[inline(always)]
 fn push_token<'t, A: Allocator + Copy>(
@@ -233,7 +238,7 @@ fn push_token<'t, A: Allocator + Copy>(
     rest: &'t str,
     places: &mut Places<'t>,
 ) -> Result<(), AllocError> {
-    if matches!(token.form, SourceForm::Stray) {
+    if is_stray(&token) {
         let range = (token.lo, token.hi);
         let kind = LexKind::StrayCharacter;
         return push_error_line(out, options, places, rest, range, kind, token.text);
@@ -262,7 +267,7 @@ fn next_token<'t>(
 
 /// Whether something may be shown of a token: of a literal, and of a stray character where these are findings.
 fn may_show(options: &Options<'_>, token: &SourceToken<'_>) -> bool {
-    token.is_literal() || finds_strays(options) && matches!(token.form, SourceForm::Stray)
+    token.is_literal() || finds_strays(options) && is_stray(token)
 }
 
 /// Cuts off the tokens up to the next literal and that one, where a stray character is an error or a finding, and then up to
