@@ -34,6 +34,7 @@ pub struct Restyles<'t> {
     text: &'t str,
     style: Style,
     literals: Restylables<'t>,
+    skips_macros: bool,
     is_done: bool,
 }
 
@@ -61,11 +62,27 @@ pub fn restyle(text: &str, style: Style) -> Restyles<'_> {
         text,
         style,
         literals: Restylables::new(text),
+        skips_macros: false,
         is_done: !may_restyle(text),
     }
 }
 
 impl<'t> Restyles<'t> {
+    /// Whether literals in macro calls, macros' definitions and attributes stay as they are; `false` unless said. By tokens alone: what
+    /// stands inside of the brackets after a name and `!`, after `macro_rules! name`, and after `#` and `#!`.
+    ///
+    /// ```
+    /// use navyspindle::{restyle, Case, Style};
+    ///
+    /// let edits = restyle("f(0xA, vec![0xB], !(0xC))", Style::new().hex_digits(Case::Lower));
+    /// assert_eq!(edits.skip_macros(true).apply()?, "f(0xa, vec![0xB], !(0xc))");
+    /// # Ok::<(), navyspindle::ListError>(())
+    /// ```
+    pub fn skip_macros(mut self, skips: bool) -> Self {
+        self.skips_macros = skips;
+        self
+    }
+
     /// The text with the edits that are left; borrowed where there are none.
     ///
     /// # Errors
@@ -90,9 +107,6 @@ impl<'t> Restyles<'t> {
 
 /// The edit that brings a literal into the style; `None` where it stays as it is.
 fn edit_of(style: Style, source: &str, literal: Restylable<'_>) -> Option<Edit> {
-    if literal.is_field {
-        return None;
-    }
     match rewrite_after(&source[..literal.token.lo], literal.token.text, style) {
         Ok(Cow::Owned(text)) => Some(Edit {
             range: literal.token.lo..literal.token.hi,
@@ -112,6 +126,9 @@ impl Iterator for Restyles<'_> {
                 let error = self.literals.error()?;
                 return Some(Err(ListError::of_source(self.text, error)));
             };
+            if literal.is_field || self.skips_macros && literal.in_macro {
+                continue;
+            }
             if let Some(edit) = edit_of(self.style, self.text, literal) {
                 return Some(Ok(edit));
             }
@@ -126,6 +143,7 @@ impl fmt::Debug for Restyles<'_> {
     fn fmt(&self, f: &mut fmt::Formatter<'_>) -> fmt::Result {
         f.debug_struct("Restyles")
             .field("style", &self.style)
+            .field("skips_macros", &self.skips_macros)
             .finish_non_exhaustive()
     }
 }

@@ -112,6 +112,81 @@ fn what_rust_rejects_stays() {
 }
 
 #[test]
+fn macros_are_skipped() {
+    for (text, written) in [
+        ("m!(0xA) + 0xB", "m!(0xA) + 0xb"),
+        ("m!{0xA} [0xB]", "m!{0xA} [0xb]"),
+        (
+            "a::m! [0xA, (0xB), {0xC}] (0xD)",
+            "a::m! [0xA, (0xB), {0xC}] (0xd)",
+        ),
+        (
+            "m /* ! */ ! // (\n (0xA, [n!(0xB)], 0xC) + 0xD",
+            "m /* ! */ ! // (\n (0xA, [n!(0xB)], 0xC) + 0xd",
+        ),
+        (
+            "macro_rules! m { (0xA) => (0xB); } const C: u8 = 0xC;",
+            "macro_rules! m { (0xA) => (0xB); } const C: u8 = 0xc;",
+        ),
+        (
+            "macro_rules! if ((0xA) => {0xB}); 0xC",
+            "macro_rules! if ((0xA) => {0xB}); 0xc",
+        ),
+        ("#[a(0xA, [0xB])] 0xC", "#[a(0xA, [0xB])] 0xc"),
+        (
+            "#![a = \"\\'\"] #! [0xA] 0xB",
+            "#![a = \"\\'\"] #! [0xA] 0xb",
+        ),
+        (
+            "r#if!(0xA) union!(0xB) try!(0xC) Return!(0xD)",
+            "r#if!(0xA) union!(0xB) try!(0xC) Return!(0xD)",
+        ),
+        (
+            "m!(\")\", ')', /* ) */ 0xA) 0xB",
+            "m!(\")\", ')', /* ) */ 0xA) 0xb",
+        ),
+        ("m!(0xA", "m!(0xA"),
+    ] {
+        assert_eq!(
+            restyle(text, STYLE).skip_macros(true).apply().unwrap(),
+            written,
+            "{text:?}"
+        );
+    }
+}
+
+#[test]
+fn what_looks_like_a_macro_is_not_skipped() {
+    for (text, written) in [
+        ("a != (0xA)", "a != (0xa)"),
+        ("return !(0xA)", "return !(0xa)"),
+        (
+            "if !{0xA} {} while ![0xB][0] {}",
+            "if !{0xa} {} while ![0xb][0] {}",
+        ),
+        (
+            "f(!(0xA), &!(0xB), x = !(0xC))",
+            "f(!(0xa), &!(0xb), x = !(0xc))",
+        ),
+        ("true!(0xA)", "true!(0xa)"),
+        ("1!(0xA)", "1!(0xa)"),
+        ("'a!(0xA)", "'a!(0xa)"),
+        ("m!; (0xA)", "m!; (0xa)"),
+        ("m!(0xA)(0xB)", "m!(0xA)(0xb)"),
+        ("#(0xA) # a [0xB]", "#(0xa) # a [0xb]"),
+        ("m(0xA)![0xB]", "m(0xa)![0xb]"),
+        ("m + !(0xA)", "m + !(0xa)"),
+    ] {
+        assert_eq!(
+            restyle(text, STYLE).skip_macros(true).apply().unwrap(),
+            written,
+            "{text:?}"
+        );
+        assert_eq!(styled(text), written.replace("0xA", "0xa"), "{text:?}");
+    }
+}
+
+#[test]
 fn an_open_quote_is_an_error() {
     let text = "0xF \"a";
     let error = restyle(text, STYLE).apply().unwrap_err();

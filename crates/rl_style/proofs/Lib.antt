@@ -37,4 +37,5 @@ pub mod Restyled
 pub mod Places
 pub mod RestyledCuts
 mod RestylableLemmas
+mod Keywords
 pub mod EditedCuts

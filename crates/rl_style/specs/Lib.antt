@@ -4,5 +4,6 @@ pub mod Rewriting
 pub mod Around
 pub mod Recut
 pub mod Restyled
+pub mod Calls
 pub mod Mirrors
 pub mod Restylable

@@ -2,6 +2,7 @@
 //! become `1.0`. No memory is taken.
 #![tactic(auto)]
 
+mod calls;
 mod case;
 mod characters;
 mod codes;

@@ -2,6 +2,7 @@
 //! Literals written anew in another style: each has the same kind, the same contents and the same suffix as before, but that `1.` may
 //! become `1.0`. No memory is taken.
 
+mod calls;
 mod case;
 mod characters;
 mod codes;

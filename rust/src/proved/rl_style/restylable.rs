@@ -1,6 +1,7 @@
 // Rendered from crates/rl_style/src/restylable.rt by tools/render, which erases contracts: change that file, and render anew.
 //! The literals of a source that may be written anew.
 
+use crate::rl_style::calls::{Calls, calls_after, is_inside};
 use crate::rl_lexer::{Form, LexError, SourceForm, SourceToken, Sources};
 
 /// How many dots end the tokens so far, one right after the other.
@@ -19,14 +20,20 @@ pub struct Restylable<'t> {
     /// Whether it may be a field of a tuple, as in `t.0`: a number after one dot. Then it isn't to be written anew, since a field has
     /// one name.
     pub is_field: bool,
+    /// Whether it stands inside of a macro call, a macro's definition or an attribute, where a macro may see how it is written. By
+    /// tokens alone: after a word, `!` and a bracket, other words between the two as in `macro_rules! m {`, or after `#[` and `#![`,
+    /// up to the bracket that closes it. A keyword of all editions names no macro: `return !(1)`.
+    pub in_macro: bool,
 }
 
-/// The literals of a source, each with whether it may be a field, as they are asked for. It takes no memory.
+/// The literals of a source, each with whether it may be a field and whether it stands inside of a macro call, as they are asked for.
+/// It takes no memory.
 pub struct Restylables<'t> {
     tokens: Sources<'t>,
     dots: Dots,
     // the place after the last token
     end: usize,
+    calls: Calls<'t>,
 }
 
 /// How many dots end the tokens after one more.
@@ -52,6 +59,7 @@ impl<'t> Restylables<'t> {
             tokens: Sources::new(text),
             dots: Dots::No,
             end: 0,
+            calls: Calls::Outside,
         }
     }
 
@@ -59,12 +67,16 @@ impl<'t> Restylables<'t> {
     /// source and at its first error, which [`Restylables::error`] tells.
     pub fn next(&mut self) -> Option<Restylable<'t>> {
         while let Some(token) = self.tokens.next() {
-            let dots = self.dots;
+            let (dots, calls) = (self.dots, self.calls);
             self.dots = dots_after(dots, self.end, token);
             self.end = token.hi;
+            self.calls = calls_after(calls, token);
             if token.is_literal() {
-                let is_field = is_field(dots, token);
-                return Some(Restylable { token, is_field });
+                return Some(Restylable {
+                    token,
+                    is_field: is_field(dots, token),
+                    in_macro: is_inside(calls),
+                });
             }
         }
         None

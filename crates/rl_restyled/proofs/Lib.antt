@@ -1,0 +1,5 @@
+pub mod TextSlices
+pub mod Pieces
+pub mod NewTexts
+pub mod Drafts
+pub mod KeptCuts

@@ -1,0 +1,127 @@
+-- A whole source in a style: which literals are written anew, and what the source is then. Texts are lists of characters.
+use Rattle.std.specs.Prelude.{◌≡◌, ◌≢◌, ◌⊎◌, ℕ, Bool, not, ◌&&◌, List, [], ◌∷◌, ◌++◌, Option, Some, None, option_map, encode_utf8_all, String, string_bytes, IsFalse, IsTrue, ⊤}
+use Rattle.std.specs.List.{AllByRecursion}
+use Rattle.std.specs.Str.{chars}
+use Rattle.rl_text.specs.Texts.{byte_len}
+use Rattle.rl_lexer.specs.Sources.{CutSource, IsCutUpTo, IsLiteralText, SourceError, source_end, source_kind, source_text}
+use Rattle.rl_style.specs.Calls.{CallState, Outside, calls_after, is_inside}
+use Rattle.rl_style.specs.Recut.{IsSound, begins_with_code}
+use Rattle.rl_style.specs.Restylable.{dots_after, is_field}
+use Rattle.rl_style.specs.Restyled.{IsEdited, IsEditedSource}
+use Rattle.rl_style.specs.Rewriting.{Rewrites}
+use Rattle.rl_style.specs.declared.restylable.Dots.{Dots}
+use Rattle.rl_style.specs.declared.restylable.Dots.TheVariants.{No}
+use Rattle.rl_style.specs.declared.restylable.Restylable.{Restylable}
+use Rattle.rl_style.specs.declared.style.Style.{Style}
+use Rattle.rl_restyled.specs.Places.{StandsBetween}
+use Rattle.rl_restyled.specs.declared.edit.Edit.{Edit}
+use Rattle.rl_restyled.specs.declared.edit.Macros.{Macros}
+use Rattle.rl_restyled.specs.declared.edit.Macros.TheVariants.{Skip, All}
+use Rattle.rl_restyled.specs.declared.edit.RestyleError.{RestyleError}
+use Rattle.rl_restyled.specs.declared.edit.RestyleError.TheVariants.{Script, Source, Memory}
+
+-- ---- which literals
+
+-- What the tokens so far say of the next: how many dots end them, where the last ends, and what they say of a macro call.
+pub record Seen : Type 0 where
+  pub dots : Dots
+  pub end : ℕ
+  pub calls : CallState
+
+abbrev pub nothing_seen : Seen
+nothing_seen = record { dots = No; end = 0; calls = Outside }
+
+abbrev pub bytes_of : CutSource → List ℕ
+bytes_of w = encode_utf8_all (source_text w.token)
+
+abbrev pub seen_after : Seen → CutSource → Seen
+seen_after seen w = record {
+  dots = dots_after seen.dots seen.end (source_kind w.token) w.at;
+  end = source_end w;
+  calls = calls_after seen.calls (source_kind w.token) (bytes_of w);
+}
+
+-- whether a literal is to be written anew, of one that may be a field and one that stands inside of a macro call
+abbrev pub is_taken : Macros → Bool → Bool → Bool
+is_taken Skip field inside = not field && not inside
+is_taken All field inside = not field
+
+-- the token is a literal that is to be written anew
+abbrev pub IsTaken : Macros → Seen → CutSource → Type 0
+IsTaken macros seen w =
+    IsLiteralText (source_kind w.token) (source_text w.token)
+    × IsTrue (is_taken macros (is_field seen.dots (bytes_of w)) (is_inside seen.calls))
+
+-- ---- what is written
+
+-- what is written in the place of a literal that stands after this front: what the style makes of it, where that is
+-- another text
+abbrev pub IsRewritten : Style → List ℕ → List ℕ → Option (List ℕ) → Type 0
+IsRewritten style front old (Some new) = Rewrites style front old new × (new ≢ old)
+IsRewritten style front old None = (new : List ℕ) → Rewrites style front old new → new ≡ old
+
+-- the same of a token of the text
+abbrev pub IsRewrittenAt : Style → List ℕ → CutSource → Option (List ℕ) → Type 0
+IsRewrittenAt style t w e =
+    (front rest : List ℕ) × (t ≡ front ++ (source_text w.token ++ rest)) × (w.at ≡ byte_len front)
+    × IsRewritten style front (source_text w.token) e
+
+-- what is written in the place of any token
+abbrev pub IsEditOf : Style → Macros → List ℕ → Seen → CutSource → Option (List ℕ) → Type 0
+IsEditOf style macros t seen w e =
+    (IsTaken macros seen w × IsRewrittenAt style t w e) ⊎ ((IsTaken macros seen w → ⊥) × (e ≡ None))
+
+abbrev pub AreEdits : Style → Macros → List ℕ → Seen → List CutSource → List (Option (List ℕ)) → Type 0
+AreEdits style macros t seen [] [] = ⊤
+AreEdits style macros t seen (w ∷ ws) (e ∷ es) =
+    IsEditOf style macros t seen w e × AreEdits style macros t (seen_after seen w) ws es
+AreEdits style macros t seen _ _ = ⊥
+
+-- where the new texts are written: from which place of the old text up to which
+abbrev pub placed : List CutSource → List (Option (List ℕ)) → List (ℕ × ℕ × List ℕ)
+placed (w ∷ ws) (Some new ∷ es) = (w.at, source_end w, new) ∷ placed ws es
+placed (w ∷ ws) (None ∷ es) = placed ws es
+placed _ _ = []
+
+-- ---- a source
+
+-- The source is the new text in the style, and these are the edits: it is cut to its end, what is written in the place
+-- of each token is what the style makes of it, and with that the source is the new text.
+pub record Restyles (style : Style) (macros : Macros) (t new : List ℕ) (edits : List (ℕ × ℕ × List ℕ)) : Type 0 where
+  pub is_code : IsTrue (begins_with_code t)
+  pub cuts : List CutSource
+  pub texts : List (Option (List ℕ))
+  pub are_cuts : IsCutUpTo t cuts []
+  pub are_edits : AreEdits style macros t nothing_seen cuts texts
+  pub is_edited : IsEdited 0 t cuts texts new
+  pub edits_are : edits ≡ placed cuts texts
+
+-- why nothing is written anew
+abbrev pub IsRestyleError : List ℕ → RestyleError → Type 0
+IsRestyleError t Script = IsFalse (begins_with_code t)
+IsRestyleError t (Source e) = IsTrue (begins_with_code t) × SourceError t e.kind e.at
+IsRestyleError t Memory = ⊤
+
+-- ---- what the code tells
+
+abbrev pub edit_told : {A : Type 0} → Edit A → ℕ × ℕ × List ℕ
+edit_told edit = (edit.lo, edit.hi, chars (string_bytes edit.text))
+
+abbrev pub text_in : {A : Type 0} → Option (String A) → Option (List ℕ)
+text_in new = option_map (λ s. chars (string_bytes s)) new
+
+-- what is written in the place of a literal of the source
+abbrev pub IsTextOf : Style → Macros → List ℕ → Restylable → Option (List ℕ) → Type 0
+IsTextOf style macros source l e =
+    (IsTrue (is_taken macros l.is_field l.in_macro)
+    × ((front : List ℕ) → StandsBetween source 0 l.token.lo front
+    → IsRewritten style front (chars l.token.text.now) e))
+    ⊎ (IsFalse (is_taken macros l.is_field l.in_macro) × (e ≡ None))
+
+-- ---- a law
+
+-- A source in a style, without bad quotes and stray characters, is cut as before, but for what was written.
+abbrev pub KeepsTheRestyledSource : Type 0
+KeepsTheRestyledSource =
+    (style : Style) (macros : Macros) (t new : List ℕ) (edits : List (ℕ × ℕ × List ℕ))
+    → (r : Restyles style macros t new edits) → AllByRecursion IsSound r.cuts → IsEditedSource new r.cuts r.texts []

@@ -1,0 +1,43 @@
+-- How far a source is written anew, for private functions and proofs alone.
+use Rattle.std.specs.Prelude.{◌≡◌, ℕ, List, [], ◌∷◌, ◌++◌, Option}
+use Rattle.std.specs.Str.{chars}
+use Rattle.rl_text.specs.Texts.{byte_len}
+use Rattle.rl_lexer.specs.Cursors.{IsCursorState}
+use Rattle.rl_lexer.specs.Sources.{CutSource, IsCutUpTo}
+use Rattle.rl_style.specs.Restylable.{GivesLiteral, RestylableState}
+use Rattle.rl_style.specs.Restyled.{IsEdited}
+use Rattle.rl_style.specs.declared.restylable.Restylable.{Restylable}
+use Rattle.rl_style.specs.declared.style.Style.{Style}
+use Rattle.rl_restyled.specs.Edits.{AreEdits, Seen, nothing_seen, placed, seen_after}
+use Rattle.rl_restyled.specs.declared.edit.Macros.{Macros}
+
+abbrev pub seen_all : Seen → List CutSource → Seen
+seen_all seen [] = seen
+seen_all seen (w ∷ ws) = seen_all (seen_after seen w) ws
+
+abbrev pub seen_of : RestylableState → Seen
+seen_of s = record { dots = s.dots; end = s.end; calls = s.calls }
+
+-- The literals were gone through up to this state. The text is the front up to a place, a tail up to the last token's end,
+-- white space and comments, and what is left; the new text is `out` up to that place, and the same tail.
+pub record IsDraft (style : Style) (macros : Macros) (t : List ℕ) (s : RestylableState) (at : ℕ) (out : List ℕ)
+    (edits : List (ℕ × ℕ × List ℕ)) : Type 0 where
+  pub whole : chars s.tokens.text ≡ t
+  pub cursor : IsCursorState s.tokens.text s.tokens.rest
+  pub cuts : List CutSource
+  pub texts : List (Option (List ℕ))
+  pub are_cuts : IsCutUpTo t cuts (chars s.tokens.rest)
+  pub are_edits : AreEdits style macros t nothing_seen cuts texts
+  pub seen_is : seen_all nothing_seen cuts ≡ seen_of s
+  pub front : List ℕ
+  pub tail : List ℕ
+  pub gap : List ℕ
+  pub text_is : t ≡ (front ++ tail) ++ (gap ++ chars s.tokens.rest)
+  pub at_is : at ≡ byte_len front
+  pub is_edited : IsEdited 0 (front ++ tail) cuts texts (out ++ tail)
+  pub edits_are : edits ≡ placed cuts texts
+
+-- The literal is the next after such a state.
+abbrev pub IsNextIn : Style → Macros → List ℕ → Restylable → ℕ → List ℕ → List (ℕ × ℕ × List ℕ) → Type 0
+IsNextIn style macros t l at out edits =
+    (old new : RestylableState) × IsDraft style macros t old at out edits × GivesLiteral old l new

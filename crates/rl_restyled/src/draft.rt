@@ -1,0 +1,76 @@
+//! The new text as it is made.
+
+ghost use Rattle.std.specs.Prelude.{◌≡◌, ◌++◌, ◌∷◌, ℕ, List, [], map, string_bytes, OnOk};
+ghost use Rattle.std.specs.Str.{chars};
+ghost use Rattle.rl_style.specs.Restylable.{GivesLiteral, RestylableState};
+ghost use Rattle.rl_restyled.specs.Places.{StandsBetween};
+ghost use Rattle.rl_restyled.specs.Edits.{edit_told};
+ghost use Rattle.rl_restyled.specs.Mirrors.{IsDraft, IsNextIn};
+
+use crate::edit::{Edit, Macros};
+use crate::slices::between;
+use crate::texts::text_of;
+use rl_style::{Restylable, Style};
+use std::alloc::{AllocError, Allocator};
+
+/// The new text up to a literal, the edits in it, and the place of the old text after that literal.
+#[derive(Drop)]
+pub(crate) struct Draft<A: Allocator> {
+    pub(crate) text: String<A>,
+    pub(crate) edits: Vec<Edit<A>, A>,
+    pub(crate) at: usize,
+}
+
+/// Writes a text in the place of a literal, after what stands before it.
+fn put<A: Allocator>(
+    draft: &mut Draft<A>,
+    source: &str,
+    literal: Restylable<'_>,
+    new: String<A>,
+) -> Result<(), AllocError>
+    requires { (middle : List ℕ) × StandsBetween (chars source.now) draft.old.at literal.token.lo middle }
+    ensures text { OnOk result ((middle : List ℕ)
+        → StandsBetween (chars source.now) draft.old.at literal.entry.token.lo middle
+        → chars (string_bytes draft.new.text)
+        ≡ chars (string_bytes draft.old.text) ++ (middle ++ chars (string_bytes new))) }
+    ensures at { OnOk result (draft.new.at ≡ literal.entry.token.hi) }
+    ensures edits { OnOk result (map edit_told draft.new.edits.items ≡ map edit_told draft.old.edits.items
+        ++ ((literal.entry.token.lo, literal.entry.token.hi, chars (string_bytes new)) ∷ [])) }
+{
+    draft
+        .text
+        .push_str(between(source, draft.at, literal.token.lo))?;
+    draft.text.push_str(new.as_str())?;
+    draft.at = literal.token.hi;
+    draft.edits.push(Edit {
+        lo: literal.token.lo,
+        hi: literal.token.hi,
+        text: new,
+    })?;
+    Ok(())
+}
+
+/// Goes on past a literal of the source, which is written anew where the style writes it otherwise.
+pub(crate) fn put_literal<A: Allocator + Copy>(
+    alloc: A,
+    style: Style,
+    macros: Macros,
+    source: &str,
+    literal: Restylable<'_>,
+    draft: &mut Draft<A>,
+) -> Result<(), AllocError>
+    requires { IsNextIn style macros (chars source.now) literal draft.old.at
+        (chars (string_bytes draft.old.text)) (map edit_told draft.old.edits.items) }
+    ensures { OnOk result ((old new : RestylableState)
+        → IsDraft style macros (chars source.now) old draft.old.at
+        (chars (string_bytes draft.old.text)) (map edit_told draft.old.edits.items)
+        → GivesLiteral old literal.entry new
+        → IsDraft style macros (chars source.now) new draft.new.at
+        (chars (string_bytes draft.new.text)) (map edit_told draft.new.edits.items)) }
+{
+    let new = text_of(alloc, style, macros, source, literal)?;
+    match new {
+        Some(new) => put(draft, source, literal, new),
+        None => Ok(()),
+    }
+}

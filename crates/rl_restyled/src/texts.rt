@@ -1,0 +1,90 @@
+//! What is written in the place of a literal.
+
+ghost use Rattle.std.specs.Prelude.{◌≡◌, ◌≢◌, ◌+◌, ◌*◌, ℕ, List, length, string_bytes, IfNone, IfOk, IfSome};
+ghost use Rattle.std.specs.Str.{chars};
+ghost use Rattle.rl_restyled.specs.Places.{StandsBetween};
+ghost use Rattle.rl_restyled.specs.Edits.{IsRewritten, IsTextOf, is_taken, text_in};
+
+use crate::edit::Macros;
+use crate::slices::between;
+use rl_style::{Restylable, Style, rewrite_into};
+use std::alloc::{AllocError, Allocator};
+
+/// How much room [`rewrite_into`] takes for a literal.
+fn room_for(text: &str) -> Result<usize, AllocError>
+    ensures { IfOk result (λ n. n ≡ 4 * length text.now + 1) }
+{
+    let Some(most) = text.len().checked_mul(4) else {
+        return Err(AllocError);
+    };
+    match most.checked_add(1) {
+        Some(room) => Ok(room),
+        None => Err(AllocError),
+    }
+}
+
+/// A text, where it is another than the old one.
+fn other_text<A: Allocator>(alloc: A, old: &str, new: &str) -> Result<Option<String<A>>, AllocError>
+    ensures same { IfOk result (λ made. IfNone made (chars new.now ≡ chars old.now)) }
+    ensures other { IfOk result (λ made. IfSome made (λ s. chars (string_bytes s) ≡ chars new.now)) }
+    ensures differs { IfOk result (λ made. IfSome made (λ s. chars new.now ≢ chars old.now)) }
+{
+    if new == old {
+        return Ok(None);
+    }
+    let mut made = String::new(alloc);
+    made.push_str(new)?;
+    Ok(Some(made))
+}
+
+/// The literal in the style, where that is another text; it stands after this front.
+fn new_text<A: Allocator + Copy>(
+    alloc: A,
+    style: Style,
+    front: &str,
+    text: &str,
+) -> Result<Option<String<A>>, AllocError>
+    ensures { IfOk result (λ new. IsRewritten style (chars front.now) (chars text.now) (text_in new)) }
+{
+    let room = room_for(text)?;
+    let mut bytes = vec![in alloc; 0; room]?;
+    let Ok(len) = rewrite_into(front, text, style, bytes.as_mut_slice()) else {
+        return Ok(None);
+    };
+    match std::str::from_utf8(&bytes.as_slice()[..len]) {
+        Ok(new) => other_text(alloc, text, new),
+        Err(_) => unreachable!(),
+    }
+}
+
+/// Whether the literal is to be written anew, if the style writes it otherwise.
+fn is_taken(macros: Macros, literal: Restylable<'_>) -> bool
+    ensures { result ≡ is_taken macros literal.entry.is_field literal.entry.in_macro }
+{
+    match macros {
+        Macros::Skip => !literal.is_field && !literal.in_macro,
+        Macros::All => !literal.is_field,
+    }
+}
+
+/// What is written in the place of a literal of the source; `None` where it stays.
+pub(crate) fn text_of<A: Allocator + Copy>(
+    alloc: A,
+    style: Style,
+    macros: Macros,
+    source: &str,
+    literal: Restylable<'_>,
+) -> Result<Option<String<A>>, AllocError>
+    requires { (front : List ℕ) × StandsBetween (chars source.now) 0 literal.token.lo front }
+    ensures { IfOk result (λ new. IsTextOf style macros (chars source.now) literal.entry (text_in new)) }
+{
+    if !is_taken(macros, literal) {
+        return Ok(None);
+    }
+    new_text(
+        alloc,
+        style,
+        between(source, 0, literal.token.lo),
+        literal.token.text,
+    )
+}

@@ -1,0 +1,71 @@
+//! A whole source in a style.
+
+ghost use Rattle.std.specs.Prelude.{◌≡◌, ◌++◌, List, ℕ, length, map, string_bytes, IfErr, IfOk};
+ghost use Rattle.std.specs.Str.{chars};
+ghost use Rattle.rl_restyled.specs.Edits.{IsRestyleError, Restyles, edit_told};
+ghost use Rattle.rl_restyled.specs.Places.{StandsBetween};
+ghost use Rattle.rl_restyled.specs.declared.edit.RestyleError.TheVariants.{Memory};
+
+use crate::draft::{Draft, put_literal};
+use crate::edit::{Macros, RestyleError, Restyled};
+use crate::slices::between;
+use rl_style::{Restylables, Style, may_restyle};
+use std::alloc::{AllocError, Allocator};
+
+/// The draft as the whole, with the rest of the source after it.
+fn finished<A: Allocator>(source: &str, draft: Draft<A>) -> Result<Restyled<A>, RestyleError>
+    requires { (rest : List ℕ) × StandsBetween (chars source.now) draft.at (length source.now) rest }
+    ensures text { IfOk result (λ r. (rest : List ℕ)
+        → StandsBetween (chars source.now) draft.at (length source.now) rest
+        → chars (string_bytes r.text) ≡ chars (string_bytes draft.text) ++ rest) }
+    ensures edits { IfOk result (λ r. map edit_told r.edits.items ≡ map edit_told draft.edits.items) }
+    ensures error { IfErr result (λ e. e ≡ Memory) }
+{
+    let mut text = draft.text;
+    match text.push_str(between(source, draft.at, source.len())) {
+        Ok(()) => Ok(Restyled {
+            text,
+            edits: draft.edits,
+        }),
+        Err(_) => Err(RestyleError::Memory),
+    }
+}
+
+/// The source in the style, and what is new in it: each literal that the style writes otherwise. As they are stay literals that Rust
+/// rejects, numbers after one dot, which may be fields (`t.0`), and with `Macros::Skip` what stands inside of macro calls, macros'
+/// definitions and attributes. The new text is cut into the same tokens, but for what was written, which is of the same kind.
+///
+/// # Errors
+///
+/// `Script` where the source begins as an interpreter's line does, `Source` where a quote or a comment isn't closed, `Memory` where an
+/// allocation failed. Nothing is made then.
+pub fn restyle<A: Allocator + Copy>(
+    alloc: A,
+    style: Style,
+    macros: Macros,
+    text: &str,
+) -> Result<Restyled<A>, RestyleError>
+    ensures restyled { IfOk result (λ r. Restyles style macros (chars text.now) (chars (string_bytes r.text))
+        (map edit_told r.edits.items)) }
+    ensures error { IfErr result (IsRestyleError (chars text.now)) }
+{
+    if !may_restyle(text) {
+        return Err(RestyleError::Script);
+    }
+    let mut literals = Restylables::new(text);
+    let mut draft = Draft {
+        text: String::new(alloc),
+        edits: Vec::new(alloc),
+        at: 0,
+    };
+    while let Some(literal) = literals.next() {
+        match put_literal(alloc, style, macros, text, literal, &mut draft) {
+            Ok(()) => {}
+            Err(_) => return Err(RestyleError::Memory),
+        }
+    }
+    match literals.error() {
+        Some(error) => Err(RestyleError::Source(error)),
+        None => finished(text, draft),
+    }
+}

@@ -1,0 +1,103 @@
+-- Where a token stands inside of a macro call, of a macro's definition or of an attribute, by the tokens before it. A word is
+-- a list of bytes.
+use Rattle.std.specs.Prelude.{◌≡◌, ℕ, ◌+◌, ◌-◌, Bool, true, false, not, ◌&&◌, ◌||◌, ◌==◌, nat_lt, List, [], ◌∷◌, codes, if◌then◌else◌}
+use Rattle.std.specs.List.{list_any}
+use Rattle.std.specs.Str.{bytes_eq}
+use Prim.Native.Char.{code}
+use Rattle.rl_text.specs.Texts.{is_among}
+use Rattle.rl_lexer.specs.Lexemes.{LexemeForm, LiteralForm, IdentifierForm, DelimiterForm, MarkForm}
+use Rattle.rl_lexer.specs.Sources.{SourceKind, PlainKind, RawIdentifierKind, LifetimeKind, DocCommentKind, StrayKind}
+use Rattle.rl_style.specs.declared.calls.Calls.{Calls}
+use Rattle.rl_style.specs.declared.calls.Calls.TheVariants as found
+
+-- What the tokens so far say of the next. A macro's definition and an attribute are as calls.
+pub data CallState : Type 0 where
+  -- no call
+  Outside : CallState
+  -- a word, which may be a macro's name
+  AfterWord : (word : List ℕ) → CallState
+  -- a macro's name and `!`, and any words after them
+  AfterBang : CallState
+  -- `#`, and any `!` after it
+  AfterHash : CallState
+  -- a call, so many brackets deep
+  Inside : (depth : ℕ) → CallState
+
+-- the keywords of all editions: no macro has such a name, and `!` after one is an operator or a type
+abbrev pub keywords : List (List ℕ)
+keywords =
+    codes "as" ∷ codes "break" ∷ codes "const" ∷ codes "continue" ∷ codes "crate" ∷ codes "else" ∷ codes "enum"
+    ∷ codes "extern" ∷ codes "false" ∷ codes "fn" ∷ codes "for" ∷ codes "if" ∷ codes "impl" ∷ codes "in" ∷ codes "let"
+    ∷ codes "loop" ∷ codes "match" ∷ codes "mod" ∷ codes "move" ∷ codes "mut" ∷ codes "pub" ∷ codes "ref"
+    ∷ codes "return" ∷ codes "self" ∷ codes "Self" ∷ codes "static" ∷ codes "struct" ∷ codes "super" ∷ codes "trait"
+    ∷ codes "true" ∷ codes "type" ∷ codes "unsafe" ∷ codes "use" ∷ codes "where" ∷ codes "while" ∷ []
+
+unfoldable pub is_keyword : List ℕ → Bool
+is_keyword word = list_any (bytes_eq word) keywords
+
+-- A word after a macro's name and `!` is what a definition names.
+abbrev pub after_word : CallState → List ℕ → CallState
+after_word (Inside depth) word = Inside depth
+after_word AfterBang word = AfterBang
+after_word Outside word = AfterWord word
+after_word (AfterWord last) word = AfterWord word
+after_word AfterHash word = AfterWord word
+
+abbrev pub at_hash : ℕ → CallState
+at_hash mark = if mark == code "#" then AfterHash else Outside
+
+-- `!` after a word that is no keyword makes it a macro's name.
+abbrev pub after_mark : CallState → ℕ → CallState
+after_mark (Inside depth) mark = Inside depth
+after_mark AfterHash mark = if mark == code "!" then AfterHash else at_hash mark
+after_mark (AfterWord word) mark = if mark == code "!" && not (is_keyword word) then AfterBang else at_hash mark
+after_mark AfterBang mark = at_hash mark
+after_mark Outside mark = at_hash mark
+
+-- one bracket deeper, as far as 64 bits count
+abbrev pub deeper : ℕ → ℕ
+deeper depth = if nat_lt depth 18446744073709551615 then depth + 1 else depth
+
+-- Brackets of any kind nest. A call is opened by any of them, an attribute by `[`.
+abbrev pub after_opener : CallState → ℕ → CallState
+after_opener (Inside depth) bracket = Inside (deeper depth)
+after_opener AfterBang bracket = Inside 1
+after_opener AfterHash bracket = if bracket == code "[" then Inside 1 else Outside
+after_opener (AfterWord word) bracket = Outside
+after_opener Outside bracket = Outside
+
+abbrev pub after_closer : CallState → CallState
+after_closer (Inside depth) = if nat_lt 1 depth then Inside (depth - 1) else Outside
+after_closer _ = Outside
+
+abbrev pub after_delimiter : CallState → ℕ → CallState
+after_delimiter s bracket = if is_among (codes "([{") bracket then after_opener s bracket else after_closer s
+
+-- a literal, a lifetime, a doc comment or a stray character
+abbrev pub after_other : CallState → CallState
+after_other (Inside depth) = Inside depth
+after_other _ = Outside
+
+-- after a token of this kind, with these bytes
+abbrev pub calls_after : CallState → SourceKind → List ℕ → CallState
+calls_after s (PlainKind IdentifierForm) bytes = after_word s bytes
+calls_after s (PlainKind (DelimiterForm c)) bytes = after_delimiter s c
+calls_after s (PlainKind (MarkForm c)) bytes = after_mark s c
+calls_after s (PlainKind LiteralForm) bytes = after_other s
+calls_after s RawIdentifierKind bytes = after_word s bytes
+calls_after s LifetimeKind bytes = after_other s
+calls_after s DocCommentKind bytes = after_other s
+calls_after s StrayKind bytes = after_other s
+
+-- the next token stands inside
+abbrev pub is_inside : CallState → Bool
+is_inside (Inside depth) = true
+is_inside _ = false
+
+-- what the code tells
+abbrev pub calls_seen : Calls → CallState
+calls_seen found.Outside = Outside
+calls_seen (found.AfterWord word) = AfterWord word.now
+calls_seen found.AfterBang = AfterBang
+calls_seen found.AfterHash = AfterHash
+calls_seen (found.Inside depth) = Inside depth

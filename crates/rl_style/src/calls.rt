@@ -1,0 +1,168 @@
+//! Where tokens stand inside of macro calls, of macros' definitions and of attributes.
+
+ghost use Rattle.std.specs.Prelude.{◌≡◌};
+ghost use Rattle.rl_lexer.specs.Cursors.{form_view};
+ghost use Rattle.rl_lexer.specs.Sources.{PlainKind, source_view};
+ghost use Rattle.rl_style.specs.Calls.{after_closer, after_delimiter, after_mark, after_opener, after_other, after_word, calls_after, calls_seen, deeper, is_inside, is_keyword};
+
+use rl_lexer::{Form, SourceForm, SourceToken};
+
+/// What the tokens so far say of the next. A macro's definition and an attribute are as calls.
+#[derive(Clone, Copy)]
+pub(crate) enum Calls<'t> {
+    /// No call.
+    Outside,
+    /// A word, which may be a macro's name.
+    AfterWord(&'t str),
+    /// A macro's name and `!`, and any words after them.
+    AfterBang,
+    /// `#`, and any `!` after it.
+    AfterHash,
+    /// A call, so many brackets deep.
+    Inside(usize),
+}
+
+/// Whether the word is a keyword in all editions: no macro has such a name, and `!` after it is an operator or a type.
+fn is_keyword(word: &str) -> bool
+    ensures { result ≡ is_keyword word.now }
+{
+    matches!(
+        word,
+        "as" | "break"
+            | "const"
+            | "continue"
+            | "crate"
+            | "else"
+            | "enum"
+            | "extern"
+            | "false"
+            | "fn"
+            | "for"
+            | "if"
+            | "impl"
+            | "in"
+            | "let"
+            | "loop"
+            | "match"
+            | "mod"
+            | "move"
+            | "mut"
+            | "pub"
+            | "ref"
+            | "return"
+            | "self"
+            | "Self"
+            | "static"
+            | "struct"
+            | "super"
+            | "trait"
+            | "true"
+            | "type"
+            | "unsafe"
+            | "use"
+            | "where"
+            | "while"
+    )
+}
+
+/// One bracket deeper, as far as a `usize` counts.
+fn deeper(depth: usize) -> usize
+    ensures { result ≡ deeper depth }
+{
+    if depth < usize::MAX { depth + 1 } else { depth }
+}
+
+/// After a word.
+fn after_word<'t>(calls: Calls<'t>, word: &'t str) -> Calls<'t>
+    ensures { calls_seen result ≡ after_word (calls_seen calls.entry) word.now }
+{
+    match calls {
+        Calls::AfterBang | Calls::Inside(_) => calls,
+        _ => Calls::AfterWord(word),
+    }
+}
+
+/// After a mark.
+fn after_mark(calls: Calls<'_>, mark: char) -> Calls<'_>
+    ensures { calls_seen result ≡ after_mark (calls_seen calls.entry) mark }
+{
+    match calls {
+        Calls::Inside(_) => calls,
+        Calls::AfterHash if mark == '!' => calls,
+        Calls::AfterWord(word) if mark == '!' && !is_keyword(word) => Calls::AfterBang,
+        _ if mark == '#' => Calls::AfterHash,
+        _ => Calls::Outside,
+    }
+}
+
+/// After a bracket that opens.
+fn after_opener(calls: Calls<'_>, bracket: char) -> Calls<'_>
+    ensures { calls_seen result ≡ after_opener (calls_seen calls.entry) bracket }
+{
+    match calls {
+        Calls::Inside(depth) => Calls::Inside(deeper(depth)),
+        Calls::AfterBang => Calls::Inside(1),
+        Calls::AfterHash if bracket == '[' => Calls::Inside(1),
+        _ => Calls::Outside,
+    }
+}
+
+/// After a bracket that closes.
+fn after_closer(calls: Calls<'_>) -> Calls<'_>
+    ensures { calls_seen result ≡ after_closer (calls_seen calls.entry) }
+{
+    match calls {
+        Calls::Inside(depth) if depth > 1 => Calls::Inside(depth - 1),
+        _ => Calls::Outside,
+    }
+}
+
+/// After a bracket.
+fn after_delimiter(calls: Calls<'_>, bracket: char) -> Calls<'_>
+    ensures { calls_seen result ≡ after_delimiter (calls_seen calls.entry) bracket }
+{
+    if matches!(bracket, '(' | '[' | '{') {
+        return after_opener(calls, bracket);
+    }
+    after_closer(calls)
+}
+
+/// After any other token.
+fn after_other(calls: Calls<'_>) -> Calls<'_>
+    ensures { calls_seen result ≡ after_other (calls_seen calls.entry) }
+{
+    match calls {
+        Calls::Inside(_) => calls,
+        _ => Calls::Outside,
+    }
+}
+
+/// After a token of the lexer.
+fn after_lexeme<'t>(calls: Calls<'t>, form: Form, text: &'t str) -> Calls<'t>
+    ensures { calls_seen result ≡ calls_after (calls_seen calls.entry) (PlainKind (form_view form)) text.now }
+{
+    match form {
+        Form::Identifier => after_word(calls, text),
+        Form::Delimiter(bracket) => after_delimiter(calls, bracket),
+        Form::Mark(mark) => after_mark(calls, mark),
+        Form::Literal => after_other(calls),
+    }
+}
+
+/// What the tokens say after one more.
+pub(crate) fn calls_after<'t>(calls: Calls<'t>, token: SourceToken<'t>) -> Calls<'t>
+    ensures { calls_seen result ≡ calls_after (calls_seen calls.entry) (source_view token.entry.form) token.entry.text.now }
+{
+    match token.form {
+        SourceForm::Token(form) => after_lexeme(calls, form, token.text),
+        SourceForm::RawIdentifier => after_word(calls, token.text),
+        _ => after_other(calls),
+    }
+}
+
+/// Whether the next token stands inside of a call.
+pub(crate) fn is_inside(calls: Calls<'_>) -> bool
+    ensures { result ≡ is_inside (calls_seen calls.entry) }
+{
+    matches!(calls, Calls::Inside(_))
+}

@@ -1,0 +1,142 @@
+// Rendered from crates/rl_style/src/calls.rt by tools/render, which erases contracts: change that file, and render anew.
+//! Where tokens stand inside of macro calls, of macros' definitions and of attributes.
+
+use crate::rl_lexer::{Form, SourceForm, SourceToken};
+
+/// What the tokens so far say of the next. A macro's definition and an attribute are as calls.
+#[derive(Clone, Copy)]
+pub(crate) enum Calls<'t> {
+    /// No call.
+    Outside,
+    /// A word, which may be a macro's name.
+    AfterWord(&'t str),
+    /// A macro's name and `!`, and any words after them.
+    AfterBang,
+    /// `#`, and any `!` after it.
+    AfterHash,
+    /// A call, so many brackets deep.
+    Inside(usize),
+}
+
+/// Whether the word is a keyword in all editions: no macro has such a name, and `!` after it is an operator or a type.
+fn is_keyword(word: &str) -> bool {
+    matches!(
+        word,
+        "as" | "break"
+            | "const"
+            | "continue"
+            | "crate"
+            | "else"
+            | "enum"
+            | "extern"
+            | "false"
+            | "fn"
+            | "for"
+            | "if"
+            | "impl"
+            | "in"
+            | "let"
+            | "loop"
+            | "match"
+            | "mod"
+            | "move"
+            | "mut"
+            | "pub"
+            | "ref"
+            | "return"
+            | "self"
+            | "Self"
+            | "static"
+            | "struct"
+            | "super"
+            | "trait"
+            | "true"
+            | "type"
+            | "unsafe"
+            | "use"
+            | "where"
+            | "while"
+    )
+}
+
+/// One bracket deeper, as far as a `usize` counts.
+fn deeper(depth: usize) -> usize {
+    if depth < usize::MAX { depth + 1 } else { depth }
+}
+
+/// After a word.
+fn after_word<'t>(calls: Calls<'t>, word: &'t str) -> Calls<'t> {
+    match calls {
+        Calls::AfterBang | Calls::Inside(_) => calls,
+        _ => Calls::AfterWord(word),
+    }
+}
+
+/// After a mark.
+fn after_mark(calls: Calls<'_>, mark: char) -> Calls<'_> {
+    match calls {
+        Calls::Inside(_) => calls,
+        Calls::AfterHash if mark == '!' => calls,
+        Calls::AfterWord(word) if mark == '!' && !is_keyword(word) => Calls::AfterBang,
+        _ if mark == '#' => Calls::AfterHash,
+        _ => Calls::Outside,
+    }
+}
+
+/// After a bracket that opens.
+fn after_opener(calls: Calls<'_>, bracket: char) -> Calls<'_> {
+    match calls {
+        Calls::Inside(depth) => Calls::Inside(deeper(depth)),
+        Calls::AfterBang => Calls::Inside(1),
+        Calls::AfterHash if bracket == '[' => Calls::Inside(1),
+        _ => Calls::Outside,
+    }
+}
+
+/// After a bracket that closes.
+fn after_closer(calls: Calls<'_>) -> Calls<'_> {
+    match calls {
+        Calls::Inside(depth) if depth > 1 => Calls::Inside(depth - 1),
+        _ => Calls::Outside,
+    }
+}
+
+/// After a bracket.
+fn after_delimiter(calls: Calls<'_>, bracket: char) -> Calls<'_> {
+    if matches!(bracket, '(' | '[' | '{') {
+        return after_opener(calls, bracket);
+    }
+    after_closer(calls)
+}
+
+/// After any other token.
+fn after_other(calls: Calls<'_>) -> Calls<'_> {
+    match calls {
+        Calls::Inside(_) => calls,
+        _ => Calls::Outside,
+    }
+}
+
+/// After a token of the lexer.
+fn after_lexeme<'t>(calls: Calls<'t>, form: Form, text: &'t str) -> Calls<'t> {
+    match form {
+        Form::Identifier => after_word(calls, text),
+        Form::Delimiter(bracket) => after_delimiter(calls, bracket),
+        Form::Mark(mark) => after_mark(calls, mark),
+        Form::Literal => after_other(calls),
+    }
+}
+
+/// What the tokens say after one more.
+pub(crate) fn calls_after<'t>(calls: Calls<'t>, token: SourceToken<'t>) -> Calls<'t> {
+    match token.form {
+        SourceForm::Token(form) => after_lexeme(calls, form, token.text),
+        SourceForm::RawIdentifier => after_word(calls, token.text),
+        _ => after_other(calls),
+    }
+}
+
+/// Whether the next token stands inside of a call.
+pub(crate) fn is_inside(calls: Calls<'_>) -> bool {
+    matches!(calls, Calls::Inside(_))
+}
