@@ -16,7 +16,8 @@ abbrev pub lines_of : List ℕ → List (List ℕ)
 lines_of [] = []
 lines_of (c ∷ cs) = if c == code "\n" then (c ∷ []) ∷ lines_of cs else with_first c (lines_of cs)
 
--- The text begins with this line, and the rest stands after it.
+-- The text begins with this line, and the rest stands after it: the line ends with the first LF, or is all of a text
+-- without one.
 pub record IsFirstLine (text line rest : List ℕ) : Type 0 where
   pub text_is : text ≡ line ++ rest
   pub front : List ℕ
@@ -27,7 +28,7 @@ pub record IsFirstLine (text line rest : List ℕ) : Type 0 where
 abbrev pub is_same : List ℕ → List ℕ → Bool
 is_same old new = bytes_eq old new
 
--- a line of a hunk: its sign, and the line, with a note where it has no LF
+-- a line of a hunk: its sign, and the line, and a note where that has no LF
 abbrev pub signed_line : ℕ → List ℕ → List ℕ
 signed_line sign line = sign ∷ (line ++ cond (has_end line) [] (codes "\n\\ No newline at end of file\n"))
 
@@ -51,7 +52,8 @@ hunk at [] [] = []
 hunk at [] (line ∷ added) = full_hunk at [] (line ∷ added)
 hunk at (line ∷ gone) added = full_hunk at (line ∷ gone) added
 
--- The hunks of lines that are compared one by one, from this line on, after lines that differ.
+-- The hunks of the lines of two texts, compared one by one. The next hunk begins at this line, and has so far these
+-- lines that go and these that come.
 abbrev pub hunks : ℕ → List (List ℕ) → List (List ℕ) → List (List ℕ) → List (List ℕ) → List ℕ
 hunks at gone added [] new = hunk at gone (added ++ new)
 hunks at gone added (line ∷ old) [] = hunk at (gone ++ line ∷ old) added
@@ -63,7 +65,7 @@ hunks at gone added (line ∷ old) (other ∷ new) =
 abbrev pub has_space : List ℕ → Bool
 has_space path = list_any (λ c. c == code " ") path
 
--- the path of a file as it is printed, with a tab where it holds a space, as programs that read diffs ask for
+-- The path of a file as it is printed. Where it holds a space a tab ends it, else `patch` would end it at the space.
 abbrev pub diff_path : List ℕ → List ℕ
 diff_path path = visible path ++ cond (has_space path) (codes "\t\n") (codes "\n")
 

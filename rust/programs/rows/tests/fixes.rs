@@ -98,7 +98,13 @@ fn lines_of_changes() {
         "a.rs:3:7: 0XFF -> 0xff\n"
     );
     assert_eq!(
-        change(Form::Plain, None, &Place::Bytes(2, 9), "\"a\nb\"", "\"\u{202e}\""),
+        change(
+            Form::Plain,
+            None,
+            &Place::Bytes(2, 9),
+            "\"a\nb\"",
+            "\"\u{202e}\""
+        ),
         "2..9 \"a\\nb\" -> \"\\u{202e}\"\n"
     );
     assert_eq!(

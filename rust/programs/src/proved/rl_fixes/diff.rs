@@ -188,8 +188,10 @@ fn push_head<A: Allocator>(out: &mut String<A>, path: &str) -> Result<(), AllocE
     push_path(out, path)
 }
 
-/// Appends a unified diff of two texts of a path, without lines of context; nothing where they are the same. They are compared line
-/// by line: each run of lines that differ is a hunk, with the lines at the end that only one of them has.
+/// Appends a unified diff of two texts of a path, without lines of context; nothing where they are the same. Their lines are compared
+/// one by one: each run of lines that differ is a hunk, with the lines at the end that only one of them has.
+///
+/// The path is written as it is printed, with a tab after it where it holds a space, as `patch` asks for.
 ///
 /// # Errors
 ///
