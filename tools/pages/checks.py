@@ -32,7 +32,7 @@ EXAMPLES = {
 }
 # The crates whose comments are held to the field's words.
 TERMS_IN = """
-    rl_quoted rust_literals rl_attributes rl_lines rl_program rl_commands rl_files rl_output rl_sources rl_tool rl_scan
+    rl_quoted rust_literals rl_attributes rl_lines rl_program rl_commands rl_files rl_output rl_fixes rl_sources rl_tool rl_scan
     rl_uses rl_example rl_bench rl_tokens rl_grammar rl_c rl_text rl_forms rl_lexer rl_reading rl_parts rl_recovery rl_leading
     rl_settings rl_strict rl_reasons rl_file_reasons rl_flaws rl_types rl_fronts rl_writing rl_style""".split()
 # Words of others, and of what stands in no crate.

@@ -3,6 +3,7 @@
 pub mod rl_attributes;
 pub mod rl_commands;
 pub mod rl_files;
+pub mod rl_fixes;
 pub mod rl_fronts;
 pub mod rl_grammar;
 pub mod rl_lines;
