@@ -1,6 +1,7 @@
 pub mod Trees
 pub mod Walks
 pub mod MemoryTrees
+pub mod Replacements
 pub mod Visible
 pub mod Globs
 pub mod GlobStops

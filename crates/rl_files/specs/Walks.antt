@@ -8,7 +8,7 @@ use Rattle.std.specs.Cmp.Lexicographic.{slice_cmp}
 use Rattle.std.specs.Ordering.{nat_cmp}
 use Rattle.std.specs.declared.result.Result.TheVariants.{Ok, Err}
 use Rattle.rl_files.specs.declared.tree.PathError.{PathError}
-use Rattle.rl_files.specs.declared.tree.PathError.TheVariants.{NotFound, PermissionDenied, IsADirectory, NotADirectory, PathTooLong, NameNotUtf8, NotUtf8, TooLong, OutOfMemory, ReadFailed}
+use Rattle.rl_files.specs.declared.tree.PathError.TheVariants.{NotFound, PermissionDenied, IsADirectory, NotADirectory, PathTooLong, NameNotUtf8, NotUtf8, TooLong, OutOfMemory, NotAFile, Changed, NoRoom, ReadOnly, ReadFailed, WriteFailed}
 use Rattle.rl_files.specs.declared.walk.WalkError.{WalkError}
 use Rattle.rl_files.specs.declared.walk.WalkError.TheVariants as walk
 use Rattle.rl_files.specs.declared.walk.Pending.{Pending}
@@ -19,7 +19,7 @@ use Rattle.rl_files.specs.declared.walk.Visit.TheVariants as visit
 use Rattle.rl_files.specs.Globs.{is_excluded, borrowed_texts}
 use Rattle.rl_files.specs.Trees.{World}
 
--- why a path can't be read
+-- why a path can't be read, or its file can't be replaced
 abbrev pub path_error_message : PathError → List ℕ
 path_error_message NotFound = codes "no such file or directory"
 path_error_message PermissionDenied = codes "permission denied"
@@ -30,7 +30,12 @@ path_error_message NameNotUtf8 = codes "holds a name that is not UTF-8"
 path_error_message (NotUtf8 at) = codes "not UTF-8 at byte " ++ decimal at
 path_error_message TooLong = codes "longer than 1 GiB"
 path_error_message OutOfMemory = codes "out of memory"
+path_error_message NotAFile = codes "not a regular file"
+path_error_message Changed = codes "changed since it was read"
+path_error_message NoRoom = codes "no space left"
+path_error_message ReadOnly = codes "read-only file system"
 path_error_message ReadFailed = codes "read failed"
+path_error_message WriteFailed = codes "write failed"
 
 -- why a walk ends early
 abbrev pub walk_error_message : WalkError → List ℕ

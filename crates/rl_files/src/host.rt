@@ -2,7 +2,9 @@
 
 ghost use Rattle.std.specs.Prelude.{◌≡◌, ◌≢◌, ◌<◌, ◌≤◌, length, IfOk, IfErr, IfSome};
 
+use crate::replace::Replace;
 use crate::tree::{PathError, Tree};
+use crate::whole_file::replace_file;
 use std::alloc::Allocator;
 use std::fs::{DirEntry, File};
 use std::io::{ErrorKind, Read};
@@ -20,7 +22,7 @@ pub struct Host<'r, R> {
 }
 
 /// Why a call of the system failed.
-fn error_of(kind: ErrorKind) -> PathError
+pub(crate) fn error_of(kind: ErrorKind) -> PathError
     ensures { result ≢ PathError.TooLong }
 {
     match kind {
@@ -34,8 +36,8 @@ fn error_of(kind: ErrorKind) -> PathError
     }
 }
 
-/// Whether this is std's own error for a name in a directory that isn't UTF-8.
-fn is_bad_name(error: &io::Error) -> bool {
+/// Whether this is std's own error for a name that isn't UTF-8.
+pub(crate) fn is_bad_name(error: &io::Error) -> bool {
     error.kind() == ErrorKind::InvalidFilename && error.raw_os_error().is_none()
 }
 
@@ -72,7 +74,10 @@ fn name_of<A: Allocator, R: Files + Drop, B: Allocator>(
 }
 
 /// All bytes of a reader, where there are at most `LONGEST`. Of a longer one, one byte more is read.
-fn read_all<A: Allocator, R: Read + Drop>(alloc: A, reader: R) -> Result<Vec<u8, A>, PathError>
+pub(crate) fn read_all<A: Allocator, R: Read + Drop>(
+    alloc: A,
+    reader: R,
+) -> Result<Vec<u8, A>, PathError>
     ensures bytes { IfOk result (λ bytes. IfSome (R.remaining reader) (λ all. bytes.items ≡ all)) }
     ensures limit { IfOk result (λ bytes. length bytes.items ≤ LONGEST) }
     ensures too_long { IfErr result (λ error. error ≡ PathError.TooLong
@@ -135,5 +140,27 @@ where
             Ok(names) => Ok(names),
             Err(e) => Err(error_of(e.kind())),
         }
+    }
+}
+
+impl<R: Files + Alloc> Replace for Host<'_, R> {
+    ghost use Rattle.std.specs.Prelude.{None};
+
+    ghost handed = { λ _. None };
+
+    ghost rejects = { λ _. None };
+
+    /// Standard input has no file.
+    fn replace<A: Allocator + Copy>(
+        &mut self,
+        alloc: A,
+        path: &str,
+        old: &[u8],
+        new: &[u8],
+    ) -> Result<(), PathError> {
+        if path == "-" {
+            return Err(PathError::NotAFile);
+        }
+        replace_file(self.rt, alloc, path, old, new)
     }
 }

@@ -1,11 +1,13 @@
 //! A tree of files in memory.
 
 ghost use Rattle.std.specs.Prelude.{◌≡◌, IfOk};
+ghost use Rattle.rl_files.specs.Replacements.{replacing, replacement_of, why_unwritable};
 ghost use Rattle.rl_files.specs.Trees.{string_texts};
 ghost use Rattle.rl_files.specs.MemoryTrees.{held, listed, words, file_at, directory_at};
 
+use crate::replace::Replace;
 use crate::tree::{PathError, Tree};
-use std::alloc::{AllocError, Allocator};
+use std::alloc::{AllocError, Allocator, Global};
 
 /// A file of a tree in memory: its bytes, or why they can't be read.
 #[derive(Clone, Copy)]
@@ -118,6 +120,95 @@ impl Tree for MemoryTree<'_> {
                 Err(_) => Err(PathError::OutOfMemory),
             },
             Err(why) => Err(why),
+        }
+    }
+}
+
+/// A path of a tree in memory whose file can't be replaced.
+#[derive(Clone, Copy)]
+pub struct Unwritable<'a> {
+    /// The path.
+    pub path: &'a str,
+    /// Why it can't be.
+    pub why: PathError,
+}
+
+/// What was handed on for a file in memory.
+#[derive(Drop)]
+pub struct MemoryReplacement<A: Allocator = Global> {
+    /// The file's path.
+    pub path: String<A>,
+    /// The bytes that it held.
+    pub old: Vec<u8, A>,
+    /// Its new bytes.
+    pub new: Vec<u8, A>,
+}
+
+/// Keeps the new bytes of files in memory.
+#[derive(Drop)]
+pub struct MemoryReplacements<'a, A: Allocator = Global> {
+    /// What the list takes memory from.
+    pub alloc: A,
+    /// Which files it takes no bytes for.
+    pub unwritable: &'a [Unwritable<'a>],
+    /// What was handed to it, in order.
+    pub handed: Vec<MemoryReplacement<A>, A>,
+}
+
+/// Why the file at a path can't be replaced, if it can't be: what the first of this path says.
+fn find_unwritable(unwritable: &[Unwritable<'_>], path: &str) -> Option<PathError>
+    ensures { result ≡ why_unwritable unwritable.now path.now }
+{
+    let mut rest = unwritable;
+    while let [first, after @ ..] = rest {
+        if first.path == path {
+            return Some(first.why);
+        }
+        rest = after;
+    }
+    None
+}
+
+/// A copy of what is handed on for a file.
+fn copy_replacement<A: Allocator + Copy>(
+    alloc: A,
+    path: &str,
+    old: &[u8],
+    new: &[u8],
+) -> Result<MemoryReplacement<A>, AllocError>
+    ensures { IfOk result (λ copy. replacement_of copy ≡ replacing path.now old.now new.now) }
+{
+    Ok(MemoryReplacement {
+        path: String::from_str(alloc, path)?,
+        old: copy_bytes(alloc, old)?,
+        new: copy_bytes(alloc, new)?,
+    })
+}
+
+impl<B: Allocator + Copy> Replace for MemoryReplacements<'_, B> {
+    ghost use Rattle.std.specs.Prelude.{Some, map};
+    ghost use Rattle.rl_files.specs.Replacements.{replacement_of, why_unwritable};
+
+    ghost handed = { λ m. Some (map replacement_of m.handed.items) };
+
+    ghost rejects = { λ m. Some (why_unwritable m.unwritable.now) };
+
+    fn replace<A: Allocator + Copy>(
+        &mut self,
+        alloc: A,
+        path: &str,
+        old: &[u8],
+        new: &[u8],
+    ) -> Result<(), PathError> {
+        if let Some(why) = find_unwritable(self.unwritable, path) {
+            return Err(why);
+        }
+        let Ok(copy) = copy_replacement(self.alloc, path, old, new) else {
+            return Err(PathError::OutOfMemory);
+        };
+        match self.handed.push(copy) {
+            Ok(()) => Ok(()),
+            Err(_) => Err(PathError::OutOfMemory),
         }
     }
 }

@@ -3,7 +3,7 @@
 use std::alloc::Allocator;
 use std::fmt;
 
-/// Why a path can't be read.
+/// Why a path can't be read, or its file can't be replaced.
 #[derive(Clone, Copy)]
 pub enum PathError {
     /// Nothing is there.
@@ -24,8 +24,18 @@ pub enum PathError {
     TooLong,
     /// An allocation failed.
     OutOfMemory,
-    /// Another failure of the system.
+    /// It is neither a file nor a directory, but a device, a pipe or standard input.
+    NotAFile,
+    /// It holds other bytes than when it was read.
+    Changed,
+    /// There is no room for its new bytes.
+    NoRoom,
+    /// Nothing can be written where it lies.
+    ReadOnly,
+    /// Another failure of the system, as it was read.
     ReadFailed,
+    /// Another failure of the system, as its new bytes were written.
+    WriteFailed,
 }
 
 impl fmt::Display for PathError {
@@ -45,7 +55,12 @@ impl fmt::Display for PathError {
             PathError::NotUtf8(at) => write!(f, "not UTF-8 at byte {at}"),
             PathError::TooLong => write!(f, "longer than 1 GiB"),
             PathError::OutOfMemory => write!(f, "out of memory"),
+            PathError::NotAFile => write!(f, "not a regular file"),
+            PathError::Changed => write!(f, "changed since it was read"),
+            PathError::NoRoom => write!(f, "no space left"),
+            PathError::ReadOnly => write!(f, "read-only file system"),
             PathError::ReadFailed => write!(f, "read failed"),
+            PathError::WriteFailed => write!(f, "write failed"),
         }
     }
 }

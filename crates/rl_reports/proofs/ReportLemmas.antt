@@ -7,7 +7,7 @@ use Rattle.rl_files.specs.Trees.{World}
 use Rattle.rl_files.specs.Visible.{visible}
 use Rattle.rl_files.specs.Walks.{FileAt, path_error_message}
 use Rattle.rl_files.specs.declared.tree.PathError.{PathError}
-use Rattle.rl_files.specs.declared.tree.PathError.TheVariants.{NotFound, PermissionDenied, IsADirectory, NotADirectory, PathTooLong, NameNotUtf8, NotUtf8, TooLong, OutOfMemory, ReadFailed}
+use Rattle.rl_files.specs.declared.tree.PathError.TheVariants.{NotFound, PermissionDenied, IsADirectory, NotADirectory, PathTooLong, NameNotUtf8, NotUtf8, TooLong, OutOfMemory, NotAFile, Changed, NoRoom, ReadOnly, ReadFailed, WriteFailed}
 use Rattle.rl_lines.proofs.LineLemmas.{pushed}
 use Rattle.rl_reports.specs.declared.command.Command.{Command}
 use Rattle.rl_reports.specs.declared.report.Report.{Report}
@@ -38,7 +38,12 @@ message_ascii (NotUtf8 at) = IsAscii-append (codes "not UTF-8 at byte ") _ (low_
     (decimal_ascii at)
 message_ascii TooLong = low_text (path_error_message TooLong) refl
 message_ascii OutOfMemory = low_text (path_error_message OutOfMemory) refl
+message_ascii NotAFile = low_text (path_error_message NotAFile) refl
+message_ascii Changed = low_text (path_error_message Changed) refl
+message_ascii NoRoom = low_text (path_error_message NoRoom) refl
+message_ascii ReadOnly = low_text (path_error_message ReadOnly) refl
 message_ascii ReadFailed = low_text (path_error_message ReadFailed) refl
+message_ascii WriteFailed = low_text (path_error_message WriteFailed) refl
 
 -- the line of a path that can't be read
 pub error_reported : (path : List ℕ) (why : PathError) (a b errors : List ℕ) → IsUtf8 b → a ≡ codes "rl_scan: "

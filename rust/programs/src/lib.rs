@@ -13,18 +13,19 @@ pub mod rattle_std;
 
 use navyspindle::rendered::{
     rl_file_reasons, rl_flaws, rl_forms, rl_lexer, rl_parts, rl_reading, rl_reasons, rl_settings,
-    rl_text, rl_types, rl_writing,
+    rl_style, rl_text, rl_types, rl_writing,
 };
 #[cfg(not(feature = "rendered"))]
 use proved::{
     rl_attributes, rl_commands, rl_files, rl_fixes, rl_fronts, rl_lines, rl_output, rl_program,
-    rl_quoted, rl_reports, rl_sources, rl_tokens, rust_literals,
+    rl_quoted, rl_reports, rl_restyled, rl_sources, rl_styles, rl_tokens, rust_literals,
 };
 
 /// The libraries, of which the tests make programs.
 #[cfg(feature = "rendered")]
 pub use proved::{
     rl_attributes, rl_commands, rl_files, rl_fixes, rl_fronts, rl_grammar, rl_lines, rl_output,
-    rl_program, rl_quoted, rl_reports, rl_sources, rl_tokens, rust_literals,
+    rl_program, rl_quoted, rl_reports, rl_restyled, rl_sources, rl_styles, rl_tokens,
+    rust_literals,
 };
 pub use proved::{rl_scan, rl_tool};

@@ -13,6 +13,7 @@ pub mod rl_quoted;
 pub mod rl_reports;
 pub mod rl_scan;
 pub mod rl_sources;
+pub mod rl_styles;
 pub mod rl_tokens;
 pub mod rl_tool;
 pub mod rust_literals;

@@ -1,16 +1,20 @@
-//! Stands for `std::fs` of Rattle: files that are read, and the entries of directories. Paths and names are texts.
+//! Stands for `std::fs` of Rattle: files that are read, new ones, what takes another's path, and the entries of directories. Paths
+//! and names are texts.
 //!
-//! Narrower: nothing is written or changed, and there is one file system. What Rust's own calls take for a long path or a name
-//! can't be refused.
+//! Narrower: there is one file system, and files are opened in the ways that the sources ask for. What Rust's own calls take for a
+//! long path or a name can't be refused.
 
 use super::alloc::{AllocError, Allocator, Global};
-use super::io::{Error, ErrorKind, Read, Result};
+use super::io::{Error, ErrorKind, Read, Result, Write};
+use super::path::PathBuf;
 use super::rt::{Alloc, Files};
 use super::string::String;
 use super::vec::Vec;
 use core::marker::PhantomData;
 use std::fs::FileType;
-use std::io::Read as _;
+use std::io::{Read as _, Write as _};
+
+pub use std::fs::{Metadata, Permissions};
 
 /// An open file.
 pub struct File(std::fs::File);
@@ -37,6 +41,84 @@ impl Read for File {
         (&mut self.0).take(limit).read_to_end(&mut list.items)?;
         Ok(())
     }
+}
+
+impl Write for File {
+    fn write(&mut self, bytes: &[u8]) -> Result<usize> {
+        Ok(self.0.write(bytes)?)
+    }
+}
+
+/// What is asked of an open file.
+pub trait OpenFile {
+    fn set_permissions(&self, permissions: Permissions) -> Result<()>;
+
+    /// Waits until all that was written is stored.
+    fn sync_all(&self) -> Result<()>;
+}
+
+impl OpenFile for File {
+    fn set_permissions(&self, permissions: Permissions) -> Result<()> {
+        Ok(self.0.set_permissions(permissions)?)
+    }
+
+    fn sync_all(&self) -> Result<()> {
+        Ok(self.0.sync_all()?)
+    }
+}
+
+/// How a file is opened.
+pub struct OpenOptions(pub(super) std::fs::OpenOptions);
+
+impl OpenOptions {
+    /// In no way yet.
+    #[allow(clippy::new_without_default)]
+    pub fn new() -> OpenOptions {
+        OpenOptions(std::fs::OpenOptions::new())
+    }
+
+    pub fn write(&mut self, write: bool) -> &mut OpenOptions {
+        self.0.write(write);
+        self
+    }
+
+    /// The file is made, and it is an error if something is there.
+    pub fn create_new(&mut self, create_new: bool) -> &mut OpenOptions {
+        self.0.create_new(create_new);
+        self
+    }
+
+    pub fn open<R: Files>(&self, rt: &R, path: &str) -> Result<R::File> {
+        Ok(rt.opened(File(self.0.open(path)?)))
+    }
+}
+
+/// What the system knows of what is at the path; of a link, of what it leads to.
+pub fn metadata<R: Files>(_rt: &R, path: &str) -> Result<Metadata> {
+    Ok(std::fs::metadata(path)?)
+}
+
+/// The same; of a link, of itself.
+pub fn symlink_metadata<R: Files>(_rt: &R, path: &str) -> Result<Metadata> {
+    Ok(std::fs::symlink_metadata(path)?)
+}
+
+/// The path with no link in it.
+pub fn canonicalize<R: Files + Alloc>(rt: &R, path: &str) -> Result<PathBuf<R::A>> {
+    let path = std::fs::canonicalize(path)?;
+    match path.to_str() {
+        Some(path) => Ok(PathBuf::of(String::from_str(rt.alloc(), path)?)),
+        None => Err(Error::of(ErrorKind::InvalidFilename)),
+    }
+}
+
+/// Gives what is at a path another one, in place of a file that is there.
+pub fn rename<R: Files>(_rt: &R, from: &str, to: &str) -> Result<()> {
+    Ok(std::fs::rename(from, to)?)
+}
+
+pub fn remove_file<R: Files>(_rt: &R, path: &str) -> Result<()> {
+    Ok(std::fs::remove_file(path)?)
 }
 
 /// An entry of a directory.

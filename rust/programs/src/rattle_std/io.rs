@@ -19,6 +19,7 @@ pub type Result<T> = core::result::Result<T, Error>;
 pub enum ErrorKind {
     NotFound,
     PermissionDenied,
+    AlreadyExists,
     BrokenPipe,
     Interrupted,
     IsADirectory,
@@ -30,6 +31,7 @@ pub enum ErrorKind {
     /// What has to be a text isn't UTF-8.
     InvalidData,
     StorageFull,
+    ReadOnlyFilesystem,
     /// A writer took no byte.
     WriteZero,
     OutOfMemory,
@@ -72,6 +74,7 @@ fn kind_of(kind: std::io::ErrorKind) -> ErrorKind {
     match kind {
         std::io::ErrorKind::NotFound => ErrorKind::NotFound,
         std::io::ErrorKind::PermissionDenied => ErrorKind::PermissionDenied,
+        std::io::ErrorKind::AlreadyExists => ErrorKind::AlreadyExists,
         std::io::ErrorKind::BrokenPipe => ErrorKind::BrokenPipe,
         std::io::ErrorKind::Interrupted => ErrorKind::Interrupted,
         std::io::ErrorKind::InvalidInput => ErrorKind::InvalidInput,
@@ -82,6 +85,7 @@ fn kind_of(kind: std::io::ErrorKind) -> ErrorKind {
         younger if is_called(younger, "NotADirectory") => ErrorKind::NotADirectory,
         younger if is_called(younger, "InvalidFilename") => ErrorKind::InvalidFilename,
         younger if is_called(younger, "StorageFull") => ErrorKind::StorageFull,
+        younger if is_called(younger, "ReadOnlyFilesystem") => ErrorKind::ReadOnlyFilesystem,
         _ => ErrorKind::Other,
     }
 }

@@ -10,6 +10,8 @@ pub mod collections;
 pub mod env;
 pub mod fs;
 pub mod io;
+pub mod os;
+pub mod path;
 pub mod prelude;
 pub mod rt;
 pub mod string;

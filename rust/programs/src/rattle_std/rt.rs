@@ -1,10 +1,11 @@
 //! Stands for `std::rt` of Rattle, and `Alloc` of its prelude: the handles that a program is given, which say what it may reach
 //! of the system.
 //!
-//! Narrower: `Files` has no methods, since `fs` knows one file system. Rattle's has one for each call.
+//! Narrower: `Files` has one method, since `fs` knows one file system. Rattle's has one for each call.
 
 use super::alloc::{Allocator, Global};
-use super::io::{Stderr, Stdin, Stdout};
+use super::fs::{File, OpenFile};
+use super::io::{Read, Stderr, Stdin, Stdout, Write};
 
 /// The handle that gives an allocator.
 pub trait Alloc {
@@ -14,7 +15,12 @@ pub trait Alloc {
 }
 
 /// The handle of files and directories.
-pub trait Files {}
+pub trait Files {
+    type File: Read + Write + OpenFile;
+
+    /// The file of this handle that the system has opened.
+    fn opened(&self, file: File) -> Self::File;
+}
 
 /// All that a program may reach.
 #[derive(Clone)]
@@ -57,4 +63,10 @@ impl Alloc for HostRuntime {
     }
 }
 
-impl Files for HostRuntime {}
+impl Files for HostRuntime {
+    type File = File;
+
+    fn opened(&self, file: File) -> File {
+        file
+    }
+}

@@ -2,7 +2,9 @@
 //! The files of the system.
 
 use crate::rattle_std::prelude::{Alloc, Drop, Input, String, Vec};
+use crate::rl_files::replace::Replace;
 use crate::rl_files::tree::{PathError, Tree};
+use crate::rl_files::whole_file::replace_file;
 use crate::rattle_std::alloc::Allocator;
 use crate::rattle_std::fs::{DirEntry, File};
 use crate::rattle_std::io::{ErrorKind, Read};
@@ -20,7 +22,7 @@ pub struct Host<'r, R> {
 }
 
 /// Why a call of the system failed.
-fn error_of(kind: ErrorKind) -> PathError {
+pub(crate) fn error_of(kind: ErrorKind) -> PathError {
     match kind {
         ErrorKind::NotFound => PathError::NotFound,
         ErrorKind::PermissionDenied => PathError::PermissionDenied,
@@ -32,8 +34,8 @@ fn error_of(kind: ErrorKind) -> PathError {
     }
 }
 
-/// Whether this is std's own error for a name in a directory that isn't UTF-8.
-fn is_bad_name(error: &io::Error) -> bool {
+/// Whether this is std's own error for a name that isn't UTF-8.
+pub(crate) fn is_bad_name(error: &io::Error) -> bool {
     error.kind() == ErrorKind::InvalidFilename && error.raw_os_error().is_none()
 }
 
@@ -70,7 +72,10 @@ fn name_of<A: Allocator, R: Files + Drop, B: Allocator>(
 }
 
 /// All bytes of a reader, where there are at most `LONGEST`. Of a longer one, one byte more is read.
-fn read_all<A: Allocator, R: Read + Drop>(alloc: A, reader: R) -> Result<Vec<u8, A>, PathError> {
+pub(crate) fn read_all<A: Allocator, R: Read + Drop>(
+    alloc: A,
+    reader: R,
+) -> Result<Vec<u8, A>, PathError> {
     let mut bytes = Vec::new(alloc);
     let mut front = reader.take(LONGEST + 1);
     match front.read_to_end(&mut bytes) {
@@ -124,5 +129,21 @@ where
             Ok(names) => Ok(names),
             Err(e) => Err(error_of(e.kind())),
         }
+    }
+}
+
+impl<R: Files + Alloc> Replace for Host<'_, R> {
+    /// Standard input has no file.
+    fn replace<A: Allocator + Copy>(
+        &mut self,
+        alloc: A,
+        path: &str,
+        old: &[u8],
+        new: &[u8],
+    ) -> Result<(), PathError> {
+        if path == "-" {
+            return Err(PathError::NotAFile);
+        }
+        replace_file(self.rt, alloc, path, old, new)
     }
 }

@@ -2,8 +2,9 @@
 //! A tree of files in memory.
 
 use crate::rattle_std::prelude::{String, Vec};
+use crate::rl_files::replace::Replace;
 use crate::rl_files::tree::{PathError, Tree};
-use crate::rattle_std::alloc::{AllocError, Allocator};
+use crate::rattle_std::alloc::{AllocError, Allocator, Global};
 
 /// A file of a tree in memory: its bytes, or why they can't be read.
 #[derive(Clone, Copy)]
@@ -103,6 +104,82 @@ impl Tree for MemoryTree<'_> {
                 Err(_) => Err(PathError::OutOfMemory),
             },
             Err(why) => Err(why),
+        }
+    }
+}
+
+/// A path of a tree in memory whose file can't be replaced.
+#[derive(Clone, Copy)]
+pub struct Unwritable<'a> {
+    /// The path.
+    pub path: &'a str,
+    /// Why it can't be.
+    pub why: PathError,
+}
+
+/// What was handed on for a file in memory.
+pub struct MemoryReplacement<A: Allocator = Global> {
+    /// The file's path.
+    pub path: String<A>,
+    /// The bytes that it held.
+    pub old: Vec<u8, A>,
+    /// Its new bytes.
+    pub new: Vec<u8, A>,
+}
+
+/// Keeps the new bytes of files in memory.
+pub struct MemoryReplacements<'a, A: Allocator = Global> {
+    /// What the list takes memory from.
+    pub alloc: A,
+    /// Which files it takes no bytes for.
+    pub unwritable: &'a [Unwritable<'a>],
+    /// What was handed to it, in order.
+    pub handed: Vec<MemoryReplacement<A>, A>,
+}
+
+/// Why the file at a path can't be replaced, if it can't be: what the first of this path says.
+fn find_unwritable(unwritable: &[Unwritable<'_>], path: &str) -> Option<PathError> {
+    let mut rest = unwritable;
+    while let [first, after @ ..] = rest {
+        if first.path == path {
+            return Some(first.why);
+        }
+        rest = after;
+    }
+    None
+}
+
+/// A copy of what is handed on for a file.
+fn copy_replacement<A: Allocator + Copy>(
+    alloc: A,
+    path: &str,
+    old: &[u8],
+    new: &[u8],
+) -> Result<MemoryReplacement<A>, AllocError> {
+    Ok(MemoryReplacement {
+        path: String::from_str(alloc, path)?,
+        old: copy_bytes(alloc, old)?,
+        new: copy_bytes(alloc, new)?,
+    })
+}
+
+impl<B: Allocator + Copy> Replace for MemoryReplacements<'_, B> {
+    fn replace<A: Allocator + Copy>(
+        &mut self,
+        alloc: A,
+        path: &str,
+        old: &[u8],
+        new: &[u8],
+    ) -> Result<(), PathError> {
+        if let Some(why) = find_unwritable(self.unwritable, path) {
+            return Err(why);
+        }
+        let Ok(copy) = copy_replacement(self.alloc, path, old, new) else {
+            return Err(PathError::OutOfMemory);
+        };
+        match self.handed.push(copy) {
+            Ok(()) => Ok(()),
+            Err(_) => Err(PathError::OutOfMemory),
         }
     }
 }

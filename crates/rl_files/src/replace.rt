@@ -1,0 +1,36 @@
+//! What takes a file's new bytes.
+
+use crate::tree::PathError;
+use std::alloc::Allocator;
+
+/// What takes the new bytes of files, each file's as a whole.
+pub trait Replace {
+    ghost use Rattle.std.specs.Prelude.{List, None, Option, MatchResult, IfSome, ◌≡◌, ◌⊎◌, ℕ, Some};
+    ghost use Rattle.rl_files.specs.declared.tree.PathError.{PathError as WhyNot};
+    ghost use Rattle.rl_files.specs.declared.tree.PathError.TheVariants.{OutOfMemory};
+    ghost use Rattle.rl_files.specs.Replacements.{Replacement, replacing, handed_too};
+
+    ghost handed: { Self → Option (List Replacement) };
+
+    ghost rejects: { Self → Option (List ℕ → Option WhyNot) };
+
+    /// Puts new bytes in place of those that the file at a path held when it was read.
+    ///
+    /// # Errors
+    ///
+    /// Why it can't be; `OutOfMemory` where an allocation failed. The file holds what it held then.
+    fn replace<A: Allocator + Copy>(
+        &mut self,
+        alloc: A,
+        path: &str,
+        old: &[u8],
+        new: &[u8],
+    ) -> Result<(), PathError>
+        ensures handed { MatchResult result
+            (λ _. handed self.new ≡ handed_too (replacing path.now old.now new.now) (handed self.old))
+            (λ _. handed self.new ≡ handed self.old) }
+        ensures rejected { MatchResult result
+            (λ _. IfSome (rejects self.old) (λ why. why path.now ≡ None))
+            (λ error. (error ≡ OutOfMemory) ⊎ IfSome (rejects self.old) (λ why. why path.now ≡ Some error)) }
+        ensures rejects_as_before { rejects self.new ≡ rejects self.old };
+}

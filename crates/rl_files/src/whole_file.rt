@@ -1,0 +1,190 @@
+//! A file of the system that is replaced as a whole: whatever fails or ends the program, it holds its old bytes or its new ones.
+
+ghost use Rattle.std.specs.Prelude.{◌≡◌, ◌≢◌, IfOk, MatchResult, bit_and, string_bytes};
+ghost use Rattle.std.specs.Fs.{permissions_mode, IsReadonly};
+ghost use Rattle.rl_files.specs.Replacements.{path_beside as beside};
+
+use crate::host::{error_of, is_bad_name, read_all};
+use crate::tree::PathError;
+use std::alloc::{AllocError, Allocator};
+use std::fs::{File, OpenFile, OpenOptions, Permissions};
+use std::io::{ErrorKind, Write};
+use std::os::unix::fs::{OpenOptionsExt, PermissionsExt};
+use std::rt::Files;
+use std::{fs, io};
+
+/// How many names are tried for a new file.
+const TRIES: u32 = 100;
+
+/// Of a file's permissions those that stay: who may read, write and run it.
+const KEPT: u32 = 0o777;
+
+/// Those of a new file until it is filled: its owner alone may read and write it.
+const OWNERS: u32 = 0o600;
+
+/// Why new bytes can't be written.
+fn write_error_of(kind: ErrorKind) -> PathError
+    ensures { result ≢ PathError.ReadFailed }
+{
+    match kind {
+        ErrorKind::StorageFull => PathError::NoRoom,
+        ErrorKind::ReadOnlyFilesystem => PathError::ReadOnly,
+        _ => match error_of(kind) {
+            PathError::ReadFailed => PathError::WriteFailed,
+            why => why,
+        },
+    }
+}
+
+/// The path of the new file beside this one, of this number.
+fn path_beside<A: Allocator>(alloc: A, path: &str, number: u32) -> Result<String<A>, AllocError>
+    ensures { IfOk result (λ path_of_new. string_bytes path_of_new ≡ beside path.now number) }
+{
+    format!(in alloc; "{path}.rl_scan-{number}")
+}
+
+/// Where the file lies: at its path, or where the link leads that stands there.
+fn real_path<A: Allocator, R: Files + Alloc>(
+    rt: &R,
+    alloc: A,
+    path: &str,
+) -> io::Result<String<A>> {
+    if !fs::symlink_metadata(rt, path)?.is_symlink() {
+        return Ok(String::from_str(alloc, path)?);
+    }
+    let real = fs::canonicalize(rt, path)?;
+    Ok(String::from_str(alloc, real.as_str())?)
+}
+
+/// A new file beside this one, and its path.
+fn open_beside<A: Allocator + Copy, R: Files>(
+    rt: &R,
+    alloc: A,
+    path: &str,
+) -> Result<(R::File, String<A>), PathError> {
+    for number in 0..TRIES {
+        let Ok(beside) = path_beside(alloc, path, number) else {
+            return Err(PathError::OutOfMemory);
+        };
+        match OpenOptions::new()
+            .write(true)
+            .create_new(true)
+            .mode(OWNERS)
+            .open(rt, beside.as_str())
+        {
+            Ok(file) => return Ok((file, beside)),
+            Err(e) if e.kind() == ErrorKind::AlreadyExists => {}
+            Err(e) => return Err(write_error_of(e.kind())),
+        }
+    }
+    Err(PathError::WriteFailed)
+}
+
+/// Writes all bytes of a new file, gives it these permissions, and waits until it is stored.
+fn fill<F: Write + OpenFile>(
+    file: &mut F,
+    bytes: &[u8],
+    permissions: Permissions,
+) -> io::Result<()> {
+    file.write_all(bytes)?;
+    file.set_permissions(permissions)?;
+    file.sync_all()
+}
+
+/// Whether a file still holds these bytes.
+fn check_unchanged<A: Allocator, R: Files>(
+    rt: &R,
+    alloc: A,
+    path: &str,
+    old: &[u8],
+) -> Result<(), PathError> {
+    let bytes = match File::open(rt, path) {
+        Ok(file) => read_all(alloc, file)?,
+        Err(e) => return Err(error_of(e.kind())),
+    };
+    if bytes.as_slice() == old {
+        Ok(())
+    } else {
+        Err(PathError::Changed)
+    }
+}
+
+/// Fills a new file, and gives it the path of the old one, which still has to hold these bytes.
+fn fill_and_rename<A: Allocator, R: Files>(
+    rt: &R,
+    alloc: A,
+    file: &mut R::File,
+    beside: &str,
+    path: &str,
+    permissions: Permissions,
+    old: &[u8],
+    new: &[u8],
+) -> Result<(), PathError> {
+    if let Err(e) = fill(file, new, permissions) {
+        return Err(write_error_of(e.kind()));
+    }
+    check_unchanged(rt, alloc, path, old)?;
+    match fs::rename(rt, beside, path) {
+        Ok(()) => Ok(()),
+        Err(e) => Err(write_error_of(e.kind())),
+    }
+}
+
+/// Of a file's permissions those that stay. One that nobody may write isn't replaced.
+fn kept_of(permissions: Permissions) -> Result<Permissions, PathError>
+    ensures { MatchResult result
+        (λ kept. permissions_mode kept ≡ bit_and (permissions_mode permissions) 0o777)
+        (λ error. (error ≡ PathError.PermissionDenied) × IsReadonly permissions) }
+{
+    if permissions.readonly() {
+        return Err(PathError::PermissionDenied);
+    }
+    Ok(Permissions::from_mode(permissions.mode() & KEPT))
+}
+
+/// The permissions that stay of what may be replaced: no directory, device or pipe.
+fn permissions_of<R: Files>(rt: &R, path: &str) -> Result<Permissions, PathError> {
+    match fs::metadata(rt, path) {
+        Ok(about) if about.is_file() => kept_of(about.permissions()),
+        Ok(about) if about.is_dir() => Err(PathError::IsADirectory),
+        Ok(_) => Err(PathError::NotAFile),
+        Err(e) => Err(error_of(e.kind())),
+    }
+}
+
+/// Puts new bytes in place of those that the file at this path held when it was read: writes them to a new file beside it, which
+/// then gets its path. The file of a link is replaced, and the link stays. Of its permissions those of `KEPT` stay; its owner, other
+/// names of it and what else the system knows of it don't.
+///
+/// # Errors
+///
+/// Why it can't be. The file holds what it held then, and the new one is removed, unless that fails too.
+pub(crate) fn replace_file<A: Allocator + Copy, R: Files + Alloc>(
+    rt: &R,
+    alloc: A,
+    path: &str,
+    old: &[u8],
+    new: &[u8],
+) -> Result<(), PathError> {
+    let real = match real_path(rt, alloc, path) {
+        Ok(real) => real,
+        Err(e) if is_bad_name(&e) => return Err(PathError::NameNotUtf8),
+        Err(e) => return Err(error_of(e.kind())),
+    };
+    let permissions = permissions_of(rt, real.as_str())?;
+    let (mut file, beside) = open_beside(rt, alloc, real.as_str())?;
+    let done = fill_and_rename(
+        rt,
+        alloc,
+        &mut file,
+        beside.as_str(),
+        real.as_str(),
+        permissions,
+        old,
+        new,
+    );
+    if done.is_err() {
+        let _ = fs::remove_file(rt, beside.as_str());
+    }
+    done
+}

@@ -1,0 +1,225 @@
+-- The style that a configuration says, and what is wrong with one that says none.
+use Rattle.std.specs.Prelude.{◌≡◌, ◌≢◌, ◌⊎◌, ℕ, ⊤, ◌==◌, Bool, true, false, ◌&&◌, List, [], ◌∷◌, codes, Option, Some, None, if◌then◌else◌}
+use Rattle.std.specs.Str.{chars}
+use Rattle.rl_lexer.specs.Cursors.{CursorState}
+use Rattle.rl_lexer.specs.Skipping.{Skipped}
+use Rattle.rl_reading.specs.declared.next_literals.NextLiteral.{NextLiteral}
+use Rattle.rl_settings.specs.declared.entries.DottedName.{DottedName}
+use Rattle.rl_settings.specs.declared.entries.NextEntry.{NextEntry}
+use Rattle.rl_settings.specs.declared.entries.EntryRejection.{EntryRejection}
+use Rattle.rl_settings.specs.EntrySteps.{TakesEntry, RejectsNextEntry}
+use Rattle.rl_settings.specs.SyntaxErrors.{syntax_message}
+use Rattle.rl_style.specs.declared.style.Case.{Case}
+use Rattle.rl_style.specs.declared.style.Case.TheVariants.{Lower}
+use Rattle.rl_style.specs.declared.style.Separator.{Separator}
+use Rattle.rl_style.specs.declared.style.DigitGroups.{DigitGroups}
+use Rattle.rl_style.specs.declared.style.Style.{Style}
+use Rattle.rl_styles.specs.declared.rule.Rule.{Rule}
+use Rattle.rl_styles.specs.declared.rule.Rule.TheVariants.{HexDigits, DropUnderscores, DropLeadingZeros, SuffixSeparator, BinaryGroups, OctalGroups, DecimalGroups, HexadecimalGroups, LeastGrouped, FloatZero, ExponentLetter, DropExponentPlus, EscapeDigits, FewestEscapeDigits, DropAsciiEscapes, NamedEscapes, DropQuoteEscapes, FewestHashes, DropRaw, EscapeHidden}
+use Rattle.rl_styles.specs.declared.style_error.Expected.{Expected as AnyExpected}
+use Rattle.rl_styles.specs.declared.style_error.Expected.TheVariants as expected
+use Rattle.rl_styles.specs.declared.style_error.StyleErrorKind.{StyleErrorKind}
+use Rattle.rl_styles.specs.declared.style_error.StyleErrorKind.TheVariants.{Syntax, Unknown, Repeated, Expected}
+use Rattle.rl_styles.specs.declared.style_error.StyleError.{StyleError}
+use Rattle.rl_styles.specs.declared.value.Value.{Value}
+use Rattle.rl_styles.specs.declared.value.Value.TheVariants.{Truth, Size, CaseOf, SeparatorOf}
+use Rattle.rl_styles.specs.Rules.{rule_name, rule_number, expected_of}
+use Rattle.rl_styles.specs.Values.{value_of}
+
+-- ---- words
+
+abbrev pub expected_words : AnyExpected → List ℕ
+expected_words expected.Truth = codes "expected `true` or `false`"
+expected_words expected.Size = codes "expected a number of digits"
+expected_words expected.Case = codes "expected `\"lower\"` or `\"upper\"`"
+expected_words expected.Separator = codes "expected `\"\"` or `\"_\"`"
+
+-- the words of an error
+abbrev pub style_error_words : StyleErrorKind → List ℕ
+style_error_words (Syntax kind) = syntax_message kind
+style_error_words Unknown = codes "no rule has this name"
+style_error_words Repeated = codes "repeated name"
+style_error_words (Expected what) = expected_words what
+
+-- ---- the entries of a configuration
+
+-- A rule, and what it is set to.
+pub record Setting : Type 0 where
+  pub rule : Rule
+  pub value : Value
+
+abbrev pub setting : Rule → Value → Setting
+setting rule value = record { rule = rule; value = value }
+
+-- what a rule is set to among these
+abbrev pub value_in : List Setting → Rule → Option Value
+value_in [] rule = None
+value_in (s ∷ ss) rule = if rule_number s.rule == rule_number rule then Some s.value else value_in ss rule
+
+-- The entry sets the rule of its name, which isn't set yet, to this.
+pub record SetsRule (before : List Setting) (entry : NextEntry) (s : Setting) : Type 0 where
+  pub named : entry.name.text.now ≡ rule_name s.rule
+  pub is_new : value_in before s.rule ≡ None
+  pub value : value_of (expected_of s.rule) entry.value ≡ Some s.value
+
+-- The entries from here to there are these, the last one first.
+pub data HoldsSettings (start : CursorState) : List Setting → CursorState → Type 0 where
+  HoldsNoSetting : HoldsSettings start [] start
+  HoldsOneMore : {before : List Setting} {t new : CursorState} (s : Setting) (entry : NextEntry)
+      → HoldsSettings start before t → TakesEntry t entry new → SetsRule before entry s → HoldsSettings start (s ∷ before) new
+
+-- a configuration begins here: white space and comments are passed
+abbrev pub BeginsEntries : List ℕ → CursorState → Type 0
+BeginsEntries text start = (start.text ≡ text) × Skipped (chars text) (chars start.rest)
+
+-- ---- the style
+
+abbrev pub truth_in : Option Value → Bool
+truth_in (Some (Truth b)) = b
+truth_in _ = false
+
+abbrev pub size_in : Option Value → ℕ
+size_in (Some (Size n)) = n
+size_in _ = 0
+
+abbrev pub case_in : Option Value → Option Case
+case_in (Some (CaseOf case)) = Some case
+case_in _ = None
+
+abbrev pub separator_in : Option Value → Option Separator
+separator_in (Some (SeparatorOf separator)) = Some separator
+separator_in _ = None
+
+-- groups of digits, where one is said
+abbrev pub some_groups : DigitGroups → Option DigitGroups
+some_groups g = if (g.binary == 0) && (g.octal == 0) && (g.decimal == 0) && (g.hexadecimal == 0) && (g.least == 0)
+    then None else Some g
+
+abbrev pub groups_set_by : (Rule → Option Value) → Option DigitGroups
+groups_set_by look = some_groups (record {
+  binary = size_in (look BinaryGroups);
+  octal = size_in (look OctalGroups);
+  decimal = size_in (look DecimalGroups);
+  hexadecimal = size_in (look HexadecimalGroups);
+  least = size_in (look LeastGrouped);
+})
+
+-- the style where each rule is set to this, or isn't set
+abbrev pub style_set_by : (Rule → Option Value) → Style
+style_set_by look = record {
+  hex_digits = case_in (look HexDigits);
+  underscores = truth_in (look DropUnderscores);
+  leading_zeros = truth_in (look DropLeadingZeros);
+  suffix_separator = separator_in (look SuffixSeparator);
+  digit_groups = groups_set_by look;
+  float_zero = truth_in (look FloatZero);
+  exponent_letter = case_in (look ExponentLetter);
+  exponent_plus = truth_in (look DropExponentPlus);
+  escape_digits = case_in (look EscapeDigits);
+  code_digits = truth_in (look FewestEscapeDigits);
+  ascii_escapes = truth_in (look DropAsciiEscapes);
+  named_escapes = truth_in (look NamedEscapes);
+  quote_escapes = truth_in (look DropQuoteEscapes);
+  raw_hashes = truth_in (look FewestHashes);
+  raw = truth_in (look DropRaw);
+  hidden = truth_in (look EscapeHidden);
+}
+
+-- The configuration says the style: it has entries up to its end, each of which sets another rule.
+pub record SaysStyle (text : List ℕ) (style : Style) : Type 0 where
+  pub start : CursorState
+  pub settings : List Setting
+  pub at_end : CursorState
+  pub begins : BeginsEntries text start
+  pub holds : HoldsSettings start settings at_end
+  pub ends : at_end.rest ≡ []
+  pub style_is : style ≡ style_set_by (value_in settings)
+
+-- ---- what is wrong
+
+-- the error has this kind and the place of a name
+abbrev pub IsAtName : StyleErrorKind → DottedName → StyleError → Type 0
+IsAtName kind name e = (e.kind ≡ kind) × (e.lo ≡ name.lo) × (e.hi ≡ name.hi)
+
+-- where a literal begins, with its minus
+abbrev pub literal_lo : NextLiteral → ℕ
+literal_lo l = lo_after l.minus_at l.token.lo
+  where
+    lo_after : Option ℕ → ℕ → ℕ
+    lo_after None lo = lo
+    lo_after (Some at) lo = at
+
+-- no rule has the name
+abbrev pub IsUnknown : DottedName → StyleError → Type 0
+IsUnknown name e = ((rule : Rule) → name.text.now ≡ rule_name rule → ⊥) × IsAtName Unknown name e
+
+-- the name is that of a rule which is set
+abbrev pub IsRepeated : List Setting → DottedName → StyleError → Type 0
+IsRepeated before name e = (rule : Rule) × (name.text.now ≡ rule_name rule) × (value_in before rule ≢ None)
+    × IsAtName Repeated name e
+
+-- The name is that of a rule which isn't set, and the literal is nothing that it may be set to.
+pub record IsUnexpected (before : List Setting) (entry : NextEntry) (e : StyleError) : Type 0 where
+  pub rule : Rule
+  pub named : entry.name.text.now ≡ rule_name rule
+  pub is_new : value_in before rule ≡ None
+  pub no_value : value_of (expected_of rule) entry.value ≡ None
+  pub kind : e.kind ≡ Expected (expected_of rule)
+  pub lo : e.lo ≡ literal_lo entry.value
+  pub hi : e.hi ≡ entry.value.token.hi
+
+-- An entry stands here, and sets no rule.
+abbrev pub RejectsEntry : List Setting → NextEntry → StyleError → Type 0
+RejectsEntry before entry e =
+    IsUnknown entry.name e ⊎ IsRepeated before entry.name e ⊎ IsUnexpected before entry e
+
+-- the name, where one stands there, is none of a rule that is set
+abbrev pub IsNewName : List Setting → Option DottedName → Type 0
+IsNewName before None = ⊤
+IsNewName before (Some name) = (rule : Rule) → name.text.now ≡ rule_name rule → value_in before rule ≡ None
+
+-- the name, where one stands there, is that of a rule that is set
+abbrev pub RepeatsRule : List Setting → Option DottedName → StyleError → Type 0
+RepeatsRule before None e = ⊥
+RepeatsRule before (Some name) e = IsRepeated before name e
+
+-- No entry stands here: a name stood before, or else the error of what stands there is this.
+abbrev pub RejectsRest : List Setting → EntryRejection → StyleError → Type 0
+RejectsRest before r e = RepeatsRule before r.name e
+    ⊎ (IsNewName before r.name × (e.kind ≡ Syntax r.error.kind) × (e.lo ≡ r.error.lo) × (e.hi ≡ r.error.hi))
+
+-- what is wrong stands here, where these settings stand before
+abbrev pub IsWrongAt : List Setting → CursorState → StyleError → Type 0
+IsWrongAt before t e =
+    ((entry : NextEntry) × (new : CursorState) × TakesEntry t entry new × RejectsEntry before entry e)
+    ⊎ ((r : EntryRejection) × (t.rest ≢ []) × RejectsNextEntry t r × RejectsRest before r e)
+
+-- The first entry that sets no rule, or what isn't one, is wrong.
+pub record RejectsStyle (text : List ℕ) (e : StyleError) : Type 0 where
+  pub start : CursorState
+  pub before : List Setting
+  pub stops : CursorState
+  pub begins : BeginsEntries text start
+  pub holds : HoldsSettings start before stops
+  pub wrong : IsWrongAt before stops e
+
+-- the style where nothing is said
+abbrev pub default_settings : Style
+default_settings = record {
+  hex_digits = None;
+  underscores = false;
+  leading_zeros = false;
+  suffix_separator = None;
+  digit_groups = None;
+  float_zero = true;
+  exponent_letter = Some Lower;
+  exponent_plus = false;
+  escape_digits = None;
+  code_digits = false;
+  ascii_escapes = false;
+  named_escapes = false;
+  quote_escapes = true;
+  raw_hashes = true;
+  raw = false;
+  hidden = false;
+}

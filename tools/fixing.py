@@ -1,0 +1,335 @@
+#!/usr/bin/env python3
+"""Tries `rl_scan --fix PATH..` with the system: that each file is written as a whole, and that what shouldn't change stays.
+
+    tools/fixing.py PROGRAM        a line for each case; status 1 where one fails
+
+PROGRAM is an `rl_scan` with `--fix`, which has to make `1e5` of `1E5` in its default style. Of a file the permissions to read, write
+and run it stay, and so do the links to it; its owner, other names of it (hard links), setuid and the like, and extended attributes
+don't. Cases that need root, a tmpfs, `strace` or `chattr` are said to be skipped where there is none. Nothing shows what happens to a
+file that changes between the last look at it and the rename: that is the one gap.
+"""
+
+import os
+import re
+import resource
+import shutil
+import signal
+import stat
+import subprocess
+import sys
+import tempfile
+import time
+from pathlib import Path
+
+OLD = b"let a = 1E5;\n"
+NEW = b"let a = 1e5;\n"
+# A text of several writes.
+LONG_OLD, LONG_NEW = OLD * 20_000, NEW * 20_000
+PROGRAM = Path(sys.argv[1]).resolve() if len(sys.argv) == 2 else sys.exit(__doc__)
+OURS = re.compile(r"a\.rs\.rl_scan-\d+")
+NOBODY = 65534
+IS_ROOT = os.geteuid() == 0
+SKIPPED = "skipped"
+CASES = []
+
+
+class Failed(Exception):
+    """What isn't as it has to be."""
+
+
+def case(function):
+    CASES.append(function)
+    return function
+
+
+def expect(is_so, what):
+    if not is_so:
+        raise Failed(what)
+
+
+def run(*paths, before=(), **how):
+    """What a call ended with: its status, and its lines of errors."""
+    done = subprocess.run([*before, PROGRAM, "--fix", *paths], capture_output=True, timeout=60, check=False, **how)
+    return done.returncode, done.stderr.decode()
+
+
+def write(path, text=OLD, mode=0o644):
+    path.write_bytes(text)
+    path.chmod(mode)
+    return path
+
+
+def expect_run(ran, status, words=""):
+    expect(ran[0] == status and words in ran[1], f"status {ran[0]}, not {status} with {words!r}: {ran[1]!r}")
+
+
+def expect_files(folder, **files):
+    """The folder holds these files and no others."""
+    expected = {name.replace("_rs", ".rs"): text for name, text in files.items()}
+    found = {path.name: path.read_bytes() for path in folder.iterdir() if path.is_file()}
+    expect(found == expected, f"{sorted(found)}, not {sorted(expected)}, or other bytes")
+
+
+@case
+def written(folder):
+    write(folder / "a.rs"), write(folder / "b.rs")
+    expect_run(run(folder / "a.rs", folder / "b.rs"), 0)
+    expect_files(folder, a_rs=NEW, b_rs=NEW)
+
+
+@case
+def nothing_to_change(folder):
+    path = write(folder / "a.rs", NEW)
+    os.utime(path, ns=(1, 1))
+    before = path.stat()
+    expect_run(run(path), 0)
+    after = path.stat()
+    expect((before.st_ino, before.st_mtime_ns) == (after.st_ino, after.st_mtime_ns), "another file, or another time")
+
+
+@case
+def twice(folder):
+    path = write(folder / "a.rs")
+    expect_run(run(path), 0)
+    before = path.stat()
+    expect_run(run(path), 0)
+    expect(before.st_ino == path.stat().st_ino, "written again")
+
+
+@case
+def permissions_stay(folder):
+    for mode in (0o640, 0o600, 0o755, 0o666, 0o200 | 0o444):
+        path = write(folder / "a.rs", mode=mode)
+        old = os.umask(0o077)
+        expect_run(run(path), 0)
+        os.umask(old)
+        found = stat.S_IMODE(path.stat().st_mode)
+        expect(found == mode, f"{found:o}, not {mode:o}")
+
+
+@case
+def setuid_goes(folder):
+    path = write(folder / "a.rs", mode=0o6755)
+    expect_run(run(path), 0)
+    expect(stat.S_IMODE(path.stat().st_mode) == 0o755, f"{path.stat().st_mode:o}")
+
+
+@case
+def links_are_followed(folder):
+    (folder / "in").mkdir()
+    write(folder / "in" / "a.rs", mode=0o640)
+    (folder / "b.rs").symlink_to("in/a.rs")
+    (folder / "c.rs").symlink_to(folder / "b.rs")
+    expect_run(run(folder / "c.rs"), 0)
+    expect((folder / "b.rs").is_symlink() and (folder / "c.rs").is_symlink(), "no link any more")
+    expect_files(folder / "in", a_rs=NEW)
+    expect_files(folder, b_rs=NEW, c_rs=NEW)
+
+
+@case
+def other_names_keep_the_old_bytes(folder):
+    path = write(folder / "a.rs")
+    os.link(path, folder / "b.rs")
+    expect_run(run(path), 0)
+    expect_files(folder, a_rs=NEW, b_rs=OLD)
+
+
+@case
+def a_file_that_nobody_may_write(folder):
+    path = write(folder / "a.rs", mode=0o444)
+    expect_run(run(path), 2, "permission denied")
+    expect_files(folder, a_rs=OLD)
+
+
+@case
+def a_folder_that_may_not_be_written(folder):
+    path = write(folder / "a.rs", mode=0o666)
+    folder.chmod(0o555)
+    if not IS_ROOT:
+        ran = run(path)
+    else:
+        # Root isn't held back by modes.
+        ran = run(path, user=NOBODY, group=NOBODY)
+    folder.chmod(0o755)
+    expect_run(ran, 2, "permission denied")
+    expect_files(folder, a_rs=OLD)
+
+
+@case
+def a_folder_that_root_may_not_write(folder):
+    path = write(folder / "a.rs")
+    try:
+        is_set = IS_ROOT and subprocess.run(["chattr", "+i", folder], capture_output=True, check=False).returncode == 0
+    except FileNotFoundError:
+        is_set = False
+    if not is_set:
+        return SKIPPED
+    ran = run(path)
+    subprocess.run(["chattr", "-i", folder], check=True)
+    expect_run(ran, 2, "permission denied")
+    expect_files(folder, a_rs=OLD)
+
+
+def mounted(folder, *options):
+    """Whether something is mounted at the folder."""
+    return IS_ROOT and subprocess.run(["mount", *options, folder], capture_output=True, check=False).returncode == 0
+
+
+@case
+def a_full_disk(folder):
+    if not mounted(folder, "-t", "tmpfs", "-o", "size=64k", "tmpfs"):
+        return SKIPPED
+    try:
+        text = OLD * (40_000 // len(OLD))
+        path = write(folder / "a.rs", text)
+        expect_run(run(path), 2, "no space left")
+        expect_files(folder, a_rs=text)
+    finally:
+        subprocess.run(["umount", folder], check=True)
+
+
+@case
+def a_disk_that_is_only_read(folder):
+    if not mounted(folder, "-t", "tmpfs", "tmpfs"):
+        return SKIPPED
+    try:
+        path = write(folder / "a.rs")
+        subprocess.run(["mount", "-o", "remount,ro", folder], check=True)
+        expect_run(run(path), 2, "read-only file system")
+        expect_files(folder, a_rs=OLD)
+    finally:
+        subprocess.run(["umount", folder], check=True)
+
+
+@case
+def a_file_that_may_not_grow(folder):
+    def limit():
+        signal.signal(signal.SIGXFSZ, signal.SIG_IGN)
+        resource.setrlimit(resource.RLIMIT_FSIZE, (1_000, 1_000))
+
+    path = write(folder / "a.rs", LONG_OLD)
+    expect_run(run(path, preexec_fn=limit), 2, "write failed")
+    expect_files(folder, a_rs=LONG_OLD)
+
+
+@case
+def a_name_that_gets_too_long(folder):
+    path = write(folder / ("a" * 250 + ".rs"))
+    expect_run(run(path), 2, "path too long")
+    expect([each.name for each in folder.iterdir()] == [path.name] and path.read_bytes() == OLD, "another file, or other bytes")
+
+
+@case
+def leftovers_stay(folder):
+    path = write(folder / "a.rs")
+    write(folder / "a.rs.rl_scan-0", b"left"), write(folder / "a.rs.rl_scan-1", b"over")
+    expect_run(run(path), 0)
+    expect(path.read_bytes() == NEW, "not written")
+    expect(sorted(each.read_bytes() for each in folder.glob("a.rs.*")) == [b"left", b"over"], "a leftover was written")
+
+
+@case
+def no_name_is_left(folder):
+    path = write(folder / "a.rs")
+    for number in range(100):
+        write(folder / f"a.rs.rl_scan-{number}", b"")
+    expect_run(run(path), 2, "write failed")
+    expect(path.read_bytes() == OLD and len(list(folder.iterdir())) == 101, "other files, or other bytes")
+
+
+@case
+def several_at_once(folder):
+    for _ in range(20):
+        path = write(folder / "a.rs", LONG_OLD)
+        calls = [subprocess.Popen([PROGRAM, "--fix", path], stdout=subprocess.DEVNULL, stderr=subprocess.DEVNULL) for _ in range(4)]
+        statuses = [call.wait(60) for call in calls]
+        expect(0 in statuses and set(statuses) <= {0, 2}, f"statuses {statuses}")
+        expect_files(folder, a_rs=LONG_NEW)
+
+
+def strace(*words):
+    """The words that call a program under strace, or None."""
+    return ["strace", "-f", "-qq", "-o", "/dev/null", *words] if shutil.which("strace") else None
+
+
+@case
+def a_file_that_changed_meanwhile(folder):
+    before = strace("-e", "trace=fsync", "-e", "inject=fsync:delay_enter=2000000")
+    if not before:
+        return SKIPPED
+    path = write(folder / "a.rs")
+    call = subprocess.Popen([*before, PROGRAM, "--fix", path], stdout=subprocess.DEVNULL, stderr=subprocess.PIPE)
+    end = time.monotonic() + 20
+    while not any(each.stat().st_size == len(NEW) for each in folder.glob("a.rs.*")) and time.monotonic() < end:
+        time.sleep(0.01)
+    path.write_bytes(b"let b = 2;\n")
+    said = call.communicate(timeout=60)[1].decode()
+    expect_run((call.returncode, said), 2, "changed since it was read")
+    expect_files(folder, a_rs=b"let b = 2;\n")
+
+
+# What fails, of the calls that writing makes, and how.
+FAILING = ["write:error=EIO", "write:error=ENOSPC", "fchmod:error=EPERM", "fsync:error=EIO", "rename:error=EBUSY", "rename:error=EXDEV"]
+
+
+@case
+def calls_that_fail(folder):
+    for fails in FAILING:
+        # Of the new file alone, and not of what is printed.
+        before = strace("-P", folder / "a.rs.rl_scan-0", "-e", f"trace={fails.split(':')[0]}", "-e", f"inject={fails}")
+        if not before:
+            return SKIPPED
+        path = write(folder / "a.rs")
+        ran = run(path, before=before)
+        expect(ran[0] == 2, f"{fails}: status {ran[0]}")
+        expect_files(folder, a_rs=OLD)
+    # Where the new file can't be removed either, it stays.
+    path = write(folder / "a.rs")
+    expect(run(path, before=strace("-e", "trace=fsync,unlink", "-e", "inject=fsync,unlink:error=EIO"))[0] == 2, "a status")
+    expect(path.read_bytes() == OLD and len(list(folder.iterdir())) == 2, "other files, or other bytes")
+    return None
+
+
+def killed_at(folder, number):
+    """Whether the program was killed as it entered the system call of this number."""
+    for path in folder.iterdir():
+        path.unlink()
+    paths = [write(folder / "a.rs", LONG_OLD), write(folder / "b.rs", LONG_OLD)]
+    before = strace("-e", "trace=%file,%desc,%process", "-e", f"inject=%file,%desc:signal=KILL:when={number}")
+    status, _ = run(*paths, before=before)
+    names = sorted(path.name for path in folder.iterdir() if path not in paths)
+    expect(len(names) <= 1 and all(re.fullmatch(r"[ab]\.rs\.rl_scan-\d+", name) for name in names), f"call {number}: left over: {names}")
+    for path in paths:
+        expect(path.read_bytes() in (LONG_OLD, LONG_NEW), f"call {number}: {path.name} is neither old nor new")
+    return status != 0
+
+
+@case
+def killed_between_any_two_calls(folder):
+    if not strace():
+        return SKIPPED
+    number = 1
+    while killed_at(folder, number):
+        number += 1
+    expect(number > 20, f"only {number - 1} calls")
+    expect_files(folder, a_rs=LONG_NEW, b_rs=LONG_NEW)
+    return f"{number - 1} calls"
+
+
+def main():
+    failed = 0
+    for each in CASES:
+        folder = Path(tempfile.mkdtemp(prefix="fixing-"))
+        folder.chmod(0o755)
+        try:
+            said = each(folder) or "passed"
+        except (Failed, subprocess.TimeoutExpired) as why:
+            said, failed = f"FAILED: {why}", failed + 1
+        finally:
+            shutil.rmtree(folder, ignore_errors=True)
+        print(f"{each.__name__.replace('_', ' ')}: {said}", flush=True)
+    print(f"fixing: {len(CASES)} cases, {failed} failed")
+    sys.exit(failed > 0)
+
+
+main()
