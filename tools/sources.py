@@ -88,8 +88,8 @@ class Model:
         if cut is None:
             return [NOT_TEXT]
         out = [b'%d..%d %s' % (token.lo, token.hi, readings.visible(self.known[token.text])) for token in cut.literals()]
-        if cut.fault:
-            out.append(b'error at %d..%d: %s' % (cut.fault.at, cut.fault.at, cut.fault.kind.encode()))
+        if cut.error:
+            out.append(b'error at %d..%d: %s' % (cut.error.at, cut.error.at, cut.error.kind.encode()))
         return out
 
     def answers(self, datas):
@@ -102,7 +102,7 @@ class Theirs:
     """The answers of rustc's own lexer."""
 
     def __init__(self, options, older):
-        """So many of the sources that it refuses are asked about in an older edition."""
+        """So many of the sources that it rejects are asked about in an older edition."""
         self.rustc, self.before = (lexing.Rustc(options.library, edition) for edition in ('2021', OLDER))
         self.older = older
 
@@ -125,7 +125,7 @@ class Theirs:
 def front_of(data):
     """How many bytes the front of a source takes."""
     text = data.decode()
-    return len(text[:source_model.behind_front(text)].encode())
+    return len(text[:source_model.after_front(text)].encode())
 
 
 def moved(lines, by):
@@ -283,7 +283,7 @@ def judge_rustc(count, name, data, told, our, is_model=False):
     """Holds an answer against rustc's; where it is the model's, characters newer than its tables may be judged otherwise."""
     their, words = told
     if their is None:
-        return count.add('rustc', 'refused: ' + told_words(words), 1, 0)
+        return count.add('rustc', 'rejected: ' + told_words(words), 1, 0)
     found = entries(data, their, our)
     if found is None:
         known = cut_entry(data, words, their, our)
@@ -391,6 +391,6 @@ def calls(sides):
     for words in NO_CALLS:
         lines = scanned(sides.options.scan, words, b'1')
         if len(lines) == 1 and lines[0].startswith(b'rl_scan: '):
-            sides.count.add('rl_scan', 'refuses words that ask for nothing', 1, 0)
+            sides.count.add('rl_scan', 'rejects words that ask for nothing', 1, 0)
         else:
             sides.count.differs('rl_scan', ' '.join(words), b'1', [b'rl_scan: ..'], lines)

@@ -240,14 +240,14 @@ def check_owners(tell):
                     tell(f'{page}: {name} is of {", ".join(others)}, not of {crate}')
 
 
-def check_refusals(tell):
-    """Each kind of refusal stands on the page of refusals."""
-    page = read('docs/REFUSALS.md')
+def check_errors(tell):
+    """Each kind of error stands on the page of errors."""
+    page = read('docs/ERRORS.md')
     for _, item in [*public_items('rl_tokens'), *public_items('rl_grammar')]:
         owner, _, name = item.name.partition('::')
-        is_refusal = item.kind == 'part' and owner in ('ErrorKind', 'LexKind', 'FlawKind')
-        if is_refusal and f'`{name}`' not in page and f'`{item.name}`' not in page:
-            tell(f'docs/REFUSALS.md: {item.name} is missing')
+        is_error = item.kind == 'part' and owner in ('ErrorKind', 'LexKind', 'FlawKind')
+        if is_error and f'`{name}`' not in page and f'`{item.name}`' not in page:
+            tell(f'docs/ERRORS.md: {item.name} is missing')
 
 
 # Words that the field has others for, and what they are right in.
@@ -303,4 +303,4 @@ def check_diagrams(tell):
 
 OF_PAGES = (
     check_core, check_paths, check_pieces, check_definitions, check_names, check_words, check_owners,
-    check_refusals, check_diagrams, check_limits, check_terms)
+    check_errors, check_diagrams, check_limits, check_terms)

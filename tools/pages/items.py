@@ -62,7 +62,7 @@ class Item:
 
 
 def closing(code, at):
-    """The place behind the brace that closes the one at a place, past strings and characters."""
+    """The place after the brace that closes the one at a place, past strings and characters."""
     depth = 0
     for it in re.compile(PARTS.pattern + '|[{}]', re.S).finditer(code, at):
         depth += {'{': 1, '}': -1}.get(it[0], 0)

@@ -176,8 +176,8 @@ def short_bodies(folder):
 
 
 def control_of(crate, folder, taken):
-    """An edit that changes nothing of what the crate means, in a function that isn't among those taken: the check that refuses it
-    refuses anything. None where no function is short enough."""
+    """An edit that changes nothing of what the crate means, in a function that isn't among those taken: the check that rejects it
+    rejects anything. None where no function is short enough."""
     for file, first, _ in sorted(short_bodies(folder), key=lambda it: it[2]):
         control = Edit('control', [(file, first, NEEDLESS + first)])
         if not first.startswith('//') and control.why_bad(folder) is None and set(control.functions(crate, folder)).isdisjoint(taken):

@@ -9,7 +9,7 @@ from .holes import Holes
 MOST = 40
 # A goal that is the condition of a call, and so no clause of the function.
 REQUIRES = re.compile(r'-requires(-|$)')
-NOT_REFUSED = 'not refused'
+NOT_REJECTED = 'not rejected'
 # The status of a check that is asked for a function that isn't there, or that several have the name of.
 NO_SUCH = 2
 SAYING = threading.Lock()
@@ -28,11 +28,11 @@ class Trials:
         self.control, self.is_controlled = None, False
         # Pairs of edits that one check can't judge: what the first changes calls what the second does.
         self.apart = set()
-        self.refused, self.faults, self.checks = {}, 0, 0
+        self.rejected, self.errors, self.checks = {}, 0, 0
         for edit in edits:
             why = edit.why_bad(folder)
             if why:
-                self.fault(edit, why)
+                self.error(edit, why)
             else:
                 self.add(edit)
 
@@ -54,24 +54,24 @@ class Trials:
         with SAYING:
             print(f'{self.crate}/{edit.name}: {what}', flush=True)
 
-    def fault(self, edit, what):
-        self.faults += 1
-        self.say(edit, f'FAULT: {what}')
+    def error(self, edit, what):
+        self.errors += 1
+        self.say(edit, f'ERROR: {what}')
 
-    def report(self, edit, is_refused, what):
-        """Reports what came of an edit: refused, and at which goals; else why not."""
+    def report(self, edit, is_rejected, what):
+        """Reports what came of an edit: rejected, and at which goals; else why not."""
         names = ', '.join(' or '.join(it.names) for it in self.changed[edit])
         if edit is self.control:
             self.is_controlled = True
-            if is_refused or what != NOT_REFUSED:
-                self.fault(edit, f'it changes nothing of {names}, but came to this: {"refused: " if is_refused else ""}{what}')
+            if is_rejected or what != NOT_REJECTED:
+                self.error(edit, f'it changes nothing of {names}, but came to this: {"rejected: " if is_rejected else ""}{what}')
             else:
-                self.say(edit, f'not refused, as it has to be, since it changes nothing of {names}')
-        elif is_refused:
-            self.refused[edit] = what
-            self.say(edit, f'refused: {what}')
+                self.say(edit, f'not rejected, as it has to be, since it changes nothing of {names}')
+        elif is_rejected:
+            self.rejected[edit] = what
+            self.say(edit, f'rejected: {what}')
         else:
-            self.fault(edit, f'{what} (in {names or "no function"} of {", ".join(dict.fromkeys(file for file, _, _ in edit.pairs))})')
+            self.error(edit, f'{what} (in {names or "no function"} of {", ".join(dict.fromkeys(file for file, _, _ in edit.pairs))})')
 
     def is_outside(self, edit):
         return any(not it.names for it in self.changed[edit])
@@ -119,7 +119,7 @@ class Trials:
         if verdicts.status == NO_SUCH and paths:
             # It has a name of its own for one, as for a method of a type's alias, which the whole crate shows.
             verdicts = self.counted([])
-        if self.holes.give_up([it for it in verdicts.of if verdicts.is_refused(it)]):
+        if self.holes.give_up([it for it in verdicts.of if verdicts.is_rejected(it)]):
             return self.checked_over(chosen)
         return verdicts
 
@@ -130,8 +130,8 @@ class Trials:
     def is_judged(self, edit, chosen, verdicts):
         """Reports what came of the edit; false where it has to be tried again, with others left out."""
         if self.is_outside(edit):
-            refused = [it for it in verdicts.of if verdicts.is_refused(it)]
-            self.report(edit, bool(refused), ', '.join(refused) or NOT_REFUSED)
+            rejected = [it for it in verdicts.of if verdicts.is_rejected(it)]
+            self.report(edit, bool(rejected), ', '.join(rejected) or NOT_REJECTED)
             return True
         names = [verdicts.name(it) for it in self.changed[edit]]
         if None in names:
@@ -139,7 +139,7 @@ class Trials:
             return True
         goals = {name: verdicts.goals(it) for name, it in zip(names, self.changed[edit])}
         is_clause = any(not REQUIRES.search(it) for found in goals.values() for it in found)
-        own = [it for it in names if is_clause and goals[it] or verdicts.is_refused(it)]
+        own = [it for it in names if is_clause and goals[it] or verdicts.is_rejected(it)]
         shown = '; '.join(f"{name}: {', '.join(goals[name])}" for name in own)
         if is_clause:
             self.report(edit, True, shown)
@@ -154,7 +154,7 @@ class Trials:
             and not causes.isdisjoint(verdicts.name(function) for function in self.changed[it])]
         self.apart.update((edit, it) for it in others)
         if not own and not others:
-            self.report(edit, False, NOT_REFUSED)
+            self.report(edit, False, NOT_REJECTED)
         return not others
 
     def tried(self, chosen):

@@ -34,8 +34,8 @@ class Verdicts:
         found = [it for it in self.of if re.sub(r'\+\w+::', '::', it).endswith(function.names)]
         return found[0] if len(found) == 1 else None
 
-    def is_refused(self, name):
-        """Whether the function is refused by itself, and not only since it calls one that is."""
+    def is_rejected(self, name):
+        """Whether the function is rejected by itself, and not only since it calls one that is."""
         verdict = self.of[name]
         if verdict.startswith(WELL):
             return False
@@ -47,7 +47,7 @@ class Verdicts:
         """The function's goals that weren't proved, except those whose answer names what is gone. Of a function that calls one that isn't
         proved only those that have an answer, since the search waits for the other's proof."""
         name, found = self.name(function), []
-        if self.is_refused(name):
+        if self.is_rejected(name):
             listed = self.of[name].partition('did not prove')[2].partition(';')[0]
             found += [it for it in re.findall('`([^`]+)`', listed) if it not in self.of]
             noted = rf'(?m)^note: {re.escape(function.file)}:(\d+):\d+: .*?\(`([^`]+)`\)'
@@ -58,11 +58,11 @@ class Verdicts:
         return list(dict.fromkeys(found))
 
     def causes(self, name):
-        """The functions refused by themselves that this one calls, or one that it calls, and so on."""
+        """The functions rejected by themselves that this one calls, or one that it calls, and so on."""
         found, seen, left = set(), set(), [name]
         while left:
             for it in re.findall('`([^`]+)`', self.of[left.pop()].partition('it calls')[2]):
                 if it in self.of and it not in seen:
                     seen.add(it)
-                    (found.add if self.is_refused(it) else left.append)(it)
+                    (found.add if self.is_rejected(it) else left.append)(it)
         return found

@@ -2,7 +2,7 @@
 
 use rl_commands::Command;
 use rl_grammar::{Parts, shape};
-use rl_refusing::Page;
+use rl_failing::Page;
 use rl_tokens::CString;
 use std::alloc::Global;
 

@@ -9,7 +9,7 @@ use crate::tell::{
     HERE, Spanned, THERE, ToRow, at, literal_of, put, tell, tell_error, tell_line, tell_trees,
 };
 use crate::uses::anew;
-use rl_refusing::Page;
+use rl_failing::Page;
 use rl_tokens::{Error, ParseBuffer, ToTokens, TokenStream};
 use rust_literals::Lit;
 use std::alloc::Global;

@@ -2,7 +2,7 @@
 
 use crate::tell::place;
 use rl_grammar::{SegmentValue, Segments, place_of, spans_of};
-use rl_refusing::Page;
+use rl_failing::Page;
 use rl_tokens::Span;
 use std::alloc::Global;
 

@@ -2,7 +2,7 @@
 
 use crate::parsers;
 use crate::tell::{HERE, append, place, tell_error, tell_form};
-use rl_refusing::Page;
+use rl_failing::Page;
 use rl_tokens::{Delimiter, Group, LexKind, Literal, Span, TokenStream, TokenTree, Tokens, lex};
 use std::alloc::Global;
 

@@ -9,7 +9,7 @@ use crate::{literals, shapes};
 use rl_attributes::read;
 use rl_grammar::strict::is_token;
 use rl_grammar::{explain, explain_value};
-use rl_refusing::Page;
+use rl_failing::Page;
 use rl_tokens::{Error, ErrorKind, Span, whitespace};
 use rust_literals::{Lit, LitFloat, LitInt, read_all};
 use std::alloc::Global;

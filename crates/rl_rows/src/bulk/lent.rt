@@ -2,7 +2,7 @@
 
 use super::lists::put_token;
 use rl_grammar::{Kind, is_plain};
-use rl_refusing::Page;
+use rl_failing::Page;
 use rl_tokens::Literal;
 use rust_literals::{Lit, LitStr};
 

@@ -1,7 +1,7 @@
 //! Stands for `std::fs` of Rattle: files that are read, and the entries of directories. Paths and names are texts.
 //!
 //! Narrower: nothing is written or changed, and there is one file system. What Rust's own calls take for a long path or a name
-//! can't be refused.
+//! can't fail.
 
 use super::alloc::{AllocError, Allocator, Global};
 use super::io::{Error, ErrorKind, Read, Result};
@@ -60,7 +60,7 @@ impl<R, A: Allocator> DirEntry<R, A> {
 }
 
 /// The entries of a directory but `.` and `..`. A name that isn't UTF-8 is the error `InvalidFilename`, without a number of the
-/// system's; the entries behind it follow. Of a directory that was removed no more come.
+/// system's; the entries after it follow. Of a directory that was removed no more come.
 pub struct ReadDir<R, A: Allocator = Global> {
     entries: std::fs::ReadDir,
     /// The directory's path, which ends with a slash if it isn't empty.

@@ -3,7 +3,7 @@
 use crate::held::run_held;
 use crate::tell::Tell;
 use crate::trial::{HERE, Scarce, Trial, UNFIT};
-use rl_refusing::Page;
+use rl_failing::Page;
 use rl_tokens::{CString, Ident, Literal, Parse, ParseBuffer, TokenTree, ident};
 use std::alloc::Global;
 

@@ -1,7 +1,7 @@
 //! One run of a call while allocations fail.
 
 use crate::tell::Tell;
-use rl_refusing::{Failing, Page};
+use rl_failing::{Failing, Page};
 use rl_tokens::{Literal, Span, TokenStream, lex};
 use std::alloc::{Allocator, Global};
 use std::cell::Cell;

@@ -7,7 +7,7 @@ use rl_attributes::Attrs;
 use rl_commands::Command;
 use rl_commands::run::run;
 use rl_program::Refusal;
-use rl_refusing::{Failing, Page};
+use rl_failing::{Failing, Page};
 use rl_tokens::{Error, Parse, ParseBuffer, Span, lex};
 use std::alloc::{Allocator, Global};
 use std::fmt::Display;

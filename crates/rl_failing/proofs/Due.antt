@@ -16,8 +16,8 @@ use denote.Builtin.{bool}
 use denote.Steps.{nothing, only}
 use denote.Triple.Statement.{Contract}
 use denote.Triple.Spec.{triple_of}
-use Rattle.rl_refusing.specs.contracts.Plan as P
-use Rattle.rl_refusing.specs.contracts.is_due as D
+use Rattle.rl_failing.specs.contracts.Plan as P
+use Rattle.rl_failing.specs.contracts.is_due as D
 
 abbrev pub Kept : RattleType
 Kept = P.the_row

@@ -5,7 +5,7 @@ use crate::tell::Tell;
 use crate::trial::{HERE, Scarce, Trial, UNFIT};
 use rl_grammar::shape;
 use rl_quoted::{Quoted, QuotedKind};
-use rl_refusing::Page;
+use rl_failing::Page;
 use rl_tokens::{Literal, ToTokens};
 use rust_literals::{Lit, LitBool, Number, NumberKind};
 

@@ -34,14 +34,14 @@ use denote.RawPtr.{Ptr, block_ptr, null_ptr, ptr_val, rawptr_vals, rawptr_Tells}
 use denote.Builtin.{usize, RawPtr, RefOf}
 use denote.Triple.Call.{calls_at}
 use Rattle.std.proofs.alloc.Calls.{Al, α, seen, token, gives_key, Gives, at_gives, Gives-goes, Gives-Gives}
-use Rattle.rl_refusing.proofs.Back.{Back, at_back, Back-goes, Back-gives}
-use Rattle.rl_refusing.proofs.comes_back.Symbol as c_sym
-use Rattle.rl_refusing.proofs.comes_back.Met as c_met
-use Rattle.rl_refusing.specs.contracts.Failing as wrapper
-use Rattle.rl_refusing.specs.contracts.FailingAllocator.deallocate as F
-use Rattle.rl_refusing.specs.contracts.FailingAllocator.deallocate.Key as key
-use Rattle.rl_refusing.proofs.FailingAllocator.deallocate.Statement as stated
-use Rattle.rl_refusing.proofs.FailingAllocator.deallocate.Code as code
+use Rattle.rl_failing.proofs.Back.{Back, at_back, Back-goes, Back-gives}
+use Rattle.rl_failing.proofs.comes_back.Symbol as c_sym
+use Rattle.rl_failing.proofs.comes_back.Met as c_met
+use Rattle.rl_failing.specs.contracts.Failing as wrapper
+use Rattle.rl_failing.specs.contracts.FailingAllocator.deallocate as F
+use Rattle.rl_failing.specs.contracts.FailingAllocator.deallocate.Key as key
+use Rattle.rl_failing.proofs.FailingAllocator.deallocate.Statement as stated
+use Rattle.rl_failing.proofs.FailingAllocator.deallocate.Code as code
 
 module _ (Z : Al) where
   abbrev args : Args
@@ -172,5 +172,5 @@ deallocate_spec 𝓤 𝓛 𝓜 𝓡 wired Y L g d d' met _ =
     (λ κs. ((λ r vs s. s.0), (rawptr_Tells, (uint_Tells w64, (uint_Tells w64, tt)))))
     (λ κs qs bounds a τ are. walk Z 𝓛 𝓜.mem 𝓡.returns 𝓣 (met.deallocate d')
     (cited 𝓤 𝓛.H _ 𝓜 𝓡 𝓡.env c_sym.name (𝓡.env c_sym.name) refl
-    (c_met.met 𝓤 𝓛 𝓜 𝓡 (code.calls-rl_refusing::comes_back 𝓡.env wired))) κs.0 κs.1.0 qs.0 qs.1.0 bounds.0 a.0
+    (c_met.met 𝓤 𝓛 𝓜 𝓡 (code.calls-rl_failing::comes_back 𝓡.env wired))) κs.0 κs.1.0 qs.0 qs.1.0 bounds.0 a.0
     a.1.1.0 a.1.1.1.0 τ are.1.1.0.1 are.1.1.1.0.1 a.1.0)))

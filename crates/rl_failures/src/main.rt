@@ -19,7 +19,7 @@ mod tokens;
 mod trial;
 
 use crate::rows::Row;
-use rl_refusing::Page;
+use rl_failing::Page;
 use std::alloc::{AllocError, Global};
 use std::io;
 use std::io::Write;

@@ -15,8 +15,8 @@ use denote.Builtin.{unit}
 use denote.Steps.{nothing, only}
 use denote.Triple.Statement.{Contract}
 use denote.Triple.Spec.{triple_of}
-use Rattle.rl_refusing.specs.contracts.Plan as P
-use Rattle.rl_refusing.specs.contracts.comes_back as B
+use Rattle.rl_failing.specs.contracts.Plan as P
+use Rattle.rl_failing.specs.contracts.comes_back as B
 
 abbrev Kept : RattleType
 Kept = P.the_row

@@ -6,7 +6,7 @@ use rl_attributes::Attrs;
 use rl_commands::line_of;
 use rl_grammar::strict;
 use rl_program::Refusal;
-use rl_refusing::Page;
+use rl_failing::Page;
 use rl_tokens::{Error, Kept, Literal, Span, lex, whitespace};
 use rust_literals::{Lit, read_all};
 use std::alloc::Global;

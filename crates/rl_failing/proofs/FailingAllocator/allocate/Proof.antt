@@ -1,4 +1,4 @@
--- It refuses the requests that are due, and else answers what the inner allocator answers. Assumes `Logic`.
+-- It fails the requests that are due, and else answers what the inner allocator answers. Assumes `Logic`.
 use Rattle.std.proofs.Common.{◌≡◌, ℕ, ◌+◌, ◌^◌, ◌<◌, true, false, List, [], ◌∷◌, Ok, Err, refl, w64, Bor}
 use seplogic.Ra.Ura.{Ura}
 use mir.Syntax.{Ty, Args, Fn, Body, skip, seq, assign, block, loop, cond, switch, exit, return, call, call_v, unreachable, lend_static, a_type, dnil, dcons}
@@ -36,14 +36,14 @@ use denote.RawPtr.{block_ptr}
 use denote.Builtin.{usize, RefOf}
 use denote.Triple.Call.{calls_at}
 use Rattle.std.proofs.alloc.Calls.{Al, α, seen, Answer, answer_val, Answer-typed, Answer-Ok, Answer-err, takes_key, Takes, at_takes, Answered, Takes-goes, Takes-gives, answers}
-use Rattle.rl_refusing.proofs.Due.{Due, at_due, Due-goes, Due-gives}
-use Rattle.rl_refusing.proofs.is_due.Symbol as c_sym
-use Rattle.rl_refusing.proofs.is_due.Met as c_met
-use Rattle.rl_refusing.specs.contracts.Failing as wrapper
-use Rattle.rl_refusing.specs.contracts.FailingAllocator.allocate as F
-use Rattle.rl_refusing.specs.contracts.FailingAllocator.allocate.Key as key
-use Rattle.rl_refusing.proofs.FailingAllocator.allocate.Statement as stated
-use Rattle.rl_refusing.proofs.FailingAllocator.allocate.Code as code
+use Rattle.rl_failing.proofs.Due.{Due, at_due, Due-goes, Due-gives}
+use Rattle.rl_failing.proofs.is_due.Symbol as c_sym
+use Rattle.rl_failing.proofs.is_due.Met as c_met
+use Rattle.rl_failing.specs.contracts.Failing as wrapper
+use Rattle.rl_failing.specs.contracts.FailingAllocator.allocate as F
+use Rattle.rl_failing.specs.contracts.FailingAllocator.allocate.Key as key
+use Rattle.rl_failing.proofs.FailingAllocator.allocate.Statement as stated
+use Rattle.rl_failing.proofs.FailingAllocator.allocate.Code as code
 
 -- what stands behind the first statement
 abbrev rest : Body → Body
@@ -186,5 +186,5 @@ allocate_spec 𝓤 𝓛 𝓜 𝓡 wired Y L g d d' met _ =
     (λ κs. ((λ r vs s. s.0), (uint_Tells w64, (uint_Tells w64, tt))))
     (λ κs qs bounds a τ are. walk Z 𝓛 𝓜.mem 𝓡.returns 𝓣 (met.allocate d')
     (cited 𝓤 𝓛.H _ 𝓜 𝓡 𝓡.env c_sym.name (𝓡.env c_sym.name) refl
-    (c_met.met 𝓤 𝓛 𝓜 𝓡 (code.calls-rl_refusing::is_due 𝓡.env wired))) κs.0 κs.1.0 qs.0 qs.1.0 bounds.0 a.0 a.1.0
+    (c_met.met 𝓤 𝓛 𝓜 𝓡 (code.calls-rl_failing::is_due 𝓡.env wired))) κs.0 κs.1.0 qs.0 qs.1.0 bounds.0 a.0 a.1.0
     a.1.1.0 τ are.1.0.1 are.1.1.0.1)))

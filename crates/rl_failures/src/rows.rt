@@ -5,7 +5,7 @@ use crate::tell::Tell;
 use crate::tokens::parsed;
 use crate::trial::{Scarce, Trial};
 use crate::{grammar, made, sources, tokens};
-use rl_refusing::{Failing, Page};
+use rl_failing::{Failing, Page};
 use rl_tokens::{Parse, lex};
 use rust_literals::{
     Lit, LitBool, LitByte, LitByteStr, LitCStr, LitChar, LitFloat, LitInt, LitStr, read_all,

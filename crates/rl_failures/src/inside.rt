@@ -4,7 +4,7 @@ ghost use Rattle.std.specs.Prelude.{⊤};
 
 use crate::held::NO_CALL;
 use crate::trial::{Scarce, Trial};
-use rl_refusing::Page;
+use rl_failing::Page;
 use rl_tokens::{Error, Literal, ParseBuffer, Parser};
 use rust_literals::{Lit, LitStr};
 use std::alloc::Allocator;

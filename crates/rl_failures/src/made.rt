@@ -2,7 +2,7 @@
 
 use crate::tokens::{c_string_of, first_byte, first_character};
 use crate::trial::{HERE, Scarce, Trial, UNFIT};
-use rl_refusing::Page;
+use rl_failing::Page;
 use rl_tokens::Literal;
 use rust_literals::{Lit, LitByte, LitByteStr, LitCStr, LitChar, LitFloat, LitInt, LitStr};
 
