@@ -17,7 +17,7 @@ impl<A: Allocator> Tell for ScanError<A> {
     fn tell(&self, page: &mut Page) {
         match self {
             ScanError::Fault(Fault::Memory) => page.put("out of memory"),
-            ScanError::Fault(_) => page.put("another fault"),
+            ScanError::Fault(_) => page.put("another error"),
             ScanError::Source(_, _) => page.put("an error of the source"),
         }
     }
