@@ -1,9 +1,10 @@
 //! Every flaw of a text, what literal it was going to be, and its pieces, good and bad.
 
 use crate::kind::Kind;
-use crate::parse_error::{flaw_of, FlawKind, ParseError};
+use crate::parse_error::{FlawKind, ParseError};
 use crate::places::Segment;
 use crate::rl_flaws;
+use crate::rl_reasons::explain_value;
 use core::fmt;
 use core::iter::FusedIterator;
 use core::ops::Range;
@@ -111,9 +112,10 @@ impl<'t> Flaws<'t> {
         if rl_flaws::Pieces::of(text).is_some() {
             return flaws(text);
         }
-        let flaw = flaw_of(text);
-        let end = flaw.hi;
-        Flaws(Left::One(Some(rl_flaws::BadPiece { flaw, end })))
+        Flaws(Left::One(explain_value(text).map(|flaw| {
+            let end = flaw.hi;
+            rl_flaws::BadPiece { flaw, end }
+        })))
     }
 }
 
