@@ -25,11 +25,11 @@ class Kept:
                 self.folder = folder
 
     def key(self, sums, edit):
-        """The name of the entry of an edit, of a crate with these sums."""
+        """The name of the file of a wrong body, of a crate with these sums."""
         return hashlib.sha256(repr((sums, edit.name, edit.pairs)).encode()).hexdigest()
 
     def rejection(self, key):
-        """What was reported of the edit as it was rejected; None where no earlier run saw that."""
+        """What was reported of the wrong body as it was rejected; None where no earlier run saw that."""
         if not self.folder or self.is_anew:
             return None
         try:

@@ -1,11 +1,11 @@
-"""The trials of a crate's edits, in as few checks as may be."""
+"""The trials of a crate's wrong bodies, in as few checks as may be."""
 import re
 import threading
 
 from .edits import control_of, read, with_regions, write
 from .holes import Holes
 
-# A check with more edits than these takes much memory.
+# A check with more of them than these takes much memory.
 MOST = 40
 # A goal that is the condition of a call, and so no clause of the function.
 REQUIRES = re.compile(r'-requires(-|$)')
@@ -16,7 +16,7 @@ SAYING = threading.Lock()
 
 
 class Trials:
-    """The edits of a crate that are tried in this run, on a copy of it, and what came of them."""
+    """The wrong bodies of a crate that are tried in this run, on a copy of it, and what came of them."""
 
     def __init__(self, crate, folder, proved, edits, check):
         self.crate, self.folder, self.check = crate, folder, check
@@ -26,7 +26,7 @@ class Trials:
         # What the prover calls a function.
         self.names = {}
         self.control, self.is_controlled = None, False
-        # Pairs of edits that one check can't judge: what the first changes calls what the second does.
+        # Pairs that one check can't judge: what the first changes calls what the second does.
         self.apart = set()
         self.rejected, self.errors, self.checks = {}, 0, 0
         for edit in edits:
@@ -41,7 +41,7 @@ class Trials:
         self.changed[edit], self.regions[edit] = edit.functions(self.crate, self.folder), edit.regions(self.folder)
 
     def add_control(self):
-        """Has the first check try an edit that changes nothing too; returns whether there is one."""
+        """Has the first check try a body that changes nothing too; returns whether there is one."""
         taken = {function for functions in self.changed.values() for function in functions}
         if not all(self.is_outside(it) for it in self.edits):
             self.control = control_of(self.crate, self.folder, taken)
@@ -59,7 +59,7 @@ class Trials:
         self.say(edit, f'ERROR: {what}')
 
     def report(self, edit, is_rejected, what):
-        """Reports what came of an edit: rejected, and at which goals; else why not."""
+        """Reports what came of a wrong body: rejected, and at which goals; else why not."""
         names = ', '.join(' or '.join(it.names) for it in self.changed[edit])
         if edit is self.control:
             self.is_controlled = True
@@ -77,7 +77,7 @@ class Trials:
         return any(not it.names for it in self.changed[edit])
 
     def fits(self, edit, chosen):
-        """Whether a check that has the chosen edits can have this one too."""
+        """Whether a check that has the chosen ones can have this one too."""
         if self.is_outside(edit):
             return not chosen
         taken = {function for it in chosen for function in self.changed[it]}
@@ -86,7 +86,7 @@ class Trials:
         return together and taken.isdisjoint(self.changed[edit]) and all(one.is_apart(it) for one in self.regions[edit] for it in regions)
 
     def batch(self, pending):
-        """The edits of the next check."""
+        """The wrong bodies of the next check."""
         chosen = []
         for edit in pending:
             if self.fits(edit, chosen):
@@ -96,12 +96,12 @@ class Trials:
         return chosen
 
     def paths(self, chosen):
-        """What the prover is to call the functions that these edits change, by which it checks them alone; none where it can't."""
+        """What the prover is to call the functions that these change, by which it checks them alone; none where it can't."""
         functions = [function for it in chosen for function in self.changed[it]]
         return [self.names.get(it) or it.names[0].removeprefix('::') for it in functions] if all(it.names for it in functions) else []
 
     def checked(self, chosen):
-        """What the prover says with these edits; the files are as they were then."""
+        """What the prover says with these wrong bodies; the files are as they were then."""
         texts = with_regions(self.folder, [region for it in chosen for region in self.regions[it]])
         was = {it: read(f'{self.folder}/{it}') for it in texts}
         for file, text in texts.items():
@@ -128,7 +128,7 @@ class Trials:
         return self.check(paths)
 
     def is_judged(self, edit, chosen, verdicts):
-        """Reports what came of the edit; false where it has to be tried again, with others left out."""
+        """Reports what came of the wrong body; false where it has to be tried again, with others left out."""
         if self.is_outside(edit):
             rejected = [it for it in verdicts.of if verdicts.is_rejected(it)]
             self.report(edit, bool(rejected), ', '.join(rejected) or NOT_REJECTED)
@@ -146,7 +146,7 @@ class Trials:
         elif any(goals[name] for name in own):
             self.report(edit, False, f'only what a call asks: {shown}')
         elif own:
-            self.report(edit, False, f'only answers that name what is gone: {shown}')
+            self.report(edit, False, f'only proof files that name what is gone: {shown}')
         causes = {it for name in names for it in verdicts.causes(name)}
         others = [
             it for it in chosen
@@ -158,7 +158,7 @@ class Trials:
         return not others
 
     def tried(self, chosen):
-        """Tries these edits in one check, and where that comes to no end, its halves; returns those that are judged."""
+        """Tries these in one check, and where that comes to no end, its halves; returns those that are judged."""
         verdicts = self.checked(chosen)
         self.names.update({it: verdicts.name(it) for edit in chosen for it in self.changed[edit]})
         if verdicts.status < 0 and len(chosen) == 1:

@@ -1,7 +1,7 @@
 """What a check of the prover said of each function."""
 import re
 
-# What the prover says of answers that name what an edit took away.
+# What the prover says of proof files that name what a wrong body took away.
 LOST = re.compile(r'has no field|is not in scope|has no `|was not admitted')
 
 # What it says of a function that is proved, or would be but for holes in place of other proofs.
