@@ -110,7 +110,7 @@ def pointed(out):
     return answers
 
 
-def unlexed_entry(text, our):
+def unlexed_listed(text, our):
     """Why ours may read a text that rustc's lexer tells an error of."""
     if '\r' in text or text.startswith('\ufeff'):
         return 'CR and byte order marks, which rustc takes away'
@@ -195,11 +195,11 @@ def normal(text):
     return unicodedata.normalize('NFC', text)
 
 
-def lists_entry(text, their, our):
-    """The entry of a difference under `spans` or `attr`, or None."""
+def lists_listed(text, their, our):
+    """The listed difference under `spans` or `attr`, or None."""
     data, said, ours = text.encode(), normal(their.decode()), normal(our.decode())
     if their == b'unlexed':
-        return unlexed_entry(text, our)
+        return unlexed_listed(text, our)
     if b'nested too deep' in our:
         return 'more than 128 open groups'
     if lines_differ_by_past(said, ours) or is_minus_before_past(data, ours):
@@ -211,8 +211,8 @@ def lists_entry(text, their, our):
     return None
 
 
-def strict_entry(text, their, our):
-    """The entry of a difference under `strict`, or None."""
+def strict_listed(text, their, our):
+    """The listed difference under `strict`, or None."""
     if re.search(r'\\\n[ \t\n]*\r', text):
         return 'a CR among the white space after an escaped line end'
     return None

@@ -1,4 +1,4 @@
-"""What the two sides answer, and which entry of docs/DIFFERENCES.md a difference belongs to."""
+"""What the two sides answer, and by which difference that docs/DIFFERENCES.md lists they differ."""
 import functools
 import re
 import struct
@@ -145,7 +145,7 @@ def goes_on_only(c):
     return not c.isascii() and ('a' + c).isidentifier() and not c.isidentifier()
 
 
-def cut_entry(text):
+def cut_listed(text):
     """Where the two lexers cut in other places."""
     if text.startswith('\ufeff'):
         return 'a byte order mark at the front'
@@ -156,8 +156,8 @@ def cut_entry(text):
     return None
 
 
-def read_entry(text, their, our):
-    """The entry under `read`, where one of the two may reject the text."""
+def read_listed(text, their, our):
+    """The listed difference under `read`, where one of the two may reject the text."""
     rejects = their in (b'rejected', b'unlexed')
     if our.startswith(b'error at '):
         if 'not carried' in our.decode() or 'too deep' in our.decode():
@@ -202,19 +202,19 @@ def is_long_past(text):
     return bool(digits) and len(re.sub('^0[xob]|_', '', text).lstrip('0')) > 128
 
 
-def entry(command, data, their, our):
-    """The entry of docs/DIFFERENCES.md that a difference belongs to, or None."""
+def listed(command, data, their, our):
+    """The difference that docs/DIFFERENCES.md lists, or None."""
     text = data.decode()
     if command == 'read':
-        known = read_entry(text, their, our) or cut_entry(text)
+        known = read_listed(text, their, our) or cut_listed(text)
         if known:
             return known
     elif command in ('spans', 'attr'):
-        known = lexing.lists_entry(text, their, our)
+        known = lexing.lists_listed(text, their, our)
         if known:
             return known
     elif command == 'strict':
-        known = lexing.strict_entry(text, their, our)
+        known = lexing.strict_listed(text, their, our)
         if known:
             return known
     elif command == 'text' and is_loose(text) and is_tightened(their, our):

@@ -191,8 +191,8 @@ def under(words, data, lines, cut):
     return line_places(data, lines) if '--lines' in words else lines
 
 
-def entries(data, their, our):
-    """The entries of docs/DIFFERENCES.md that the lines differ by, each with the number of its lines; None where some line has
+def all_listed(data, their, our):
+    """The differences of docs/DIFFERENCES.md that the lines differ by, each with the number of its lines; None where some line has
     none, or stands elsewhere."""
     found = {}
     if len(their) != len(our):
@@ -205,7 +205,7 @@ def entries(data, their, our):
             return None
         text = data[int(told[1]):int(told[2])]
         plain = ('Verbatim %s -' % readings.written(text.decode())).encode()
-        known = readings.entry('text', text, told[3], plain if ours[3] == readings.visible(plain) else ours[3])
+        known = readings.listed('text', text, told[3], plain if ours[3] == readings.visible(plain) else ours[3])
         if not known:
             return None
         found[known] = found.get(known, 0) + 1
@@ -217,7 +217,7 @@ def is_symbol_in_word(text):
     return any(unicodedata.category(c) == 'So' and word.isidentifier() for c, word in zip(text, text[1:]))
 
 
-def cut_entry(data, edition, their, our):
+def cut_listed(data, edition, their, our):
     """The row of docs/DIFFERENCES.md by which a source that rustc takes is cut in another place, or None."""
     apart = next((PLACED.fullmatch(o) for t, o in zip(their + [b''], our) if t != o), None)
     if apart and data.startswith(b"'r#", int(apart[1])):
@@ -269,7 +269,7 @@ def judge_model(count, name, data, wanted, our):
     if wanted == our:
         ending = our[-1].partition(b': ')[2].decode() if our and not our[-1][:1].isdigit() else 'no error'
         return count.add('model', 'the same lines, and ' + ending, 1, lines)
-    found = entries(data, wanted, our)
+    found = all_listed(data, wanted, our)
     if found is None and readings.newer(data.decode(errors='replace')):
         return count.add('model', 'characters newer than Unicode 14', 1, lines)
     if found is None:
@@ -284,9 +284,9 @@ def judge_rustc(count, name, data, told, our, is_model=False):
     their, words = told
     if their is None:
         return count.add('rustc', 'rejected: ' + told_words(words), 1, 0)
-    found = entries(data, their, our)
+    found = all_listed(data, their, our)
     if found is None:
-        known = cut_entry(data, words, their, our)
+        known = cut_listed(data, words, their, our)
         if is_model and readings.newer(data.decode()):
             known = 'characters newer than Unicode 14'
         if known:

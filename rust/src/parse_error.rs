@@ -78,7 +78,6 @@ impl ParseError {
         explain_value(text).map(ParseError::of_flaw)
     }
 
-    /// The flaw as an error.
     #[inline]
     pub(crate) fn of_flaw(flaw: Flaw) -> ParseError {
         ParseError {

@@ -28,7 +28,6 @@ pub struct LitBool<'t> {
 literal_type!(LitBool, Bool(value), "true", "");
 
 impl<'t> LitBool<'t> {
-    /// The literal of this text, which is the value's word.
     #[inline]
     pub(crate) fn of(text: Cow<'t, str>, value: bool) -> Self {
         let suffix_at = text.len();
@@ -72,7 +71,6 @@ pub struct LitVerbatim<'t> {
 text_type!(LitVerbatim(), "word");
 
 impl<'t> LitVerbatim<'t> {
-    /// The text, which has no reading.
     #[inline]
     pub(crate) fn of(text: Cow<'t, str>) -> Self {
         LitVerbatim { text }

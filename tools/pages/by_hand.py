@@ -6,7 +6,7 @@ import subprocess
 import programs
 
 from .items import TOP, libraries, public_items, read
-from .pieces import paste
+from .snippets import paste
 from .words import words
 
 

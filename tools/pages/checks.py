@@ -10,7 +10,7 @@ import textwrap
 
 from .items import (
     TOP, code_files, core, definition_files, libraries, pages, paths, prose_pages, public_items, read, signature_end)
-from .pieces import EXAMPLE, VALUE, Source, blanked, whole_items
+from .snippets import EXAMPLE, VALUE, Source, blanked, whole_items
 
 # The Rust of a page.
 RUST = re.compile(r'```rust\n(.*?) *```', re.S)
@@ -55,8 +55,8 @@ def check_items(tell):
             count += 1
             if not item.docs.strip():
                 tell(f'{path}: {item.name} has no documentation')
-            if item.answers_result() and not item.errors():
-                tell(f'{path}: {item.name} answers a Result and has no `# Errors`')
+            if item.returns_result() and not item.errors():
+                tell(f'{path}: {item.name} returns a Result and has no `# Errors`')
             if item.name in wanted and not item.examples() and item.named_example() not in shown:
                 tell(f'{path}: {item.name} has no example')
             for example in item.examples():
@@ -87,7 +87,7 @@ def words_of(definitions):
     return re.sub(r'\s+', '', re.sub(r'(^|\s)--[^\n]*', r'\1', definitions))
 
 
-def pieces(block):
+def definitions_in(block):
     return [it for it in re.split(r'\n\s*\n', block) if it.strip()]
 
 
@@ -96,7 +96,7 @@ def check_definitions(tell):
     found = [words_of(read(it)) for it in definition_files()]
     for page in pages():
         for block in re.findall(r'```antt\n(.*?)```', read(page), re.S):
-            for piece in pieces(block):
+            for piece in definitions_in(block):
                 if not any(words_of(piece) in it for it in found):
                     tell(f'{page}: stands in no source: {piece.strip().splitlines()[0]}')
 
@@ -116,20 +116,20 @@ def check_names(tell):
             tell(f'{name} stands in {", ".join(sorted(files))}')
 
 
-def shown_pieces():
-    """Each piece of Rust that is shown, with where it stands."""
+def shown_snippets():
+    """Each snippet of Rust that is shown, with where it stands."""
     yield from ((page, textwrap.dedent(it)) for page in pages() for it in RUST.findall(read(page)))
     for path in code_files():
         docs = '\n'.join(re.findall(r'^ *//[/!] ?(.*)$', read(path), re.M))
         yield from ((path, it) for it in EXAMPLE.findall(docs))
 
 
-def check_pieces(tell):
-    """Each piece of Rust that is shown is whole, and of the code of a crate; its values are printed."""
+def check_snippets(tell):
+    """Each snippet of Rust that is shown is whole, and of the code of a crate; its values are printed."""
     sources = [Source(read(it)) for it in code_files() + paths('rust/examples/*.rs')]
     printed = set(read('crates/rl_rows/stdout').split('\n'))
-    for where, block in shown_pieces():
-        first = block.strip().splitlines()[0] if block.strip() else 'an empty piece'
+    for where, block in shown_snippets():
+        first = block.strip().splitlines()[0] if block.strip() else 'an empty snippet'
         for value in VALUE.findall(block):
             if value not in printed:
                 tell(f'{where}: rl_rows prints no {value}')
@@ -302,5 +302,5 @@ def check_diagrams(tell):
 
 
 OF_PAGES = (
-    check_core, check_paths, check_pieces, check_definitions, check_names, check_words, check_owners,
+    check_core, check_paths, check_snippets, check_definitions, check_names, check_words, check_owners,
     check_errors, check_diagrams, check_limits, check_terms)

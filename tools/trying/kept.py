@@ -6,12 +6,12 @@ import os
 import stat
 import tempfile
 
-# The most entries that stay at the end of a run.
+# The most files that stay at the end of a run.
 MOST = 20_000
 
 
 class Kept:
-    """The rejections that earlier runs saw, in a folder beside the one that rt keeps its results in. The name of an entry is the sum
+    """The rejections that earlier runs saw, in a folder beside the one that rt keeps its results in. The name of a file is the sum
     of all that it stands on, so it never goes stale; it is written apart and then renamed, so that no other run reads half of it.
     Where the folder is another's or can't be written, nothing is kept."""
 
@@ -49,8 +49,8 @@ class Kept:
             os.replace(it.name, f'{self.folder}/{key}')
 
     def shrink(self):
-        """Removes the entries longest unused, and what a run that was killed left among them."""
+        """Removes the files longest unused, and what a run that was killed left among them."""
         with contextlib.suppress(OSError):
-            entries = sorted(os.scandir(self.folder), key=lambda it: -it.stat().st_mtime) if self.folder else []
-            for it in entries[MOST:]:
+            files = sorted(os.scandir(self.folder), key=lambda it: -it.stat().st_mtime) if self.folder else []
+            for it in files[MOST:]:
                 os.remove(it.path)

@@ -52,8 +52,8 @@ class Verdicts:
             found += [it for it in re.findall('`([^`]+)`', listed) if it not in self.of]
             noted = rf'(?m)^note: {re.escape(function.file)}:(\d+):\d+: .*?\(`([^`]+)`\)'
             found += [goal for line, goal in re.findall(noted, self.said) if int(line) in function.lines]
-        answers = rf"\./proofs/{re.escape('/'.join(name.split('::')[1:]))}/\w+\.antt:\d+:\d+"
-        for goal, why in re.findall(rf'(?m)^{answers}: error: `([^`]+)`: (.*)$', self.said):
+        proof_files = rf"\./proofs/{re.escape('/'.join(name.split('::')[1:]))}/\w+\.antt:\d+:\d+"
+        for goal, why in re.findall(rf'(?m)^{proof_files}: error: `([^`]+)`: (.*)$', self.said):
             found += [] if LOST.search(why) else [goal]
         return list(dict.fromkeys(found))
 

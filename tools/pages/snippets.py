@@ -1,4 +1,4 @@
-"""Pieces of Rust that pages show: whether they are whole items of a file, and what they lack to be pasted."""
+"""Snippets of Rust that pages show: whether they are whole items of a file, and what they lack to be pasted."""
 import os
 import re
 import shutil
