@@ -30,11 +30,6 @@ EXAMPLES = {
         Number::base10_parse read_all read_next""",
     'rl_attributes': 'Attrs Attrs::get read',
 }
-# The crates whose comments are held to the field's words.
-TERMS_IN = """
-    rl_quoted rust_literals rl_attributes rl_lines rl_program rl_commands rl_files rl_output rl_sources rl_tool rl_scan
-    rl_uses rl_example rl_bench rl_tokens rl_grammar rl_c rl_text rl_forms rl_lexer rl_reading rl_parts rl_recovery rl_leading
-    rl_settings rl_strict rl_reasons rl_file_reasons rl_flaws rl_types rl_fronts rl_writing rl_style""".split()
 # Words of others, and of what stands in no crate.
 FOREIGN = {'parse_str', 'proc_macro2'}
 # Pages that name what isn't here.
@@ -253,20 +248,43 @@ def check_errors(tell):
 # Words that the field has others for, and what they are right in.
 TERMS = re.compile(r'\b(faults?|refus\w+|lent|lends?|want of memory|behind)\b', re.I)
 RIGHT = re.compile(r'page faults|REFUSALS|behind a pointer|system lends memory', re.I)
+# Names of rl_program and rl_attributes that have such a word, and stay: much is proved of them.
+KEPT_NAMES = {'Fault', 'Refusal', 'fault_status', 'lent_token'}
+
+
+def prose_of(path):
+    """The paragraphs of a page, or of the comments of code, each with the number of its first line: without examples, code and
+    addresses."""
+    lines, is_code = [], False
+    for line in read(path).split('\n'):
+        comment = line if path.endswith('.md') else line.partition('//')[2] if line.strip().startswith('//') else ''
+        if comment.strip(' /!').startswith('```'):
+            is_code = not is_code
+        lines.append('' if is_code else comment.strip(' /!'))
+    begin = 0
+    for at, line in enumerate([*lines, '']):
+        if not line:
+            if at > begin:
+                yield begin + 1, re.sub(r'``.*?``|`[^`]*`|\]\([^)]*\)|!\[[^]]*\]', '', ' '.join(lines[begin:at]))
+            begin = at + 1
 
 
 def check_terms(tell):
-    """No page and no comment of these crates has a word that the field has another for."""
-    for path in prose_pages() + paths(*(f'crates/{it}/src/**/*.rt' for it in TERMS_IN)):
-        is_page, is_code = path.endswith('.md'), False
-        for number, line in enumerate(read(path).split('\n'), 1):
-            comment = line if is_page else line.partition('//')[2] if line.strip().startswith('//') else ''
-            if comment.strip(' /!').startswith('```'):
-                is_code = not is_code
-            elif not is_code:
-                prose = re.sub(r'``.*?``|`[^`]*`|\]\([^)]*\)|!\[[^]]*\]', '', comment)
-                for found in TERMS.finditer(RIGHT.sub('', prose)):
-                    tell(f'{path}:{number}: {found[0]}: another word is the field\'s')
+    """No page and no comment of a crate has a word that the field has another for."""
+    for path in prose_pages() + code_files():
+        for number, prose in prose_of(path):
+            for found in TERMS.finditer(RIGHT.sub('', prose)):
+                tell(f'{path}:{number}: {found[0]}: another word is the field\'s')
+
+
+def check_public_names(tell):
+    """No public item and no public definition has such a word in its name, but for those of KEPT_NAMES."""
+    named = [(path, item.name) for crate in libraries() for path, item in public_items(crate)]
+    named += [(path, name) for path in paths('crates/*/specs/**/*.antt') for name in DEFINED.findall(read(path))]
+    for path, name in named:
+        parts = re.findall(r'[A-Z]?[a-z]+', name)
+        if any(TERMS.fullmatch(it) for it in parts) and not KEPT_NAMES.intersection(parts + [name]):
+            tell(f'{path}: {name}: another word is the field\'s')
 
 
 def check_limits(tell):
@@ -303,4 +321,4 @@ def check_diagrams(tell):
 
 OF_PAGES = (
     check_core, check_paths, check_snippets, check_definitions, check_names, check_words, check_owners,
-    check_errors, check_diagrams, check_limits, check_terms)
+    check_errors, check_diagrams, check_limits, check_terms, check_public_names)

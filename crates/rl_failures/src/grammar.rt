@@ -1,8 +1,8 @@
 //! Calls of `rl_grammar`.
 
 use crate::trial::{Scarce, Trial, UNFIT};
-use rl_grammar::{Kind, Segments, bytes_of, digits_of, shape, spans_of, str_of};
 use rl_failing::Page;
+use rl_grammar::{Kind, Segments, bytes_of, digits_of, shape, spans_of, str_of};
 use rl_tokens::Span;
 
 /// `str_of`, `bytes_of` or `digits_of`, by the text's kind.

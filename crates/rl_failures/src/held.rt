@@ -3,9 +3,9 @@
 use crate::inside;
 use crate::tell::Tell;
 use crate::trial::{HERE, Scarce, Trial, UNFIT};
+use rl_failing::Page;
 use rl_grammar::shape;
 use rl_quoted::{Quoted, QuotedKind};
-use rl_failing::Page;
 use rl_tokens::{Literal, ToTokens};
 use rust_literals::{Lit, LitBool, Number, NumberKind};
 
@@ -30,7 +30,7 @@ pub fn run_held<T: Held<A> + Tell + Drop, A: Scarce>(
 ) {
     match T::of_text(trial, text) {
         Some(value) => {
-            let before = trial.lends(&value);
+            let before = trial.borrows(&value);
             value.call(name, trial, page);
             trial.leaves(&value, before, page);
             drop(value);
@@ -131,7 +131,7 @@ const FULL: &str = "(1) a 2 +";
 fn appended<T: ToTokens, A: Scarce>(literal: &T, trial: &Trial<'_, A>, page: &mut Page) {
     match trial.trees(FULL) {
         Some(mut stream) => {
-            let before = trial.lends(&stream);
+            let before = trial.borrows(&stream);
             trial.ends(literal.to_tokens(trial.begins(), &mut stream), page);
             trial.leaves(&stream, before, page);
         }

@@ -4,9 +4,9 @@
 use crate::tell::{Tell, tell_places};
 use rl_attributes::Attrs;
 use rl_commands::line_of;
+use rl_failing::Page;
 use rl_grammar::strict;
 use rl_program::Refusal;
-use rl_failing::Page;
 use rl_tokens::{Error, Kept, Literal, Span, lex, whitespace};
 use rust_literals::{Lit, read_all};
 use std::alloc::Global;

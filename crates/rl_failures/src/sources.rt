@@ -2,8 +2,8 @@
 
 use crate::tell::Tell;
 use crate::trial::{Scarce, Trial};
-use rl_program::Fault;
 use rl_failing::Page;
+use rl_program::Fault;
 use rl_sources::{Options, ScanError, scan};
 use std::alloc::Allocator;
 

@@ -1,7 +1,7 @@
 //! What is printed of answers and of what is left.
 
-use rl_quoted::{Quoted, QuotedKind};
 use rl_failing::Page;
+use rl_quoted::{Quoted, QuotedKind};
 use rl_tokens::{
     CString, Error, Ident, Kept, LexError, Literal, ParseBuffer, Span, TokenStream, TokenTree,
 };

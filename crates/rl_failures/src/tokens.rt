@@ -81,7 +81,7 @@ pub fn append<A: Scarce>(trial: &Trial<'_, A>, text: &str, page: &mut Page) {
 fn append_last<A: Scarce>(trial: &Trial<'_, A>, text: &str, last: Literal<A>, page: &mut Page) {
     match trial.trees(text) {
         Some(mut stream) => {
-            let before = trial.lends(&stream);
+            let before = trial.borrows(&stream);
             trial.begins();
             trial.ends(stream.append(TokenTree::Literal(last)), page);
             trial.leaves(&stream, before, page);
@@ -98,7 +98,7 @@ pub fn parsed<T: Parse<A> + Tell + Drop, A: Scarce>(
 ) {
     match trial.trees(text) {
         Some(stream) => {
-            let before = trial.lends(&stream);
+            let before = trial.borrows(&stream);
             let mut input = ParseBuffer::new(stream.trees(), HERE);
             trial.ends(input.parse::<T>(trial.begins()), page);
             trial.leaves(&input, before, page);

@@ -40,7 +40,7 @@ pub const UNFIT: &str = "unfit text";
 pub struct Trial<'a, A: Scarce> {
     /// Memory for what is printed.
     pub alloc: Global,
-    /// Memory for the call, and for what it is lent.
+    /// Memory for the call, and for what it borrows.
     pub scant: A,
     /// The first allocation that fails.
     pub first: u64,
@@ -66,16 +66,16 @@ impl<A: Scarce> Trial<'_, A> {
         }
     }
 
-    /// What is told of what a call is lent, before it.
-    pub fn lends<T: Tell>(&self, lent: &T) -> Page {
+    /// What is told of what a call borrows, before it.
+    pub fn borrows<T: Tell>(&self, borrowed: &T) -> Page {
         let mut told = Page::new(self.alloc);
-        lent.tell(&mut told);
+        borrowed.tell(&mut told);
         told
     }
 
-    /// Puts last what is left of what the call was lent: whether the same is told of it as before.
-    pub fn leaves<T: Tell>(&self, lent: &T, before: Page, page: &mut Page) {
-        let after = self.lends(lent);
+    /// Puts last what is left of what the call borrowed: whether the same is told of it as before.
+    pub fn leaves<T: Tell>(&self, borrowed: &T, before: Page, page: &mut Page) {
+        let after = self.borrows(borrowed);
         if after.text() == before.text() {
             page.put("; same");
         } else {

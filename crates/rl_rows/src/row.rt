@@ -2,8 +2,8 @@
 
 use crate::bulk::is_command;
 use crate::bytes;
-use rl_lines::decoded;
 use rl_failing::Page;
+use rl_lines::decoded;
 use std::alloc::{AllocError, Global};
 
 /// What is printed for a line of input, all bytes up to a LF, a CR among them.
