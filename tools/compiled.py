@@ -77,5 +77,5 @@ def compare_values(options, tally):
         kinds[kind] = kinds.get(kind, 0) + 1
     tally.compared += len(asked)
     tally.kinds.update({('values', kind): count for kind, count in kinds.items()})
-    tally.entries['values', 'a suffix that rustc has no type of, or a value past it'] = len(tests) - len(asked)
+    tally.listed['values', 'a suffix that rustc has no type of, or a value past it'] = len(tests) - len(asked)
     return len(texts)

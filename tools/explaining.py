@@ -176,7 +176,7 @@ def rustc_reason(text, flaw, error):
         return 'none: white space and comments follow one token'
     if end_of_first is not None and not error and re.search(r'[(){}\[\]]', text):
         return 'stands elsewhere: one token is whole, and a delimiter without another follows'
-    if kind == 'CarriageReturn' and lexing.strict_entry(text, '', '') and (not error or begin > flaw.low):
+    if kind == 'CarriageReturn' and lexing.strict_listed(text, '', '') and (not error or begin > flaw.low):
         return 'takes a CR among the white space after an escaped line end'
     return None
 
@@ -306,7 +306,7 @@ def compare_texts(options, tally, answers, texts):
             if model == line:
                 tally.kinds[command, kind] = tally.kinds.get((command, kind), 0) + 1
             elif newer(text):
-                tally.entries[command, NEWER] = tally.entries.get((command, NEWER), 0) + 1
+                tally.listed[command, NEWER] = tally.listed.get((command, NEWER), 0) + 1
             else:
                 tally.differs('model, ' + command, data, model, line)
         tally.compared += len(texts)

@@ -68,12 +68,12 @@ class Rustc:
             # A CR at the end of the text doesn't stand before the LF.
             pieces.append(b'{' + text + (b' ' if text.endswith(b'\r') else b'') + b'\n}\n')
             line += text.count(b'\n') + 2
-        out, faults = self.expanded(b''.join(pieces) + b');', texts)
-        if 1 in faults and 'panicked' not in faults[1] and len(texts) == 1:
-            return [(b'unlexed', faults[1])]
-        if 1 in faults:
-            raise ValueError('rustc says of the macro: ' + faults[1])
-        faulty = {bisect.bisect_right(begins, line) - 1: (b'unlexed', words) for line, words in faults.items()}
+        out, errors = self.expanded(b''.join(pieces) + b');', texts)
+        if 1 in errors and 'panicked' not in errors[1] and len(texts) == 1:
+            return [(b'unlexed', errors[1])]
+        if 1 in errors:
+            raise ValueError('rustc says of the macro: ' + errors[1])
+        faulty = {bisect.bisect_right(begins, line) - 1: (b'unlexed', words) for line, words in errors.items()}
         answers = pointed(out)
         if len(answers) == len(texts):
             return [faulty.get(at) or (answer, None) for at, answer in enumerate(answers)]
@@ -85,8 +85,8 @@ class Rustc:
     def errors(self, texts):
         """The first error that rustc tells of each text, or None."""
         calls = b''.join(b'answers::tried!(%d);\n' % at for at in range(len(texts)))
-        faults = self.expanded(calls, texts)[1]
-        return [faults.get(at + 1) for at in range(len(texts))]
+        errors = self.expanded(calls, texts)[1]
+        return [errors.get(at + 1) for at in range(len(texts))]
 
     def literals(self, texts):
         """Of each whole source, without its front, the places and lines of its literals, or `unlexed`; and rustc's first
@@ -110,7 +110,7 @@ def pointed(out):
     return answers
 
 
-def unlexed_entry(text, our):
+def unlexed_listed(text, our):
     """Why ours may read a text that rustc's lexer tells an error of."""
     if '\r' in text or text.startswith('\ufeff'):
         return 'CR and byte order marks, which rustc takes away'
@@ -151,8 +151,8 @@ def lines_differ_by_past(their, our):
     return their != our and their.count('\n') == our.count('\n') and all(t == o or is_past_line(t, o) for t, o in pairs)
 
 
-def refused_at(our):
-    """The byte where ours refuses the text, and the message, or None."""
+def rejected_at(our):
+    """The byte where ours rejects the text, and the message, or None."""
     told = re.fullmatch(r'error at ([0-9]+)\.\.[0-9]+: (.*)', our)
     return told and (int(told[1]), told[2])
 
@@ -177,16 +177,16 @@ def after_gap(text):
 
 
 def is_minus_before_past(data, our):
-    """Whether ours refuses a minus before an integer past 128 bits."""
-    told = refused_at(our)
+    """Whether ours rejects a minus before an integer past 128 bits."""
+    told = rejected_at(our)
     if not told or told[1] != 'expected literal' or data[told[0]:told[0] + 1] != b'-':
         return False
     return is_past(after_gap(data[told[0] + 1:].decode()))
 
 
 def is_emoji(data, our):
-    """Whether ours calls a character stray that rustc takes for part of an identifier, to refuse it later."""
-    told = refused_at(our)
+    """Whether ours calls a character stray that rustc takes for part of an identifier, to reject it later."""
+    told = rejected_at(our)
     return bool(told) and told[1] == 'stray character' and unicodedata.category(data[told[0]:].decode()[0]) == 'So'
 
 
@@ -195,29 +195,29 @@ def normal(text):
     return unicodedata.normalize('NFC', text)
 
 
-def lists_entry(text, their, our):
-    """The entry of a difference under `spans` or `attr`, or None."""
+def lists_listed(text, their, our):
+    """The listed difference under `spans` or `attr`, or None."""
     data, said, ours = text.encode(), normal(their.decode()), normal(our.decode())
     if their == b'unlexed':
-        return unlexed_entry(text, our)
+        return unlexed_listed(text, our)
     if b'nested too deep' in our:
         return 'more than 128 open groups'
     if lines_differ_by_past(said, ours) or is_minus_before_past(data, ours):
         return 'integers past 128 bits'
     if is_emoji(data, ours):
-        return 'symbols that rustc refuses behind its lexer'
+        return 'symbols that rustc rejects after its lexer'
     if normal(text) != text and (ours == said or 'repeated name' in said):
         return 'names that have another normal form'
     return None
 
 
-def strict_entry(text, their, our):
-    """The entry of a difference under `strict`, or None."""
+def strict_listed(text, their, our):
+    """The listed difference under `strict`, or None."""
     if re.search(r'\\\n[ \t\n]*\r', text):
-        return 'a CR among the white space behind an escaped line end'
+        return 'a CR among the white space after an escaped line end'
     return None
 
 
 def agree(command, their, our):
-    """Whether the answers are the same; a text that rustc's lexer refuses ours may refuse for any reason."""
+    """Whether the answers are the same; a text that rustc's lexer rejects ours may reject for any reason."""
     return their == our or their == b'unlexed' and our.startswith(b'error at ')

@@ -66,7 +66,7 @@ def whole_soups(source, count):
     found = []
     while len(found) < count:
         soup = source_texts.sound(source)
-        if not source_model.cut_source(soup).fault:
+        if not source_model.cut_source(soup).error:
             found.append(soup)
     return '\n'.join(found)
 

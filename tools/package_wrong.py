@@ -1,10 +1,10 @@
-"""The wrong edits that tools/package_edits tries: in which file of rust/src what stands once, what is put in its place, and what
+"""The wrong bodies that tools/package_wrong tries: in which file of rust/src what stands once, what is put in its place, and what
 is wrong then."""
 from typing import NamedTuple
 
 
 class Wrong(NamedTuple):
-    """An edit."""
+    """A wrong body."""
     file: str
     old: str
     new: str
@@ -12,7 +12,7 @@ class Wrong(NamedTuple):
 
 
 # What --control tries: it changes nothing.
-CONTROL = Wrong('settings.rs', "/// The setting that was cut off the text.", "/// The setting that was cut off this text.",
+CONTROL = Wrong('settings.rs', "/// The setting that was cut off the text,", "/// The setting that was cut off this text,",
                 'nothing is wrong: a comment has other words')
 
 WRONG = [Wrong(*row) for row in [
@@ -90,7 +90,7 @@ WRONG = [Wrong(*row) for row in [
     # common.rs
     ('common.rs', "self.suffix_at..self.text.len()", "self.suffix_at..self.suffix_at",
      'the range of a suffix is empty'),
-    ('common.rs', "            text.truncate(to);\n", "",
+    ('common.rs', "Cow::Owned(String::from(&text[from..to]))", "Cow::Owned(String::from(&text[from..]))",
      'what is taken of a text of its own goes up to its end'),
     ('common.rs', "        &text[suffix_at..]\n", "        text[suffix_at..].trim_start_matches('_')\n",
      'a suffix has no underscore before it'),
@@ -112,8 +112,10 @@ WRONG = [Wrong(*row) for row in [
      'the piece of an error is its last character'),
     ('parse_error.rs', "kind: ParseErrorKind::Kind { expected, found },", "kind: ParseErrorKind::Kind { expected: found, found: expected },",
      'the kind that was asked for and that of the text change places'),
-    ('parse_error.rs', "Err(flaw) => flaw,", "Err(flaw) => crate::rl_reasons::explain(text).unwrap_or(flaw),",
+    ('parse_error.rs', "explain_value(text).map(", "crate::rl_reasons::explain(text).or(explain_value(text)).map(",
      'a minus before a number is what is wrong with it'),
+    ('parse_error.rs', "literal.explain().unwrap_or(other)", "literal.explain().map_or(other, |_| other)",
+     'a text that is no literal is one of another kind'),
     # places.rs
     ('places.rs', "let byte = range.start + (at - begin);", "let byte = range.start + (at - begin).min(63);",
      'a text of more than 64 bytes has its places in the first ones'),
@@ -229,32 +231,32 @@ WRONG = [Wrong(*row) for row in [
      'an error at the front of a text is one of the step'),
     ('config.rs', "Settings::of_entries(text, config(text)?)", "Settings::of_entries(without_mark(text), config(text)?)",
      'the end of a text counts after the byte order mark'),
-    ('config.rs', "without_suffix(setting, entry, literal.c_string())", "without_suffix(setting, entry, CString::new(literal.body()).unwrap_or_default())",
+    ('config.rs', "without_suffix(key, entry, literal.c_string())", "without_suffix(key, entry, CString::new(literal.body()).unwrap_or_default())",
      'the escapes of a C string stay'),
-    ('config.rs', "Lit::Byte(literal) => without_suffix(setting, entry, literal.value()),", "Lit::Byte(literal) => without_suffix(setting, entry, literal.value() & 0x7F),",
+    ('config.rs', "Lit::Byte(literal) => without_suffix(key, entry, literal.value()),", "Lit::Byte(literal) => without_suffix(key, entry, literal.value() & 0x7F),",
      'bytes are ASCII'),
     # setting.rs
     ('setting.rs', "Some(suffix) if !suffix.is_empty() => {", "Some(suffix) if entry.value.text().len() >= 10 && !suffix.is_empty() => {",
      'a short string may have a suffix'),
-    ('setting.rs', "known.iter().all(|setting| setting.name != entry.name)",
-     "known.iter().all(|setting| !entry.name.starts_with(setting.name))",
+    ('setting.rs', "known.iter().all(|key| key.name != entry.name)",
+     "known.iter().all(|key| !entry.name.starts_with(key.name))",
      'a name that begins as a known one is known'),
     ('setting.rs', "self.entries.iter().find(|entry| entry.name == name)",
      "self.entries.iter().find(|entry| entry.name.eq_ignore_ascii_case(name))",
      'a name is found in other letters too'),
-    ('setting.rs', "        let end = self.text.len();\n        SettingError {\n            kind: SettingErrorKind::Missing(setting),",
-     "        let end = self.entries.last().map_or(0, |entry| entry.value_range.end);\n        SettingError {\n            kind: SettingErrorKind::Missing(setting),",
+    ('setting.rs', "        let end = self.text.len();\n        SettingError {\n            kind: SettingErrorKind::Missing(key),",
+     "        let end = self.entries.last().map_or(0, |entry| entry.value_range.end);\n        SettingError {\n            kind: SettingErrorKind::Missing(key),",
      'a missing setting is reported after the last one'),
-    ('setting.rs', "Err((SettingErrorKind::Suffix(setting), range_in(entry, suffix)))",
-     "Err((SettingErrorKind::Suffix(setting), range_in(entry, 0..suffix.end)))",
+    ('setting.rs', "Err((SettingErrorKind::Suffix(key), range_in(entry, suffix)))",
+     "Err((SettingErrorKind::Suffix(key), range_in(entry, 0..suffix.end)))",
      'the error of a suffix has the whole value'),
     ('setting.rs', "let range = range_in(entry, error.range());\n                (SettingErrorKind::Value",
      "let range = entry.value_range.clone();\n                (SettingErrorKind::Value",
      'the error of a number has the whole value'),
     ('setting.rs', "if value.len() == entry.value.text().len() {", "if value.len() >= entry.value.text().len() {",
      'what stands between a minus and a number is passed over in the place of an error'),
-    ('setting.rs', "SettingErrorKind::Missing(setting) => write!(f, \"missing {setting}\"),",
-     "SettingErrorKind::Missing(setting) => write!(f, \"missing {}\", setting.name),",
+    ('setting.rs', "SettingErrorKind::Missing(key) => write!(f, \"missing {key}\"),",
+     "SettingErrorKind::Missing(key) => write!(f, \"missing {}\", key.name),",
      'what was expected is missing in the message of a missing setting'),
     # value.rs
     ('value.rs', "Ok(number) if number.is_number() => Ok(number),", "Ok(number) => Ok(number),",

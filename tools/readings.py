@@ -1,4 +1,4 @@
-"""What the two sides answer, and which entry of docs/DIFFERENCES.md a difference belongs to."""
+"""What the two sides answer, and by which difference that docs/DIFFERENCES.md lists they differ."""
 import functools
 import re
 import struct
@@ -136,7 +136,7 @@ def unwritten(line):
 
 
 def is_tightened(their, our):
-    """Whether a line of the oracle is of a byte kind, and ours says `Verbatim` of a text that the stricter rule refuses."""
+    """Whether a line of the oracle is of a byte kind, and ours says `Verbatim` of a text that the stricter rule rejects."""
     return their.startswith((b'Byte ', b'ByteStr ')) and our.startswith(b'Verbatim ') and is_loose(unwritten(our))
 
 
@@ -145,27 +145,27 @@ def goes_on_only(c):
     return not c.isascii() and ('a' + c).isidentifier() and not c.isidentifier()
 
 
-def cut_entry(text):
+def cut_listed(text):
     """Where the two lexers cut in other places."""
     if text.startswith('\ufeff'):
         return 'a byte order mark at the front'
     if re.search('[eE]_+[-+]', text):
         return 'underscores before the sign of an exponent'
     if any(goes_on_only(text[found.end()]) for found in re.finditer('[eE][-+]?[0-9_]*[0-9][0-9_]*(?=.)', text)):
-        return 'a character that begins no suffix, behind an exponent'
+        return 'a character that begins no suffix, after an exponent'
     return None
 
 
-def read_entry(text, their, our):
-    """The entry under `read`, where one of the two may refuse the text."""
-    refuses = their in (b'refused', b'unlexed')
+def read_listed(text, their, our):
+    """The listed difference under `read`, where one of the two may reject the text."""
+    rejects = their in (b'rejected', b'unlexed')
     if our.startswith(b'error at '):
         if 'not carried' in our.decode() or 'too deep' in our.decode():
-            return 'forms that `lex` refuses by name'
+            return 'forms that `lex` rejects by name'
         if any(is_big(line) for line in their.split(b'\n')):
             return 'integers past 128 bits'
         return None
-    if not refuses:
+    if not rejects:
         differ = [(t, o) for t, o in zip(their.split(b'\n'), our.split(b'\n')) if t != o]
         same_count = their.count(b'\n') == our.count(b'\n')
         if same_count and all(is_big(t) and o.startswith(b'Verbatim') or is_tightened(t, o) for t, o in differ):
@@ -173,7 +173,7 @@ def read_entry(text, their, our):
         return None
     if any(mark in text for mark in ('c"', 'cr"', 'cr#')):
         return 'C strings, newer than the oracle'
-    if their == b'refused':
+    if their == b'rejected':
         return None
     # The oracle's lexer judges escapes, digits and line ends; ours leaves all of them to the reading.
     if b'Verbatim ' in our:
@@ -202,26 +202,26 @@ def is_long_past(text):
     return bool(digits) and len(re.sub('^0[xob]|_', '', text).lstrip('0')) > 128
 
 
-def entry(command, data, their, our):
-    """The entry of docs/DIFFERENCES.md that a difference belongs to, or None."""
+def listed(command, data, their, our):
+    """The difference that docs/DIFFERENCES.md lists, or None."""
     text = data.decode()
     if command == 'read':
-        known = read_entry(text, their, our) or cut_entry(text)
+        known = read_listed(text, their, our) or cut_listed(text)
         if known:
             return known
     elif command in ('spans', 'attr'):
-        known = lexing.lists_entry(text, their, our)
+        known = lexing.lists_listed(text, their, our)
         if known:
             return known
     elif command == 'strict':
-        known = lexing.strict_entry(text, their, our)
+        known = lexing.strict_listed(text, their, our)
         if known:
             return known
     elif command == 'text' and is_loose(text) and is_tightened(their, our):
         return BYTE_KINDS
     elif command in ('text', 'int') and is_big(their):
-        refusal = ('Verbatim %s -' % written(text)).encode() if command == 'text' else b'TooLarge'
-        if our == refusal:
+        rejection = ('Verbatim %s -' % written(text)).encode() if command == 'text' else b'TooLarge'
+        if our == rejection:
             return 'integers past 128 bits'
     if newer(text):
         return 'characters newer than Unicode 14'
@@ -229,19 +229,19 @@ def entry(command, data, their, our):
 
 
 def agree(command, data, their, our):
-    """Whether the answers are the same, and should be; of a refusal under `read` the oracle tells no more than that."""
+    """Whether the answers are the same, and should be; of a rejection under `read` the oracle tells no more than that."""
     if command == 'text' and their.startswith(b'Byte') and is_loose(data.decode()):
         return False
     if command in lexing.COMMANDS:
         return lexing.agree(command, their, our)
-    return their == our or their in (b'refused', b'unlexed') and our.startswith(b'error at ')
+    return their == our or their in (b'rejected', b'unlexed') and our.startswith(b'error at ')
 
 
 def kind_of(command, their, our):
     if command in POINTED:
-        if their in (b'refused', b'unlexed'):
-            return 'refusals, of which the other tells no place'
-        return 'refusals' if our.startswith(b'error at ') else 'lists'
+        if their in (b'rejected', b'unlexed'):
+            return 'rejections, of which the other tells no place'
+        return 'rejections' if our.startswith(b'error at ') else 'lists'
     if command == 'value':
-        return 'none' if our == b'None' else 'lent'
+        return 'none' if our == b'None' else 'borrowed'
     return 'places' if command == 'skip' else our.split(b' ')[0].decode()

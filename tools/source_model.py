@@ -47,7 +47,7 @@ PLAIN_LITERAL = compiled(
     + '|0[xob]' + CONTINUE + '*+'
     + r'|[0-9][0-9_]*+(?:\.(?!\.|' + START + r')[0-9_]*+)?+(?:[eE][-+]?_*+[0-9][0-9_]*+)?+' + SUFFIX)
 RAW_OPENER = compiled('(?:r|br|cr)(#*+)"')
-BEHIND_RAW = compiled(SUFFIX)
+AFTER_RAW = compiled(SUFFIX)
 OPENER = compiled('[bc]?"|b?\'')
 OTHER = compiled(
     '(?P<raw_identifier>r#' + WORD + ')|(?P<word>' + WORD + ')'
@@ -73,7 +73,7 @@ class Token(NamedTuple):
         return self.form == 'literal' or self.form == 'word' and self.text in ('true', 'false')
 
 
-class Fault(NamedTuple):
+class CutError(NamedTuple):
     """What ends a source early, and the byte where it stands."""
     at: int
     kind: str
@@ -81,14 +81,14 @@ class Fault(NamedTuple):
 
 class Cut(NamedTuple):
     tokens: list
-    fault: Optional[Fault]
+    error: Optional[CutError]
 
     def literals(self):
         return [token for token in self.tokens if token.is_literal()]
 
 
 def block_end(text, at):
-    """The place behind the block that begins here, or None where it isn't closed."""
+    """The place after the block that begins here, or None where it isn't closed."""
     depth, place = 1, at + 2
     for edge in iter(lambda: BLOCK_EDGE.search(text, place), None):
         depth += 1 if edge[0] == '/*' else -1
@@ -98,8 +98,8 @@ def block_end(text, at):
     return None
 
 
-def behind_trivia(text, at):
-    """The place behind white space and plain comments."""
+def after_trivia(text, at):
+    """The place after white space and plain comments."""
     while True:
         space = SPACE.match(text, at)
         end = space.end() if space else at
@@ -110,24 +110,24 @@ def behind_trivia(text, at):
         at = end
 
 
-def behind_front(text):
-    """The place behind a byte order mark and a line for an interpreter."""
+def after_front(text):
+    """The place after a byte order mark and a line for an interpreter."""
     at = 1 if text.startswith('\ufeff') else 0
     line = INTERPRETER.match(text, at)
-    if line and not text.startswith('[', behind_trivia(text, line.end())):
+    if line and not text.startswith('[', after_trivia(text, line.end())):
         return LINE.match(text, at).end()
     return at
 
 
 def raw_end(text, opener):
-    """The place behind a raw literal, or None where it isn't closed."""
+    """The place after a raw literal, or None where it isn't closed."""
     closer = '"' + opener[1]
     close = text.find(closer, opener.end())
-    return None if close < 0 else BEHIND_RAW.match(text, close + len(closer)).end()
+    return None if close < 0 else AFTER_RAW.match(text, close + len(closer)).end()
 
 
 def cut_one(text, at):
-    """The form of the token at a place that isn't the end, and where it ends; or the fault, and None."""
+    """The form of the token at a place that isn't the end, and where it ends; or the error, and None."""
     raw = RAW_OPENER.match(text, at)
     if raw:
         end = raw_end(text, raw)
@@ -150,19 +150,19 @@ def cut_one(text, at):
 
 
 def cut_source(text):
-    """The tokens of a source, up to its end or to its first fault."""
-    found, at, fault = [], behind_trivia(text, behind_front(text)), None
+    """The tokens of a source, up to its end or to its first error."""
+    found, at, error = [], after_trivia(text, after_front(text)), None
     while at < len(text):
         form, end = cut_one(text, at)
         if end is None:
-            fault = (at, form)
+            error = (at, form)
             break
         found.append((form, at, end))
-        at = behind_trivia(text, end)
-    return in_bytes(text, found, fault)
+        at = after_trivia(text, end)
+    return in_bytes(text, found, error)
 
 
-def in_bytes(text, found, fault):
+def in_bytes(text, found, error):
     """The tokens with their texts, at bytes instead of characters."""
     tokens, ascii_alone, last, place = [], text.isascii(), 0, 0
     for form, lo, hi in found:
@@ -170,7 +170,7 @@ def in_bytes(text, found, fault):
         end = hi if ascii_alone else begin + len(text[lo:hi].encode())
         tokens.append(Token(form, begin, end, text[lo:hi]))
         last, place = hi, end
-    if fault:
-        at, kind = fault
-        fault = Fault(at if ascii_alone else place + len(text[last:at].encode()), kind)
-    return Cut(tokens, fault)
+    if error:
+        at, kind = error
+        error = CutError(at if ascii_alone else place + len(text[last:at].encode()), kind)
+    return Cut(tokens, error)

@@ -90,10 +90,10 @@ def long_rows(size):
     yield 'many hashes, closed', 'r' + '#' * (size // 2) + '""' + '#' * (size // 2) + ' 1'
     yield 'blocks in blocks, closed', '/*' * (size // 4) + '*/' * (size // 4) + '1'
     yield 'blocks in blocks, one left open', '/*' * (size // 4) + '*/' * (size // 4 - 1) + '1'
-    yield 'a quote behind much', '1 ' * (size // 2) + '"'
+    yield 'a quote after much', '1 ' * (size // 2) + '"'
     yield 'an interpreter and an open comment', '#!' + '/*' * (size // 2)
     yield 'an interpreter and many comments', '#!' + '/**/' * (size // 4) + '[a] 1'
-    yield 'an attribute far behind', '#!' + ' \n' * (size // 2) + '[a] 1'
+    yield 'an attribute far down', '#!' + ' \n' * (size // 2) + '[a] 1'
 
 
 SMALL = [

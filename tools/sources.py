@@ -88,8 +88,8 @@ class Model:
         if cut is None:
             return [NOT_TEXT]
         out = [b'%d..%d %s' % (token.lo, token.hi, readings.visible(self.known[token.text])) for token in cut.literals()]
-        if cut.fault:
-            out.append(b'error at %d..%d: %s' % (cut.fault.at, cut.fault.at, cut.fault.kind.encode()))
+        if cut.error:
+            out.append(b'error at %d..%d: %s' % (cut.error.at, cut.error.at, cut.error.kind.encode()))
         return out
 
     def answers(self, datas):
@@ -102,7 +102,7 @@ class Theirs:
     """The answers of rustc's own lexer."""
 
     def __init__(self, options, older):
-        """So many of the sources that it refuses are asked about in an older edition."""
+        """So many of the sources that it rejects are asked about in an older edition."""
         self.rustc, self.before = (lexing.Rustc(options.library, edition) for edition in ('2021', OLDER))
         self.older = older
 
@@ -125,7 +125,7 @@ class Theirs:
 def front_of(data):
     """How many bytes the front of a source takes."""
     text = data.decode()
-    return len(text[:source_model.behind_front(text)].encode())
+    return len(text[:source_model.after_front(text)].encode())
 
 
 def moved(lines, by):
@@ -191,8 +191,8 @@ def under(words, data, lines, cut):
     return line_places(data, lines) if '--lines' in words else lines
 
 
-def entries(data, their, our):
-    """The entries of docs/DIFFERENCES.md that the lines differ by, each with the number of its lines; None where some line has
+def all_listed(data, their, our):
+    """The differences of docs/DIFFERENCES.md that the lines differ by, each with the number of its lines; None where some line has
     none, or stands elsewhere."""
     found = {}
     if len(their) != len(our):
@@ -205,7 +205,7 @@ def entries(data, their, our):
             return None
         text = data[int(told[1]):int(told[2])]
         plain = ('Verbatim %s -' % readings.written(text.decode())).encode()
-        known = readings.entry('text', text, told[3], plain if ours[3] == readings.visible(plain) else ours[3])
+        known = readings.listed('text', text, told[3], plain if ours[3] == readings.visible(plain) else ours[3])
         if not known:
             return None
         found[known] = found.get(known, 0) + 1
@@ -217,7 +217,7 @@ def is_symbol_in_word(text):
     return any(unicodedata.category(c) == 'So' and word.isidentifier() for c, word in zip(text, text[1:]))
 
 
-def cut_entry(data, edition, their, our):
+def cut_listed(data, edition, their, our):
     """The row of docs/DIFFERENCES.md by which a source that rustc takes is cut in another place, or None."""
     apart = next((PLACED.fullmatch(o) for t, o in zip(their + [b''], our) if t != o), None)
     if apart and data.startswith(b"'r#", int(apart[1])):
@@ -269,7 +269,7 @@ def judge_model(count, name, data, wanted, our):
     if wanted == our:
         ending = our[-1].partition(b': ')[2].decode() if our and not our[-1][:1].isdigit() else 'no error'
         return count.add('model', 'the same lines, and ' + ending, 1, lines)
-    found = entries(data, wanted, our)
+    found = all_listed(data, wanted, our)
     if found is None and readings.newer(data.decode(errors='replace')):
         return count.add('model', 'characters newer than Unicode 14', 1, lines)
     if found is None:
@@ -283,10 +283,10 @@ def judge_rustc(count, name, data, told, our, is_model=False):
     """Holds an answer against rustc's; where it is the model's, characters newer than its tables may be judged otherwise."""
     their, words = told
     if their is None:
-        return count.add('rustc', 'refused: ' + told_words(words), 1, 0)
-    found = entries(data, their, our)
+        return count.add('rustc', 'rejected: ' + told_words(words), 1, 0)
+    found = all_listed(data, their, our)
     if found is None:
-        known = cut_entry(data, words, their, our)
+        known = cut_listed(data, words, their, our)
         if is_model and readings.newer(data.decode()):
             known = 'characters newer than Unicode 14'
         if known:
@@ -391,6 +391,6 @@ def calls(sides):
     for words in NO_CALLS:
         lines = scanned(sides.options.scan, words, b'1')
         if len(lines) == 1 and lines[0].startswith(b'rl_scan: '):
-            sides.count.add('rl_scan', 'refuses words that ask for nothing', 1, 0)
+            sides.count.add('rl_scan', 'rejects words that ask for nothing', 1, 0)
         else:
             sides.count.differs('rl_scan', ' '.join(words), b'1', [b'rl_scan: ..'], lines)

@@ -1,5 +1,5 @@
 """Why a text is no token of the strict grammar or has no value, and where: a model written from docs/GRAMMAR.md and, of
-flaws, docs/REFUSALS.md. It shares nothing with the programs.
+flaws, docs/ERRORS.md. It shares nothing with the programs.
 
 The place is the notion itself. The grammar stands here as forms, and of these a machine is made that is in all states at once in
 which some token goes on. Each state leads to a token's end, so the longest front that some token begins with is as long as the

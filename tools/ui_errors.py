@@ -182,7 +182,7 @@ def compare_file(options, tally, folder, name):
         if answer is None:
             tally.differs(whose, path.encode(), repr(sorted(theirs)).encode(), repr(error).encode())
         else:
-            count = tally.kinds if answer == 'the same error' else tally.entries
+            count = tally.kinds if answer == 'the same error' else tally.listed
             count[whose, answer] = count.get((whose, answer), 0) + 1
 
 

@@ -1,9 +1,10 @@
 //! Every flaw of a text, what literal it was going to be, and its pieces, good and bad.
 
 use crate::kind::Kind;
-use crate::parse_error::{flaw_of, FlawKind, ParseError};
+use crate::parse_error::{FlawKind, ParseError};
 use crate::places::Segment;
 use crate::rl_flaws;
+use crate::rl_reasons::explain_value;
 use core::fmt;
 use core::iter::FusedIterator;
 use core::ops::Range;
@@ -99,7 +100,7 @@ impl core::error::Error for BadPiece {}
 #[must_use = "an iterator does nothing until it is asked"]
 pub struct Flaws<'t>(Left<'t>);
 
-/// What is left.
+/// The flaws of a quoted literal, or the one of any other text.
 enum Left<'t> {
     All(rl_flaws::Flaws<'t>),
     One(Option<rl_flaws::BadPiece>),
@@ -111,9 +112,10 @@ impl<'t> Flaws<'t> {
         if rl_flaws::Pieces::of(text).is_some() {
             return flaws(text);
         }
-        let flaw = flaw_of(text);
-        let end = flaw.hi;
-        Flaws(Left::One(Some(rl_flaws::BadPiece { flaw, end })))
+        Flaws(Left::One(explain_value(text).map(|flaw| {
+            let end = flaw.hi;
+            rl_flaws::BadPiece { flaw, end }
+        })))
     }
 }
 
@@ -137,9 +139,9 @@ impl fmt::Debug for Flaws<'_> {
     }
 }
 
-/// All flaws of a text that is to be a literal token of Rust, in order; none of a token. No memory is taken.
+/// All flaws of a text that is to be a literal token of Rust, in order; none of one. No memory is taken.
 ///
-/// The first is why [`Lit::parse`](crate::Lit::parse) rejects the text, but that a minus is none of a token, and that an integer of
+/// The first is why [`Lit::parse`](crate::Lit::parse) rejects the text, but that a literal token has no minus, and that an integer of
 /// any size is one. After a bad character or escape of a string reading goes on, as inside the same string; any other flaw is the
 /// last. So rustc reports them, but for a broken `\x` or `\u` with a backslash after it: here that begins the next escape.
 ///
@@ -156,8 +158,8 @@ pub fn flaws(text: &str) -> Flaws<'_> {
     Flaws(Left::All(rl_flaws::Flaws::of(text)))
 }
 
-/// The kind of literal that a text begins as, whether or not it is one; `None` where no literal begins so. Of a token it is the
-/// token's kind.
+/// The kind of literal that a text begins as, whether or not it is one; `None` where no literal begins so. Of a literal token
+/// it is that token's kind.
 ///
 /// A quoted literal begins with its prefix and its quote, a number with a digit, perhaps after a minus. Of the words it is `true`
 /// and `false` alone.

@@ -55,7 +55,6 @@ pub struct LineIndex<'t> {
     characters: Vec<usize>,
 }
 
-/// Whether a character begins with the byte.
 fn begins_character(byte: u8) -> bool {
     byte & 0xC0 != 0x80
 }
@@ -251,7 +250,6 @@ impl<'t> LineIndex<'t> {
         Some((start, end.unwrap_or(self.text.len() + 1)))
     }
 
-    /// How many characters begin before the byte.
     fn characters_before(&self, at: usize) -> usize {
         if self.characters.is_empty() {
             return at;

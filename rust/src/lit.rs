@@ -98,7 +98,7 @@ impl<'t> Lit<'t> {
 
     /// The literal of Rust that the text is, all of it, with one optional minus before a number.
     ///
-    /// Any word may be its suffix, as in `1u9` and `"a"q`: those are tokens, which Rust gives to macros alone. Look at
+    /// Any word may be its suffix, as in `1u9` and `"a"q`: those are literal tokens, which Rust gives to macros alone. Look at
     /// [`suffix`](Lit::suffix). The text is taken as it is: no white space stands around it, and a CR LF is none of a string of Rust's,
     /// though it may stand in a file ([`Lit::check`]).
     ///
@@ -156,7 +156,7 @@ impl<'t> Lit<'t> {
     /// rustc makes of it before it reads a file. So it judges what [`source`](crate::source) and [`settings`](crate::settings)
     /// return, which are literals as `syn` reads them.
     ///
-    /// A token may have any suffix, which macros see: of `1u9`, `0XFF` and `"a"q` it is `Ok`, though rustc rejects them where no
+    /// A literal token may have any suffix, which macros see: of `1u9`, `0XFF` and `"a"q` it is `Ok`, though rustc rejects them where no
     /// macro takes them; [`Lit::type_error`] says why.
     ///
     /// # Errors
@@ -178,7 +178,7 @@ impl<'t> Lit<'t> {
         }
     }
 
-    /// What stands between the quotes, piece by piece; `None` where there are none. See
+    /// What stands between the quotes, segment by segment; `None` where there are none. See
     /// [`LitStr::segments`](crate::LitStr::segments).
     ///
     /// ```
@@ -244,7 +244,6 @@ impl<'t> Lit<'t> {
         })
     }
 
-    /// The string of this kind.
     #[inline]
     fn of_text(kind: rl_forms::Kind, text: Cow<'t, str>, body: Body) -> Lit<'t> {
         match kind {
@@ -254,7 +253,6 @@ impl<'t> Lit<'t> {
         }
     }
 
-    /// The byte or the character.
     #[inline]
     fn of_unit(kind: rl_forms::Kind, text: Cow<'t, str>, suffix_at: usize, unit: u32) -> Lit<'t> {
         match kind {

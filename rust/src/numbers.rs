@@ -33,7 +33,6 @@ pub enum Base {
 }
 
 impl Base {
-    /// The base of this radix.
     fn of(radix: u32) -> Base {
         match radix {
             2 => Base::Binary,
@@ -109,7 +108,6 @@ macro_rules! number_types {
                 }
             }
 
-            /// The type of this name.
             #[inline]
             pub(crate) fn named(name: &str) -> Option<NumberType> {
                 match name {
@@ -354,7 +352,6 @@ fn plain_len(numeral: &str) -> usize {
 }
 
 impl<'t> LitFloat<'t> {
-    /// The literal of this text.
     #[inline]
     pub(crate) fn of(text: Cow<'t, str>, suffix_at: usize) -> Self {
         let plain_len = plain_len(&text[..suffix_at]);

@@ -3,7 +3,7 @@
 use crate::kind::Kind;
 use crate::lit::Lit;
 pub use crate::rl_reasons::FlawKind;
-use crate::rl_reasons::{limit_flaw, read_signed, Flaw, Reading};
+use crate::rl_reasons::{explain_value, Flaw};
 use core::fmt;
 use core::ops::Range;
 
@@ -71,23 +71,13 @@ pub struct ParseError {
     hi: usize,
 }
 
-/// The flaw of a text that has no reading.
-pub(crate) fn flaw_of(text: &str) -> Flaw {
-    match read_signed(text) {
-        Err(flaw) => flaw,
-        Ok(Reading::Integer(None, suffix_at)) => limit_flaw(text, suffix_at),
-        Ok(_) => unreachable!("the text has no reading"),
-    }
-}
-
 impl ParseError {
-    /// Why a text has no reading, which it hasn't.
+    /// Why a text has no value in Rust.
     #[cold]
-    pub(crate) fn of(text: &str) -> ParseError {
-        ParseError::of_flaw(flaw_of(text))
+    pub(crate) fn of(text: &str) -> Option<ParseError> {
+        explain_value(text).map(ParseError::of_flaw)
     }
 
-    /// The flaw as an error.
     #[inline]
     pub(crate) fn of_flaw(flaw: Flaw) -> ParseError {
         ParseError {
@@ -98,18 +88,19 @@ impl ParseError {
         }
     }
 
-    /// Why a literal isn't of the kind that was asked for: it has no reading, or is of another kind.
+    /// Why a literal isn't of the kind that was asked for: it has no value in Rust, or is of another kind.
     #[cold]
     pub(crate) fn of_kind(expected: Kind, literal: Lit<'_>) -> ParseError {
-        let text = literal.text();
-        match literal.kind() {
-            Kind::Verbatim => ParseError::of(text),
-            found => ParseError {
-                kind: ParseErrorKind::Kind { expected, found },
-                from: 0,
-                lo: 0,
-                hi: text.len(),
-            },
+        let found = literal.kind();
+        let other = ParseError {
+            kind: ParseErrorKind::Kind { expected, found },
+            from: 0,
+            lo: 0,
+            hi: literal.text().len(),
+        };
+        match literal {
+            Lit::Verbatim(literal) => literal.explain().unwrap_or(other),
+            _ => other,
         }
     }
 

@@ -29,7 +29,7 @@ pub enum SegmentValue<'t> {
     Nothing,
 }
 
-/// A piece of what stands between a literal's quotes.
+/// A part of what stands between a literal's quotes.
 ///
 /// ```
 /// use navyspindle::LitStr;
@@ -224,7 +224,7 @@ macro_rules! quoted_type {
                 self.parts().segments_in(Self::KIND, &self.text)
             }
 
-            /// What stands between the quotes, piece by piece, with its bytes in the literal's text: text that stands for itself, as
+            /// What stands between the quotes, segment by segment, with its bytes in the literal's text: text that stands for itself, as
             /// long as it goes; an escape; or a line's end that is dropped.
             #[doc = $crate::common::example!($name, $text, "assert_eq!(literal.segments().next().unwrap().range, ", $range, ");")]
             pub fn segments(&self) -> $crate::Segments<'_> {

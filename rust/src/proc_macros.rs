@@ -158,7 +158,6 @@ impl fmt::Display for MacroError {
 
 impl core::error::Error for MacroError {}
 
-/// The tree, at this place.
 fn spanned(mut tree: TokenTree, span: Span) -> TokenTree {
     tree.set_span(span);
     tree
@@ -284,7 +283,6 @@ impl Placed {
     }
 }
 
-/// Takes the next literal.
 fn next_placed(tokens: &mut impl Iterator<Item = TokenTree>) -> Result<Placed, MacroError> {
     let Some(tree) = tokens.next() else {
         return Err(MacroError::new(
@@ -447,7 +445,6 @@ impl Lit<'_> {
     }
 }
 
-/// The tokens of a literal's text.
 fn tokens_of(text: &str, span: Span) -> Result<TokenStream, MacroError> {
     // The compiler would report a text that is none by itself.
     let literal = Lit::parse(text).map_err(|error| MacroError::new(error.kind(), span))?;

@@ -258,7 +258,6 @@ impl<'t> Settings<'t> {
         Ok(Settings::of_entries(text, settings(text)?))
     }
 
-    /// These settings, which were read of the text.
     pub(crate) fn of_entries(text: &'t str, entries: Vec<Entry<'t>>) -> Self {
         Settings { text, entries }
     }

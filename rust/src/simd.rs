@@ -1,6 +1,6 @@
 //! The part of `core::simd`, which stable Rust doesn't have, that the proved code uses: lanes of bytes.
 //!
-//! There are two of it, with the same names and answers. In `words` eight lanes are a number. Of the arrays in `vectors` the
+//! There are two of it, with the same names and results. In `words` eight lanes are a number. Of the arrays in `vectors` the
 //! compiler makes vector instructions; but where nothing is optimized, as in procedural macros, they cost many times as much. So
 //! literals are read by numbers. Whole sources are passed over by vectors where the target has some, but not where debug
 //! assertions tell that nothing is optimized, nor with the feature `proc-macro`. The programs have vectors for all.
@@ -12,7 +12,6 @@ macro_rules! lane_types {
         #[derive(Clone, Copy)]
         pub(crate) struct Simd<T, const N: usize>($items, PhantomData<T>);
 
-        /// Sixteen lanes.
         #[allow(non_camel_case_types)]
         pub(crate) type u8x16 = Simd<u8, 16>;
 

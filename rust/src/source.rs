@@ -178,8 +178,8 @@ mod tests {
     use crate::rl_lexer::{LexKind, Sources};
     use std::{format, string::String, vec::Vec};
 
-    /// The pieces of the texts: what opens, closes and joins, and what ends a search for a quote.
-    const PIECES: [&str; 16] = [
+    /// The parts of the texts: what opens, closes and joins, and what ends a search for a quote.
+    const PARTS: [&str; 16] = [
         "\"", "'", "\\", "r", "r#\"", "\"#", "#", "b'", "/*", "*/", "/", "//", "\n", "\n", "a",
         " 1 ",
     ];
@@ -220,7 +220,7 @@ mod tests {
             let mut text = String::new();
             for _ in 0..compared % 24 {
                 state = state.wrapping_mul(0x5851_F42D_4C95_7F2D).wrapping_add(1);
-                text += PIECES[(state >> 60) as usize];
+                text += PARTS[(state >> 60) as usize];
             }
             state = state.wrapping_add(1);
             // Of a character's quote the line goes on there.

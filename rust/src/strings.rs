@@ -29,7 +29,6 @@ macro_rules! string_type {
         quoted_type!($name, $pieces, $first, $place);
 
         impl<'t> $name<'t> {
-            /// The literal of this text, whose parts stand there.
             #[inline]
             pub(crate) fn of(text: Cow<'t, str>, body: Body) -> Self {
                 $name {
@@ -178,7 +177,6 @@ impl<'t> LitStr<'t> {
     }
 }
 
-/// The bytes of a text.
 fn into_bytes(text: Cow<'_, str>) -> Cow<'_, [u8]> {
     match text {
         Cow::Borrowed(text) => Cow::Borrowed(text.as_bytes()),

@@ -1,4 +1,4 @@
-//! Literals written anew in another style. Each is a token of the Rust Reference again, of the same kind, with the same contents and
+//! Literals written anew in another style. Each is a literal token of the Rust Reference again, of the same kind, with the same contents and
 //! the same suffix; but `1.` may become `1.0`.
 
 use crate::parse_error::ParseError;
@@ -24,7 +24,6 @@ pub enum Case {
 }
 
 impl Case {
-    /// The proved case.
     fn proved(self) -> rl_style::Case {
         match self {
             Case::Lower => rl_style::Case::Lower,
@@ -50,7 +49,6 @@ pub enum Separator {
 }
 
 impl Separator {
-    /// The proved separator.
     fn proved(self) -> rl_style::Separator {
         match self {
             Separator::Nothing => rl_style::Separator::Nothing,
@@ -190,7 +188,6 @@ impl DigitGroups {
         }
     }
 
-    /// The proved groups.
     fn proved(self) -> rl_style::DigitGroups {
         rl_style::DigitGroups {
             binary: self.binary,
@@ -352,7 +349,7 @@ impl Style {
 
     /// The same with the digits of numbers in these groups: from the last digit on, of a float's fraction from the first one on. An
     /// exponent's digits aren't grouped. Zeros in front are dropped before; with [`Style::drop_underscores`] no other underscores are
-    /// left, else those stay that stand at the end of a row of digits, as before a suffix. A number whose suffix begins with `b`, `o`
+    /// left, else those stay that stand at the end of a run of digits, as before a suffix. A number whose suffix begins with `b`, `o`
     /// or `x` is left alone.
     ///
     /// ```
@@ -570,7 +567,6 @@ impl Style {
         }
     }
 
-    /// The proved style.
     fn proved(self) -> rl_style::Style {
         rl_style::Style {
             hex_digits: self.hex_digits.map(Case::proved),
@@ -641,12 +637,12 @@ pub fn rewrite(text: &str, style: Style) -> Result<Cow<'_, str>, ParseError> {
 /// # Ok::<(), navyspindle::ParseError>(())
 /// ```
 pub fn rewrite_after<'t>(
-    front: &str,
+    before: &str,
     text: &'t str,
     style: Style,
 ) -> Result<Cow<'t, str>, ParseError> {
     let mut room = vec![0; 4 * text.len() + 1];
-    let len = rewrite_into(front, text, style.proved(), &mut room).map_err(ParseError::of_flaw)?;
+    let len = rewrite_into(before, text, style.proved(), &mut room).map_err(ParseError::of_flaw)?;
     room.truncate(len);
     if room == text.as_bytes() {
         return Ok(Cow::Borrowed(text));

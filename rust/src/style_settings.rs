@@ -87,7 +87,6 @@ fn size_of(settings: &Settings<'_>, key: Key) -> Result<usize, SettingError> {
     Ok(settings.number(key)?.unwrap_or(0))
 }
 
-/// The groups of digits.
 fn groups_of(settings: &Settings<'_>) -> Result<DigitGroups, SettingError> {
     Ok(DigitGroups::new()
         .binary(size_of(settings, BINARY_GROUPS)?)

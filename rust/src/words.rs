@@ -28,7 +28,6 @@ pub struct LitBool<'t> {
 literal_type!(LitBool, Bool(value), "true", "");
 
 impl<'t> LitBool<'t> {
-    /// The literal of this text, which is the value's word.
     #[inline]
     pub(crate) fn of(text: Cow<'t, str>, value: bool) -> Self {
         let suffix_at = text.len();
@@ -61,7 +60,7 @@ impl<'t> LitBool<'t> {
 /// use navyspindle::{FlawKind, Lit};
 ///
 /// let Lit::Verbatim(literal) = Lit::new(r"'\q'") else { panic!() };
-/// assert_eq!(literal.explain().kind(), FlawKind::UnknownEscape);
+/// assert_eq!(literal.explain().unwrap().kind(), FlawKind::UnknownEscape);
 /// ```
 #[derive(Clone)]
 #[repr(C)]
@@ -72,7 +71,6 @@ pub struct LitVerbatim<'t> {
 text_type!(LitVerbatim(), "word");
 
 impl<'t> LitVerbatim<'t> {
-    /// The text, which has no reading.
     #[inline]
     pub(crate) fn of(text: Cow<'t, str>) -> Self {
         LitVerbatim { text }
@@ -89,22 +87,22 @@ impl<'t> LitVerbatim<'t> {
         Cow::Borrowed("")
     }
 
-    /// Why it is no literal of Rust with a value, and where. Of a float by its suffix ([`Lit::parse`](crate::Lit::parse)) it is that
-    /// its digits are past 128 bits.
+    /// Why it is no literal of Rust with a value, and where; `None` of a float by its suffix, which
+    /// [`Lit::parse`](crate::Lit::parse) takes.
     ///
     /// ```
     /// use navyspindle::{literals, FlawKind, Lit};
     ///
     /// let (range, literal) = literals(r"1 '\q'").nth(1).unwrap()?;
     /// let Lit::Verbatim(literal) = literal else { panic!() };
-    /// let error = literal.explain();
+    /// let error = literal.explain().unwrap();
     /// assert_eq!(range.start, 2);
     /// assert_eq!(error.kind(), FlawKind::UnknownEscape);
     /// assert_eq!(error.range(), 2..3);
     /// # Ok::<(), navyspindle::ListError>(())
     /// ```
     #[must_use]
-    pub fn explain(&self) -> ParseError {
+    pub fn explain(&self) -> Option<ParseError> {
         ParseError::of(&self.text)
     }
 }
@@ -124,8 +122,8 @@ impl LitVerbatim<'_> {
         looks_like(&self.text)
     }
 
-    /// All its flaws, in order; see [`flaws`](crate::flaws()). The first is that of [`explain`](LitVerbatim::explain); a text that
-    /// doesn't begin as a quoted literal has no other.
+    /// All its flaws, in order; see [`flaws`](crate::flaws()). The first is that of [`explain`](LitVerbatim::explain), if there is
+    /// one; a text that doesn't begin as a quoted literal has no other.
     ///
     /// ```
     /// use navyspindle::{FlawKind, Lit};

@@ -1,4 +1,4 @@
-//! Values written as literals. Each text is a token of the Rust Reference, after a minus where a number is negative, and reads as the
+//! Values written as literals. Each text is a literal token of the Rust Reference, after a minus where a number is negative, and reads as the
 //! value.
 
 use crate::numbers::Base;
@@ -281,7 +281,6 @@ impl IntegerStyle {
         IntegerStyle { suffixed, ..self }
     }
 
-    /// The proved style.
     fn proved(self) -> rl_writing::IntegerStyle {
         let base = match self.base {
             Base::Binary => rl_writing::Base::Binary,

@@ -221,8 +221,9 @@ fn texts_without_a_reading() {
         };
         let all: Vec<_> = literal.flaws().take(count + 1).collect();
         assert_eq!(all.len(), count, "{text}");
-        assert_eq!(all[0].error(), literal.explain(), "{text}");
-        assert_eq!(all[0].range(), literal.explain().piece(), "{text}");
+        let error = literal.explain().unwrap();
+        assert_eq!(all[0].error(), error, "{text}");
+        assert_eq!(all[0].range(), error.piece(), "{text}");
         assert_eq!(literal.looks_like(), looks_like(text));
         let bad = literal
             .pieces()

@@ -92,7 +92,7 @@ fn of_syn(text: &str) -> ParseError {
     let Lit::Verbatim(literal) = Lit::new(text) else {
         panic!("{text} reads")
     };
-    literal.explain()
+    literal.explain().unwrap()
 }
 
 fn of_rust(text: &str) -> ParseError {
@@ -148,7 +148,7 @@ fn flaws<'t>(literals: impl Iterator<Item = (usize, Lit<'t>)>) -> Vec<(usize, Fl
     literals
         .filter_map(|(at, literal)| match literal {
             Lit::Verbatim(literal) => {
-                let error = literal.explain();
+                let error = literal.explain().unwrap();
                 assert!(Lit::parse(literal.text()).is_err());
                 let ParseErrorKind::Flaw(kind) = error.kind() else {
                     panic!("{error}")
@@ -196,15 +196,21 @@ fn floats_by_suffix() {
             assert_eq!(text.parse::<Lit>().as_ref(), Ok(&literal));
             assert_eq!(Lit::try_from(text.clone()).as_ref(), Ok(&literal));
             assert_eq!(literal.check(), Ok(()));
-            let digits = text.len() - 3;
-            for error in [
-                LitInt::parse(&text).unwrap_err(),
-                LitFloat::parse(&text).unwrap_err(),
-                text.parse::<LitFloat>().unwrap_err(),
-                LitInt::try_from(text.clone()).unwrap_err(),
+            let Lit::Verbatim(word) = &literal else {
+                panic!("{text}")
+            };
+            assert_eq!(word.explain(), None, "{text}");
+            assert!(word.flaws().next().is_none(), "{text}");
+            for (error, expected) in [
+                (LitInt::parse(&text).unwrap_err(), Kind::Int),
+                (LitFloat::parse(&text).unwrap_err(), Kind::Float),
+                (text.parse::<LitFloat>().unwrap_err(), Kind::Float),
+                (LitInt::try_from(text.clone()).unwrap_err(), Kind::Int),
             ] {
-                assert_eq!(error.kind(), FlawKind::TooLarge, "{text}");
-                assert_eq!(error.range(), digits..digits + 1, "{text}");
+                let found = Kind::Verbatim;
+                let other = ParseErrorKind::Kind { expected, found };
+                assert_eq!(error.kind(), other, "{text}");
+                assert_eq!(error.range(), 0..text.len(), "{text}");
             }
         }
     }

@@ -6,7 +6,7 @@ import subprocess
 import programs
 
 from .items import TOP, libraries, public_items, read
-from .pieces import paste
+from .snippets import paste
 from .words import words
 
 
@@ -32,7 +32,7 @@ def run_commands(tell):
                 tell(f'{command} writes {found!r}')
 
 
-# The calls of docs/REFUSALS.md, as commands of programs that answer many texts at once
+# The calls of docs/ERRORS.md, as commands of programs that answer many texts at once
 # (`attr`: one).
 CALLS = {
     'read': ('rl_rows', 'read'), 'text': ('rl_rows', 'text'), 'attr': ('rl_tool', 'attr'),
@@ -44,7 +44,7 @@ CALLS = {
 }
 # The kinds of flaws that `explain` doesn't return.
 OF_VALUES = ('NoNumber', 'TooLarge')
-# A call behind each row of rl_rows, and the line that it prints.
+# A call after each row of rl_rows, and the line that it prints.
 MARK, LINE = 'skipped', '===\n'
 
 
@@ -56,9 +56,9 @@ def text_of(cell):
     return '' if cell == 'nothing' else None
 
 
-def rows_of_refusals():
-    """The rows of docs/REFUSALS.md: the call and the text, which stand second, and the message; of a flaw its row."""
-    for line in read('docs/REFUSALS.md').split('\n'):
+def rows_of_errors():
+    """The rows of docs/ERRORS.md: the call and the text, which stand second, and the message; of a flaw its row."""
+    for line in read('docs/ERRORS.md').split('\n'):
         cells = [it.strip() for it in re.split(r'(?<!\\)\|', line)[1:-1]]
         yield from row_of_flaw(cells)
         called = re.fullmatch(r'`([^`]+)`: (.*)', cells[1]) if len(cells) == 4 else None
@@ -83,15 +83,15 @@ def answers_of(crate, rows):
     return tried(crate, [], given.encode())[0].split(LINE)
 
 
-def run_refusals(tell):
-    shown = list(rows_of_refusals())
+def run_errors(tell):
+    shown = list(rows_of_errors())
     for crate in ('rl_rows', 'rl_tool'):
         rows = [it for it in shown if CALLS[it[0]][0] == crate]
         answers = answers_of(crate, [(CALLS[call][1], text) for call, text, _ in rows])
         for (call, text, message), found in zip(rows, answers):
             print(f'{"as shown" if message in found else "OTHER"}: {call} {text[:60]}', flush=True)
             if message not in found:
-                tell(f'docs/REFUSALS.md: {call} of {text} tells {found!r}')
+                tell(f'docs/ERRORS.md: {call} of {text} tells {found!r}')
 
 
 def run_examples(tell):

@@ -10,7 +10,7 @@ import textwrap
 
 from .items import (
     TOP, code_files, core, definition_files, libraries, pages, paths, prose_pages, public_items, read, signature_end)
-from .pieces import EXAMPLE, VALUE, Source, blanked, whole_items
+from .snippets import EXAMPLE, VALUE, Source, blanked, whole_items
 
 # The Rust of a page.
 RUST = re.compile(r'```rust\n(.*?) *```', re.S)
@@ -30,11 +30,6 @@ EXAMPLES = {
         Number::base10_parse read_all read_next""",
     'rl_attributes': 'Attrs Attrs::get read',
 }
-# The crates whose comments are held to the field's words.
-TERMS_IN = """
-    rl_quoted rust_literals rl_attributes rl_lines rl_program rl_commands rl_files rl_output rl_fixes rl_sources rl_tool rl_scan
-    rl_uses rl_example rl_bench rl_tokens rl_grammar rl_c rl_text rl_forms rl_lexer rl_reading rl_parts rl_recovery rl_leading
-    rl_settings rl_strict rl_reasons rl_file_reasons rl_flaws rl_types rl_fronts rl_writing rl_style""".split()
 # Words of others, and of what stands in no crate.
 FOREIGN = {'parse_str', 'proc_macro2'}
 # Pages that name what isn't here.
@@ -55,8 +50,8 @@ def check_items(tell):
             count += 1
             if not item.docs.strip():
                 tell(f'{path}: {item.name} has no documentation')
-            if item.answers_result() and not item.errors():
-                tell(f'{path}: {item.name} answers a Result and has no `# Errors`')
+            if item.returns_result() and not item.errors():
+                tell(f'{path}: {item.name} returns a Result and has no `# Errors`')
             if item.name in wanted and not item.examples() and item.named_example() not in shown:
                 tell(f'{path}: {item.name} has no example')
             for example in item.examples():
@@ -87,7 +82,7 @@ def words_of(definitions):
     return re.sub(r'\s+', '', re.sub(r'(^|\s)--[^\n]*', r'\1', definitions))
 
 
-def pieces(block):
+def definitions_in(block):
     return [it for it in re.split(r'\n\s*\n', block) if it.strip()]
 
 
@@ -96,7 +91,7 @@ def check_definitions(tell):
     found = [words_of(read(it)) for it in definition_files()]
     for page in pages():
         for block in re.findall(r'```antt\n(.*?)```', read(page), re.S):
-            for piece in pieces(block):
+            for piece in definitions_in(block):
                 if not any(words_of(piece) in it for it in found):
                     tell(f'{page}: stands in no source: {piece.strip().splitlines()[0]}')
 
@@ -116,20 +111,20 @@ def check_names(tell):
             tell(f'{name} stands in {", ".join(sorted(files))}')
 
 
-def shown_pieces():
-    """Each piece of Rust that is shown, with where it stands."""
+def shown_snippets():
+    """Each snippet of Rust that is shown, with where it stands."""
     yield from ((page, textwrap.dedent(it)) for page in pages() for it in RUST.findall(read(page)))
     for path in code_files():
         docs = '\n'.join(re.findall(r'^ *//[/!] ?(.*)$', read(path), re.M))
         yield from ((path, it) for it in EXAMPLE.findall(docs))
 
 
-def check_pieces(tell):
-    """Each piece of Rust that is shown is whole, and of the code of a crate; its values are printed."""
+def check_snippets(tell):
+    """Each snippet of Rust that is shown is whole, and of the code of a crate; its values are printed."""
     sources = [Source(read(it)) for it in code_files() + paths('rust/examples/*.rs')]
     printed = set(read('crates/rl_rows/stdout').split('\n'))
-    for where, block in shown_pieces():
-        first = block.strip().splitlines()[0] if block.strip() else 'an empty piece'
+    for where, block in shown_snippets():
+        first = block.strip().splitlines()[0] if block.strip() else 'an empty snippet'
         for value in VALUE.findall(block):
             if value not in printed:
                 tell(f'{where}: rl_rows prints no {value}')
@@ -240,33 +235,56 @@ def check_owners(tell):
                     tell(f'{page}: {name} is of {", ".join(others)}, not of {crate}')
 
 
-def check_refusals(tell):
-    """Each kind of refusal stands on the page of refusals."""
-    page = read('docs/REFUSALS.md')
+def check_errors(tell):
+    """Each kind of error stands on the page of errors."""
+    page = read('docs/ERRORS.md')
     for _, item in [*public_items('rl_tokens'), *public_items('rl_grammar')]:
         owner, _, name = item.name.partition('::')
-        is_refusal = item.kind == 'part' and owner in ('ErrorKind', 'LexKind', 'FlawKind')
-        if is_refusal and f'`{name}`' not in page and f'`{item.name}`' not in page:
-            tell(f'docs/REFUSALS.md: {item.name} is missing')
+        is_error = item.kind == 'part' and owner in ('ErrorKind', 'LexKind', 'FlawKind')
+        if is_error and f'`{name}`' not in page and f'`{item.name}`' not in page:
+            tell(f'docs/ERRORS.md: {item.name} is missing')
 
 
 # Words that the field has others for, and what they are right in.
 TERMS = re.compile(r'\b(faults?|refus\w+|lent|lends?|want of memory|behind)\b', re.I)
 RIGHT = re.compile(r'page faults|REFUSALS|behind a pointer|system lends memory', re.I)
+# Names of rl_program and rl_attributes that have such a word, and stay: much is proved of them.
+KEPT_NAMES = {'Fault', 'Refusal', 'fault_status', 'lent_token'}
+
+
+def prose_of(path):
+    """The paragraphs of a page, or of the comments of code, each with the number of its first line: without examples, code and
+    addresses."""
+    lines, is_code = [], False
+    for line in read(path).split('\n'):
+        comment = line if path.endswith('.md') else line.partition('//')[2] if line.strip().startswith('//') else ''
+        if comment.strip(' /!').startswith('```'):
+            is_code = not is_code
+        lines.append('' if is_code else comment.strip(' /!'))
+    begin = 0
+    for at, line in enumerate([*lines, '']):
+        if not line:
+            if at > begin:
+                yield begin + 1, re.sub(r'``.*?``|`[^`]*`|\]\([^)]*\)|!\[[^]]*\]', '', ' '.join(lines[begin:at]))
+            begin = at + 1
 
 
 def check_terms(tell):
-    """No page and no comment of these crates has a word that the field has another for."""
-    for path in prose_pages() + paths(*(f'crates/{it}/src/**/*.rt' for it in TERMS_IN)):
-        is_page, is_code = path.endswith('.md'), False
-        for number, line in enumerate(read(path).split('\n'), 1):
-            comment = line if is_page else line.partition('//')[2] if line.strip().startswith('//') else ''
-            if comment.strip(' /!').startswith('```'):
-                is_code = not is_code
-            elif not is_code:
-                prose = re.sub(r'``.*?``|`[^`]*`|\]\([^)]*\)|!\[[^]]*\]', '', comment)
-                for found in TERMS.finditer(RIGHT.sub('', prose)):
-                    tell(f'{path}:{number}: {found[0]}: another word is the field\'s')
+    """No page and no comment of a crate has a word that the field has another for."""
+    for path in prose_pages() + code_files():
+        for number, prose in prose_of(path):
+            for found in TERMS.finditer(RIGHT.sub('', prose)):
+                tell(f'{path}:{number}: {found[0]}: another word is the field\'s')
+
+
+def check_public_names(tell):
+    """No public item and no public definition has such a word in its name, but for those of KEPT_NAMES."""
+    named = [(path, item.name) for crate in libraries() for path, item in public_items(crate)]
+    named += [(path, name) for path in paths('crates/*/specs/**/*.antt') for name in DEFINED.findall(read(path))]
+    for path, name in named:
+        parts = re.findall(r'[A-Z]?[a-z]+', name)
+        if any(TERMS.fullmatch(it) for it in parts) and not KEPT_NAMES.intersection(parts + [name]):
+            tell(f'{path}: {name}: another word is the field\'s')
 
 
 def check_limits(tell):
@@ -302,5 +320,5 @@ def check_diagrams(tell):
 
 
 OF_PAGES = (
-    check_core, check_paths, check_pieces, check_definitions, check_names, check_words, check_owners,
-    check_refusals, check_diagrams, check_limits, check_terms)
+    check_core, check_paths, check_snippets, check_definitions, check_names, check_words, check_owners,
+    check_errors, check_diagrams, check_limits, check_terms, check_public_names)

@@ -3,7 +3,7 @@ import glob
 import os
 import re
 
-from .pieces import EXAMPLE, PARTS, bare, blanked
+from .snippets import EXAMPLE, PARTS, bare, blanked
 
 TOP = os.path.dirname(os.path.dirname(os.path.dirname(os.path.abspath(__file__))))
 # The crates whose items are for callers.
@@ -57,12 +57,12 @@ class Item:
         found = re.search(r'# Errors\n+(.*?)(?=\n# |\n```|\n\[|\Z)', self.docs, re.S)
         return re.sub(r'\s+', ' ', found[1]).strip() if found else ''
 
-    def answers_result(self):
+    def returns_result(self):
         return self.kind == 'fn' and re.search(r'->\s*(?:[\w:]+::)?Result<', self.head) is not None
 
 
 def closing(code, at):
-    """The place behind the brace that closes the one at a place, past strings and characters."""
+    """The place after the brace that closes the one at a place, past strings and characters."""
     depth = 0
     for it in re.compile(PARTS.pattern + '|[{}]', re.S).finditer(code, at):
         depth += {'{': 1, '}': -1}.get(it[0], 0)

@@ -1,9 +1,9 @@
-"""The words of each kind of flaws: the table of docs/REFUSALS.md has them as the sources do."""
+"""The words of each kind of flaws: the table of docs/ERRORS.md has them as the sources do."""
 import re
 
 from .items import read
 
-PAGE, FLAWS = 'docs/REFUSALS.md', 'crates/rl_reasons/src/flaws.rt'
+PAGE, FLAWS = 'docs/ERRORS.md', 'crates/rl_reasons/src/flaws.rt'
 BEGIN, END = '<!-- words: written by tools/docs --write -->', '<!-- end of words -->'
 
 

@@ -1,1 +1,1 @@
-"""How tools/edits tries wrong bodies, many in one check."""
+"""How tools/wrong tries wrong bodies, many in one check."""

@@ -12,7 +12,7 @@ NEEDLESS, SHORT = 'let _needless = true; ', 8
 
 
 class Function(NamedTuple):
-    """A function that an edit changes: how the names end by which the prover may call it, its file,
+    """A function that a wrong body changes: how the names end by which the prover may call it, its file,
     and its lines. What is outside of all functions has no name."""
     names: tuple
     file: str
@@ -65,7 +65,7 @@ def modules_of(file):
 
 
 class Region(NamedTuple):
-    """What an edit writes in place of a part of a file."""
+    """What a wrong body writes in place of a part of a file."""
     file: str
     start: int
     end: int
@@ -84,7 +84,7 @@ def with_regions(folder, regions):
 
 
 class Edit:
-    """An edit: in which file what is put in place of what, in turn."""
+    """A wrong body: in which file what is put in place of what, in turn."""
 
     def __init__(self, name, pairs):
         self.name, self.pairs = name, pairs
@@ -136,7 +136,7 @@ class Edit:
 
 
 def edit_of(path):
-    """The edit that a file has."""
+    """The wrong body that a file has."""
     pairs, file, old = [], '', ''
     for line in read(path).split('\n'):
         word, _, text = line.partition(':')
@@ -176,8 +176,8 @@ def short_bodies(folder):
 
 
 def control_of(crate, folder, taken):
-    """An edit that changes nothing of what the crate means, in a function that isn't among those taken: the check that refuses it
-    refuses anything. None where no function is short enough."""
+    """A body that changes nothing of what the crate means, in a function that isn't among those taken: the check that rejects it
+    rejects anything. None where no function is short enough."""
     for file, first, _ in sorted(short_bodies(folder), key=lambda it: it[2]):
         control = Edit('control', [(file, first, NEEDLESS + first)])
         if not first.startswith('//') and control.why_bad(folder) is None and set(control.functions(crate, folder)).isdisjoint(taken):

@@ -17,7 +17,7 @@ pub {name}_spec : {{M : Type 1}} → stated.statement M
 
 def paths_of(folder):
     """The functions of a crate that a hole can stand for, each by its path below the crate: those outside of types, and those with a
-    folder of answers. What calls itself has none, since one proof serves all that call each other."""
+    folder of proof files. What calls itself has none, since one proof serves all that call each other."""
     found = set()
     for file in (f'src/{it}' for it in files_below(f'{folder}/src') if it.endswith('.rt')):
         lines = read(f'{folder}/{file}').split('\n')

@@ -1,4 +1,4 @@
-"""What earlier runs on this machine saw refused."""
+"""What earlier runs on this machine saw rejected."""
 import contextlib
 import hashlib
 import json
@@ -6,12 +6,12 @@ import os
 import stat
 import tempfile
 
-# The most entries that stay at the end of a run.
+# The most files that stay at the end of a run.
 MOST = 20_000
 
 
 class Kept:
-    """The refusals that earlier runs saw, in a folder beside the one that rt keeps its results in. The name of an entry is the sum
+    """The rejections that earlier runs saw, in a folder beside the one that rt keeps its results in. The name of a file is the sum
     of all that it stands on, so it never goes stale; it is written apart and then renamed, so that no other run reads half of it.
     Where the folder is another's or can't be written, nothing is kept."""
 
@@ -25,32 +25,32 @@ class Kept:
                 self.folder = folder
 
     def key(self, sums, edit):
-        """The name of the entry of an edit, of a crate with these sums."""
+        """The name of the file of a wrong body, of a crate with these sums."""
         return hashlib.sha256(repr((sums, edit.name, edit.pairs)).encode()).hexdigest()
 
-    def refusal(self, key):
-        """What was reported of the edit as it was refused; None where no earlier run saw that."""
+    def rejection(self, key):
+        """What was reported of the wrong body as it was rejected; None where no earlier run saw that."""
         if not self.folder or self.is_anew:
             return None
         try:
             with open(f'{self.folder}/{key}', encoding='utf-8') as it:
                 found = json.load(it)
             os.utime(f'{self.folder}/{key}')
-            return found['refused'] if found['edit'] == key else None
+            return found['rejected'] if found['edit'] == key else None
         except (OSError, ValueError, KeyError, TypeError):
             return None
 
-    def keep(self, key, refusal):
+    def keep(self, key, rejection):
         if not self.folder:
             return
         with contextlib.suppress(OSError):
             with tempfile.NamedTemporaryFile('w', prefix='new-', dir=self.folder, delete=False, encoding='utf-8') as it:
-                json.dump({'edit': key, 'refused': refusal}, it)
+                json.dump({'edit': key, 'rejected': rejection}, it)
             os.replace(it.name, f'{self.folder}/{key}')
 
     def shrink(self):
-        """Removes the entries longest unused, and what a run that was killed left among them."""
+        """Removes the files longest unused, and what a run that was killed left among them."""
         with contextlib.suppress(OSError):
-            entries = sorted(os.scandir(self.folder), key=lambda it: -it.stat().st_mtime) if self.folder else []
-            for it in entries[MOST:]:
+            files = sorted(os.scandir(self.folder), key=lambda it: -it.stat().st_mtime) if self.folder else []
+            for it in files[MOST:]:
                 os.remove(it.path)

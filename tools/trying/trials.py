@@ -1,22 +1,22 @@
-"""The trials of a crate's edits, in as few checks as may be."""
+"""The trials of a crate's wrong bodies, in as few checks as may be."""
 import re
 import threading
 
 from .edits import control_of, read, with_regions, write
 from .holes import Holes
 
-# A check with more edits than these takes much memory.
+# A check with more of them than these takes much memory.
 MOST = 40
 # A goal that is the condition of a call, and so no clause of the function.
 REQUIRES = re.compile(r'-requires(-|$)')
-NOT_REFUSED = 'not refused'
+NOT_REJECTED = 'not rejected'
 # The status of a check that is asked for a function that isn't there, or that several have the name of.
 NO_SUCH = 2
 SAYING = threading.Lock()
 
 
 class Trials:
-    """The edits of a crate that are tried in this run, on a copy of it, and what came of them."""
+    """The wrong bodies of a crate that are tried in this run, on a copy of it, and what came of them."""
 
     def __init__(self, crate, folder, proved, edits, check):
         self.crate, self.folder, self.check = crate, folder, check
@@ -26,13 +26,13 @@ class Trials:
         # What the prover calls a function.
         self.names = {}
         self.control, self.is_controlled = None, False
-        # Pairs of edits that one check can't judge: what the first changes calls what the second does.
+        # Pairs that one check can't judge: what the first changes calls what the second does.
         self.apart = set()
-        self.refused, self.faults, self.checks = {}, 0, 0
+        self.rejected, self.errors, self.checks = {}, 0, 0
         for edit in edits:
             why = edit.why_bad(folder)
             if why:
-                self.fault(edit, why)
+                self.error(edit, why)
             else:
                 self.add(edit)
 
@@ -41,7 +41,7 @@ class Trials:
         self.changed[edit], self.regions[edit] = edit.functions(self.crate, self.folder), edit.regions(self.folder)
 
     def add_control(self):
-        """Has the first check try an edit that changes nothing too; returns whether there is one."""
+        """Has the first check try a body that changes nothing too; returns whether there is one."""
         taken = {function for functions in self.changed.values() for function in functions}
         if not all(self.is_outside(it) for it in self.edits):
             self.control = control_of(self.crate, self.folder, taken)
@@ -54,30 +54,30 @@ class Trials:
         with SAYING:
             print(f'{self.crate}/{edit.name}: {what}', flush=True)
 
-    def fault(self, edit, what):
-        self.faults += 1
-        self.say(edit, f'FAULT: {what}')
+    def error(self, edit, what):
+        self.errors += 1
+        self.say(edit, f'ERROR: {what}')
 
-    def report(self, edit, is_refused, what):
-        """Reports what came of an edit: refused, and at which goals; else why not."""
+    def report(self, edit, is_rejected, what):
+        """Reports what came of a wrong body: rejected, and at which goals; else why not."""
         names = ', '.join(' or '.join(it.names) for it in self.changed[edit])
         if edit is self.control:
             self.is_controlled = True
-            if is_refused or what != NOT_REFUSED:
-                self.fault(edit, f'it changes nothing of {names}, but came to this: {"refused: " if is_refused else ""}{what}')
+            if is_rejected or what != NOT_REJECTED:
+                self.error(edit, f'it changes nothing of {names}, but came to this: {"rejected: " if is_rejected else ""}{what}')
             else:
-                self.say(edit, f'not refused, as it has to be, since it changes nothing of {names}')
-        elif is_refused:
-            self.refused[edit] = what
-            self.say(edit, f'refused: {what}')
+                self.say(edit, f'not rejected, as it has to be, since it changes nothing of {names}')
+        elif is_rejected:
+            self.rejected[edit] = what
+            self.say(edit, f'rejected: {what}')
         else:
-            self.fault(edit, f'{what} (in {names or "no function"} of {", ".join(dict.fromkeys(file for file, _, _ in edit.pairs))})')
+            self.error(edit, f'{what} (in {names or "no function"} of {", ".join(dict.fromkeys(file for file, _, _ in edit.pairs))})')
 
     def is_outside(self, edit):
         return any(not it.names for it in self.changed[edit])
 
     def fits(self, edit, chosen):
-        """Whether a check that has the chosen edits can have this one too."""
+        """Whether a check that has the chosen ones can have this one too."""
         if self.is_outside(edit):
             return not chosen
         taken = {function for it in chosen for function in self.changed[it]}
@@ -86,7 +86,7 @@ class Trials:
         return together and taken.isdisjoint(self.changed[edit]) and all(one.is_apart(it) for one in self.regions[edit] for it in regions)
 
     def batch(self, pending):
-        """The edits of the next check."""
+        """The wrong bodies of the next check."""
         chosen = []
         for edit in pending:
             if self.fits(edit, chosen):
@@ -96,12 +96,12 @@ class Trials:
         return chosen
 
     def paths(self, chosen):
-        """What the prover is to call the functions that these edits change, by which it checks them alone; none where it can't."""
+        """What the prover is to call the functions that these change, by which it checks them alone; none where it can't."""
         functions = [function for it in chosen for function in self.changed[it]]
         return [self.names.get(it) or it.names[0].removeprefix('::') for it in functions] if all(it.names for it in functions) else []
 
     def checked(self, chosen):
-        """What the prover says with these edits; the files are as they were then."""
+        """What the prover says with these wrong bodies; the files are as they were then."""
         texts = with_regions(self.folder, [region for it in chosen for region in self.regions[it]])
         was = {it: read(f'{self.folder}/{it}') for it in texts}
         for file, text in texts.items():
@@ -119,7 +119,7 @@ class Trials:
         if verdicts.status == NO_SUCH and paths:
             # It has a name of its own for one, as for a method of a type's alias, which the whole crate shows.
             verdicts = self.counted([])
-        if self.holes.give_up([it for it in verdicts.of if verdicts.is_refused(it)]):
+        if self.holes.give_up([it for it in verdicts.of if verdicts.is_rejected(it)]):
             return self.checked_over(chosen)
         return verdicts
 
@@ -128,10 +128,10 @@ class Trials:
         return self.check(paths)
 
     def is_judged(self, edit, chosen, verdicts):
-        """Reports what came of the edit; false where it has to be tried again, with others left out."""
+        """Reports what came of the wrong body; false where it has to be tried again, with others left out."""
         if self.is_outside(edit):
-            refused = [it for it in verdicts.of if verdicts.is_refused(it)]
-            self.report(edit, bool(refused), ', '.join(refused) or NOT_REFUSED)
+            rejected = [it for it in verdicts.of if verdicts.is_rejected(it)]
+            self.report(edit, bool(rejected), ', '.join(rejected) or NOT_REJECTED)
             return True
         names = [verdicts.name(it) for it in self.changed[edit]]
         if None in names:
@@ -139,14 +139,14 @@ class Trials:
             return True
         goals = {name: verdicts.goals(it) for name, it in zip(names, self.changed[edit])}
         is_clause = any(not REQUIRES.search(it) for found in goals.values() for it in found)
-        own = [it for it in names if is_clause and goals[it] or verdicts.is_refused(it)]
+        own = [it for it in names if is_clause and goals[it] or verdicts.is_rejected(it)]
         shown = '; '.join(f"{name}: {', '.join(goals[name])}" for name in own)
         if is_clause:
             self.report(edit, True, shown)
         elif any(goals[name] for name in own):
             self.report(edit, False, f'only what a call asks: {shown}')
         elif own:
-            self.report(edit, False, f'only answers that name what is gone: {shown}')
+            self.report(edit, False, f'only proof files that name what is gone: {shown}')
         causes = {it for name in names for it in verdicts.causes(name)}
         others = [
             it for it in chosen
@@ -154,11 +154,11 @@ class Trials:
             and not causes.isdisjoint(verdicts.name(function) for function in self.changed[it])]
         self.apart.update((edit, it) for it in others)
         if not own and not others:
-            self.report(edit, False, NOT_REFUSED)
+            self.report(edit, False, NOT_REJECTED)
         return not others
 
     def tried(self, chosen):
-        """Tries these edits in one check, and where that comes to no end, its halves; returns those that are judged."""
+        """Tries these in one check, and where that comes to no end, its halves; returns those that are judged."""
         verdicts = self.checked(chosen)
         self.names.update({it: verdicts.name(it) for edit in chosen for it in self.changed[edit]})
         if verdicts.status < 0 and len(chosen) == 1:

@@ -1,7 +1,7 @@
 """What a check of the prover said of each function."""
 import re
 
-# What the prover says of answers that name what an edit took away.
+# What the prover says of proof files that name what a wrong body took away.
 LOST = re.compile(r'has no field|is not in scope|has no `|was not admitted')
 
 # What it says of a function that is proved, or would be but for holes in place of other proofs.
@@ -34,8 +34,8 @@ class Verdicts:
         found = [it for it in self.of if re.sub(r'\+\w+::', '::', it).endswith(function.names)]
         return found[0] if len(found) == 1 else None
 
-    def is_refused(self, name):
-        """Whether the function is refused by itself, and not only since it calls one that is."""
+    def is_rejected(self, name):
+        """Whether the function is rejected by itself, and not only since it calls one that is."""
         verdict = self.of[name]
         if verdict.startswith(WELL):
             return False
@@ -47,22 +47,22 @@ class Verdicts:
         """The function's goals that weren't proved, except those whose answer names what is gone. Of a function that calls one that isn't
         proved only those that have an answer, since the search waits for the other's proof."""
         name, found = self.name(function), []
-        if self.is_refused(name):
+        if self.is_rejected(name):
             listed = self.of[name].partition('did not prove')[2].partition(';')[0]
             found += [it for it in re.findall('`([^`]+)`', listed) if it not in self.of]
             noted = rf'(?m)^note: {re.escape(function.file)}:(\d+):\d+: .*?\(`([^`]+)`\)'
             found += [goal for line, goal in re.findall(noted, self.said) if int(line) in function.lines]
-        answers = rf"\./proofs/{re.escape('/'.join(name.split('::')[1:]))}/\w+\.antt:\d+:\d+"
-        for goal, why in re.findall(rf'(?m)^{answers}: error: `([^`]+)`: (.*)$', self.said):
+        proof_files = rf"\./proofs/{re.escape('/'.join(name.split('::')[1:]))}/\w+\.antt:\d+:\d+"
+        for goal, why in re.findall(rf'(?m)^{proof_files}: error: `([^`]+)`: (.*)$', self.said):
             found += [] if LOST.search(why) else [goal]
         return list(dict.fromkeys(found))
 
     def causes(self, name):
-        """The functions refused by themselves that this one calls, or one that it calls, and so on."""
+        """The functions rejected by themselves that this one calls, or one that it calls, and so on."""
         found, seen, left = set(), set(), [name]
         while left:
             for it in re.findall('`([^`]+)`', self.of[left.pop()].partition('it calls')[2]):
                 if it in self.of and it not in seen:
                     seen.add(it)
-                    (found.add if self.is_refused(it) else left.append)(it)
+                    (found.add if self.is_rejected(it) else left.append)(it)
         return found

@@ -82,7 +82,7 @@ fn print_text(name: &str, size: usize) -> Result<(), String> {
     let (name, form) = named(name)?;
     let corpus = corpus::make(name, form, size);
     let written = std::io::stdout().write_all(&corpus.bytes);
-    written.map_err(|fault| fault.to_string())
+    written.map_err(|error| error.to_string())
 }
 
 /// The work of this name, and the corpus of this name and size.
@@ -138,7 +138,7 @@ fn run_tree(name: &str, folders: &[&str]) -> Result<(), String> {
 const USAGE: &str = "names | check BYTES | text CORPUS BYTES | once|none|taken CORPUS WORK BYTES | tree WORK FOLDER..";
 
 fn number(word: &str) -> Result<usize, String> {
-    word.parse().map_err(|fault| format!("{word}: {fault}"))
+    word.parse().map_err(|error| format!("{word}: {error}"))
 }
 
 fn run() -> Result<(), String> {

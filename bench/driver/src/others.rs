@@ -24,7 +24,7 @@ enum Numbers {
     AsTheyStand,
 }
 
-/// The weight of a text by litrs; 0 where it refuses.
+/// The weight of a text by litrs; 0 where it rejects it.
 fn litrs_weight(text: &str, numbers: Numbers) -> u64 {
     use litrs::Literal;
     let Ok(literal) = Literal::parse(text) else {
@@ -85,7 +85,7 @@ pub fn litrs_lent(corpus: &Corpus) -> u64 {
     litrs_sum(corpus, Numbers::AsTheyStand)
 }
 
-/// How many trees proc-macro2's own lexer cuts the texts into; none where it refuses.
+/// How many trees proc-macro2's own lexer cuts the texts into; none where it rejects them.
 pub fn proc_macro2_lex(corpus: &Corpus) -> u64 {
     corpus
         .texts()

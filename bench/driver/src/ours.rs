@@ -40,7 +40,7 @@ fn call(export: Export, corpus: &Corpus) -> u64 {
             &mut sum,
         )
     };
-    assert!(done, "memory was refused");
+    assert!(done, "an allocation failed");
     sum
 }
 

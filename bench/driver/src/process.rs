@@ -13,7 +13,7 @@ pub fn processor_time() -> i64 {
 
 /// What /proc/self/status tells under a word, in bytes.
 fn status(word: &str) -> Result<u64, String> {
-    let status = std::fs::read_to_string("/proc/self/status").map_err(|fault| fault.to_string())?;
+    let status = std::fs::read_to_string("/proc/self/status").map_err(|error| error.to_string())?;
     let mut lines = status.lines();
     let line = lines.find(|line| line.starts_with(word)).ok_or(word)?;
     let number = line.split_whitespace().nth(1).ok_or(word)?;
@@ -33,12 +33,12 @@ pub fn peak() -> Result<u64, String> {
 
 /// Begins the peak anew.
 pub fn begin_peak() -> Result<(), String> {
-    std::fs::write("/proc/self/clear_refs", "5").map_err(|fault| fault.to_string())
+    std::fs::write("/proc/self/clear_refs", "5").map_err(|error| error.to_string())
 }
 
 /// How many page faults came so far that read nothing from a disk.
 pub fn page_faults() -> Result<u64, String> {
-    let stat = std::fs::read_to_string("/proc/self/stat").map_err(|fault| fault.to_string())?;
+    let stat = std::fs::read_to_string("/proc/self/stat").map_err(|error| error.to_string())?;
     // The name stands in brackets, and may hold anything; the eighth word behind it is the number.
     let behind_name = stat.rsplit(')').next().ok_or("stat")?;
     let number = behind_name.split_whitespace().nth(7).ok_or("stat")?;

@@ -16,16 +16,16 @@ known P None bytes e p = tt
 known P (Some all) bytes e p = subst P e p
 
 -- an input that is rejected writes nothing
-pub refusal_fault : {A : Type 0} (command : Command) (input old : Option (List ℕ)) (bytes : List ℕ) (fault : Fault A)
+pub rejection_fault : {A : Type 0} (command : Command) (input old : Option (List ℕ)) (bytes : List ℕ) (fault : Fault A)
     → IfSome input (λ all. bytes ≡ all) → IsRejectionOf command bytes fault → IsErrorOf command input old old fault
-refusal_fault command input old bytes NotText e r = (Keeps-refl old, known (λ b. IsUtf8 b → ⊥) input bytes e r)
-refusal_fault command input old bytes Memory e r = Keeps-refl old
-refusal_fault command input old bytes (Literal error) e r = (
+rejection_fault command input old bytes NotText e r = (Keeps-refl old, known (λ b. IsUtf8 b → ⊥) input bytes e r)
+rejection_fault command input old bytes Memory e r = Keeps-refl old
+rejection_fault command input old bytes (Literal error) e r = (
   Keeps-refl old,
   known
       (λ b. IsRejectionOf command b (Literal error)) input bytes e r,
 )
-refusal_fault command input old bytes kind e r = absurd r
+rejection_fault command input old bytes kind e r = absurd r
 
 -- all of the line was written
 pub prints_known : (command : Command) (input old new : Option (List ℕ)) (bytes line : List ℕ)

@@ -43,8 +43,8 @@ whole_token bytes = record { text = bytes; span = record { file = 0; lo = 0; hi 
 
 -- the error is a literal's, and this is its error
 abbrev pub IsLiteralError : {A : Type 0} → (Error A → Type 0) → Fault A → Type 0
-IsLiteralError refuses (Literal error) = refuses error
-IsLiteralError refuses _ = ⊥
+IsLiteralError rejects (Literal error) = rejects error
+IsLiteralError rejects _ = ⊥
 
 -- what the call that reads the literals rejects of a text: an allocation failure for a number's
 -- digits, or as `read_all` or `attr::read` does

@@ -2,8 +2,8 @@
 
 use crate::tell::{HERE, ToRow, place, put, tell, tell_error, tell_line};
 use rl_attributes::{Attrs, Setting, SettingError, read};
+use rl_failing::Page;
 use rl_program::Refusal;
-use rl_refusing::Page;
 use rl_tokens::Error;
 use rust_literals::{Lit, LitStr};
 use std::alloc::Global;

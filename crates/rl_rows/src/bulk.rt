@@ -2,10 +2,10 @@
 //! them of many texts at once.
 
 mod answer;
+mod borrowed;
 mod flaws;
-mod lent;
 mod lists;
 mod sources;
 
 pub(crate) use answer::{is_command, told};
-pub(crate) use lent::put_lent;
+pub(crate) use borrowed::put_borrowed;

@@ -2,7 +2,7 @@
 
 use crate::runs;
 use crate::tell::{HERE, ToRow, at, put, tell, tell_debug, tell_error};
-use rl_refusing::Page;
+use rl_failing::Page;
 use rl_tokens::{CString, Error, Literal, NulError};
 use rust_literals::{Lit, LitByte, LitByteStr, LitCStr};
 use std::alloc::Global;
@@ -55,12 +55,12 @@ fn c_string(alloc: Global, bytes: &[u8], out: &mut Page) {
     };
     match CString::new(bytes) {
         Ok(held) => held_c_string(alloc, &held, out),
-        Err(rejected) => refused_c_string(rejected, out),
+        Err(rejected) => rejected_c_string(rejected, out),
     }
 }
 
 /// Where the zero stands, and the bytes.
-fn refused_c_string(rejected: NulError, out: &mut Page) {
+fn rejected_c_string(rejected: NulError, out: &mut Page) {
     out.put("zero at ");
     out.show(&rejected.nul_position(), " of ");
     out.debug(&rejected.into_vec().as_slice(), "\n")

@@ -2,12 +2,12 @@
 //! next: `bytes`, `runs`, this one, `bulk`, `shapes`, `tokens`, `numbers`, `rejected`, `trees`, `parsers`, `uses`, this one again,
 //! and `literals`.
 
-use crate::row::tell_refused;
+use crate::row::tell_rejected;
 use crate::tell::tell;
 use crate::{
     attributes, bulk, copies, debugs, examples, inside, lists, literals, long, messages, segments,
 };
-use rl_refusing::Page;
+use rl_failing::Page;
 use rust_literals::read_all;
 use std::alloc::Global;
 
@@ -15,7 +15,7 @@ use std::alloc::Global;
 pub(crate) fn of_bytes(alloc: Global, name: &str, bytes: &[u8], out: &mut Page) {
     match std::str::from_utf8(bytes) {
         Ok(text) => bulk::told(alloc, name, text, out),
-        Err(_) => tell_refused(name, "error: input is not UTF-8\n", "no text\n", out),
+        Err(_) => tell_rejected(name, "error: input is not UTF-8\n", "no text\n", out),
     }
 }
 

@@ -1,7 +1,7 @@
 //! Equality and hash of literals.
 
 use crate::tell::{HERE, THERE, literal_of, tell_error};
-use rl_refusing::Page;
+use rl_failing::Page;
 use rl_tokens::{Error, Span};
 use std::alloc::Global;
 use std::collections::HashMap;

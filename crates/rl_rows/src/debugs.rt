@@ -1,8 +1,8 @@
 //! Values as they are printed to programmers, of the types that no other row prints so.
 
 use rl_commands::Command;
+use rl_failing::Page;
 use rl_grammar::{Parts, shape};
-use rl_refusing::Page;
 use rl_tokens::CString;
 use std::alloc::Global;
 

@@ -1,6 +1,6 @@
 //! What the examples of `rl_uses` return: each call as it is written, and its value.
 
-use rl_refusing::Page;
+use rl_failing::Page;
 use rl_tokens::Span;
 use rl_uses::examples::attributes::{host_of, missing_at, string_setting};
 use rl_uses::examples::buffers::{first_in_group, mark_after_name, port, trees_left, trees_of};

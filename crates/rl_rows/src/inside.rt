@@ -1,7 +1,7 @@
 //! Parsing inside strings.
 
 use crate::tell::{THERE, ToRow, at, tell, tell_error};
-use rl_refusing::Page;
+use rl_failing::Page;
 use rl_tokens::{ByParse, Error, Group, ParseBuffer, Parser, Span, parse_all};
 use rust_literals::{Lit, LitInt, LitStr};
 use std::alloc::{Allocator, Global};

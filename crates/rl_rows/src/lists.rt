@@ -2,7 +2,7 @@
 
 use crate::literals::{Called, call_of};
 use crate::tell::{Spanned, ToRow, literal_of, place, tell_line};
-use rl_refusing::Page;
+use rl_failing::Page;
 use rl_tokens::{Error, Span};
 use rust_literals::{Lit, Literals, read_all};
 use std::alloc::Global;
@@ -11,12 +11,12 @@ use std::alloc::Global;
 pub(crate) fn places(alloc: Global, text: &str, out: &mut Page) {
     match read_all(alloc, text, 0) {
         Ok(literals) => tell_places(alloc, literals.as_slice(), out),
-        Err(error) => tell_refused(error, out),
+        Err(error) => tell_rejected(error, out),
     }
 }
 
 /// An error's bytes and message.
-fn tell_refused(error: Error, out: &mut Page) {
+fn tell_rejected(error: Error, out: &mut Page) {
     place(error.span, out);
     out.show(&error, "\n");
     drop(error)
@@ -111,7 +111,7 @@ fn put_next<T: Called + Drop>(next: Result<Option<T>, Error>, out: &mut Page) ->
             false
         }
         Err(error) => {
-            tell_refused(error, out);
+            tell_rejected(error, out);
             false
         }
     }

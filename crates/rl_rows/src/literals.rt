@@ -1,6 +1,6 @@
 //! Calls on the literal that a text is.
 
-use crate::bulk::put_lent;
+use crate::bulk::put_borrowed;
 use crate::inside::{group, inside};
 use crate::lists::tell_placed;
 use crate::long::tell_number;
@@ -9,7 +9,7 @@ use crate::tell::{
     HERE, Spanned, THERE, ToRow, at, literal_of, put, tell, tell_error, tell_line, tell_trees,
 };
 use crate::uses::anew;
-use rl_refusing::Page;
+use rl_failing::Page;
 use rl_tokens::{Error, ParseBuffer, ToTokens, TokenStream};
 use rust_literals::Lit;
 use std::alloc::Global;
@@ -38,14 +38,14 @@ impl Called for Lit {
         let alloc = out.alloc();
         match name {
             "text" => tell_line(alloc, self, out),
-            "value" => put_lent(self, out),
+            "value" => put_borrowed(self, out),
             "literal" => moved(alloc, self, out),
             "brief" => tell_number(self, out),
             "placed" => tell_placed(alloc, self, out),
             "spanned" => self.put_spanned("\n", out),
             "padded" => padded(alloc, self, out),
             "shown" => shown(self, out),
-            "lends" => lends(self, out),
+            "borrows" => borrows(self, out),
             "inside" => inside(alloc, self, out),
             "group" => group(alloc, self, out),
             "anew" => anew(alloc, self, out),
@@ -102,26 +102,26 @@ fn shown(literal: &Lit, out: &mut Page) {
 }
 
 /// What the literal borrows of what it stands for, as text.
-fn lends(literal: &Lit, out: &mut Page) {
+fn borrows(literal: &Lit, out: &mut Page) {
     match literal {
-        Lit::Str(literal) => tell_lent(literal.value_ref(), out),
-        Lit::ByteStr(literal) => tell_lent_bytes(literal.value_ref(), out),
-        Lit::CStr(literal) => tell_lent_bytes(literal.value_ref(), out),
+        Lit::Str(literal) => tell_borrowed(literal.value_ref(), out),
+        Lit::ByteStr(literal) => tell_borrowed_bytes(literal.value_ref(), out),
+        Lit::CStr(literal) => tell_borrowed_bytes(literal.value_ref(), out),
         _ => out.put("no string\n"),
     }
 }
 
 /// Prints a text that is borrowed.
-fn tell_lent(lent: Option<&str>, out: &mut Page) {
-    match lent {
+fn tell_borrowed(borrowed: Option<&str>, out: &mut Page) {
+    match borrowed {
         Some(value) => out.debug(&value, "\n"),
         None => out.put("nothing\n"),
     }
 }
 
 /// Prints bytes that are borrowed.
-fn tell_lent_bytes(lent: Option<&[u8]>, out: &mut Page) {
-    match lent {
+fn tell_borrowed_bytes(borrowed: Option<&[u8]>, out: &mut Page) {
+    match borrowed {
         Some(bytes) => match std::str::from_utf8(bytes) {
             Ok(value) => out.debug(&value, "\n"),
             Err(_) => out.put("no text\n"),

@@ -3,7 +3,7 @@
 use crate::literals::call_of;
 use crate::runs::put_pieces;
 use crate::tell::{HERE, literal_of};
-use rl_refusing::Page;
+use rl_failing::Page;
 use rust_literals::Lit;
 use std::alloc::Global;
 

@@ -1,7 +1,7 @@
 //! The message of every kind of error.
 
 use crate::tell::{HERE, tell_error};
-use rl_refusing::Page;
+use rl_failing::Page;
 use rl_tokens::{Error, ErrorKind, LexError, LexKind};
 use std::alloc::Global;
 

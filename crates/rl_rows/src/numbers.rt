@@ -2,7 +2,7 @@
 
 use crate::rejected;
 use crate::tell::{HERE, THERE, at, instead, put, tell, tell_debug, tell_error};
-use rl_refusing::Page;
+use rl_failing::Page;
 use rl_tokens::{Error, ErrorKind, Kept, Literal};
 use rust_literals::{FloatKind, IntKind, Lit, LitFloat, LitInt, Number, NumberKind};
 use std::alloc::Global;
@@ -107,12 +107,12 @@ where
     out.put(" ");
     match literal.base10_parse::<N, Global>(out.alloc()) {
         Ok(number) => out.put_shown(&number),
-        Err(error) => refused_number(error, out),
+        Err(error) => rejected_number(error, out),
     }
 }
 
 /// Where a number is rejected.
-fn refused_number(error: Error, out: &mut Page) {
+fn rejected_number(error: Error, out: &mut Page) {
     match &error.kind {
         ErrorKind::Number(_) => {
             out.put("at ");

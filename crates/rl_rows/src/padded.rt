@@ -1,6 +1,6 @@
 //! Literals that are printed with a width.
 
-use rl_refusing::Page;
+use rl_failing::Page;
 use rust_literals::Lit;
 use std::alloc::Global;
 use std::fmt::Display;

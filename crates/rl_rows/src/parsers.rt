@@ -4,7 +4,7 @@ use crate::takers::{takers, two_files};
 use crate::tell::{at, tell_error, trees_of};
 use crate::turns::{Sign, turns};
 use crate::uses;
-use rl_refusing::Page;
+use rl_failing::Page;
 use rl_tokens::{Error, Parse, ParseBuffer, Span, Token};
 use rust_literals::{
     Lit, LitBool, LitByte, LitByteStr, LitCStr, LitChar, LitFloat, LitInt, LitStr,

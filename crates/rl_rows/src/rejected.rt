@@ -3,7 +3,7 @@
 use crate::runs::put_often;
 use crate::tell::{HERE, at, literal_of};
 use crate::trees;
-use rl_refusing::{Failing, Page};
+use rl_failing::{Failing, Page};
 use rl_tokens::{Error, Kept, Literal};
 use rust_literals::{Lit, LitStr};
 use std::alloc::{Allocator, Global};
@@ -30,22 +30,22 @@ impl Scarce for &Failing<Global> {
 /// Prints what a call of this name answers to a text; any other name is for `trees`.
 pub(crate) fn told(alloc: Global, name: &str, text: &str, out: &mut Page) {
     match name {
-        "all_refused" => all_refused(&Failing::new(alloc), text, out),
-        "second_refused" => second_refused(&Failing::new(alloc), text, out),
+        "all_failing" => all_failing(&Failing::new(alloc), text, out),
+        "second_failing" => second_failing(&Failing::new(alloc), text, out),
         _ => trees::told(alloc, name, text, out),
     }
 }
 
 /// The literal of a token, with every allocation failing.
-fn all_refused<A: Scarce>(failing: A, text: &str, out: &mut Page) {
+fn all_failing<A: Scarce>(failing: A, text: &str, out: &mut Page) {
     match Literal::from_text(failing, text, HERE) {
-        Ok(token) => refused_literal(failing, token, out),
+        Ok(token) => failed_literal(failing, token, out),
         Err(error) => failed(error, out),
     }
 }
 
 /// What a token is with every allocation failing, or why not, and the token that comes back.
-fn refused_literal<A: Scarce>(failing: A, token: Literal<A>, out: &mut Page) {
+fn failed_literal<A: Scarce>(failing: A, token: Literal<A>, out: &mut Page) {
     failing.fail_from(1);
     let answer = Lit::new(failing, token);
     failing.succeed();
@@ -93,7 +93,7 @@ impl<A: Scarce> Tried<A> for Lit<A> {
 
     fn try_value(&self, failing: A, out: &mut Page) {
         match self {
-            Lit::Str(string) => refused_value(failing, string, out),
+            Lit::Str(string) => failed_value(failing, string, out),
             _ => out.put("no string\n"),
         }
     }
@@ -106,7 +106,7 @@ fn tell_pair(kind: &str, digits: &str, out: &mut Page) {
 }
 
 /// The value of a string whose contents are the text ten thousand times over, with all allocations but the first failing.
-fn second_refused<A: Scarce>(failing: A, text: &str, out: &mut Page) {
+fn second_failing<A: Scarce>(failing: A, text: &str, out: &mut Page) {
     let mut quoted = out.another();
     quoted.put("\"");
     put_often(10_000, text, &mut quoted);
@@ -127,7 +127,7 @@ fn try_made<T: Tried<A> + Drop, A: Allocator>(
 }
 
 /// Whether the string borrows its value, and what it answers with all allocations but the first failing.
-fn refused_value<A: Scarce>(failing: A, literal: &LitStr<A>, out: &mut Page) {
+fn failed_value<A: Scarce>(failing: A, literal: &LitStr<A>, out: &mut Page) {
     out.show(&literal.value_ref().is_some(), " ");
     failing.fail_from(2);
     let value = literal.value(failing);

@@ -2,8 +2,8 @@
 
 use crate::bulk::is_command;
 use crate::bytes;
+use rl_failing::Page;
 use rl_lines::decoded;
-use rl_refusing::Page;
 use std::alloc::{AllocError, Global};
 
 /// What is printed for a line of input, all bytes up to a LF, a CR among them.
@@ -21,7 +21,7 @@ fn tell_row(alloc: Global, row: &str, out: &mut Page) {
     let (name, digits) = parts_of(row);
     match decoded(alloc, digits.as_bytes()) {
         Ok(Some(bytes)) => bytes::told(alloc, name, bytes.as_slice(), out),
-        Ok(None) => tell_refused(
+        Ok(None) => tell_rejected(
             name,
             "error: input is not hexadecimal\n",
             "error: no bytes\n",
@@ -36,8 +36,8 @@ pub(crate) fn parts_of(line: &str) -> (&str, &str) {
     line.split_once(' ').unwrap_or((line, ""))
 }
 
-/// Prints why a row is refused, as it is told of a command and of any other call.
-pub(crate) fn tell_refused(name: &str, command: &str, call: &str, out: &mut Page) {
+/// Prints why a row is rejected, as it is told of a command and of any other call.
+pub(crate) fn tell_rejected(name: &str, command: &str, call: &str, out: &mut Page) {
     if is_command(name) {
         out.put(command)
     } else {

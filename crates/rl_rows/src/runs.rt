@@ -4,8 +4,8 @@
 use crate::calls;
 use crate::streams::{Input, Output, Streams};
 use rl_commands::{Fault, call};
+use rl_failing::Page;
 use rl_program::{Ending, RunError};
-use rl_refusing::Page;
 use rl_tokens::{Error, ErrorKind, Span};
 use std::alloc::{AllocError, Global};
 

@@ -1,8 +1,8 @@
 //! The segments of quoted literals, and where what they stand for comes from.
 
 use crate::tell::place;
+use rl_failing::Page;
 use rl_grammar::{SegmentValue, Segments, place_of, spans_of};
-use rl_refusing::Page;
 use rl_tokens::Span;
 use std::alloc::Global;
 

@@ -2,11 +2,11 @@
 
 use crate::tell::{tell, tell_debug, tell_error};
 use crate::tokens;
+use rl_failing::Page;
 use rl_grammar::{
     Kind, Parts, byte_of, bytes_of, char_of, digits_of, float_shape, int_shape, is_plain, shape,
     shape_negative, str_of,
 };
-use rl_refusing::Page;
 use rl_tokens::{Error, whitespace};
 use std::alloc::Global;
 

@@ -2,7 +2,7 @@
 
 use crate::literals::call_of;
 use crate::tell::{append, at, tell_error, tell_trees, trees_of};
-use rl_refusing::Page;
+use rl_failing::Page;
 use rl_tokens::{Literal, ParseBuffer, Punct, Span, TokenStream, TokenTree};
 use rust_literals::Lit;
 use std::alloc::Global;

@@ -1,7 +1,7 @@
 //! How texts, values, spans, errors, trees and literals are printed.
 
 use rl_commands::line_of;
-use rl_refusing::Page;
+use rl_failing::Page;
 use rl_tokens::{Error, Kept, Literal, Span, TokenStream, TokenTree, lex};
 use rust_literals::Lit;
 use std::alloc::{Allocator, Global};

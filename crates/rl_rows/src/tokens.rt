@@ -2,7 +2,7 @@
 
 use crate::numbers;
 use crate::tell::{HERE, THERE, ToRow, at, tell, tell_as_literal, tell_error};
-use rl_refusing::Page;
+use rl_failing::Page;
 use rl_tokens::ident::xid_ok;
 use rl_tokens::{Ident, Literal, Span};
 use rust_literals::{LitBool, LitChar, LitStr};

@@ -2,7 +2,7 @@
 
 use crate::parsers;
 use crate::tell::{HERE, append, place, tell_error, tell_form};
-use rl_refusing::Page;
+use rl_failing::Page;
 use rl_tokens::{Delimiter, Group, LexKind, Literal, Span, TokenStream, TokenTree, Tokens, lex};
 use std::alloc::Global;
 
@@ -10,7 +10,7 @@ use std::alloc::Global;
 pub(crate) fn told(alloc: Global, name: &str, text: &str, out: &mut Page) {
     match name {
         "lex" => cut(alloc, text, out),
-        "lent" => lent(text, out),
+        "borrowed" => borrowed(text, out),
         "built" => built(alloc, out),
         _ => parsers::told(alloc, name, text, out),
     }
@@ -53,19 +53,19 @@ fn tell_stop(tokens: &Tokens<'_>, out: &mut Page) {
 }
 
 /// Prints a token and its bytes.
-fn tell_lent(text: &str, lo: usize, hi: usize, out: &mut Page) {
+fn tell_borrowed(text: &str, lo: usize, hi: usize, out: &mut Page) {
     out.say(text, " ");
     out.show(&lo, "..");
     out.show(&hi, "; ")
 }
 
 /// The tokens of a text as they are borrowed, why they stopped, and what is left of it.
-fn lent(text: &str, out: &mut Page) {
+fn borrowed(text: &str, out: &mut Page) {
     let mut tokens = Tokens::new(text);
     for _ in 0..text.len() {
         tell_stop(&tokens, out);
         match tokens.next() {
-            Some(token) => tell_lent(token.text, token.lo, token.hi, out),
+            Some(token) => tell_borrowed(token.text, token.lo, token.hi, out),
             None => break,
         }
     }

@@ -1,7 +1,7 @@
 //! A user's own parser, in turn with that of literals.
 
 use crate::tell::{ToRow, tell, tell_debug, trees_of};
-use rl_refusing::Page;
+use rl_failing::Page;
 use rl_tokens::{Error, Parse, ParseBuffer, Span, Token};
 use rust_literals::Lit;
 use std::alloc::{Allocator, Global};

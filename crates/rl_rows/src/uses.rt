@@ -4,7 +4,7 @@ use crate::calls;
 use crate::parsers::{tell_next, tell_parsed};
 use crate::tell::{Spanned, ToRow, at, put, tell, tell_debug, tell_error, trees_of};
 use rl_attributes::SettingError;
-use rl_refusing::Page;
+use rl_failing::Page;
 use rl_tokens::{Error, ParseBuffer, Span, parse_all};
 use rl_uses::{
     Attribute, Config, Item, ItemList, Reason, backslash_in_path, bad_literals, control_strings,
@@ -23,7 +23,7 @@ pub(crate) fn told(alloc: Global, name: &str, text: &str, out: &mut Page) {
         "attribute" => tell(read_attribute(alloc, text, FILE), out),
         "attributes" => attributes(alloc, text, out),
         "list" => tell(parse_all::<ItemList, Global>(alloc, text, FILE), out),
-        "refused_list" => refused_list(alloc, text, out),
+        "rejected_list" => rejected_list(alloc, text, out),
         "lint" => tell(control_strings(alloc, text, FILE), out),
         "reasons" => tell(bad_literals(alloc, text, FILE), out),
         "format" => tell(format(alloc, text, FILE), out),
@@ -90,7 +90,7 @@ fn tell_kind(kind: &str, span: Span, out: &mut Page) {
 }
 
 /// Why a list and why an item are rejected, and where the buffer stands then.
-fn refused_list(alloc: Global, text: &str, out: &mut Page) {
+fn rejected_list(alloc: Global, text: &str, out: &mut Page) {
     let Some(stream) = trees_of(alloc, text, FILE) else {
         return out.put("no trees\n");
     };

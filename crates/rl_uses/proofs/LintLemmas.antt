@@ -6,21 +6,21 @@ use Rattle.rust_literals.specs.LitParts.{lit_span}
 use Rattle.rl_uses.specs.Lints.{ReportsLintError, AreErrors}
 
 -- one literal more that is no error
-pub faults_same : {A : Type 0} (ls : List (Lit A)) (l : Lit A) (spans : List Span) → AreErrors ls spans
+pub bad_spans_same : {A : Type 0} (ls : List (Lit A)) (l : Lit A) (spans : List Span) → AreErrors ls spans
     → ReportsLintError l false → AreErrors (ls ++ (l ∷ [])) spans
-faults_same [] l spans e t = inl (t, e)
-faults_same (x ∷ xs) l spans (inl (u, h)) t = inl (u, faults_same xs l spans h t)
-faults_same (x ∷ xs) l spans (inr (rest, u, e, h)) t = inr (rest, u, e, faults_same xs l rest h t)
+bad_spans_same [] l spans e t = inl (t, e)
+bad_spans_same (x ∷ xs) l spans (inl (u, h)) t = inl (u, bad_spans_same xs l spans h t)
+bad_spans_same (x ∷ xs) l spans (inr (rest, u, e, h)) t = inr (rest, u, e, bad_spans_same xs l rest h t)
 
 -- one error more
-pub faults_more : {A : Type 0} (ls : List (Lit A)) (l : Lit A) (spans : List Span) → AreErrors ls spans
+pub bad_spans_more : {A : Type 0} (ls : List (Lit A)) (l : Lit A) (spans : List Span) → AreErrors ls spans
     → ReportsLintError l true → AreErrors (ls ++ (l ∷ [])) (spans ++ (lit_span l ∷ []))
-faults_more [] l spans e t = inr ([], t, ap (λ z. z ++ (lit_span l ∷ [])) e, refl)
-faults_more (x ∷ xs) l spans (inl (u, h)) t = inl (u, faults_more xs l spans h t)
-faults_more (x ∷ xs) l spans (inr (rest, u, e, h)) t = inr (
+bad_spans_more [] l spans e t = inr ([], t, ap (λ z. z ++ (lit_span l ∷ [])) e, refl)
+bad_spans_more (x ∷ xs) l spans (inl (u, h)) t = inl (u, bad_spans_more xs l spans h t)
+bad_spans_more (x ∷ xs) l spans (inr (rest, u, e, h)) t = inr (
   rest
       ++ (lit_span l ∷ []),
   u,
   ap (λ z. z ++ (lit_span l ∷ [])) e,
-  faults_more xs l rest h t,
+  bad_spans_more xs l rest h t,
 )

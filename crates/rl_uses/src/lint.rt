@@ -35,7 +35,7 @@ fn has_control<A: Allocator + Copy>(alloc: A, string: &LitStr<A>) -> Result<bool
 }
 
 /// Whether the literal is a string whose value has a control character.
-fn is_fault<A: Allocator + Copy>(alloc: A, literal: &Lit<A>) -> Result<bool, Error<A>>
+fn is_bad<A: Allocator + Copy>(alloc: A, literal: &Lit<A>) -> Result<bool, Error<A>>
     ensures tells { IfOk result (ReportsLintError literal.now) }
     ensures memory { IfErr result (λ e. e ≡ memory_at (lit_span literal.now)) }
 {
@@ -46,13 +46,13 @@ fn is_fault<A: Allocator + Copy>(alloc: A, literal: &Lit<A>) -> Result<bool, Err
 }
 
 /// The spans of the literals that are strings with control characters.
-fn faults<A: Allocator + Copy>(alloc: A, literals: &[Lit<A>]) -> Result<Vec<Span, A>, Error<A>>
+fn bad_spans<A: Allocator + Copy>(alloc: A, literals: &[Lit<A>]) -> Result<Vec<Span, A>, Error<A>>
     ensures found { IfOk result (λ spans. AreErrors literals.now spans.items) }
     ensures memory { IfErr result (IsShortOf literals.now) }
 {
     let mut spans = Vec::new(alloc);
     for literal in literals {
-        if is_fault(alloc, literal)? {
+        if is_bad(alloc, literal)? {
             if spans.push(literal.span()).is_err() {
                 return Err(Error::memory(literal.span()));
             }
@@ -82,5 +82,5 @@ pub fn control_strings<A: Allocator + Copy>(
     ensures rejected { IfErr result (RejectsTextOrMemory text.now file) }
 {
     let literals = read_all(alloc, text, file)?;
-    faults(alloc, literals.as_slice())
+    bad_spans(alloc, literals.as_slice())
 }

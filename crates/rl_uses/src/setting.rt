@@ -15,7 +15,7 @@ use std::str::FromStr;
 /// # Errors
 ///
 /// A text that isn't one integer literal is rejected as by [`parse_all`], with the word `integer
-/// literal`. Digits that the type refuses are `Number`, in the type's own words, at the literal's
+/// literal`. Digits that the type rejects are `Number`, in the type's own words, at the literal's
 /// bytes of the file; `Memory` for these words is reported there too.
 pub fn read_number<N: FromStr, A: Allocator + Copy>(
     alloc: A,

@@ -499,7 +499,7 @@ pub mod package {
         if let Lit::Verbatim(verbatim) = &read {
             assert_eq!(parsed.is_ok(), is_float_by_suffix(text));
             if parsed.is_err() {
-                flaw(out, verbatim.explain());
+                flaw(out, verbatim.explain().unwrap());
             }
         }
         check_parsers(text, &parsed);

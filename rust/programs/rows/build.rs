@@ -18,10 +18,10 @@ fn main() {
     );
     for name in [
         "rl_uses",
-        "rl_refusing",
+        "rl_failing",
         "rl_rows",
         "rl_scan_rows",
-        "rl_refusals",
+        "rl_failures",
     ] {
         println!(
             "cargo::rerun-if-changed={}",

@@ -1,13 +1,13 @@
 //! Attributes: `name = literal`, with commas between.
 
 use crate::literals::line;
-use crate::texts::Refusal;
+use crate::texts::Rejection;
 use crate::trees::Cut;
 use proc_macro::TokenTree;
 use std::collections::HashSet;
 
-/// The trees behind this mark.
-fn behind<'t>(cut: &Cut<'_>, trees: &'t [TokenTree], mark: char) -> Result<&'t [TokenTree], Refusal> {
+/// The trees after this mark.
+fn after<'t>(cut: &Cut<'_>, trees: &'t [TokenTree], mark: char) -> Result<&'t [TokenTree], Rejection> {
     match trees.first() {
         Some(TokenTree::Punct(found)) if found.as_char() == mark => Ok(&trees[1..]),
         _ => Err(cut.expected(trees, &format!("`{mark}`"))),
@@ -15,7 +15,7 @@ fn behind<'t>(cut: &Cut<'_>, trees: &'t [TokenTree], mark: char) -> Result<&'t [
 }
 
 /// The line of each of the text's attributes: its name, and its literal's line.
-pub fn lines(cut: &Cut<'_>) -> Result<String, Refusal> {
+pub fn lines(cut: &Cut<'_>) -> Result<String, Rejection> {
     let mut rest = &cut.trees[..];
     let mut names = HashSet::new();
     let mut out = String::new();
@@ -25,16 +25,16 @@ pub fn lines(cut: &Cut<'_>) -> Result<String, Refusal> {
         };
         let (lo, hi) = cut.place(name.span());
         if !names.insert(name.to_string()) {
-            return Err(Refusal::At(lo, hi, "repeated name".to_string()));
+            return Err(Rejection::At(lo, hi, "repeated name".to_string()));
         }
-        rest = behind(cut, &rest[1..], '=')?;
+        rest = after(cut, &rest[1..], '=')?;
         let Some(value) = cut.front(rest) else {
             return Err(cut.expected(rest, "literal"));
         };
         out.push_str(&format!("{name} {}\n", line(&value.text)));
         rest = &rest[value.trees..];
         if !rest.is_empty() {
-            rest = behind(cut, rest, ',')?;
+            rest = after(cut, rest, ',')?;
         }
     }
     Ok(out)

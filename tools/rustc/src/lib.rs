@@ -1,5 +1,5 @@
 //! What rustc's own lexer makes of texts: macros that write a file of answers while rustc expands them. Variables say
-//! where: `ANSWERS_TEXTS` (texts, each behind its length: four bytes, the low one first) and `ANSWERS_OUT`.
+//! where: `ANSWERS_TEXTS` (texts, each after its length: four bytes, the low one first) and `ANSWERS_OUT`.
 //!
 //! What each literal reads as is told by syn's own reading code; what goes over the trees is written here.
 #![feature(proc_macro_span)]
@@ -10,7 +10,7 @@ mod texts;
 mod trees;
 mod whole;
 
-use crate::texts::Refusal;
+use crate::texts::Rejection;
 use crate::trees::{Cut, lexes};
 use proc_macro::{Group, TokenStream, TokenTree};
 use std::io::{BufWriter, Write};
@@ -62,12 +62,12 @@ pub fn tried(number: TokenStream) -> TokenStream {
     if catch_unwind(|| lexes(TEXTS[number])).unwrap_or(false) {
         return TokenStream::new();
     }
-    // Behind what rustc told, if it did: of groups that aren't closed it tells none.
+    // After what rustc told, if it did: of groups that aren't closed it tells none.
     "compile_error! { \"groups do not match\" }".parse().expect("a call")
 }
 
 /// The lines of each group's text by this function, and one with a point.
-fn write_groups(groups: TokenStream, lines: impl Fn(&str, Group) -> Result<String, Refusal>) {
+fn write_groups(groups: TokenStream, lines: impl Fn(&str, Group) -> Result<String, Rejection>) {
     let data = fs::read(said("ANSWERS_TEXTS")).expect("texts");
     let texts = texts::split(&data);
     write_answers(texts.zip(groups).map(|(text, tree)| match tree {
@@ -77,7 +77,7 @@ fn write_groups(groups: TokenStream, lines: impl Fn(&str, Group) -> Result<Strin
 }
 
 /// The same of texts that are cut.
-fn write_lines(groups: TokenStream, lines: fn(&Cut<'_>) -> Result<String, Refusal>) {
+fn write_lines(groups: TokenStream, lines: fn(&Cut<'_>) -> Result<String, Rejection>) {
     write_groups(groups, |text, group| Cut::of(text, group).and_then(|cut| lines(&cut)));
 }
 

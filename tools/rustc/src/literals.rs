@@ -1,6 +1,6 @@
 //! Literals at the front of trees, after syn's parser of them.
 
-use crate::texts::{Refusal, written};
+use crate::texts::{Rejection, written};
 use crate::trees::{Cut, is_whole};
 use proc_macro::{Literal, TokenTree};
 
@@ -55,22 +55,22 @@ impl Cut<'_> {
     }
 
     /// What is told where something else stands than this word says.
-    pub fn expected(&self, trees: &[TokenTree], word: &str) -> Refusal {
+    pub fn expected(&self, trees: &[TokenTree], word: &str) -> Rejection {
         match trees.first() {
             Some(tree) => {
                 let (lo, hi) = self.place(tree.span());
-                Refusal::At(lo, hi, format!("expected {word}"))
+                Rejection::At(lo, hi, format!("expected {word}"))
             }
             None => {
                 let end = self.text.len();
-                Refusal::At(end, end, format!("unexpected end of input, expected {word}"))
+                Rejection::At(end, end, format!("unexpected end of input, expected {word}"))
             }
         }
     }
 }
 
 /// The kind of each of the text's literals, its bytes and its text, a line each.
-pub fn spans(cut: &Cut<'_>) -> Result<String, Refusal> {
+pub fn spans(cut: &Cut<'_>) -> Result<String, Rejection> {
     let mut rest = &cut.trees[..];
     let mut out = String::new();
     while !rest.is_empty() {

@@ -1,30 +1,30 @@
 //! Texts that come in, and how answers are told.
 
 /// Why there are no lines.
-pub enum Refusal {
+pub enum Rejection {
     /// The lexer told an error that leaves no trace but another text.
     Unlexed,
     /// What is told of the bytes from the first place to the second.
     At(usize, usize, String),
 }
 
-/// The texts, each behind its length. They are UTF-8.
+/// The texts, each after its length. They are UTF-8.
 pub fn split(data: &[u8]) -> impl Iterator<Item = &str> {
     let mut rest = data;
     std::iter::from_fn(move || {
-        let (len, behind) = rest.split_first_chunk()?;
-        let (text, behind) = behind.split_at(u32::from_le_bytes(*len) as usize);
-        rest = behind;
+        let (len, after) = rest.split_first_chunk()?;
+        let (text, after) = after.split_at(u32::from_le_bytes(*len) as usize);
+        rest = after;
         Some(std::str::from_utf8(text).expect("a text"))
     })
 }
 
-/// The lines, or the one of the refusal, and one with a point.
-pub fn pointed(lines: Result<String, Refusal>) -> String {
+/// The lines, or the one of the rejection, and one with a point.
+pub fn pointed(lines: Result<String, Rejection>) -> String {
     match lines {
         Ok(lines) => format!("{lines}.\n"),
-        Err(Refusal::Unlexed) => "unlexed\n.\n".to_string(),
-        Err(Refusal::At(lo, hi, message)) => format!("error at {lo}..{hi}: {message}\n.\n"),
+        Err(Rejection::Unlexed) => "unlexed\n.\n".to_string(),
+        Err(Rejection::At(lo, hi, message)) => format!("error at {lo}..{hi}: {message}\n.\n"),
     }
 }
 

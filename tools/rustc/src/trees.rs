@@ -1,6 +1,6 @@
 //! Trees as rustc cuts them.
 
-use crate::texts::Refusal;
+use crate::texts::Rejection;
 use proc_macro::{Group, Literal, Spacing, Span, TokenStream, TokenTree};
 
 /// Whether the lexer told an error of the literal: of an escape, or of digits.
@@ -36,14 +36,14 @@ pub struct Cut<'a> {
 
 impl<'a> Cut<'a> {
     /// The text between the braces of the group.
-    pub fn of(text: &'a str, group: Group) -> Result<Cut<'a>, Refusal> {
+    pub fn of(text: &'a str, group: Group) -> Result<Cut<'a>, Rejection> {
         let base = group.span_open().byte_range().end;
         let trees: Vec<_> = group.stream().into_iter().collect();
         let cut = Cut { text, trees, base };
         let mut named = None;
         cut.check(&cut.trees, &mut named)?;
         match named {
-            Some(refusal) => Err(refusal),
+            Some(rejection) => Err(rejection),
             None => Ok(cut),
         }
     }
@@ -54,10 +54,10 @@ impl<'a> Cut<'a> {
         (range.start - self.base, range.end - self.base)
     }
 
-    /// Refuses a literal, also inside groups, that isn't what stands at its place, and finds what our lexer refuses first.
-    fn check(&self, trees: &[TokenTree], named: &mut Option<Refusal>) -> Result<(), Refusal> {
+    /// Rejects a literal, also inside groups, that isn't what stands at its place, and finds what our lexer rejects first.
+    fn check(&self, trees: &[TokenTree], named: &mut Option<Rejection>) -> Result<(), Rejection> {
         for tree in trees {
-            *named = named.take().or_else(|| self.refused_by_name(tree));
+            *named = named.take().or_else(|| self.rejected_by_name(tree));
             match tree {
                 TokenTree::Literal(literal) => self.check_literal(literal)?,
                 TokenTree::Group(group) => {
@@ -70,19 +70,19 @@ impl<'a> Cut<'a> {
         Ok(())
     }
 
-    /// Refuses a literal that isn't what stands at its place, unless it is what a doc comment is turned into.
-    fn check_literal(&self, literal: &Literal) -> Result<(), Refusal> {
+    /// Rejects a literal that isn't what stands at its place, unless it is what a doc comment is turned into.
+    fn check_literal(&self, literal: &Literal) -> Result<(), Rejection> {
         let (lo, hi) = self.place(literal.span());
         let stands = &self.text[lo..hi];
         if stands.starts_with('/') || is_whole(literal, stands) {
             Ok(())
         } else {
-            Err(Refusal::Unlexed)
+            Err(Rejection::Unlexed)
         }
     }
 
-    /// What our lexer refuses by name, and where: a doc comment, a lifetime, a raw identifier.
-    fn refused_by_name(&self, tree: &TokenTree) -> Option<Refusal> {
+    /// What our lexer rejects by name, and where: a doc comment, a lifetime, a raw identifier.
+    fn rejected_by_name(&self, tree: &TokenTree) -> Option<Rejection> {
         let (lo, hi) = self.place(tree.span());
         let word = match tree {
             TokenTree::Punct(mark) if mark.as_char() == '#' && hi - lo > 1 => {
@@ -98,6 +98,6 @@ impl<'a> Cut<'a> {
             }
             _ => return None,
         };
-        Some(Refusal::At(lo, lo, word.to_string()))
+        Some(Rejection::At(lo, lo, word.to_string()))
     }
 }

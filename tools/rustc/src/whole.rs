@@ -1,7 +1,7 @@
 //! The literals of whole sources, at their bytes.
 
 use crate::literals::line;
-use crate::texts::Refusal;
+use crate::texts::Rejection;
 use crate::trees::is_whole;
 use proc_macro::{Group, Literal, Span, TokenStream, TokenTree};
 
@@ -13,7 +13,7 @@ struct Whole<'t> {
     lexed: String,
     /// The bytes of `lexed` before which a CR was dropped.
     drops: Vec<usize>,
-    /// The byte behind the opening brace.
+    /// The byte after the opening brace.
     base: usize,
 }
 
@@ -43,20 +43,20 @@ impl<'t> Whole<'t> {
 
     /// Adds the line of a literal, unless it is what a doc comment is turned into. Where it isn't what stands at its
     /// place, the lexer told an error.
-    fn add_literal(&self, literal: &Literal, out: &mut String) -> Result<(), Refusal> {
+    fn add_literal(&self, literal: &Literal, out: &mut String) -> Result<(), Rejection> {
         let (stands, lo, hi) = self.place(literal.span());
         if stands.starts_with('/') {
             return Ok(());
         }
         if !is_whole(literal, stands) {
-            return Err(Refusal::Unlexed);
+            return Err(Rejection::Unlexed);
         }
         self.add_line(lo, hi, out);
         Ok(())
     }
 
     /// Adds the lines of the trees, also inside groups.
-    fn add(&self, trees: TokenStream, out: &mut String) -> Result<(), Refusal> {
+    fn add(&self, trees: TokenStream, out: &mut String) -> Result<(), Rejection> {
         let mut in_lifetime = false;
         for tree in trees {
             match &tree {
@@ -78,7 +78,7 @@ impl<'t> Whole<'t> {
 }
 
 /// The bytes and the line of each of the source's literals and truth values, a line each.
-pub fn lines(text: &str, group: Group) -> Result<String, Refusal> {
+pub fn lines(text: &str, group: Group) -> Result<String, Rejection> {
     let mut out = String::new();
     Whole::of(text, &group).add(group.stream(), &mut out)?;
     Ok(out)

@@ -1,7 +1,7 @@
 //! Why a text is no literal of Rust, or has no value.
 
+use rl_failing::Page;
 use rl_grammar::Flaw;
-use rl_refusing::Page;
 
 /// Prints a flaw: its kind, where its piece begins, and the bytes where it stands; `None` where there is none.
 pub(crate) fn put_flaw(flaw: Option<Flaw>, out: &mut Page) {

@@ -3,9 +3,9 @@
 use crate::tell::place;
 use rl_attributes::Attrs;
 use rl_commands::{entry_lines, push_literal};
+use rl_failing::Page;
 use rl_lines::label_of;
 use rl_program::Refusal;
-use rl_refusing::Page;
 use rl_tokens::{Error, Literal};
 use rust_literals::{Lit, read_all};
 use std::alloc::{AllocError, Global};

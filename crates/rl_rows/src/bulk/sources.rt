@@ -1,6 +1,6 @@
 //! The literals of a whole source.
 
-use rl_refusing::Page;
+use rl_failing::Page;
 use rl_sources::{Options, ScanError, scan};
 use std::alloc::Global;
 

@@ -1,4 +1,4 @@
-//! An allocator whose chosen allocations fail, and which counts the blocks that are held. It stands for that of crates/rl_refusing,
+//! An allocator whose chosen allocations fail, and which counts the blocks that are held. It stands for that of crates/rl_failing,
 //! which is `unsafe`.
 
 use crate::rattle_std::alloc::Allocator;

@@ -1,4 +1,4 @@
-//! The programs that print rows of tests: the stored runs of `rl_rows`, `rl_scan_rows` and `rl_refusals`, by Cargo.
+//! The programs that print rows of tests: the stored runs of `rl_rows`, `rl_scan_rows` and `rl_failures`, by Cargo.
 #![forbid(unsafe_code)]
 
 pub mod failing;

@@ -19,5 +19,5 @@ fn rows_of_scans() {
 
 #[test]
 fn rows_of_failing_memory() {
-    stored::check("rl_refusals", env!("CARGO_BIN_EXE_rl_refusals"));
+    stored::check("rl_failures", env!("CARGO_BIN_EXE_rl_failures"));
 }

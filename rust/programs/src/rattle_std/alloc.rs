@@ -1,13 +1,13 @@
 //! Stands for `std::alloc` of Rattle: allocators, and the errors of an allocation that failed.
 //!
 //! Narrower: there is one allocator, Rust's own, and no call here hands out a block. Lists, texts and sets take theirs by Rust's
-//! `try_reserve`, after they asked the allocator that they were passed, so that one of a test can refuse, and count blocks.
+//! `try_reserve`, after they asked the allocator that they were passed, so that one of a test can fail, and count blocks.
 
 use core::fmt;
 use core::hash::Hash;
 use std::collections::TryReserveError;
 
-/// What collections are passed to take memory from. All take it from Rust's own allocator; another one may refuse, and count.
+/// What collections are passed to take memory from. All take it from Rust's own allocator; another one may fail, and count.
 pub trait Allocator: Copy + Ord + Hash + fmt::Debug {
     /// Whether the next allocation is granted, which is then tried.
     #[inline(always)]

@@ -1,6 +1,6 @@
 //! Stands for `std::env` of Rattle: a program's arguments, and the variables of its environment.
 //!
-//! Narrower: arguments and variables are this process's own, and what Rust's own calls take to copy them can't be refused.
+//! Narrower: arguments and variables are this process's own, and what Rust's own calls take to copy them can't fail.
 
 use super::alloc::{AllocError, Global};
 use super::io;

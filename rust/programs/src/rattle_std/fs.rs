@@ -2,7 +2,7 @@
 //! and names are texts.
 //!
 //! Narrower: there is one file system, and files are opened in the ways that the sources ask for. What Rust's own calls take for a
-//! long path or a name can't be refused.
+//! long path or a name can't fail.
 
 use super::alloc::{AllocError, Allocator, Global};
 use super::io::{Error, ErrorKind, Read, Result, Write};
@@ -142,7 +142,7 @@ impl<R, A: Allocator> DirEntry<R, A> {
 }
 
 /// The entries of a directory but `.` and `..`. A name that isn't UTF-8 is the error `InvalidFilename`, without a number of the
-/// system's; the entries behind it follow. Of a directory that was removed no more come.
+/// system's; the entries after it follow. Of a directory that was removed no more come.
 pub struct ReadDir<R, A: Allocator = Global> {
     entries: std::fs::ReadDir,
     /// The directory's path, which ends with a slash if it isn't empty.

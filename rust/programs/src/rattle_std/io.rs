@@ -2,7 +2,7 @@
 //!
 //! Narrower: an error has a kind and the system's number, and no message; kinds that the sources don't tell apart are `Other`. A
 //! `Take` is read to its end alone. Nothing gives up after 2^64 tries. The standard streams stand on Rust's own, which take a few
-//! kilobytes that can't be refused; one that is closed reads as empty, and takes all that is written.
+//! kilobytes that can't fail; one that is closed reads as empty, and takes all that is written.
 
 use super::alloc::{AllocError, AllocFailed, Allocator};
 use super::rt::HostRuntime;
@@ -128,7 +128,7 @@ pub trait Read {
     /// Reads some bytes into the buffer, and returns how many; none where the buffer is empty, or no byte is left.
     fn read(&mut self, buf: &mut [u8]) -> Result<usize>;
 
-    /// Puts what is left, but no more bytes than `limit`, behind those of the list. After an error, what was read stays there.
+    /// Puts what is left, but no more bytes than `limit`, after those of the list. After an error, what was read stays there.
     fn read_up_to<A: Allocator>(&mut self, list: &mut Vec<u8, A>, limit: u64) -> Result<()> {
         let mut filled = list.len();
         let end = fill(self, list, &mut filled, limit);
@@ -152,7 +152,7 @@ const LONGEST_READ: usize = 128 * 1024;
 /// Reads to the end, past the list's first `filled` bytes, and counts them up. Past those stands room for reading.
 ///
 /// It asks the reader for as many bytes, and the allocator for as much, as Rattle's. Room is made before each read, so that a
-/// growth that is refused loses no byte.
+/// growth that fails loses no byte.
 fn fill<R: Read + ?Sized, A: Allocator>(
     reader: &mut R,
     list: &mut Vec<u8, A>,
@@ -229,7 +229,7 @@ pub struct Take<R> {
 }
 
 impl<R: Read> Take<R> {
-    /// Puts what is left behind the bytes of the list, and returns how many bytes that were. After an error, what was read stays
+    /// Puts what is left after the bytes of the list, and returns how many bytes that were. After an error, what was read stays
     /// there, and counts towards the limit.
     pub fn read_to_end<A: Allocator>(&mut self, list: &mut Vec<u8, A>) -> Result<usize> {
         let before = list.len();
@@ -454,7 +454,7 @@ pub trait BufRead: Sized {
 
     fn consume(&mut self, count: usize);
 
-    /// Puts the bytes up to this one, and it, behind those of the list, or all that are left. After an error, what was read stays
+    /// Puts the bytes up to this one, and it, after those of the list, or all that are left. After an error, what was read stays
     /// there.
     fn read_until<B: Allocator>(&mut self, byte: u8, list: &mut Vec<u8, B>) -> Result<()> {
         loop {
@@ -513,7 +513,7 @@ pub struct Split<R, B: Allocator> {
 }
 
 impl<R: BufRead, B: Allocator> Split<R, B> {
-    /// The next piece, and whether the byte stood behind it.
+    /// The next piece, and whether the byte stood after it.
     fn next_piece(&mut self) -> Option<Result<(Vec<u8, B>, bool)>> {
         if self.has_ended {
             return None;

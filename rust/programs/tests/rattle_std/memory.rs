@@ -1,4 +1,4 @@
-//! Growth that is refused: what was there is unchanged.
+//! Growth that fails: what was there is unchanged.
 
 use crate::failing::Failing;
 use crate::rattle_std::alloc::{AllocError, AllocFailed, Global};
@@ -27,7 +27,7 @@ fn text_of<'a>(failing: Scant<'a>, text: &str, room: usize) -> String<Scant<'a>>
     made
 }
 
-/// The calls, of so many, at which an allocation is asked for. None is refused.
+/// The calls, of so many, at which an allocation is asked for. None fails.
 fn asking(
     failing: Scant<'_>,
     calls: usize,
@@ -247,14 +247,14 @@ fn item(i: u32) -> u32 {
 fn sets() {
     let failing = scant();
     let mut set = BTreeSet::new(&failing);
-    let mut refusals = 0;
+    let mut failures = 0;
     for i in 0..2000 {
         failing.fail(1, u64::MAX);
         match set.insert(item(i)) {
             Ok(is_new) => assert!(is_new),
-            Err(refused) => {
-                refusals += 1;
-                assert_eq!(refused.value, item(i));
+            Err(failed) => {
+                failures += 1;
+                assert_eq!(failed.value, item(i));
                 for j in 0..i {
                     assert!(matches!(set.insert(item(j)), Ok(false)));
                 }
@@ -266,7 +266,7 @@ fn sets() {
         assert!(matches!(set.insert(item(i)), Ok(false)));
     }
     // The first item, six at which the first row grew, and some at which one was split. Rattle's set asks at other items.
-    assert!(refusals > 7);
+    assert!(failures > 7);
     assert!(failing.held() > 0);
     drop(set);
     assert_eq!(failing.held(), 0);
@@ -287,8 +287,8 @@ fn maps() {
     let mut map = HashMap::new(&failing);
     for i in 0..500 {
         failing.fail(1, u64::MAX);
-        if let Err(refused) = map.insert(i, i + 1) {
-            assert_eq!(refused.value, (i, i + 1));
+        if let Err(failed) = map.insert(i, i + 1) {
+            assert_eq!(failed.value, (i, i + 1));
             for j in 0..i {
                 assert!(matches!(map.insert(j, j + 1), Ok(Some(had)) if had == j + 1));
             }

@@ -80,12 +80,12 @@ fn failures_in_the_middle() {
 }
 
 #[test]
-fn refused_memory() {
+fn failing_memory() {
     let failing = Failing::new(Global);
     failing.fail(1, 1);
-    let refused = BufReader::new(&failing, b"abc".as_slice()).err();
+    let failed = BufReader::new(&failing, b"abc".as_slice()).err();
     assert_eq!(
-        refused.map(|error| error.kind()),
+        failed.map(|error| error.kind()),
         Some(ErrorKind::OutOfMemory)
     );
     failing.succeed();
@@ -93,8 +93,8 @@ fn refused_memory() {
     let mut pieces = reader(b"a\nb\nc\nd\n".as_slice()).split(&failing, b'\n');
     assert_eq!(pieces.next().map(piece).as_deref(), Some("\"a\""));
     failing.fail(1, 1);
-    let refused = pieces.next().map(piece);
-    assert_eq!(refused.as_deref(), Some("Err(OutOfMemory, None)"));
+    let failed = pieces.next().map(piece);
+    assert_eq!(failed.as_deref(), Some("Err(OutOfMemory, None)"));
     for _ in 0..3 {
         assert!(pieces.next().is_none());
     }
@@ -103,8 +103,8 @@ fn refused_memory() {
     let mut rows = reader(b"a\nb\nc\nd\n".as_slice()).lines(&failing);
     assert_eq!(rows.next().map(line).as_deref(), Some("\"a\""));
     failing.fail(1, 1);
-    let refused = rows.next().map(line);
-    assert_eq!(refused.as_deref(), Some("Err(OutOfMemory, None)"));
+    let failed = rows.next().map(line);
+    assert_eq!(failed.as_deref(), Some("Err(OutOfMemory, None)"));
     for _ in 0..3 {
         assert!(rows.next().is_none());
     }

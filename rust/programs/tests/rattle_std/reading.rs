@@ -95,27 +95,27 @@ fn what_a_reader_is_asked_for_where_there_is_room() {
 }
 
 #[test]
-fn a_growth_that_is_refused_at_first_reads_nothing() {
+fn a_growth_that_fails_at_first_reads_nothing() {
     let failing = Failing::new(Global);
     let mut script = Script::new(&[], DIGITS);
     let mut list = Vec::new(&failing);
     failing.fail(1, 1);
-    let refused = told(script.take(600).read_to_end(&mut list));
-    assert_eq!(refused, "Err(OutOfMemory, None)");
+    let failed = told(script.take(600).read_to_end(&mut list));
+    assert_eq!(failed, "Err(OutOfMemory, None)");
     assert_eq!((list.len(), failing.succeed()), (0, 1));
     assert_eq!(script.asked(), []);
 }
 
 #[test]
-fn a_refused_growth_loses_no_byte() {
+fn a_failed_growth_loses_no_byte() {
     let failing = Failing::new(Global);
     let mut script = Script::new(&[], &[7; 3000]);
     {
         let mut list = Vec::new(&failing);
         let mut front = script.take(1 << 30);
         failing.fail(2, u64::MAX);
-        let refused = told(front.read_to_end(&mut list));
-        assert_eq!(refused, "Err(OutOfMemory, None)");
+        let failed = told(front.read_to_end(&mut list));
+        assert_eq!(failed, "Err(OutOfMemory, None)");
         assert_eq!((list.len(), failing.succeed()), (512, 2));
         assert_eq!(told(front.read_to_end(&mut list)), "Ok(2488)");
         assert_eq!((list.len(), failing.succeed()), (3000, 3));

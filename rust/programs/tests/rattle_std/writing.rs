@@ -52,8 +52,8 @@ fn a_list_that_cannot_grow_is_unchanged() {
     let mut list = Vec::new(&failing);
     assert_eq!(told(list.write_all(b"abcdefgh")), "Ok(())");
     failing.fail(1, 1);
-    let refused = told(list.write_all(b"ij"));
-    assert_eq!(refused, "Err(OutOfMemory, None)");
+    let failed = told(list.write_all(b"ij"));
+    assert_eq!(failed, "Err(OutOfMemory, None)");
     assert_eq!(text(&list), "abcdefgh");
 }
 
@@ -108,12 +108,12 @@ fn a_failure_keeps_what_is_not_written() {
 }
 
 #[test]
-fn room_that_is_refused() {
+fn room_that_is_not_there() {
     let failing = Failing::new(Global);
     failing.fail(1, 1);
-    let refused = BufWriter::new(&failing, &mut Taker::new(&[])).err();
+    let failed = BufWriter::new(&failing, &mut Taker::new(&[])).err();
     assert_eq!(
-        refused.map(|error| error.kind()),
+        failed.map(|error| error.kind()),
         Some(ErrorKind::OutOfMemory)
     );
     assert_eq!(failing.held(), 0);

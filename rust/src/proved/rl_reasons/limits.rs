@@ -2,9 +2,7 @@
 //! Why a token has no value, an integer past 128 bits; and why a text has none.
 
 use crate::rl_reasons::flaws::{Flaw, FlawKind, make_flaw};
-use crate::rl_reasons::strict_reading::Reading;
-#[cfg(feature = "rendered")]
-use crate::rl_reasons::strict_reading::read_signed;
+use crate::rl_reasons::strict_reading::{Reading, read_signed};
 use crate::rl_reading::digit_rows::{after_minus, begins_digit, skip_row};
 
 /// The place of the suffix, where the reading is an integer past 128 bits.
@@ -70,7 +68,6 @@ pub fn explain_limit(text: &str) -> Option<Flaw> {
 /// Why the text has no value in Rust, and where: it is neither a literal token nor a minus and a number, or it is an integer
 /// past 128 bits. `None` exactly where it is such a token and has a reading, or is a float by its suffix
 /// ([`is_float_by_suffix`]). No memory is taken.
-#[cfg(feature = "rendered")]
 pub fn explain_value(text: &str) -> Option<Flaw> {
     match read_signed(text) {
         Ok(reading) => limit_of(text, reading),

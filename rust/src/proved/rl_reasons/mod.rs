@@ -13,9 +13,9 @@ pub mod strict_quoted_flaws;
 pub mod strict_reading;
 
 pub use crate::rl_reasons::flaws::{Flaw, FlawKind};
-pub use crate::rl_reasons::limits::{is_float_by_suffix, limit_flaw};
+pub use crate::rl_reasons::limits::{explain_value, is_float_by_suffix, limit_flaw};
 #[cfg(feature = "rendered")]
-pub use crate::rl_reasons::limits::{explain_limit, explain_value};
+pub use crate::rl_reasons::limits::explain_limit;
 pub use crate::rl_reasons::read_numbers::Number;
 #[cfg(feature = "rendered")]
 pub use crate::rl_reasons::signed_flaws::explain_signed;

@@ -1,9 +1,9 @@
 use Rattle.rl_text.proofs.Common.{IfErr-weaker, IsUtf8-string_bytes, on_ok_weaker, string_bytes}
-use Rattle.rl_commands.proofs.RunLemmas.{refusal_fault, prints_known, begins_known}
+use Rattle.rl_commands.proofs.RunLemmas.{rejection_fault, prints_known, begins_known}
 use Rattle.rl_commands.proofs.run.run.Goals as goal
 
 pub returns-in-Err-clause-fault : goal.returns-in-Err-clause-fault
-returns-in-Err-clause-fault g c = refusal_fault c.args.command _ _ c.in_ok-bytes.bytes.items c.in-Err.fault
+returns-in-Err-clause-fault g c = rejection_fault c.args.command _ _ c.in_ok-bytes.bytes.items c.in-Err.fault
     c.in_ok-bytes.ensures.bytes c.in-Err.ensures.rejection
 
 pub returns-clause-printed : goal.returns-clause-printed

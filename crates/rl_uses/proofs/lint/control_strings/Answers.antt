@@ -7,17 +7,17 @@ use Rattle.rl_uses.proofs.lint.control_strings.Goals as goal
 pub returns-clause-found : goal.returns-clause-found
 returns-clause-found g c =
     let list = c.in_ok-literals.literals.items in
-    IfOk-weaker c.faults.result _ _ (λ spans h. (
+    IfOk-weaker c.bad_spans.result _ _ (λ spans h. (
       list,
       c.in_ok-literals.ensures.read,
       subst
           (λ ls. AreErrors ls spans.items) c.as_slice.ensures.value h,
-    )) c.faults.ensures.found
+    )) c.bad_spans.ensures.found
 
 pub returns-clause-rejected : goal.returns-clause-rejected
 returns-clause-rejected g c =
-    IfErr-weaker c.faults.result _ _ (λ e h. inr (record {
+    IfErr-weaker c.bad_spans.result _ _ (λ e h. inr (record {
       list = c.in_ok-literals.literals.items;
       read = c.in_ok-literals.ensures.read;
       short = subst (λ ls. IsShortOf ls e) c.as_slice.ensures.value h;
-    })) c.faults.ensures.memory
+    })) c.bad_spans.ensures.memory

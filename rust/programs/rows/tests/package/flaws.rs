@@ -7,7 +7,7 @@ use navyspindle::{
 };
 use navyspindle_programs::rl_grammar::{
     explain, explain_in_file, explain_limit, explain_signed, explain_value_in_file,
-    is_float_by_suffix, strict, Flaw, FlawKind,
+    is_float_by_suffix, strict, Flaw,
 };
 
 /// Why Rust doesn't take the text: it is no token after an optional minus, or an integer past 128 bits.
@@ -51,26 +51,16 @@ fn check_flaw(text: &str, error: ParseError, flaw: Flaw) {
     assert_eq!(error.to_string(), line, "{text:?}");
 }
 
-/// Why a float by its suffix, which Rust takes, has no reading: its digits are past 128 bits.
-fn large_flaw(text: &str) -> Flaw {
-    assert!(is_float_by_suffix(text), "{text:?}");
-    let suffix_at = text.len() - "f64".len();
-    Flaw {
-        kind: FlawKind::TooLarge,
-        from: 0,
-        lo: suffix_at,
-        hi: suffix_at + 1,
-    }
-}
-
-/// Why a text has no reading.
+/// Why a text has no value in Rust.
 pub fn check_verbatim(ours: &Lit, proved: &Proved) {
     let Lit::Verbatim(literal) = ours else {
         panic!()
     };
-    let text = ours.text();
-    let flaw = proved.explain().unwrap_or_else(|| large_flaw(text));
-    check_flaw(text, literal.explain(), flaw);
+    match (literal.explain(), proved.explain()) {
+        (None, None) => assert!(is_float_by_suffix(ours.text()), "{:?}", ours.text()),
+        (Some(error), Some(flaw)) => check_flaw(ours.text(), error, flaw),
+        (_, flaw) => panic!("{:?}: {:?}", ours.text(), flaw.map(|it| it.kind)),
+    }
 }
 
 /// What `Lit::parse` takes, and why it doesn't take others.
@@ -136,11 +126,10 @@ fn check_kind(text: &str, proved: &Proved, expected: Kind, read: [Result<Lit, Pa
             }
             (Err(error), Some(flaw)) => check_flaw(text, error, flaw),
             (Err(error), None) => {
-                let Some(found) = proved.kind() else {
-                    check_flaw(text, error, large_flaw(text));
-                    continue;
+                let found = match proved.kind() {
+                    Some(kind) => kind.word(),
+                    None => "text without a reading",
                 };
-                let found = found.word();
                 let words = format!("expected {expected}, found {found}");
                 assert_eq!(error.kind().to_string(), words, "{text:?}");
                 assert_ne!(expected.to_string(), found, "{text:?}");

@@ -1,5 +1,5 @@
 //! Holds the types of the package `navyspindle`, which are written by hand, against the proved ones as they are rendered. What is
-//! expected comes of the rendered libraries, or is written here; `tools/package_edits` tries whether wrong edits are caught.
+//! expected comes of the rendered libraries, or is written here; `tools/package_wrong` tries whether wrong bodies are caught.
 
 mod asked;
 mod flaws;
