@@ -1,7 +1,7 @@
 -- What the words of a command line ask for. Words are lists of bytes.
 use Rattle.std.specs.Prelude.{◌≡◌, ◌≢◌, ◌⊎◌, ℕ, ◌==◌, Bool, true, false, cond, not, ◌||◌, ◌&&◌, List, [], ◌∷◌, ◌++◌, codes, encode_utf8, string_bytes, IsTrue, ⊤, Option, Some, None, ◌<◌, ◌^◌}
 use Prim.Native.Char.{code}
-use Rattle.std.specs.List.{All, Any, starts_with}
+use Rattle.std.specs.List.{All, Any, list_any, starts_with}
 use Rattle.std.specs.Str.{chars, bytes_eq}
 use Rattle.std.specs.Str.Parse.{IsNumeral, digits_value, without_leading_plus}
 use Rattle.rl_files.specs.Globs.{borrowed_texts}
@@ -35,7 +35,7 @@ use Rattle.rl_reports.specs.declared.flags.When.{When}
 use Rattle.rl_reports.specs.declared.flags.When.TheVariants.{Auto, Always, Never}
 use Rattle.rl_reports.specs.declared.words.Asked.{Asked}
 use Rattle.rl_reports.specs.declared.words.WordError.{WordError}
-use Rattle.rl_reports.specs.declared.words.WordError.TheVariants.{Memory, UnknownOption, UnknownLetter, NoValue, UnknownKind, NoKinds, TwoChoices, NoText, EmptyText, BadAndFind, TextlessKinds, ObjectsOfPaths, NoColor, UnknownColor, NoExtension, NoPattern, NoList, NoEdition, UnknownEdition, NoFormat, UnknownFormat, NoCount, UnknownCount}
+use Rattle.rl_reports.specs.declared.words.WordError.TheVariants.{Memory, UnknownOption, UnknownLetter, NoValue, UnknownKind, NoKinds, TwoChoices, NoText, EmptyText, BadAndFind, TextlessKinds, ObjectsOfPaths, NoColor, UnknownColor, NoExtension, NoPattern, EmptyPattern, OtherPattern, NoList, NoEdition, UnknownEdition, NoFormat, UnknownFormat, NoCount, UnknownCount}
 use Rattle.rl_sources.specs.Options.{Names, words_of}
 use Rattle.rl_reports.specs.Meant.{IsMeant, option_part}
 
@@ -163,6 +163,12 @@ pub record IsCountWord (word : List ℕ) (count : ℕ) : Type 0 where
   pub numeral : IsNumeral 10 (without_leading_plus word)
   pub fits : count < 2 ^ 64
   pub count_is : count ≡ digits_value 10 (without_leading_plus word)
+
+-- a pattern of paths has a mark that has another meaning in gitignore: `[` or `\`, or `!` at its front
+abbrev pub has_other_mark : List ℕ → Bool
+has_other_mark pattern =
+    starts_with ◌==◌ pattern (codes "!") || list_any (λ b. b == code "[") pattern
+    || list_any (λ b. b == code "\\") pattern
 
 -- what an option takes is a number of lines
 abbrev pub IsSide : Operand → Type 0
@@ -443,7 +449,8 @@ IsTaken has_colors takes.Color old word new =
     × (new ≡ record old { form = recolored old.form (colored_form has_colors when) })
 IsTaken has_colors takes.Extension old text new =
     (extension : List ℕ) × IsWithoutDot text extension × (new ≡ with_extension extension old)
-IsTaken has_colors takes.Pattern old text new = new ≡ with_pattern text old
+IsTaken has_colors takes.Pattern old text new =
+    (text ≢ []) × (has_other_mark text ≡ false) × (new ≡ with_pattern text old)
 IsTaken has_colors takes.List old text new = new ≡ with_list text old
 IsTaken has_colors takes.Edition old word new =
     (edition : AnyEdition) × (word ≡ edition_word edition) × (new ≡ record old { edition = edition })
@@ -531,6 +538,10 @@ word_message (UnknownColor word) =
     codes "unknown colour '" ++ (string_bytes word ++ codes "': one of auto, always, never")
 word_message NoExtension = codes "--extension: which? as in --extension rs.in"
 word_message NoPattern = codes "--exclude: which pattern? as in --exclude tests/ui"
+word_message EmptyPattern = codes "--exclude: an empty pattern matches nothing"
+word_message (OtherPattern word) =
+    codes "unknown pattern '" ++ (string_bytes word
+    ++ codes "': --exclude takes *, ?, ** and /, but no [, no \\ and no ! at its front")
 word_message NoList = codes "--files-from: which file? as in --files-from list"
 word_message NoEdition = codes "--edition: which? one of 2015, 2018, 2021, 2024"
 word_message (UnknownEdition word) =
@@ -555,6 +566,9 @@ IsRejectedText operand text (UnknownKind said) =
     (operand ≡ takes.Kinds)
     × ((word : List ℕ) × IsUnknownKind text word × (chars (string_bytes said) ≡ visible (chars word)))
 IsRejectedText operand text EmptyText = (operand ≡ takes.Text) × (text ≡ [])
+IsRejectedText operand text EmptyPattern = (operand ≡ takes.Pattern) × (text ≡ [])
+IsRejectedText operand text (OtherPattern said) =
+    (operand ≡ takes.Pattern) × (has_other_mark text ≡ true) × (chars (string_bytes said) ≡ visible (chars text))
 IsRejectedText operand text (UnknownColor said) =
     (operand ≡ takes.Color) × ((when : When) → text ≢ color_word when)
     × (chars (string_bytes said) ≡ visible (chars text))

@@ -6,7 +6,7 @@ ghost use Rattle.rl_reports.specs.declared.flags.Format.{Format as AnyFormat};
 ghost use Rattle.rl_types.specs.declared.before.Edition.{Edition as AnyEdition};
 ghost use Rattle.rl_reports.specs.declared.flags.Operand.{Operand};
 ghost use Rattle.rl_reports.specs.declared.flags.When.{When};
-ghost use Rattle.rl_reports.specs.Words.{IsCountWord, IsLetter, IsOptionWord, joined_word, taken_by as flag_before, color_word, wishes_of, IsAllowed, GoesWithFind, MayStand, IsRejectedFlag, with_flag as flagged, next_after as follows, colored_form, recolored as with_colors, edition_word, format_word, formatted};
+ghost use Rattle.rl_reports.specs.Words.{IsCountWord, IsLetter, IsOptionWord, joined_word, taken_by as flag_before, color_word, wishes_of, IsAllowed, GoesWithFind, MayStand, IsRejectedFlag, with_flag as flagged, next_after as follows, colored_form, recolored as with_colors, edition_word, format_word, formatted, has_other_mark as other_mark};
 
 use crate::command::{Command, Output, PlaceForm, Wish};
 use crate::words::WordError;
@@ -408,6 +408,14 @@ pub(crate) fn count_of(word: &str) -> Option<usize>
         Ok(count) => Some(count),
         Err(_) => None,
     }
+}
+
+/// Whether a pattern has a mark that has another meaning in gitignore: `[` or `\`, or `!` at its front.
+pub(crate) fn has_other_mark(pattern: &str) -> bool
+    ensures { result ≡ other_mark pattern.now }
+{
+    let bytes = pattern.as_bytes();
+    bytes.starts_with(b"!".as_slice()) || bytes.contains(&b'[') || bytes.contains(&b'\\')
 }
 
 /// How lines are written in this format: as text, lines that are written so stay as they are.

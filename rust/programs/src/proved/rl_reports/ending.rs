@@ -46,7 +46,8 @@ Which files are read:
       --all            hidden directories and `target` too
       --extension EXT  *.EXT in place of *.rs; may be said more than once
       --exclude GLOB   not what GLOB matches below a PATH, by the rules of
-                       gitignore; may be said more than once
+                       gitignore, of *, ?, ** and /, without [, \\ and a ! at
+                       its front; may be said more than once
       --files-from FILE
                        also what FILE names: a path in each line, or NUL after
                        each; `-` is standard input; may be said more than once

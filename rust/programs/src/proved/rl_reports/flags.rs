@@ -351,6 +351,12 @@ pub(crate) fn count_of(word: &str) -> Option<usize> {
     }
 }
 
+/// Whether a pattern has a mark that has another meaning in gitignore: `[` or `\`, or `!` at its front.
+pub(crate) fn has_other_mark(pattern: &str) -> bool {
+    let bytes = pattern.as_bytes();
+    bytes.starts_with(b"!".as_slice()) || bytes.contains(&b'[') || bytes.contains(&b'\\')
+}
+
 /// How lines are written in this format: as text, lines that are written so stay as they are.
 pub(crate) fn form_in(has_colors: bool, form: Form, format: Format) -> Form {
     match (format, form) {
