@@ -1,6 +1,6 @@
 //! What is reported of what a walk visits.
 
-ghost use Rattle.std.specs.Prelude.{◌≡◌, ◌⊎◌, ◌++◌, [], OnOk, IfOk, IfSome, string_bytes, encode_utf8_all};
+ghost use Rattle.std.specs.Prelude.{◌≡◌, ◌⊎◌, ◌++◌, ◌≤◌, [], length, OnOk, IfOk, IfSome, string_bytes, encode_utf8_all};
 ghost use Rattle.std.specs.Str.{chars, IsUtf8};
 ghost use Rattle.rl_files.specs.Visible.{visible};
 ghost use Rattle.rl_files.specs.Walks.{visited};
@@ -11,6 +11,7 @@ ghost use Rattle.rl_reports.specs.Reports.{is_input as input, is_by_line as by_l
 
 use crate::clash::lists_files;
 use crate::command::{Command, Output, PlaceForm};
+use crate::stats::asked_count;
 use rl_files::{PathError, Tree, Visit, push_visible};
 use rl_sources::{
     Context, Form, Options, Paint, Place, ScanError, Shown, is_json, push_painted,
@@ -26,14 +27,18 @@ pub struct Report<A: Allocator = Global> {
     pub out: Vec<u8, A>,
     /// On standard error.
     pub errors: String<A>,
+    /// Whether a text was read.
+    pub read: bool,
     /// Whether something was found.
     pub found: bool,
+    /// How many findings there are, where that is asked for.
+    pub count: usize,
 }
 
 /// The lines of a source, and its error where it has one.
 #[derive(Drop)]
-struct Scanned<A: Allocator = Global> {
-    lines: Vec<u8, A>,
+pub(crate) struct Scanned<A: Allocator = Global> {
+    pub(crate) lines: Vec<u8, A>,
     error: Option<(Place, LexKind)>,
 }
 
@@ -152,7 +157,7 @@ fn options_for<'a>(command: Command<'a>, path: &'a str, shown: Option<&'a str>) 
 }
 
 /// The lines of a source.
-fn scan_text<A: Allocator + Copy>(
+pub(crate) fn scan_text<A: Allocator + Copy>(
     alloc: A,
     options: Options<'_>,
     text: &str,
@@ -240,8 +245,9 @@ fn error_line<A: Allocator + Copy>(
 }
 
 /// How many lines there are.
-fn count_lines(lines: &[u8]) -> usize
-    ensures { result ≡ line_count lines.now }
+pub(crate) fn count_lines(lines: &[u8]) -> usize
+    ensures exact { result ≡ line_count lines.now }
+    ensures few { result ≤ length lines.now }
 {
     lines.iter().filter(|byte| **byte == b'\n').count()
 }
@@ -328,6 +334,15 @@ fn report_text<A: Allocator + Copy>(
     let options = options_for(command, path, before);
     let mut scanned = scan_text(alloc, options, text)?;
     let mut errors = error_line(alloc, options, before, scanned.error)?;
+    let asked = command.tells_stats;
+    let count = asked_count(
+        alloc,
+        asked,
+        options,
+        text,
+        scanned.lines.as_slice(),
+        errors.as_str(),
+    )?;
     if options.explains {
         scanned.lines.extend_from_slice(errors.as_bytes())?;
         errors.clear();
@@ -335,7 +350,13 @@ fn report_text<A: Allocator + Copy>(
     let found = !scanned.lines.is_empty();
     let named = path_in(command.nul_after_paths, path, before);
     let out = written(alloc, command, options.form, named, scanned.lines)?;
-    Ok(Report { out, errors, found })
+    Ok(Report {
+        out,
+        errors,
+        read: true,
+        found,
+        count,
+    })
 }
 
 /// What is reported of a path that can't be read.
@@ -352,7 +373,9 @@ fn report_error<A: Allocator + Copy>(
     Ok(Report {
         out: Vec::new(alloc),
         errors,
+        read: false,
         found: false,
+        count: 0,
     })
 }
 
@@ -404,7 +427,9 @@ fn report_listed<A: Allocator + Copy>(
     Ok(Report {
         out: line.into_bytes(),
         errors: String::new(alloc),
+        read: false,
         found: true,
+        count: 0,
     })
 }
 

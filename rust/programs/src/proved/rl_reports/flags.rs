@@ -37,6 +37,7 @@ pub(crate) enum Flag {
     Nul,
     Quiet,
     Files,
+    Stats,
     Help,
     Version,
     Paths,
@@ -131,6 +132,7 @@ pub(crate) fn flag_of(word: &str) -> Option<Flag> {
         "--null" => Some(Flag::Nul),
         "--quiet" => Some(Flag::Quiet),
         "--files" => Some(Flag::Files),
+        "--stats" => Some(Flag::Stats),
         "--help" => Some(Flag::Help),
         "--version" => Some(Flag::Version),
         "--" => Some(Flag::Paths),
@@ -229,6 +231,7 @@ fn with_flag(command: Command<'_>, flag: Flag) -> Option<Command<'_>> {
         (Flag::FilesFrom | Flag::Edition | Flag::Format | Flag::Paths, _) => {}
         (Flag::Context | Flag::Before | Flag::After, _) => {}
         (Flag::NoMessages, _) => next.tells_errors = false,
+        (Flag::Stats, _) => next.tells_stats = true,
         (Flag::IgnoreCase, _) => next.matching.ignores_case = true,
         (Flag::WholeWords, _) => next.matching.whole_words = true,
         (Flag::AllDirectories, _) => next.selection.all = true,

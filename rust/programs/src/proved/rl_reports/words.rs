@@ -43,6 +43,8 @@ pub enum WordError<A: Allocator = Global> {
     TextlessKinds,
     /// Objects or annotations are asked for, and paths or counts are printed in place of lines.
     ObjectsOfPaths,
+    /// It is asked how much was found, and files are listed and not read.
+    StatsOfPaths,
     /// After `--color` no word stands.
     NoColor,
     /// After `--color` stands a word that is none of the three.
@@ -113,6 +115,9 @@ impl<A: Allocator> fmt::Display for WordError<A> {
                 f,
                 "--json and --format json, github can't be used with -c, --count, -l, --files-with-matches, --files"
             ),
+            WordError::StatsOfPaths => {
+                write!(f, "--stats can't be used with --files, which reads none")
+            }
             WordError::NoColor => write!(f, "--color: when? one of auto, always, never"),
             WordError::UnknownColor(word) => {
                 write!(f, "unknown colour '{word}': one of auto, always, never")
@@ -489,6 +494,7 @@ fn first_command<'a>(has_colors: bool) -> Command<'a> {
         },
         files_from: &[],
         tells_errors: true,
+        tells_stats: false,
     }
 }
 
@@ -497,7 +503,7 @@ fn first_command<'a>(has_colors: bool) -> Command<'a> {
 /// # Errors
 ///
 /// The first word that can't be asked for; or at the end what the last option takes is missing, as by `NoKinds`, or what is asked
-/// for doesn't go together: `TextlessKinds`, `ObjectsOfPaths`.
+/// for doesn't go together: `TextlessKinds`, `ObjectsOfPaths`, `StatsOfPaths`.
 pub(crate) fn asked_by<A: Allocator + Copy>(
     alloc: A,
     has_colors: bool,
