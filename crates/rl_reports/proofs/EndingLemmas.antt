@@ -46,7 +46,7 @@ pub front_none : (command : Command) (holds : Option World) (spots : List Spot) 
 front_none command None spots o e = tt
 front_none command (Some w) spots o e =
     let more = some_visits command.selection w spots in
-    ([], more.0, nothing, more.1, refl, ((0, Appends-nil o), (0, Appends-nil e)))
+    inl ([], more.0, nothing, more.1, refl, ((0, Appends-nil o), (0, Appends-nil e)))
 
 -- a command that selects is the one that is asked for
 pub command_for : (command selecting : Command) (finds extensions excludes lists paths : List (List ℕ))

@@ -4,7 +4,7 @@ use Rattle.std.specs.Prelude.{IfErr, OnOk}
 use Rattle.std.specs.declared.result.Result.{Result}
 use Rattle.std.specs.declared.result.Result.TheVariants.{Err, Ok}
 use Rattle.rl_reports.specs.declared.flags.Flag.{Flag}
-use Rattle.rl_reports.specs.declared.flags.Flag.TheVariants.{Bad, Hidden, Only, Find, IgnoreCase, WholeWords, Text, Json, Format, Context, Before, After, Color, Bytes, Lines, NoStray, AnySuffix, Edition, AllDirectories, Extension, Exclude, FilesFrom, NoMessages, Count, FilesWithMatches, Nul, Quiet, Files, Help, Version, Paths}
+use Rattle.rl_reports.specs.declared.flags.Flag.TheVariants.{Bad, Hidden, Only, Find, IgnoreCase, WholeWords, Text, Json, Format, Context, Before, After, Color, Bytes, Lines, NoStray, AnySuffix, Edition, AllDirectories, Extension, Exclude, FilesFrom, NoMessages, Count, FilesWithMatches, Nul, Quiet, Files, Stats, Help, Version, Paths}
 use Rattle.rl_reports.specs.declared.flags.Operand.{Operand}
 use Rattle.rl_reports.specs.declared.flags.Operand.TheVariants as takes
 use Rattle.rl_reports.specs.declared.flags.Next.{Next}
@@ -44,6 +44,7 @@ letter_low Exclude c is = absurd is
 letter_low FilesFrom c is = absurd is
 letter_low NoMessages c is = absurd is
 letter_low Files c is = absurd is
+letter_low Stats c is = absurd is
 letter_low Paths c is = absurd is
 
 -- a letter begins the bytes
@@ -193,6 +194,7 @@ letter_taken A hc word old letters now new then last rest after c flag split is 
     go FilesFrom is none added front = absurd is
     go NoMessages is none added front = absurd is
     go Files is none added front = absurd is
+    go Stats is none added front = absurd is
     go Paths is none added front = absurd is
 
 -- a letter and what it takes
@@ -273,6 +275,7 @@ taken_flag Count operand e = absurd (cc)
 taken_flag FilesWithMatches operand e = absurd (cc)
 taken_flag Nul operand e = absurd (cc)
 taken_flag Files operand e = absurd (cc)
+taken_flag Stats operand e = absurd (cc)
 taken_flag Quiet operand e = absurd (cc)
 taken_flag Help operand e = absurd (cc)
 taken_flag Version operand e = absurd (cc)
@@ -315,6 +318,7 @@ takes_nothing Count none = inl refl
 takes_nothing FilesWithMatches none = inl refl
 takes_nothing Nul none = inl refl
 takes_nothing Files none = inl refl
+takes_nothing Stats none = inl refl
 takes_nothing Quiet none = inl refl
 takes_nothing Help none = inl refl
 takes_nothing Version none = inl refl

@@ -53,7 +53,7 @@ WritesNothing streams = Keeps streams.out_old streams.out_new × Keeps streams.e
 
 -- paths were named, and nothing was visited
 abbrev pub finds_no_file : Bool → Tally → Bool
-finds_no_file has_paths tally = has_paths && not tally.visited
+finds_no_file has_paths tally = has_paths && (tally.visited == 0)
 
 -- all that is reported was written, and the status is that of what was found
 abbrev pub RunsWith : Command → Option World → Bool → List Spot → Streams → ℕ → Type 0

@@ -1,6 +1,6 @@
 -- What is reported of what a walk visits. All are lists of bytes, but where `chars` makes characters of
 -- them.
-use Rattle.std.specs.Prelude.{◌≡◌, ◌⊎◌, ℕ, ◌==◌, Bool, true, false, cond, not, ◌&&◌, ◌||◌, List, [], ◌∷◌, ◌++◌, length, codes, string_bytes, encode_utf8_all, Option, Some, None, is_some}
+use Rattle.std.specs.Prelude.{◌≡◌, ◌⊎◌, ℕ, ◌==◌, Bool, true, false, cond, not, ◌&&◌, ◌||◌, List, [], ◌∷◌, ◌++◌, ◌+◌, length, codes, MatchBool, MatchOption, string_bytes, encode_utf8_all, Option, Some, None, is_some}
 use denote.Ref.{Bor}
 use Rattle.std.specs.declared.result.Result.TheVariants.{Ok, Err}
 use Rattle.std.specs.Fmt.{decimal}
@@ -158,14 +158,37 @@ abbrev pub listed_of : Output → Bool → Form → Option (Bor (List ℕ)) → 
 listed_of output.Nothing nul form path = []
 listed_of _ nul form path = path_line nul form path
 
--- What is written on standard output and on standard error, and whether something was found.
+-- What is written on standard output and on standard error, whether a text was read, whether something was found, and
+-- how many findings there are, where that is asked for.
 pub record Findings : Type 0 where
   pub out : List ℕ
   pub errors : List ℕ
+  pub read : Bool
   pub found : Bool
+  pub count : ℕ
 
 abbrev pub in_report : {A : Type 0} → Report A → Findings
-in_report report = record { out = report.out.items; errors = string_bytes report.errors; found = report.found }
+in_report report = record {
+  out = report.out.items;
+  errors = string_bytes report.errors;
+  read = report.read;
+  found = report.found;
+  count = report.count;
+}
+
+-- the lines of a text without those of context: these, where it has none
+abbrev pub AreBareLines : Options → List ℕ → List ℕ → List ℕ → Type 0
+AreBareLines options text lines bare = MatchOption options.context (bare ≡ lines) (λ _.
+    (error : Option (Place × LexKind)) × IsScannedAs (record options { context = None }) text bare error)
+
+-- how many findings there are in a text: as many as lines without those of context
+abbrev pub IsCount : Options → List ℕ → List ℕ → ℕ → Type 0
+IsCount options text lines count =
+    (bare : List ℕ) × AreBareLines options text lines bare × (count ≡ line_count bare)
+
+-- they are counted where that is asked for
+abbrev pub IsAskedCount : Bool → Options → List ℕ → List ℕ → ℕ → Type 0
+IsAskedCount asked options text lines count = MatchBool asked (IsCount options text lines count) (count ≡ 0)
 
 -- What is reported of a text with these lines and this error, of whose path this is printed with no place.
 pub record IsReportOf (command : Command) (options : Options) (path : Option (Bor (List ℕ))) (lines error : List ℕ)
@@ -173,6 +196,7 @@ pub record IsReportOf (command : Command) (options : Options) (path : Option (Bo
   pub out : printed.out
       ≡ printed_of command.output command.nul_after_paths options.form path lines
   pub errors : printed.errors ≡ error
+  pub read : printed.read ≡ true
   pub found : printed.found ≡ not (length lines == 0)
 
 -- what is reported of a text
@@ -182,6 +206,7 @@ IsTextReport command path text printed =
     × IsOptionsFor command path options × IsShownPath path shown × IsPathIn command.nul_after_paths path named
     × IsScannedAs options text lines error
     × IsReportOf command options named lines (encode_utf8_all (error_text options.by_line shown error)) printed
+    × IsAskedCount command.tells_stats options text lines printed.count
 
 -- What is reported of a file that is listed: its path.
 pub record IsListReport (command : Command) (path : List ℕ) (printed : Findings) : Type 0 where
@@ -189,12 +214,16 @@ pub record IsListReport (command : Command) (path : List ℕ) (printed : Finding
   pub named_is : IsPathIn command.nul_after_paths path named
   pub out : printed.out ≡ listed_of command.output command.nul_after_paths command.form named
   pub errors : printed.errors ≡ []
+  pub read : printed.read ≡ false
   pub found : printed.found ≡ true
+  pub count : printed.count ≡ 0
 
 -- Of a path that can't be read one line is reported.
 pub record IsErrorReport (path : List ℕ) (why : PathError) (printed : Findings) : Type 0 where
   pub out : printed.out ≡ []
+  pub read : printed.read ≡ false
   pub found : printed.found ≡ false
+  pub count : printed.count ≡ 0
   pub errors : chars printed.errors
       ≡ codes "rl_scan: " ++ (visible (chars path) ++ (codes ": " ++ (path_error_message why ++ codes "\n")))
 
@@ -221,20 +250,57 @@ IsReport command w (FileAt path) printed =
     ⊎ ((lists_files command.wish ≡ false) × IsReadReport command w path printed)
 IsReport command w (ErrorAt path why) printed = IsErrorReport path why printed
 
--- nothing, and one after another
-abbrev pub nothing : Findings
-nothing = record { out = []; errors = []; found = false }
+-- What is written of all that is visited, how much that is, how many texts were read, how many have findings, how many
+-- findings there are, and of how much an error is reported.
+pub record Totals : Type 0 where
+  pub out : List ℕ
+  pub errors : List ℕ
+  pub visited : ℕ
+  pub read : ℕ
+  pub with_findings : ℕ
+  pub findings : ℕ
+  pub with_errors : ℕ
 
-abbrev pub both_of : Findings → Findings → Findings
+-- of nothing, of one, and of one after another
+abbrev pub nothing : Totals
+nothing = record {
+  out = [];
+  errors = [];
+  visited = 0;
+  read = 0;
+  with_findings = 0;
+  findings = 0;
+  with_errors = 0;
+}
+
+abbrev pub one_if : Bool → ℕ
+one_if is = cond is 1 0
+
+abbrev pub totals_of : Findings → Totals
+totals_of one = record {
+  out = one.out;
+  errors = one.errors;
+  visited = 1;
+  read = one_if one.read;
+  with_findings = one_if one.found;
+  findings = one.count;
+  with_errors = one_if (not (length one.errors == 0));
+}
+
+abbrev pub both_of : Totals → Totals → Totals
 both_of first second = record {
   out = first.out ++ second.out;
   errors = first.errors ++ second.errors;
-  found = first.found || second.found;
+  visited = first.visited + second.visited;
+  read = first.read + second.read;
+  with_findings = first.with_findings + second.with_findings;
+  findings = first.findings + second.findings;
+  with_errors = first.with_errors + second.with_errors;
 }
 
 -- what is reported of all that is visited, in order
-abbrev pub AreReports : Command → World → List Visited → Findings → Type 0
-AreReports command w [] printed = printed ≡ nothing
-AreReports command w (visit ∷ visits) printed =
-    (first : Findings) × (others : Findings) × IsReport command w visit first × AreReports command w visits others
-    × (printed ≡ both_of first others)
+abbrev pub AreReports : Command → World → List Visited → Totals → Type 0
+AreReports command w [] totals = totals ≡ nothing
+AreReports command w (visit ∷ visits) totals =
+    (first : Findings) × (others : Totals) × IsReport command w visit first × AreReports command w visits others
+    × (totals ≡ both_of (totals_of first) others)

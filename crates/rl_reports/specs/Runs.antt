@@ -1,5 +1,6 @@
 -- What a run over a walk writes, and the status that it ends with.
-use Rattle.std.specs.Prelude.{◌≡◌, ◌⊎◌, ℕ, ◌==◌, true, Bool, cond, not, ◌&&◌, List, [], length, ◌++◌, Option}
+use Rattle.std.specs.Prelude.{◌≡◌, ◌⊎◌, ℕ, ◌==◌, ◌+◌, Bool, cond, not, ◌&&◌, List, [], ◌++◌, Option}
+use Rattle.std.specs.Io.Iter.{u64_saturate}
 use Rattle.std.specs.Io.KnownBytes.{Appends, Keeps}
 use Rattle.rl_files.specs.Trees.{World}
 use Rattle.rl_files.specs.Walks.{Spot, Visited, Visits}
@@ -9,7 +10,8 @@ use Rattle.rl_sources.specs.declared.options.Shown.{Shown}
 use Rattle.rl_sources.specs.declared.options.Shown.TheVariants.{All}
 use Rattle.rl_reports.specs.declared.command.Wish.{Wish}
 use Rattle.rl_reports.specs.declared.runs.Tally.{Tally}
-use Rattle.rl_reports.specs.Reports.{Findings, IsReport, AreReports, is_alarm}
+use Rattle.rl_reports.specs.Reports.{Findings, Totals, totals_of, IsReport, AreReports, is_alarm}
+use Rattle.rl_reports.specs.Stats.{tally_of, shown_stats}
 use Rattle.rl_reports.specs.Words.{lists_files}
 
 -- The bytes that two writers held before and hold now: standard output and standard error.
@@ -23,54 +25,86 @@ pub record Streams : Type 0 where
 abbrev pub shown_errors : Command → List ℕ → List ℕ
 shown_errors command errors = cond command.tells_errors errors []
 
--- All of this was written, and it is returned whether something was found, and whether an error was reported.
-pub record IsWritten (command : Command) (streams : Streams) (printed : Findings) (tally : Tally) : Type 0 where
-  pub on_out : Appends streams.out_old streams.out_new printed.out
-  pub on_err : Appends streams.err_old streams.err_new (shown_errors command printed.errors)
-  pub found : tally.found ≡ printed.found
-  pub failed : tally.failed ≡ not (length printed.errors == 0)
+-- All of this was written, and it is returned how much that is.
+pub record IsWritten (command : Command) (streams : Streams) (totals : Totals) (tally : Tally) : Type 0 where
+  pub on_out : Appends streams.out_old streams.out_new totals.out
+  pub on_err : Appends streams.err_old streams.err_new (shown_errors command totals.errors)
+  pub tally_is : tally ≡ tally_of totals
+
+-- both together
+abbrev pub both_tallies : Tally → Tally → Tally
+both_tallies first second = record {
+  visited = u64_saturate (first.visited + second.visited);
+  read = u64_saturate (first.read + second.read);
+  with_findings = u64_saturate (first.with_findings + second.with_findings);
+  findings = u64_saturate (first.findings + second.findings);
+  with_errors = u64_saturate (first.with_errors + second.with_errors);
+}
 
 -- what was written of one visit
 abbrev pub WritesReport : Command → World → Visited → Streams → Tally → Type 0
 WritesReport command w visit streams tally =
-    (printed : Findings) × IsReport command w visit printed × IsWritten command streams printed tally
-    × (tally.visited ≡ true)
+    (printed : Findings) × IsReport command w visit printed × IsWritten command streams (totals_of printed) tally
 
 -- What was written of a walk from these places on: what is reported of all that is visited, in order.
+abbrev pub WritesReports : Command → World → List Spot → Streams → Tally → Type 0
+WritesReports command w spots streams tally =
+    (visits : List Visited) × (totals : Totals) × Visits command.selection w spots visits
+    × AreReports command w visits totals × IsWritten command streams totals tally
+
+-- so much was written on standard output before what is told of how much was read and found
+abbrev pub up_to : Option (List ℕ) → Streams → Streams
+up_to middle streams = record streams { out_new = middle }
+
+-- after that it is told how much was read and found, where that is asked for
 abbrev pub WritesWalk : Command → World → List Spot → Streams → Tally → Type 0
 WritesWalk command w spots streams tally =
-    (visits : List Visited) × (printed : Findings) × Visits command.selection w spots visits
-    × AreReports command w visits printed × IsWritten command streams printed tally
-    × (tally.visited ≡ not (length visits == 0))
+    (middle : Option (List ℕ)) × WritesReports command w spots (up_to middle streams) tally
+    × Appends middle streams.out_new (shown_stats command tally)
 
 -- a beginning of this was written
-abbrev pub WritesBeginning : Command → Streams → Findings → Type 0
-WritesBeginning command streams printed =
-    AppendsBeginning streams.out_old streams.out_new printed.out
-    × AppendsBeginning streams.err_old streams.err_new (shown_errors command printed.errors)
+abbrev pub WritesBeginning : Command → Streams → Totals → Type 0
+WritesBeginning command streams totals =
+    AppendsBeginning streams.out_old streams.out_new totals.out
+    × AppendsBeginning streams.err_old streams.err_new (shown_errors command totals.errors)
 
 -- what was written of one visit where that failed: nothing, or a beginning of what is reported
 abbrev pub WritesSome : Command → World → Visited → Streams → Type 0
 WritesSome command w visit streams =
     (Keeps streams.out_old streams.out_new × Keeps streams.err_old streams.err_new)
-    ⊎ ((printed : Findings) × IsReport command w visit printed × WritesBeginning command streams printed)
+    ⊎ ((printed : Findings) × IsReport command w visit printed
+    × WritesBeginning command streams (totals_of printed))
 
--- What was written where the run ended early: a beginning of what is reported of the first that a walk
--- visits.
+-- What was written where a walk ended early: a beginning of what is reported of the first that it visits.
+abbrev pub WritesFirst : Command → World → List Spot → Streams → Type 0
+WritesFirst command w spots streams =
+    (visits others : List Visited) × (totals : Totals) × Visits command.selection w spots (visits ++ others)
+    × AreReports command w visits totals × WritesBeginning command streams totals
+
+-- What was written where the run ended early: this, or all that is reported, and a beginning of what is told of how much
+-- was read and found.
 abbrev pub WritesFront : Command → World → List Spot → Streams → Type 0
 WritesFront command w spots streams =
-    (visits others : List Visited) × (printed : Findings) × Visits command.selection w spots (visits ++ others)
-    × AreReports command w visits printed × WritesBeginning command streams printed
+    WritesFirst command w spots streams
+    ⊎ ((middle : Option (List ℕ)) × (tally : Tally) × WritesReports command w spots (up_to middle streams) tally
+    × AppendsBeginning middle streams.out_new (shown_stats command tally))
+
+-- something was found, and an error was reported
+abbrev pub has_findings : Tally → Bool
+has_findings tally = not (tally.with_findings == 0)
+
+abbrev pub has_errors : Tally → Bool
+has_errors tally = not (tally.with_errors == 0)
 
 -- The status of a run: 2 where an error was reported; else 1 where what is bad was asked for, or what
 -- turns or hides text, and some was found; else 0.
 abbrev pub run_status : Shown → Tally → ℕ
-run_status shown tally = cond tally.failed 2 (cond (is_alarm shown && tally.found) 1 0)
+run_status shown tally = cond (has_errors tally) 2 (cond (is_alarm shown && has_findings tally) 1 0)
 
 -- The status of a run that looked for a text: 2 where an error was reported; else 0 where the text was
 -- found, else 1.
 abbrev pub find_status : Tally → ℕ
-find_status tally = cond tally.failed 2 (cond tally.found 0 1)
+find_status tally = cond (has_errors tally) 2 (cond (has_findings tally) 0 1)
 
 -- the status of a run, by whether files were listed, a text was looked for, and what was wanted
 abbrev pub asked_status : Wish → Bool → Shown → Tally → ℕ

@@ -1,7 +1,7 @@
 -- What the words of a command line ask for. Words are lists of bytes.
 use Rattle.std.specs.Prelude.{◌≡◌, ◌≢◌, ◌⊎◌, ℕ, ◌==◌, Bool, true, false, cond, not, ◌||◌, ◌&&◌, List, [], ◌∷◌, ◌++◌, codes, encode_utf8, string_bytes, IsTrue, ⊤, Option, Some, None, ◌<◌, ◌^◌}
 use Prim.Native.Char.{code}
-use Rattle.std.specs.List.{All, Any, starts_with}
+use Rattle.std.specs.List.{All, Any, list_any, starts_with}
 use Rattle.std.specs.Str.{chars, bytes_eq}
 use Rattle.std.specs.Str.Parse.{IsNumeral, digits_value, without_leading_plus}
 use Rattle.rl_files.specs.Globs.{borrowed_texts}
@@ -22,7 +22,7 @@ use Rattle.rl_sources.specs.declared.options.Spelling.{Spelling}
 use Rattle.rl_sources.specs.declared.options.Spelling.TheVariants.{Value, Source}
 use Rattle.rl_sources.specs.declared.options.Shown.TheVariants as shown
 use Rattle.rl_reports.specs.declared.flags.Flag.{Flag}
-use Rattle.rl_reports.specs.declared.flags.Flag.TheVariants.{Bad, Hidden, Only, Find, IgnoreCase, WholeWords, Text, Json, Format, Context, Before, After, Color, Bytes, Lines, NoStray, AnySuffix, Edition, AllDirectories, Extension, Exclude, FilesFrom, NoMessages, Count, FilesWithMatches, Nul, Quiet, Files, Help, Version, Paths}
+use Rattle.rl_reports.specs.declared.flags.Flag.TheVariants.{Bad, Hidden, Only, Find, IgnoreCase, WholeWords, Text, Json, Format, Context, Before, After, Color, Bytes, Lines, NoStray, AnySuffix, Edition, AllDirectories, Extension, Exclude, FilesFrom, NoMessages, Count, FilesWithMatches, Nul, Quiet, Files, Stats, Help, Version, Paths}
 use Rattle.rl_reports.specs.declared.flags.Format.{Format as AnyFormat}
 use Rattle.rl_reports.specs.declared.flags.Format.TheVariants as format
 use Rattle.rl_types.specs.declared.before.Edition.{Edition as AnyEdition}
@@ -35,7 +35,7 @@ use Rattle.rl_reports.specs.declared.flags.When.{When}
 use Rattle.rl_reports.specs.declared.flags.When.TheVariants.{Auto, Always, Never}
 use Rattle.rl_reports.specs.declared.words.Asked.{Asked}
 use Rattle.rl_reports.specs.declared.words.WordError.{WordError}
-use Rattle.rl_reports.specs.declared.words.WordError.TheVariants.{Memory, UnknownOption, UnknownLetter, NoValue, UnknownKind, NoKinds, TwoChoices, NoText, EmptyText, BadAndFind, TextlessKinds, ObjectsOfPaths, NoColor, UnknownColor, NoExtension, NoPattern, NoList, NoEdition, UnknownEdition, NoFormat, UnknownFormat, NoCount, UnknownCount}
+use Rattle.rl_reports.specs.declared.words.WordError.TheVariants.{Memory, UnknownOption, UnknownLetter, NoValue, UnknownKind, NoKinds, TwoChoices, NoText, EmptyText, BadAndFind, TextlessKinds, ObjectsOfPaths, StatsOfPaths, NoColor, UnknownColor, NoExtension, NoPattern, EmptyPattern, OtherPattern, NoList, NoEdition, UnknownEdition, NoFormat, UnknownFormat, NoCount, UnknownCount}
 use Rattle.rl_sources.specs.Options.{Names, words_of}
 use Rattle.rl_reports.specs.Meant.{IsMeant, option_part}
 
@@ -69,6 +69,7 @@ IsOptionWord FilesWithMatches word = word ≡ codes "--files-with-matches"
 IsOptionWord Nul word = word ≡ codes "--null"
 IsOptionWord Quiet word = word ≡ codes "--quiet"
 IsOptionWord Files word = word ≡ codes "--files"
+IsOptionWord Stats word = word ≡ codes "--stats"
 IsOptionWord Help word = word ≡ codes "--help"
 IsOptionWord Version word = word ≡ codes "--version"
 IsOptionWord Paths word = word ≡ codes "--"
@@ -164,6 +165,12 @@ pub record IsCountWord (word : List ℕ) (count : ℕ) : Type 0 where
   pub fits : count < 2 ^ 64
   pub count_is : count ≡ digits_value 10 (without_leading_plus word)
 
+-- a pattern of paths has a mark that has another meaning in gitignore: `[` or `\`, or `!` at its front
+abbrev pub has_other_mark : List ℕ → Bool
+has_other_mark pattern =
+    starts_with ◌==◌ pattern (codes "!") || list_any (λ b. b == code "[") pattern
+    || list_any (λ b. b == code "\\") pattern
+
 -- what an option takes is a number of lines
 abbrev pub IsSide : Operand → Type 0
 IsSide takes.Around = ⊤
@@ -228,6 +235,7 @@ pub record Wishes : Type 0 where
   pub form : Form
   pub all_directories : Bool
   pub tells_errors : Bool
+  pub tells_stats : Bool
   pub extensions : List (List ℕ)
   pub excludes : List (List ℕ)
   pub files_from : List (List ℕ)
@@ -255,6 +263,7 @@ first_wishes has_colors = record {
   form = colored_form has_colors Auto;
   all_directories = false;
   tells_errors = true;
+  tells_stats = false;
   extensions = [];
   excludes = [];
   files_from = [];
@@ -283,6 +292,7 @@ wishes_of command finds extensions excludes lists paths = record {
   form = command.form;
   all_directories = command.selection.all;
   tells_errors = command.tells_errors;
+  tells_stats = command.tells_stats;
   extensions = extensions;
   excludes = excludes;
   files_from = lists;
@@ -322,17 +332,18 @@ sums_lines output.Nothing = false
 abbrev pub prints_no_objects : Wish → Output → Bool
 prints_no_objects wish output = lists_files wish || sums_lines output
 
--- What is asked for goes together: a text is looked for only where literals that are wanted may hold it, and objects
--- and
--- annotations are wanted only of lines.
+-- What is asked for goes together: a text is looked for only where literals that are wanted may hold it, objects and
+-- annotations are wanted only of lines, and how much was found only where files are read.
 abbrev pub GoTogether : Wishes → Type 0
 GoTogether w =
     (IsTrue w.searches → MayHold w.wanted) × ((has_extents w.form && prints_no_objects w.wish w.output) ≡ false)
+    × ((w.tells_stats && lists_files w.wish) ≡ false)
 
 -- why it doesn't
 abbrev pub IsClash : {A : Type 0} → Wishes → WordError A → Type 0
 IsClash w TextlessKinds = IsTrue w.searches × (MayHold w.wanted → ⊥)
 IsClash w ObjectsOfPaths = (has_extents w.form && prints_no_objects w.wish w.output) ≡ true
+IsClash w StatsOfPaths = (w.tells_stats && lists_files w.wish) ≡ true
 IsClash w _ = ⊥
 
 -- only one option may say which literals are wanted
@@ -382,6 +393,7 @@ with_flag FilesWithMatches w = record w { output = output.Path }
 with_flag Nul w = record w { nul_after_paths = true }
 with_flag Quiet w = record w { output = output.Nothing }
 with_flag Files w = record w { wish = wish.Files }
+with_flag Stats w = record w { tells_stats = true }
 with_flag Help w = record w { wish = wish.Help }
 with_flag Version w = record w { wish = wish.Version }
 with_flag Paths w = w
@@ -443,7 +455,8 @@ IsTaken has_colors takes.Color old word new =
     × (new ≡ record old { form = recolored old.form (colored_form has_colors when) })
 IsTaken has_colors takes.Extension old text new =
     (extension : List ℕ) × IsWithoutDot text extension × (new ≡ with_extension extension old)
-IsTaken has_colors takes.Pattern old text new = new ≡ with_pattern text old
+IsTaken has_colors takes.Pattern old text new =
+    (text ≢ []) × (has_other_mark text ≡ false) × (new ≡ with_pattern text old)
 IsTaken has_colors takes.List old text new = new ≡ with_list text old
 IsTaken has_colors takes.Edition old word new =
     (edition : AnyEdition) × (word ≡ edition_word edition) × (new ≡ record old { edition = edition })
@@ -526,11 +539,16 @@ word_message TextlessKinds =
     codes "-e, --find looks in Str, ByteStr, CStr, Byte and Char, and --only names none of them"
 word_message ObjectsOfPaths =
     codes "--json and --format json, github can't be used with -c, --count, -l, --files-with-matches, --files"
+word_message StatsOfPaths = codes "--stats can't be used with --files, which reads none"
 word_message NoColor = codes "--color: when? one of auto, always, never"
 word_message (UnknownColor word) =
     codes "unknown colour '" ++ (string_bytes word ++ codes "': one of auto, always, never")
 word_message NoExtension = codes "--extension: which? as in --extension rs.in"
 word_message NoPattern = codes "--exclude: which pattern? as in --exclude tests/ui"
+word_message EmptyPattern = codes "--exclude: an empty pattern matches nothing"
+word_message (OtherPattern word) =
+    codes "unknown pattern '" ++ (string_bytes word
+    ++ codes "': --exclude takes *, ?, ** and /, but no [, no \\ and no ! at its front")
 word_message NoList = codes "--files-from: which file? as in --files-from list"
 word_message NoEdition = codes "--edition: which? one of 2015, 2018, 2021, 2024"
 word_message (UnknownEdition word) =
@@ -555,6 +573,9 @@ IsRejectedText operand text (UnknownKind said) =
     (operand ≡ takes.Kinds)
     × ((word : List ℕ) × IsUnknownKind text word × (chars (string_bytes said) ≡ visible (chars word)))
 IsRejectedText operand text EmptyText = (operand ≡ takes.Text) × (text ≡ [])
+IsRejectedText operand text EmptyPattern = (operand ≡ takes.Pattern) × (text ≡ [])
+IsRejectedText operand text (OtherPattern said) =
+    (operand ≡ takes.Pattern) × (has_other_mark text ≡ true) × (chars (string_bytes said) ≡ visible (chars text))
 IsRejectedText operand text (UnknownColor said) =
     (operand ≡ takes.Color) × ((when : When) → text ≢ color_word when)
     × (chars (string_bytes said) ≡ visible (chars text))

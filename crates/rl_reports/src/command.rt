@@ -81,6 +81,8 @@ pub struct Command<'a> {
     pub files_from: &'a [&'a str],
     /// Whether it is told of each file that it can't be read to its end.
     pub tells_errors: bool,
+    /// Whether it is told after all how much was read and found.
+    pub tells_stats: bool,
 }
 
 /// What a call knows of where it runs.

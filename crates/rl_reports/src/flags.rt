@@ -6,7 +6,7 @@ ghost use Rattle.rl_reports.specs.declared.flags.Format.{Format as AnyFormat};
 ghost use Rattle.rl_types.specs.declared.before.Edition.{Edition as AnyEdition};
 ghost use Rattle.rl_reports.specs.declared.flags.Operand.{Operand};
 ghost use Rattle.rl_reports.specs.declared.flags.When.{When};
-ghost use Rattle.rl_reports.specs.Words.{IsCountWord, IsLetter, IsOptionWord, joined_word, taken_by as flag_before, color_word, wishes_of, IsAllowed, GoesWithFind, MayStand, IsRejectedFlag, with_flag as flagged, next_after as follows, colored_form, recolored as with_colors, edition_word, format_word, formatted};
+ghost use Rattle.rl_reports.specs.Words.{IsCountWord, IsLetter, IsOptionWord, joined_word, taken_by as flag_before, color_word, wishes_of, IsAllowed, GoesWithFind, MayStand, IsRejectedFlag, with_flag as flagged, next_after as follows, colored_form, recolored as with_colors, edition_word, format_word, formatted, has_other_mark as other_mark};
 
 use crate::command::{Command, Output, PlaceForm, Wish};
 use crate::words::WordError;
@@ -44,6 +44,7 @@ pub(crate) enum Flag {
     Nul,
     Quiet,
     Files,
+    Stats,
     Help,
     Version,
     Paths,
@@ -141,6 +142,7 @@ pub(crate) fn flag_of(word: &str) -> Option<Flag>
         "--null" => Some(Flag::Nul),
         "--quiet" => Some(Flag::Quiet),
         "--files" => Some(Flag::Files),
+        "--stats" => Some(Flag::Stats),
         "--help" => Some(Flag::Help),
         "--version" => Some(Flag::Version),
         "--" => Some(Flag::Paths),
@@ -258,6 +260,7 @@ fn with_flag(command: Command<'_>, flag: Flag) -> Option<Command<'_>>
         (Flag::FilesFrom | Flag::Edition | Flag::Format | Flag::Paths, _) => {}
         (Flag::Context | Flag::Before | Flag::After, _) => {}
         (Flag::NoMessages, _) => next.tells_errors = false,
+        (Flag::Stats, _) => next.tells_stats = true,
         (Flag::IgnoreCase, _) => next.matching.ignores_case = true,
         (Flag::WholeWords, _) => next.matching.whole_words = true,
         (Flag::AllDirectories, _) => next.selection.all = true,
@@ -408,6 +411,14 @@ pub(crate) fn count_of(word: &str) -> Option<usize>
         Ok(count) => Some(count),
         Err(_) => None,
     }
+}
+
+/// Whether a pattern has a mark that has another meaning in gitignore: `[` or `\`, or `!` at its front.
+pub(crate) fn has_other_mark(pattern: &str) -> bool
+    ensures { result ≡ other_mark pattern.now }
+{
+    let bytes = pattern.as_bytes();
+    bytes.starts_with(b"!".as_slice()) || bytes.contains(&b'[') || bytes.contains(&b'\\')
 }
 
 /// How lines are written in this format: as text, lines that are written so stay as they are.

@@ -1,11 +1,14 @@
 //! A run over a walk.
 
-ghost use Rattle.std.specs.Prelude.{◌≡◌, ◌||◌, IfOk, OnErr, IfSome};
+ghost use Rattle.std.specs.Prelude.{◌≡◌, IfOk, OnErr, IfSome};
 ghost use Rattle.rl_files.specs.Walks.{visited};
-ghost use Rattle.rl_reports.specs.Runs.{shown_errors, WritesReport, WritesSome, WritesWalk, WritesFront, find_status, run_status};
+ghost use Rattle.rl_reports.specs.Reports.{in_report, nothing, one_if as one_where, totals_of};
+ghost use Rattle.rl_reports.specs.Runs.{both_tallies as both, has_errors, has_findings, shown_errors, WritesReport, WritesSome, WritesReports, WritesFirst, WritesWalk, WritesFront, find_status, run_status};
+ghost use Rattle.rl_reports.specs.Stats.{tally_of};
 
 use crate::command::Command;
-use crate::report::{is_alarm, report_of};
+use crate::report::{Report, is_alarm, report_of};
+use crate::stats::write_stats;
 use rl_files::{Tree, Visit, Walk, WalkError};
 use rl_program::{WriteError, write_bytes};
 use rl_sources::Shown;
@@ -21,29 +24,73 @@ pub enum RunStop {
     Write(WriteError),
 }
 
-/// What a run found.
+/// How much a run read and found; of each count, the largest `u64` where there are more.
 #[derive(Clone, Copy)]
 pub struct Tally {
-    /// Whether something was visited: a file, or a path that can't be read.
-    pub visited: bool,
-    /// Whether something was found.
-    pub found: bool,
-    /// Whether an error was reported.
-    pub failed: bool,
+    /// How much was visited: files, and paths that can't be read.
+    pub visited: u64,
+    /// How many files were read.
+    pub read: u64,
+    /// In how many files something was found.
+    pub with_findings: u64,
+    /// How many findings there are, where that is asked for.
+    pub findings: u64,
+    /// Of how many files and paths an error was reported.
+    pub with_errors: u64,
 }
 
 impl Tally {
-    /// Both together.
-    fn and(self, other: Tally) -> Tally
-        ensures visited { result.visited ≡ (self.visited || other.visited) }
-        ensures found { result.found ≡ (self.found || other.found) }
-        ensures failed { result.failed ≡ (self.failed || other.failed) }
+    /// Of nothing.
+    fn new() -> Tally
+        ensures { result ≡ tally_of nothing }
     {
         Tally {
-            visited: self.visited || other.visited,
-            found: self.found || other.found,
-            failed: self.failed || other.failed,
+            visited: 0,
+            read: 0,
+            with_findings: 0,
+            findings: 0,
+            with_errors: 0,
         }
+    }
+
+    /// Of a report.
+    fn of_report<A: Allocator>(report: &Report<A>) -> Tally
+        ensures { result ≡ tally_of (totals_of (in_report report.now)) }
+    {
+        Tally {
+            visited: 1,
+            read: one_if(report.read),
+            with_findings: one_if(report.found),
+            findings: report.count as u64,
+            with_errors: one_if(!report.errors.as_bytes().is_empty()),
+        }
+    }
+
+    /// Both together.
+    fn and(self, other: Tally) -> Tally
+        ensures { result ≡ both self other }
+    {
+        Tally {
+            visited: self.visited.saturating_add(other.visited),
+            read: self.read.saturating_add(other.read),
+            with_findings: self.with_findings.saturating_add(other.with_findings),
+            findings: self.findings.saturating_add(other.findings),
+            with_errors: self.with_errors.saturating_add(other.with_errors),
+        }
+    }
+
+    /// Whether something was found.
+    fn has_findings(self) -> bool
+        ensures { result ≡ has_findings self }
+    {
+        self.with_findings != 0
+    }
+
+    /// Whether an error was reported.
+    fn has_errors(self) -> bool
+        ensures { result ≡ has_errors self }
+    {
+        self.with_errors != 0
     }
 
     /// The status that a run ends with which found this: 2 where an error was reported; else 1 where what is bad was
@@ -51,10 +98,10 @@ impl Tally {
     pub fn status(self, shown: Shown<'_>) -> u8
         ensures { result ≡ run_status shown.entry self }
     {
-        if self.failed {
+        if self.has_errors() {
             return 2;
         }
-        if is_alarm(shown) && self.found {
+        if is_alarm(shown) && self.has_findings() {
             return 1;
         }
         0
@@ -65,12 +112,19 @@ impl Tally {
     pub fn find_status(self) -> u8
         ensures { result ≡ find_status self }
     {
-        match (self.failed, self.found) {
+        match (self.has_errors(), self.has_findings()) {
             (true, _) => 2,
             (false, true) => 0,
             (false, false) => 1,
         }
     }
+}
+
+/// How many it is: one or none.
+fn one_if(is: bool) -> u64
+    ensures { result ≡ one_where is }
+{
+    if is { 1 } else { 0 }
 }
 
 /// What is told of errors: nothing, where that isn't wanted.
@@ -120,11 +174,7 @@ fn write_report<A: Allocator + Copy, T: Tree, W: Write, E: Write>(
         Ok(()) => {}
         Err(error) => return Err(RunStop::Write(error)),
     }
-    Ok(Tally {
-        visited: true,
-        found: report.found,
-        failed: !report.errors.as_bytes().is_empty(),
-    })
+    Ok(Tally::of_report(&report))
 }
 
 /// Writes what is reported of all that a walk visits, one after another.
@@ -132,6 +182,50 @@ fn write_report<A: Allocator + Copy, T: Tree, W: Write, E: Write>(
 /// # Errors
 ///
 /// Where the walk ended early, or a write failed; a beginning of what is reported was written then.
+fn write_reports<A: Allocator + Copy, T: Tree, W: Write, E: Write>(
+    alloc: A,
+    command: Command<'_>,
+    tree: &T,
+    walk: &mut Walk<A>,
+    out: &mut W,
+    err: &mut E,
+) -> Result<Tally, RunStop>
+    ensures all { IfOk result (λ tally. IfSome (T.holds tree.now) (λ w.
+        WritesReports command.entry w walk.old (record {
+          out_old = W.contents out.old;
+          out_new = W.contents out.new;
+          err_old = E.contents err.old;
+          err_new = E.contents err.new;
+        }) tally)) }
+    ensures front { OnErr result (IfSome (T.holds tree.now) (λ w.
+        WritesFirst command.entry w walk.old (record {
+          out_old = W.contents out.old;
+          out_new = W.contents out.new;
+          err_old = E.contents err.old;
+          err_new = E.contents err.new;
+        }))) }
+{
+    let mut tally = Tally::new();
+    for _ in 0..u64::MAX {
+        match walk.next(alloc, command.selection, tree) {
+            Err(error) => return Err(RunStop::Walk(error)),
+            Ok(None) => return Ok(tally),
+            Ok(Some(visit)) => match write_report(alloc, command, tree, &visit, out, err) {
+                Ok(more) => tally = tally.and(more),
+                Err(stop) => return Err(stop),
+            },
+        }
+    }
+    Err(RunStop::Walk(WalkError::TooManyDirectories))
+}
+
+/// Writes what is reported of all that a walk visits, one after another, and after that how much was read and found, where
+/// that is asked for.
+///
+/// # Errors
+///
+/// Where the walk ended early, or a write failed; a beginning of what is reported was written then, and where that is all, a
+/// beginning of what is told after it.
 pub fn run<A: Allocator + Copy, T: Tree, W: Write, E: Write>(
     alloc: A,
     command: Command<'_>,
@@ -155,20 +249,12 @@ pub fn run<A: Allocator + Copy, T: Tree, W: Write, E: Write>(
           err_new = E.contents err.new;
         }))) }
 {
-    let mut tally = Tally {
-        visited: false,
-        found: false,
-        failed: false,
+    let tally = match write_reports(alloc, command, tree, walk, out, err) {
+        Ok(tally) => tally,
+        Err(stop) => return Err(stop),
     };
-    for _ in 0..u64::MAX {
-        match walk.next(alloc, command.selection, tree) {
-            Err(error) => return Err(RunStop::Walk(error)),
-            Ok(None) => return Ok(tally),
-            Ok(Some(visit)) => match write_report(alloc, command, tree, &visit, out, err) {
-                Ok(more) => tally = tally.and(more),
-                Err(stop) => return Err(stop),
-            },
-        }
+    match write_stats(alloc, command, tally, out) {
+        Ok(()) => Ok(tally),
+        Err(stop) => Err(stop),
     }
-    Err(RunStop::Walk(WalkError::TooManyDirectories))
 }

@@ -12,7 +12,8 @@ use crate::clash::clash_of;
 use crate::command::{Command, Output, PlaceForm, Wish};
 use crate::flags::{
     Flag, Next, Operand, When, add_flag, after_front, count_of, edition_of, flag_of, form_in,
-    form_when, format_of, joined_of, letter_of, next_after, recolored, taken_by, when_of,
+    form_when, format_of, has_other_mark, joined_of, letter_of, next_after, recolored, taken_by,
+    when_of,
 };
 use crate::meant::{meant_by, option_part};
 use crate::report::visible_text;
@@ -49,6 +50,8 @@ pub enum WordError<A: Allocator = Global> {
     TextlessKinds,
     /// Objects or annotations are asked for, and paths or counts are printed in place of lines.
     ObjectsOfPaths,
+    /// It is asked how much was found, and files are listed and not read.
+    StatsOfPaths,
     /// After `--color` no word stands.
     NoColor,
     /// After `--color` stands a word that is none of the three.
@@ -57,6 +60,10 @@ pub enum WordError<A: Allocator = Global> {
     NoExtension,
     /// After `--exclude` no word stands.
     NoPattern,
+    /// After `--exclude` stands an empty pattern.
+    EmptyPattern,
+    /// After `--exclude` stands a pattern with a mark that has another meaning in gitignore.
+    OtherPattern(String<A>),
     /// After `--files-from` no word stands.
     NoList,
     /// After `--edition` no word stands.
@@ -125,6 +132,9 @@ impl<A: Allocator> fmt::Display for WordError<A> {
                 f,
                 "--json and --format json, github can't be used with -c, --count, -l, --files-with-matches, --files"
             ),
+            WordError::StatsOfPaths => {
+                write!(f, "--stats can't be used with --files, which reads none")
+            }
             WordError::NoColor => write!(f, "--color: when? one of auto, always, never"),
             WordError::UnknownColor(word) => {
                 write!(f, "unknown colour '{word}': one of auto, always, never")
@@ -133,6 +143,11 @@ impl<A: Allocator> fmt::Display for WordError<A> {
             WordError::NoPattern => {
                 write!(f, "--exclude: which pattern? as in --exclude tests/ui")
             }
+            WordError::EmptyPattern => write!(f, "--exclude: an empty pattern matches nothing"),
+            WordError::OtherPattern(word) => write!(
+                f,
+                "unknown pattern '{word}': --exclude takes *, ?, ** and /, but no [, no \\ and no ! at its front"
+            ),
             WordError::NoList => write!(f, "--files-from: which file? as in --files-from list"),
             WordError::NoEdition => { write!(f, "--edition: which? one of 2015, 2018, 2021, 2024") }
             WordError::UnknownEdition(word) => write!(
@@ -420,11 +435,18 @@ impl<'a, A: Allocator + Copy> Asked<'a, A> {
     }
 
     /// Takes a pattern of what is left out.
-    fn take_pattern(&mut self, pattern: &'a str) -> Result<(), WordError<A>>
-        ensures wishes { OnOk result (wishes_in self.new ≡ with_pattern pattern.now (wishes_in self.old)) }
+    fn take_pattern(&mut self, alloc: A, pattern: &'a str) -> Result<(), WordError<A>>
+        ensures taken { OnOk result
+            (IsTaken false takes.Pattern (wishes_in self.old) pattern.now (wishes_in self.new)) }
         ensures next { OnOk result (self.new.next ≡ self.old.next) }
         ensures rejected { IfErr result (IsRejectedText takes.Pattern pattern.now) }
     {
+        if pattern.is_empty() {
+            return Err(WordError::EmptyPattern);
+        }
+        if has_other_mark(pattern) {
+            return Err(WordError::OtherPattern(visible_text(alloc, pattern)?));
+        }
         match self.excludes.push(pattern) {
             Ok(()) => Ok(()),
             Err(_) => Err(WordError::Memory),
@@ -462,7 +484,7 @@ impl<'a, A: Allocator + Copy> Asked<'a, A> {
             Operand::Text => self.take_text(text),
             Operand::Color => self.take_color(alloc, has_colors, text),
             Operand::Extension => self.take_extension(text),
-            Operand::Pattern => self.take_pattern(text),
+            Operand::Pattern => self.take_pattern(alloc, text),
             Operand::List => self.take_list(text),
             Operand::Edition => self.take_edition(alloc, text),
             Operand::Format => self.take_format(alloc, has_colors, text),
@@ -603,6 +625,7 @@ fn first_command<'a>(has_colors: bool) -> Command<'a>
         },
         files_from: &[],
         tells_errors: true,
+        tells_stats: false,
     }
 }
 
@@ -611,7 +634,7 @@ fn first_command<'a>(has_colors: bool) -> Command<'a>
 /// # Errors
 ///
 /// The first word that can't be asked for; or at the end what the last option takes is missing, as by `NoKinds`, or what is asked
-/// for doesn't go together: `TextlessKinds`, `ObjectsOfPaths`.
+/// for doesn't go together: `TextlessKinds`, `ObjectsOfPaths`, `StatsOfPaths`.
 pub(crate) fn asked_by<A: Allocator + Copy>(
     alloc: A,
     has_colors: bool,

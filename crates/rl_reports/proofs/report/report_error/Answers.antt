@@ -5,7 +5,9 @@ use Rattle.rl_reports.proofs.report.report_error.Goals as goal
 pub returns : goal.returns
 returns g c = record {
   out = c.new.ensures.items;
+  read = refl;
   found = refl;
+  count = refl;
   errors = error_reported c.args.path.now c.args.error _ _ _ (IsUtf8-string_bytes c.push_visible.new.out)
       c.in_ok-errors.ensures.ok c.in_ok-push_visible.ensures c.in_ok-writeln.ensures.bytes;
 }

@@ -46,5 +46,8 @@ pub(crate) fn clash_of<A: Allocator>(command: Command<'_>) -> Option<WordError<A
     if has_extents(command.form) && prints_no_objects(command) {
         return Some(WordError::ObjectsOfPaths);
     }
+    if command.tells_stats && lists_files(command.wish) {
+        return Some(WordError::StatsOfPaths);
+    }
     None
 }

@@ -46,7 +46,8 @@ Which files are read:
       --all            hidden directories and `target` too
       --extension EXT  *.EXT in place of *.rs; may be said more than once
       --exclude GLOB   not what GLOB matches below a PATH, by the rules of
-                       gitignore; may be said more than once
+                       gitignore, with *, ?, ** and / alone; may be said more
+                       than once
       --files-from FILE
                        also what FILE names: a path in each line, or NUL after
                        each; `-` is standard input; may be said more than once
@@ -73,6 +74,9 @@ How it is printed:
   -Z, --null           of -c, -l and --files: NUL after the path
   -q, --quiet          nothing
       --no-messages    no line for a file that can't be read to its end
+      --stats          after all, how many files were read and how many have
+                       findings, how many findings there are, and how many
+                       files had an error
       --               what follows is a PATH
   -h, --help           this
   -V, --version        the version
@@ -175,7 +179,7 @@ fn status_of(command: Command<'_>, tally: Tally) -> u8 {
 
 /// Whether paths were named, and no file was found by them.
 fn is_in_vain(has_paths: bool, tally: Tally) -> bool {
-    has_paths && !tally.visited
+    has_paths && tally.visited == 0
 }
 
 /// Scans the files of a walk of paths, of which there are some or none.
@@ -300,6 +304,7 @@ fn selecting<'a>(
         },
         files_from: lists,
         tells_errors: command.tells_errors,
+        tells_stats: command.tells_stats,
     }
 }
 

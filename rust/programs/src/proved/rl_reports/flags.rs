@@ -37,6 +37,7 @@ pub(crate) enum Flag {
     Nul,
     Quiet,
     Files,
+    Stats,
     Help,
     Version,
     Paths,
@@ -131,6 +132,7 @@ pub(crate) fn flag_of(word: &str) -> Option<Flag> {
         "--null" => Some(Flag::Nul),
         "--quiet" => Some(Flag::Quiet),
         "--files" => Some(Flag::Files),
+        "--stats" => Some(Flag::Stats),
         "--help" => Some(Flag::Help),
         "--version" => Some(Flag::Version),
         "--" => Some(Flag::Paths),
@@ -229,6 +231,7 @@ fn with_flag(command: Command<'_>, flag: Flag) -> Option<Command<'_>> {
         (Flag::FilesFrom | Flag::Edition | Flag::Format | Flag::Paths, _) => {}
         (Flag::Context | Flag::Before | Flag::After, _) => {}
         (Flag::NoMessages, _) => next.tells_errors = false,
+        (Flag::Stats, _) => next.tells_stats = true,
         (Flag::IgnoreCase, _) => next.matching.ignores_case = true,
         (Flag::WholeWords, _) => next.matching.whole_words = true,
         (Flag::AllDirectories, _) => next.selection.all = true,
@@ -349,6 +352,12 @@ pub(crate) fn count_of(word: &str) -> Option<usize> {
         Ok(count) => Some(count),
         Err(_) => None,
     }
+}
+
+/// Whether a pattern has a mark that has another meaning in gitignore: `[` or `\`, or `!` at its front.
+pub(crate) fn has_other_mark(pattern: &str) -> bool {
+    let bytes = pattern.as_bytes();
+    bytes.starts_with(b"!".as_slice()) || bytes.contains(&b'[') || bytes.contains(&b'\\')
 }
 
 /// How lines are written in this format: as text, lines that are written so stay as they are.

@@ -9,6 +9,7 @@ mod listed;
 mod meant;
 mod report;
 mod runs;
+mod stats;
 mod words;
 
 pub use crate::rl_reports::command::{Command, Console, Output, PlaceForm, Wish};

@@ -4,6 +4,7 @@
 use crate::rattle_std::prelude::{String, Vec};
 use crate::rl_reports::clash::lists_files;
 use crate::rl_reports::command::{Command, Output, PlaceForm};
+use crate::rl_reports::stats::asked_count;
 use crate::rl_files::{PathError, Tree, Visit, push_visible};
 use crate::rl_sources::{
     Context, Form, Options, Paint, Place, ScanError, Shown, is_json, push_painted,
@@ -18,13 +19,17 @@ pub struct Report<A: Allocator = Global> {
     pub out: Vec<u8, A>,
     /// On standard error.
     pub errors: String<A>,
+    /// Whether a text was read.
+    pub read: bool,
     /// Whether something was found.
     pub found: bool,
+    /// How many findings there are, where that is asked for.
+    pub count: usize,
 }
 
 /// The lines of a source, and its error where it has one that has no line.
-struct Scanned<A: Allocator = Global> {
-    lines: Vec<u8, A>,
+pub(crate) struct Scanned<A: Allocator = Global> {
+    pub(crate) lines: Vec<u8, A>,
     error: Option<(Place, LexKind)>,
 }
 
@@ -118,7 +123,7 @@ fn options_for<'a>(command: Command<'a>, path: &'a str, shown: Option<&'a str>) 
 }
 
 /// The lines of a source.
-fn scan_text<A: Allocator + Copy>(
+pub(crate) fn scan_text<A: Allocator + Copy>(
     alloc: A,
     options: Options<'_>,
     text: &str,
@@ -165,7 +170,7 @@ fn error_line<A: Allocator + Copy>(
 }
 
 /// How many lines there are.
-fn count_lines(lines: &[u8]) -> usize {
+pub(crate) fn count_lines(lines: &[u8]) -> usize {
     lines.iter().filter(|byte| **byte == b'\n').count()
 }
 
@@ -240,10 +245,18 @@ fn report_text<A: Allocator + Copy>(
     let options = options_for(command, path, before);
     let scanned = scan_text(alloc, options, text)?;
     let errors = error_line(alloc, options.by_line, before, scanned.error)?;
+    let asked = command.tells_stats;
+    let count = asked_count(alloc, asked, options, text, scanned.lines.as_slice())?;
     let found = !scanned.lines.is_empty();
     let named = path_in(command.nul_after_paths, path, before);
     let out = written(alloc, command, options.form, named, scanned.lines)?;
-    Ok(Report { out, errors, found })
+    Ok(Report {
+        out,
+        errors,
+        read: true,
+        found,
+        count,
+    })
 }
 
 /// What is reported of a path that can't be read.
@@ -258,7 +271,9 @@ fn report_error<A: Allocator + Copy>(
     Ok(Report {
         out: Vec::new(alloc),
         errors,
+        read: false,
         found: false,
+        count: 0,
     })
 }
 
@@ -302,7 +317,9 @@ fn report_listed<A: Allocator + Copy>(
     Ok(Report {
         out: line.into_bytes(),
         errors: String::new(alloc),
+        read: false,
         found: true,
+        count: 0,
     })
 }
 

@@ -2,7 +2,8 @@
 //! A run over a walk.
 
 use crate::rl_reports::command::Command;
-use crate::rl_reports::report::{is_alarm, report_of};
+use crate::rl_reports::report::{Report, is_alarm, report_of};
+use crate::rl_reports::stats::write_stats;
 use crate::rl_files::{Tree, Visit, Walk, WalkError};
 use crate::rl_program::{WriteError, write_bytes};
 use crate::rl_sources::Shown;
@@ -18,34 +19,72 @@ pub enum RunStop {
     Write(WriteError),
 }
 
-/// What a run found.
+/// How much a run read and found; of each count, the largest `u64` where there are more.
 #[derive(Clone, Copy)]
 pub struct Tally {
-    /// Whether something was visited: a file, or a path that can't be read.
-    pub visited: bool,
-    /// Whether something was found.
-    pub found: bool,
-    /// Whether an error was reported.
-    pub failed: bool,
+    /// How much was visited: files, and paths that can't be read.
+    pub visited: u64,
+    /// How many files were read.
+    pub read: u64,
+    /// In how many files something was found.
+    pub with_findings: u64,
+    /// How many findings there are, where that is asked for.
+    pub findings: u64,
+    /// Of how many files and paths an error was reported.
+    pub with_errors: u64,
 }
 
 impl Tally {
+    /// Of nothing.
+    fn new() -> Tally {
+        Tally {
+            visited: 0,
+            read: 0,
+            with_findings: 0,
+            findings: 0,
+            with_errors: 0,
+        }
+    }
+
+    /// Of a report.
+    fn of_report<A: Allocator>(report: &Report<A>) -> Tally {
+        Tally {
+            visited: 1,
+            read: one_if(report.read),
+            with_findings: one_if(report.found),
+            findings: report.count as u64,
+            with_errors: one_if(!report.errors.as_bytes().is_empty()),
+        }
+    }
+
     /// Both together.
     fn and(self, other: Tally) -> Tally {
         Tally {
-            visited: self.visited || other.visited,
-            found: self.found || other.found,
-            failed: self.failed || other.failed,
+            visited: self.visited.saturating_add(other.visited),
+            read: self.read.saturating_add(other.read),
+            with_findings: self.with_findings.saturating_add(other.with_findings),
+            findings: self.findings.saturating_add(other.findings),
+            with_errors: self.with_errors.saturating_add(other.with_errors),
         }
+    }
+
+    /// Whether something was found.
+    fn has_findings(self) -> bool {
+        self.with_findings != 0
+    }
+
+    /// Whether an error was reported.
+    fn has_errors(self) -> bool {
+        self.with_errors != 0
     }
 
     /// The status that a run ends with which found this: 2 where an error was reported; else 1 where what is bad was
     /// asked for, or what turns or hides text, and some was found; else 0.
     pub fn status(self, shown: Shown<'_>) -> u8 {
-        if self.failed {
+        if self.has_errors() {
             return 2;
         }
-        if is_alarm(shown) && self.found {
+        if is_alarm(shown) && self.has_findings() {
             return 1;
         }
         0
@@ -54,12 +93,17 @@ impl Tally {
     /// The status that a run ends with which looked for a text and found this: 2 where an error was reported; else 0 where
     /// the text was found, else 1.
     pub fn find_status(self) -> u8 {
-        match (self.failed, self.found) {
+        match (self.has_errors(), self.has_findings()) {
             (true, _) => 2,
             (false, true) => 0,
             (false, false) => 1,
         }
     }
+}
+
+/// How many it is: one or none.
+fn one_if(is: bool) -> u64 {
+    if is { 1 } else { 0 }
 }
 
 /// What is told of errors: nothing, where that isn't wanted.
@@ -92,11 +136,7 @@ fn write_report<A: Allocator + Copy, T: Tree, W: Write, E: Write>(
         Ok(()) => {}
         Err(error) => return Err(RunStop::Write(error)),
     }
-    Ok(Tally {
-        visited: true,
-        found: report.found,
-        failed: !report.errors.as_bytes().is_empty(),
-    })
+    Ok(Tally::of_report(&report))
 }
 
 /// Writes what is reported of all that a walk visits, one after another.
@@ -104,7 +144,7 @@ fn write_report<A: Allocator + Copy, T: Tree, W: Write, E: Write>(
 /// # Errors
 ///
 /// Where the walk ended early, or a write failed; a beginning of what is reported was written then.
-pub fn run<A: Allocator + Copy, T: Tree, W: Write, E: Write>(
+fn write_reports<A: Allocator + Copy, T: Tree, W: Write, E: Write>(
     alloc: A,
     command: Command<'_>,
     tree: &T,
@@ -112,11 +152,7 @@ pub fn run<A: Allocator + Copy, T: Tree, W: Write, E: Write>(
     out: &mut W,
     err: &mut E,
 ) -> Result<Tally, RunStop> {
-    let mut tally = Tally {
-        visited: false,
-        found: false,
-        failed: false,
-    };
+    let mut tally = Tally::new();
     for _ in 0..u64::MAX {
         match walk.next(alloc, command.selection, tree) {
             Err(error) => return Err(RunStop::Walk(error)),
@@ -128,4 +164,29 @@ pub fn run<A: Allocator + Copy, T: Tree, W: Write, E: Write>(
         }
     }
     Err(RunStop::Walk(WalkError::TooManyDirectories))
+}
+
+/// Writes what is reported of all that a walk visits, one after another, and after that how much was read and found, where
+/// that is asked for.
+///
+/// # Errors
+///
+/// Where the walk ended early, or a write failed; a beginning of what is reported was written then, and where that is all, a
+/// beginning of what is told after it.
+pub fn run<A: Allocator + Copy, T: Tree, W: Write, E: Write>(
+    alloc: A,
+    command: Command<'_>,
+    tree: &T,
+    walk: &mut Walk<A>,
+    out: &mut W,
+    err: &mut E,
+) -> Result<Tally, RunStop> {
+    let tally = match write_reports(alloc, command, tree, walk, out, err) {
+        Ok(tally) => tally,
+        Err(stop) => return Err(stop),
+    };
+    match write_stats(alloc, command, tally, out) {
+        Ok(()) => Ok(tally),
+        Err(stop) => Err(stop),
+    }
 }

@@ -1,6 +1,6 @@
 use Rattle.std.specs.Prelude.{IfSome}
 use Rattle.rl_reports.proofs.RunLemmas.{Ran}
-use Rattle.rl_reports.proofs.runs.run.Given as goal
+use Rattle.rl_reports.proofs.runs.write_reports.Given as goal
 
 abbrev pub invariant-loop : goal.invariant-loop
 invariant-loop g l = IfSome (g.T.Tree.holds l.tree) (λ w. Ran l.command w l.initial.walk l.walk

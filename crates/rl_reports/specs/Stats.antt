@@ -1,0 +1,41 @@
+-- What is told of how much was read and found.
+use Rattle.std.specs.Prelude.{ℕ, cond, List, [], ◌++◌, codes}
+use Rattle.std.specs.Fmt.{decimal}
+use Rattle.std.specs.Io.Iter.{u64_saturate}
+use Rattle.rl_output.specs.declared.form.Form.{Form}
+use Rattle.rl_output.specs.Forms.{is_json}
+use Rattle.rl_reports.specs.declared.command.Command.{Command}
+use Rattle.rl_reports.specs.declared.runs.Tally.{Tally}
+use Rattle.rl_reports.specs.Reports.{Totals}
+
+-- how much it is in a tally: of each count, the largest number of 64 bits where there are more
+abbrev pub tally_of : Totals → Tally
+tally_of totals = record {
+  visited = u64_saturate totals.visited;
+  read = u64_saturate totals.read;
+  with_findings = u64_saturate totals.with_findings;
+  findings = u64_saturate totals.findings;
+  with_errors = u64_saturate totals.with_errors;
+}
+
+-- a line for each count
+abbrev pub stats_lines : Tally → List ℕ
+stats_lines tally =
+    decimal tally.read ++ (codes " files\n" ++ (decimal tally.with_findings ++ (codes " files with findings\n"
+    ++ (decimal tally.findings ++ (codes " findings\n" ++ (decimal tally.with_errors
+    ++ codes " files with an error\n"))))))
+
+-- an object of JSON
+abbrev pub stats_object : Tally → List ℕ
+stats_object tally =
+    codes "{\"files\":" ++ (decimal tally.read ++ (codes ",\"files_with_findings\":" ++ (decimal tally.with_findings
+    ++ (codes ",\"findings\":" ++ (decimal tally.findings ++ (codes ",\"errors\":" ++ (decimal tally.with_errors
+    ++ codes "}\n")))))))
+
+-- the object, where each line is one; else lines
+abbrev pub stats_text : Form → Tally → List ℕ
+stats_text form tally = cond (is_json form) (stats_object tally) (stats_lines tally)
+
+-- what is told: nothing, where that isn't asked for
+abbrev pub shown_stats : Command → Tally → List ℕ
+shown_stats command tally = cond command.tells_stats (stats_text command.form tally) []
