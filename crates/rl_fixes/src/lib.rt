@@ -1,8 +1,13 @@
-//! What is printed of a source that would be written anew: a line for each change, or a unified diff.
+//! Sources that are written anew, unless Rust rejects something of them; and what is printed of that: a line for each change, or a
+//! unified diff.
 #![tactic(auto)]
 
 mod change;
+mod changes;
 mod diff;
+mod outcome;
 
 pub use crate::change::push_change;
+pub use crate::changes::push_changes;
 pub use crate::diff::push_diff;
+pub use crate::outcome::{Outcome, judging, written_anew};

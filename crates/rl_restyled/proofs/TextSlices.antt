@@ -2,6 +2,7 @@
 use Rattle.rl_text.proofs.Common.{◌≡◌, ℕ, ◌+◌, ◌-◌, ◌≤◌, List, [], ◌∷◌, ◌++◌, length, length-append, take, drop, slice_range, refl, sym, ◌∙◌, ap, subst, arith, append_assoc, take-append_seam, chars, chars_from_encodes, encode_utf8_all, encodes-append, encodes-chars, IsCharBoundary, IsUtf8, IsUtf8-take}
 use Rattle.std.proofs.lemmas.Str.{IsCharBoundary-at_seam, IsUtf8-past_char}
 use Rattle.std.proofs.Math.Seq.{drop-append_seam}
+use Rattle.rl_text.specs.Texts.{IsTail}
 use Rattle.rl_restyled.specs.Places.{StandsBetween}
 
 -- what is left after the front of a text is a text
@@ -16,6 +17,7 @@ pub record Slice (text : List ℕ) (lo hi : ℕ) (middle : List ℕ) : Type 0 wh
   pub begins : IsCharBoundary text lo
   pub ends : IsCharBoundary text hi
   pub chars_are : chars (slice_range text lo hi) ≡ middle
+  pub tail : IsTail text (drop lo text)
 
 pub slice : (text : List ℕ) (lo hi : ℕ) (middle : List ℕ) → IsUtf8 text → StandsBetween (chars text) lo hi middle
     → Slice text lo hi middle
@@ -48,5 +50,10 @@ slice text lo hi middle u s =
       begins = subst (IsCharBoundary text) lo_at (IsCharBoundary-at_seam text f (m ++ r) bytes after);
       ends = subst (IsCharBoundary text) hi_at (IsCharBoundary-at_seam text (f ++ m) r
           (bytes ∙ sym (append_assoc f m r)) last);
+      tail = record {
+        front = f;
+        text_is = bytes ∙ ap (λ z. f ++ z) (sym dropped);
+        is_text = subst IsUtf8 (sym dropped) after;
+      };
       chars_are = sym (chars_from_encodes middle (slice_range text lo hi) (subst IsUtf8 (sym is) inside) (sym is));
     }

@@ -9,4 +9,5 @@ mod texts;
 mod whole;
 
 pub use crate::edit::{Edit, Macros, RestyleError, Restyled};
+pub use crate::slices::between;
 pub use crate::whole::restyle;

@@ -46,6 +46,7 @@ fn main(rt: HostRuntime) -> ExitCode {
         &Host { rt: &rt },
         &mut rt.stdout(),
         &mut rt.stderr(),
+        &mut Host { rt: &rt },
     );
     finish(&rt, ending)
 }

@@ -20,6 +20,7 @@ mod search;
 mod step;
 
 pub use crate::options::{Matching, Options, Shown, Spelling, names};
+pub use crate::place::place_of;
 pub use crate::reason::push_source_error;
 pub use crate::scan_error::ScanError;
 pub use crate::scanner::scan;

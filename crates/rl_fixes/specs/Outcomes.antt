@@ -1,0 +1,51 @@
+-- A source that is written anew, unless Rust rejects something of it.
+use Rattle.std.specs.Prelude.{◌≡◌, ◌≢◌, ◌⊎◌, ℕ, Bool, true, false, List, [], map, string_bytes, Option, Some, None}
+use denote.Ref.{Bor}
+use Rattle.std.specs.Str.{chars}
+use Rattle.rl_output.specs.declared.form.Form.TheVariants.{Plain}
+use Rattle.rl_restyled.specs.Edits.{IsRestyleError, Restyles, edit_told}
+use Rattle.rl_restyled.specs.declared.edit.Macros.{Macros}
+use Rattle.rl_restyled.specs.declared.edit.RestyleError.{RestyleError}
+use Rattle.rl_restyled.specs.declared.edit.RestyleError.TheVariants.{Memory}
+use Rattle.rl_sources.specs.Scans.{Scans}
+use Rattle.rl_sources.specs.declared.options.Options.{Options}
+use Rattle.rl_sources.specs.declared.options.Shown.TheVariants.{Bad}
+use Rattle.rl_style.specs.declared.style.Style.{Style}
+use Rattle.rl_types.specs.declared.before.Edition.{Edition}
+use Rattle.rl_fixes.specs.declared.outcome.Outcome.{Outcome}
+use Rattle.rl_fixes.specs.declared.outcome.Outcome.TheVariants as outcome
+
+-- How a source is judged before: what is bad has a line with its reason, in words, stray characters too, and any suffix may
+-- stand.
+pub record IsJudging (edition : Edition) (by_line : Bool) (path : Option (Bor (List ℕ))) (options : Options) : Type 0 where
+  pub shown : options.shown ≡ Bad
+  pub finds : options.finds.now ≡ []
+  pub form : options.form ≡ Plain
+  pub context : options.context ≡ None
+  pub by_line_is : options.by_line ≡ by_line
+  pub rejects_strays : options.rejects_strays ≡ true
+  pub explains : options.explains ≡ true
+  pub any_suffix : options.any_suffix ≡ true
+  pub edition_is : options.edition ≡ edition
+  pub path_is : options.path ≡ path
+
+-- the lines of what is bad in a text
+abbrev pub AreRejections : Options → List ℕ → List ℕ → Type 0
+AreRejections options text lines = (any : Bool) × Scans options (chars text) (Some []) (Some lines) any
+
+-- nothing of the text can be written anew: it begins as with an interpreter's line, or isn't cut to its end
+abbrev pub IsLeftAlone : List ℕ → Type 0
+IsLeftAlone text = (e : RestyleError) × (e ≢ Memory) × IsRestyleError text e
+
+-- the text in the style, and what is new in it; as it was, where it is left alone
+abbrev pub IsRestyledAs : Style → Macros → List ℕ → List ℕ → List (ℕ × ℕ × List ℕ) → Type 0
+IsRestyledAs style macros text new edits =
+    Restyles style macros text new edits ⊎ (IsLeftAlone text × (new ≡ text) × (edits ≡ []))
+
+-- what becomes of a text
+abbrev pub IsOutcome : {A : Type 0} → Options → Style → Macros → List ℕ → Outcome A → Type 0
+IsOutcome options style macros text (outcome.Rejected lines) =
+    AreRejections options text lines.items × (lines.items ≢ [])
+IsOutcome options style macros text (outcome.Restyled r) =
+    AreRejections options text []
+    × IsRestyledAs style macros (chars text) (chars (string_bytes r.text)) (map edit_told r.edits.items)

@@ -1,0 +1,102 @@
+-- What is reported of a source whose literals are written anew. Texts are lists of characters, what is printed lists of bytes.
+use Rattle.std.specs.Prelude.{◌≡◌, ◌⊎◌, ℕ, ◌==◌, Bool, true, false, not, List, [], ◌∷◌, length, map, string_bytes, encode_utf8_all, Option, Some}
+use denote.Ref.{Bor}
+use Rattle.std.specs.declared.result.Result.TheVariants.{Ok}
+use Rattle.std.specs.Str.{chars, IsUtf8}
+use Rattle.rl_files.specs.Replacements.{Replacement, replacing}
+use Rattle.rl_files.specs.declared.tree.PathError.{PathError}
+use Rattle.rl_fixes.specs.Changes.{AreChangeLines}
+use Rattle.rl_fixes.specs.Diffs.{diff}
+use Rattle.rl_fixes.specs.Outcomes.{AreRejections, IsJudging, IsRestyledAs}
+use Rattle.rl_output.specs.declared.form.Form.{Form}
+use Rattle.rl_sources.specs.declared.options.Options.{Options}
+use Rattle.rl_reports.specs.declared.command.Command.{Command}
+use Rattle.rl_reports.specs.declared.command.Output.{Output}
+use Rattle.rl_reports.specs.declared.command.Output.TheVariants as output
+use Rattle.rl_reports.specs.declared.command.Restyling.{Restyling}
+use Rattle.rl_reports.specs.declared.command.Restyling.TheVariants.{Fix, Check, Diff}
+use Rattle.rl_reports.specs.Reports.{Findings, IsErrorReport, IsPathIn, IsShownPath, is_by_line, is_input, printed_of}
+
+-- Only this is printed, on standard output, and this is handed on.
+pub record PrintsAlone (out : List ℕ) (found : Bool) (handed : List Replacement) (printed : Findings) : Type 0 where
+  pub out_is : printed.out ≡ out
+  pub errors_are : printed.errors ≡ []
+  pub found_is : printed.found ≡ found
+  pub handed_is : printed.handed ≡ handed
+
+-- the bytes of a line for each edit
+abbrev pub AreChangeBytes : Options → Form → List ℕ → List (ℕ × ℕ × List ℕ) → List ℕ → Type 0
+AreChangeBytes options form text edits bytes =
+    (lines : List ℕ) × AreChangeLines options form text edits lines × (bytes ≡ encode_utf8_all lines)
+
+-- what is printed of the lines of a file that is written anew: how many there are, in place of them
+abbrev pub fixed_output : Output → Output
+fixed_output output.Lines = output.Count
+fixed_output output.Count = output.Count
+fixed_output output.Path = output.Path
+fixed_output output.Nothing = output.Nothing
+
+-- what is printed of edits: a line for each, or what is asked for in place of lines
+abbrev pub IsPrintOf : Command → Output → Options → Option (Bor (List ℕ)) → List ℕ → List (ℕ × ℕ × List ℕ) → List ℕ
+    → Type 0
+IsPrintOf command output options named text edits out =
+    (lines : List ℕ) × AreChangeBytes options command.form text edits lines
+    × (out ≡ printed_of output command.nul_after_paths command.form named lines)
+
+-- of literals that would be written anew a line for each
+abbrev pub IsChecked : Command → Options → Option (Bor (List ℕ)) → List ℕ → List (ℕ × ℕ × List ℕ) → Findings → Type 0
+IsChecked command options named text edits printed =
+    (out : List ℕ) × IsPrintOf command command.output options named text edits out
+    × PrintsAlone out (not (length edits == 0)) [] printed
+
+-- of a text that would be another a diff
+abbrev pub IsCompared : Command → List ℕ → Option (Bor (List ℕ)) → List ℕ → List ℕ → Findings → Type 0
+IsCompared command path named text new printed =
+    (lines : List ℕ) × (lines ≡ encode_utf8_all (diff path text new))
+    × PrintsAlone (printed_of command.output command.nul_after_paths command.form named lines)
+    (not (length lines == 0)) [] printed
+
+-- A file is written anew: its new bytes are handed on, and it is printed how many literals are new; or why it can't be
+-- written. Bytes.
+abbrev pub IsReplaced : List ℕ → List ℕ → List ℕ → List ℕ → Findings → Type 0
+IsReplaced path text new out printed =
+    PrintsAlone out false (replacing path text new ∷ []) printed
+    ⊎ ((why : PathError) × IsErrorReport path why printed)
+
+-- The same where a literal is new; else nothing. Of standard input its new text is printed.
+abbrev pub IsFixed : Command → Options → List ℕ → Option (Bor (List ℕ)) → List ℕ → List ℕ → List (ℕ × ℕ × List ℕ)
+    → Findings → Type 0
+IsFixed command options path named text new edits printed =
+    ((is_input path ≡ true) × PrintsAlone new false [] printed)
+    ⊎ ((is_input path ≡ false) × ((length edits == 0) ≡ true) × PrintsAlone [] false [] printed)
+    ⊎ ((is_input path ≡ false) × ((length edits == 0) ≡ false)
+    × ((out : List ℕ) × IsPrintOf command (fixed_output command.output) options named (chars text) edits out
+    × IsReplaced path text new out printed))
+
+-- what is reported of a text and of what is new in it
+abbrev pub IsChanged : Restyling → Command → Options → List ℕ → Option (Bor (List ℕ)) → List ℕ → List ℕ
+    → List (ℕ × ℕ × List ℕ) → Findings → Type 0
+IsChanged Check command options path named text new edits printed =
+    IsChecked command options named (chars text) edits printed
+IsChanged Diff command options path named text new edits printed =
+    IsCompared command (chars path) named (chars text) (chars new) printed
+IsChanged Fix command options path named text new edits printed =
+    IsFixed command options path named text new edits printed
+
+-- what Rust rejects of a text is reported on standard error, and nothing else
+pub record PrintsRejections (lines : List ℕ) (printed : Findings) : Type 0 where
+  pub out_is : printed.out ≡ []
+  pub errors_are : printed.errors ≡ lines
+  pub found_is : printed.found ≡ false
+  pub handed_is : printed.handed ≡ []
+
+-- What is reported of a text: what Rust rejects of it; or where that is nothing what is new in the style.
+abbrev pub IsRestyledReport : Restyling → Command → List ℕ → List ℕ → Findings → Type 0
+IsRestyledReport restyling command path text printed =
+    (options : Options) × (shown named : Option (Bor (List ℕ))) × (lines : List ℕ)
+    × IsShownPath path shown × IsPathIn command.nul_after_paths path named
+    × IsJudging command.edition (is_by_line command.places path) shown options × AreRejections options text lines
+    × (((length lines == 0) ≡ false) × PrintsRejections lines printed
+    ⊎ ((lines ≡ []) × ((new : List ℕ) × (edits : List (ℕ × ℕ × List ℕ)) × IsUtf8 new
+    × IsRestyledAs command.style command.macros (chars text) (chars new) edits
+    × IsChanged restyling command options path named text new edits printed)))

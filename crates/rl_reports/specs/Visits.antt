@@ -1,0 +1,64 @@
+-- What is reported of what a walk visits. All are lists of bytes.
+use Rattle.std.specs.Prelude.{◌≡◌, ◌⊎◌, ℕ, true, false, ◌||◌, List, [], ◌∷◌, ◌++◌, Option, Some, None}
+use Rattle.std.specs.declared.result.Result.TheVariants.{Ok}
+use Rattle.std.specs.Str.{IsUtf8}
+use Rattle.rl_files.specs.Replacements.{Replacement}
+use Rattle.rl_files.specs.Trees.{World}
+use Rattle.rl_files.specs.Walks.{Visited, FileAt, ErrorAt}
+use Rattle.rl_files.specs.declared.tree.PathError.{PathError}
+use Rattle.rl_reports.specs.declared.command.Command.{Command}
+use Rattle.rl_reports.specs.declared.command.Restyling.{Restyling}
+use Rattle.rl_reports.specs.declared.report.Report.{Report}
+use Rattle.rl_reports.specs.Reports.{Findings, HandsOn, IsErrorReport, IsListReport, IsNotUtf8, IsReadError, IsTextReport, with_handed}
+use Rattle.rl_reports.specs.Restyling.{IsRestyledReport}
+use Rattle.rl_reports.specs.Words.{lists_files}
+
+-- what is reported of a text, whose literals may be written anew
+abbrev pub IsWantedReport : Option Restyling → Command → List ℕ → List ℕ → Findings → Type 0
+IsWantedReport None command path text printed = IsTextReport command path text printed
+IsWantedReport (Some restyling) command path text printed = IsRestyledReport restyling command path text printed
+
+-- what is reported of bytes, which may be no text
+abbrev pub IsBytesReport : Command → List ℕ → List ℕ → Findings → Type 0
+IsBytesReport command path bytes printed =
+    (IsUtf8 bytes × IsWantedReport command.restyling command path bytes printed)
+    ⊎ ((why : PathError) × IsNotUtf8 bytes why × IsErrorReport path why printed)
+
+-- what is reported of a file that is read
+abbrev pub IsReadReport : Command → World → List ℕ → Findings → Type 0
+IsReadReport command w path printed =
+    ((text : List ℕ) × (w.bytes path ≡ Ok text) × IsUtf8 text
+    × IsWantedReport command.restyling command path text printed)
+    ⊎ ((why : PathError) × IsReadError w path why × IsErrorReport path why printed)
+
+-- what is reported of a file, which is listed or read, or of a path that can't be gone into
+abbrev pub IsReport : Command → World → Visited → Findings → Type 0
+IsReport command w (FileAt path) printed =
+    ((lists_files command.wish ≡ true) × IsListReport command path printed)
+    ⊎ ((lists_files command.wish ≡ false) × IsReadReport command w path printed)
+IsReport command w (ErrorAt path why) printed = IsErrorReport path why printed
+
+-- what is reported is this, and what it hands on was handed on
+abbrev pub Reports : {A : Type 0} → (Findings → Type 0) → Report A → Option (List Replacement)
+    → Option (List Replacement) → Type 0
+Reports IsThis report old new =
+    (handed : List Replacement) × IsThis (with_handed handed report) × HandsOn old new handed
+
+-- nothing, and one after another
+abbrev pub nothing : Findings
+nothing = record { out = []; errors = []; handed = []; found = false }
+
+abbrev pub both_of : Findings → Findings → Findings
+both_of first second = record {
+  out = first.out ++ second.out;
+  errors = first.errors ++ second.errors;
+  handed = first.handed ++ second.handed;
+  found = first.found || second.found;
+}
+
+-- what is reported of all that is visited, in order
+abbrev pub AreReports : Command → World → List Visited → Findings → Type 0
+AreReports command w [] printed = printed ≡ nothing
+AreReports command w (visit ∷ visits) printed =
+    (first : Findings) × (others : Findings) × IsReport command w visit first × AreReports command w visits others
+    × (printed ≡ both_of first others)

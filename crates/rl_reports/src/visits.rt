@@ -1,0 +1,97 @@
+//! What is reported of what a walk visits.
+
+ghost use Rattle.std.specs.Prelude.{◌≡◌, IfErr, IfOk, IfSome};
+ghost use Rattle.std.specs.Str.{IsUtf8};
+ghost use Rattle.rl_files.specs.Walks.{visited};
+ghost use Rattle.rl_reports.specs.Visits.{IsBytesReport, IsReadReport, IsReport, IsWantedReport, Reports};
+
+use crate::clash::lists_files;
+use crate::command::Command;
+use crate::report::{Report, report_error, report_listed, report_text};
+use crate::restyling::report_restyled;
+use rl_files::{PathError, Replace, Tree, Visit};
+use std::alloc::{AllocError, Allocator};
+
+/// What is reported of a text, whose literals may be written anew.
+fn report_wanted<A: Allocator + Copy, F: Replace>(
+    alloc: A,
+    command: Command<'_>,
+    files: &mut F,
+    path: &str,
+    text: &str,
+) -> Result<Report<A>, AllocError>
+    ensures reports { IfOk result (λ r. Reports (IsWantedReport command.entry.restyling command.entry path.now text.now)
+        r (F.handed files.old) (F.handed files.new)) }
+    ensures kept { IfErr result (F.handed files.new ≡ F.handed files.old) }
+{
+    match command.restyling {
+        Some(restyling) => report_restyled(alloc, command, restyling, files, path, text),
+        None => report_text(alloc, command, path, text),
+    }
+}
+
+/// What is reported of a file whose bytes these are.
+fn report_bytes<A: Allocator + Copy, F: Replace>(
+    alloc: A,
+    command: Command<'_>,
+    files: &mut F,
+    path: &str,
+    bytes: &[u8],
+) -> Result<Report<A>, AllocError>
+    ensures reports { IfOk result (λ r. Reports (IsBytesReport command.entry path.now bytes.now)
+        r (F.handed files.old) (F.handed files.new)) }
+    ensures kept { IfErr result (F.handed files.new ≡ F.handed files.old) }
+{
+    match std::str::from_utf8(bytes) {
+        Ok(text) => report_wanted(alloc, command, files, path, text),
+        Err(error) => report_error(alloc, path, PathError::NotUtf8(error.valid_up_to())),
+    }
+}
+
+/// What is reported of a file, whose bytes are let go before the next is read.
+fn report_file<A: Allocator + Copy, T: Tree, F: Replace>(
+    alloc: A,
+    command: Command<'_>,
+    tree: &T,
+    files: &mut F,
+    path: &str,
+) -> Result<Report<A>, AllocError>
+    ensures reports { IfOk result (λ r. IfSome (T.holds tree.now)
+        (λ w. Reports (IsReadReport command.entry w path.now) r (F.handed files.old) (F.handed files.new))) }
+    ensures kept { IfErr result (F.handed files.new ≡ F.handed files.old) }
+{
+    let bytes = match tree.bytes(alloc, path) {
+        Ok(bytes) => bytes,
+        Err(error) => return report_error(alloc, path, error),
+    };
+    match report_bytes(alloc, command, files, path, bytes.as_slice()) {
+        Ok(report) => Ok(report),
+        Err(_) => report_error(alloc, path, PathError::OutOfMemory),
+    }
+}
+
+/// What is reported of what a walk visits: of a file what is printed of its text, or its path where files are listed; of what
+/// can't be read one line. Where it is written anew, its new bytes are handed on.
+///
+/// # Errors
+///
+/// An allocation failure, where not even that line could be made; nothing is handed on then.
+pub fn report_of<A: Allocator + Copy, T: Tree, F: Replace>(
+    alloc: A,
+    command: Command<'_>,
+    tree: &T,
+    files: &mut F,
+    visit: &Visit<A>,
+) -> Result<Report<A>, AllocError>
+    ensures reports { IfOk result (λ r. IfSome (T.holds tree.now)
+        (λ w. Reports (IsReport command.entry w (visited visit.now)) r (F.handed files.old) (F.handed files.new))) }
+    ensures kept { IfErr result (F.handed files.new ≡ F.handed files.old) }
+{
+    match visit {
+        Visit::File(path) if lists_files(command.wish) => {
+            report_listed(alloc, command, path.as_str())
+        }
+        Visit::File(path) => report_file(alloc, command, tree, files, path.as_str()),
+        Visit::Failed(path, error) => report_error(alloc, path.as_str(), *error),
+    }
+}

@@ -1,0 +1,45 @@
+-- Where the edits of a source stand.
+use Rattle.rl_text.proofs.Common.{◌≡◌, ℕ, ◌+◌, List, [], ◌∷◌, ◌++◌, None, Option, Some, append_assoc, ap, arith, refl, sym, ◌∙◌}
+use Rattle.rl_text.specs.Texts.{byte_len}
+use Rattle.rl_lexer.proofs.CutLemmas.{byte_len-append}
+use Rattle.rl_lexer.specs.Sources.{CutSource, source_end, source_text}
+use Rattle.rl_style.specs.Restyled.{IsEdited}
+use Rattle.rl_style.specs.declared.style.Style.{Style}
+use Rattle.rl_restyled.specs.Edits.{Restyles, placed}
+use Rattle.rl_restyled.specs.Places.{StandIn, StandsBetween}
+use Rattle.rl_restyled.specs.declared.edit.Macros.{Macros}
+
+-- those of a rest of the text, which begins at a byte
+stand_on : (text front old new : List ℕ) (at : ℕ) (ws : List CutSource) (es : List (Option (List ℕ)))
+    → text ≡ front ++ old → at ≡ byte_len front → IsEdited at old ws es new → StandIn text (placed ws es)
+stand_on text front old new at [] [] is at_is edited = tt
+stand_on text front old new at [] (e ∷ es) is at_is edited = tt
+stand_on text front old new at (w ∷ ws) [] is at_is edited = absurd edited
+stand_on text front old new at (w ∷ ws) (None ∷ es) is at_is (gap, after, new_after, old_is, w_at, new_is, others) =
+    stand_on text ((front ++ gap) ++ source_text w.token) after new_after (source_end w) ws es
+    (is ∙ ap (λ z. front ++ z) old_is ∙ sym (append_assoc front gap (source_text w.token ++ after))
+    ∙ sym (append_assoc (front ++ gap) (source_text w.token) after))
+    (omega (arith, w_at, at_is, byte_len-append front gap, byte_len-append (front ++ gap) (source_text w.token))) others
+stand_on text front old new at (w ∷ ws) (Some written ∷ es) is at_is (gap, after, new_after, old_is, w_at, new_is, others) =
+    let text_is : text ≡ (front ++ gap) ++ (source_text w.token ++ after) = is ∙ ap (λ z. front ++ z) old_is
+    ∙ sym (append_assoc front gap (source_text w.token ++ after)) in
+    let ends : source_end w ≡ byte_len ((front ++ gap) ++ source_text w.token) = omega (arith, w_at, at_is,
+    byte_len-append front gap, byte_len-append (front ++ gap) (source_text w.token)) in (
+      (
+        source_text w.token,
+        record {
+          front = front ++ gap;
+          rest = after;
+          text_is = text_is;
+          lo_is = omega (arith, w_at, at_is, byte_len-append front gap);
+          hi_is = ends;
+        },
+      ),
+      stand_on text ((front ++ gap) ++ source_text w.token) after new_after (source_end w) ws es
+      (text_is ∙ sym (append_assoc (front ++ gap) (source_text w.token) after)) ends others,
+    )
+
+-- those of a source in a style
+pub edits_stand : (style : Style) (macros : Macros) (t new : List ℕ) (edits : List (ℕ × ℕ × List ℕ))
+    → Restyles style macros t new edits → StandIn t edits
+edits_stand style macros t new edits r = rw r.edits_are (stand_on t [] t new 0 r.cuts r.texts refl refl r.is_edited)
