@@ -13,7 +13,7 @@ pub mod rattle_std;
 
 use navyspindle::rendered::{
     rl_file_reasons, rl_flaws, rl_forms, rl_lexer, rl_parts, rl_reading, rl_reasons, rl_settings,
-    rl_text, rl_types, rl_writing,
+    rl_style, rl_text, rl_types, rl_writing,
 };
 #[cfg(not(feature = "rendered"))]
 use proved::{
@@ -25,6 +25,6 @@ use proved::{
 #[cfg(feature = "rendered")]
 pub use proved::{
     rl_attributes, rl_commands, rl_files, rl_fronts, rl_grammar, rl_lines, rl_output, rl_program,
-    rl_quoted, rl_reports, rl_sources, rl_tokens, rust_literals,
+    rl_quoted, rl_reports, rl_restyled, rl_sources, rl_tokens, rust_literals,
 };
 pub use proved::{rl_scan, rl_tool};
