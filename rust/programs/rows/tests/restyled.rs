@@ -53,7 +53,7 @@ fn texts_are_written_anew() {
             " f(0xA, \"\\'\", r##\"a\"##, t.0xB)",
             " f(0xa, \"'\", r\"a\", t.0xB)",
         ),
-        ("é 0xA é 1_0é 'é'", "é 0xa é 1_0é 'é'"),
+        ("é 0xA é 1_0é 'é'", "é 0xa é 10é 'é'"),
         ("\u{feff}0xA", "\u{feff}0xa"),
         ("0b12 '\\q' 0xA", "0b12 '\\q' 0xa"),
         ("m!(0xA) + 0xB", "m!(0xA) + 0xb"),
@@ -82,7 +82,7 @@ fn nothing_is_made_of_other_texts() {
             "{text:?}"
         );
     }
-    for (text, at) in [("0xA \"b", 4), ("0xA /* b", 4), ("é 'ab\n 0xA r#\"b\"", 11)] {
+    for (text, at) in [("0xA \"b", 4), ("0xA /* b", 4), ("é 'ab\n 0xA r#\"b\"", 12)] {
         match made(Macros::All, text) {
             Err(RestyleError::Source(error)) => assert_eq!(error.at, at, "{text:?}"),
             _ => panic!("{text:?}"),
