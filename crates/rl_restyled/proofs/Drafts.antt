@@ -1,5 +1,5 @@
 -- How a source is written anew, literal after literal.
-use Rattle.rl_text.proofs.Common.{◌≡◌, ℕ, ◌+◌, inl, inr, Ok, Err, Result, IfOk, map, string_bytes, Bool, true, false, List, [], ◌∷◌, ◌++◌, length, Option, Some, None, refl, sym, ◌∙◌, ap, subst, arith, append_assoc, append-nil, both_ways, chars, chars-nil, IsUtf8, IsFalse, IsTrue}
+use Rattle.rl_text.proofs.Common.{◌≡◌, ℕ, ◌+◌, inl, inr, Ok, Err, Result, IfOk, map, string_bytes, List, [], ◌∷◌, ◌++◌, length, Option, Some, None, refl, sym, ◌∙◌, ap, subst, arith, append_assoc, append-nil, both_ways, chars, chars-nil, IsUtf8, IsTrue}
 use Rattle.std.specs.Prelude.{◌⊎◌, OnOk}
 use Rattle.rl_text.specs.Texts.{IsTail, byte_len}
 use Rattle.rl_text.proofs.TailLemmas.{tail_step}
@@ -9,17 +9,17 @@ use Rattle.rl_lexer.specs.declared.lex_error.LexError.{LexError}
 use Rattle.rl_lexer.specs.declared.sources.SourceToken.{SourceToken}
 use Rattle.rl_lexer.proofs.CutLemmas.{byte_len-append}
 use Rattle.rl_lexer.proofs.ErrorKinds.{char_len}
-use Rattle.rl_style.specs.Calls.{CallState, Outside, calls_after, is_inside}
+use Rattle.rl_style.specs.Calls.{CallState, Outside, calls_after, is_in_call}
 use Rattle.rl_style.specs.Recut.{begins_with_code}
 use Rattle.rl_style.specs.Restylable.{GivesLiteral, GivesNone, Here, Behind, Passes, Stops, IsLiteralOfSource, RestylableState, dots_after, is_field, passed}
-use Rattle.rl_style.specs.Restyled.{IsEdited, edited_text}
+use Rattle.rl_style.specs.Restyled.{IsEdited}
 use Rattle.rl_style.specs.declared.restylable.Dots.{Dots}
 use Rattle.rl_style.specs.declared.restylable.Dots.TheVariants.{No}
 use Rattle.rl_style.specs.declared.restylable.Restylable.{Restylable}
 use Rattle.rl_style.specs.declared.style.Style.{Style}
 use Rattle.rl_style.proofs.Places.{same_place}
 use Rattle.rl_restyled.specs.Places.{StandsBetween}
-use Rattle.rl_restyled.specs.Edits.{IsEditOf, IsRestyleError, IsRewritten, IsTaken, IsTextOf, Restyles, Seen, bytes_of, edit_told, is_taken, nothing_seen, placed, seen_after}
+use Rattle.rl_restyled.specs.Edits.{IsEditOf, IsRestyleError, IsRewritten, IsTextOf, Restyles, Seen, cut_bytes, edit_told, is_chosen, nothing_seen, placed_edits, seen_after}
 use Rattle.rl_restyled.specs.Mirrors.{IsDraft, IsNextIn, seen_all, seen_of}
 use Rattle.rl_restyled.specs.declared.edit.Macros.{Macros}
 use Rattle.rl_restyled.specs.declared.edit.Restyled.{Restyled}
@@ -115,9 +115,9 @@ seen_passed s token tokens w is =
       calls = calls_after s.calls k b;
     } in
     let view : SourceKind = source_view token.form in
-    ap (λ k. seen k w.at (source_end w) (bytes_of w)) is.kind_is
-    ∙ ap (λ n. seen view n (source_end w) (bytes_of w)) is.lo_is
-    ∙ ap (λ n. seen view token.lo n (bytes_of w)) is.hi_is
+    ap (λ k. seen k w.at (source_end w) (cut_bytes w)) is.kind_is
+    ∙ ap (λ n. seen view n (source_end w) (cut_bytes w)) is.lo_is
+    ∙ ap (λ n. seen view token.lo n (cut_bytes w)) is.hi_is
     ∙ ap (λ b. seen view token.lo token.hi b) is.bytes_are
 
 seen_next : (style : Style) (macros : Macros) (t : List ℕ) (s : RestylableState) (at : ℕ) (out : List ℕ) (edits : Told)
@@ -162,7 +162,7 @@ draft_past style macros t s at out edits d token tokens takes is =
           (subst (λ z. IsEdited 0 ((d.front ++ d.tail) ++ (d.gap ++ x)) (d.cuts ++ w ∷ []) (d.texts ++ None ∷ []) z)
           (append_assoc out d.tail (d.gap ++ x)) more);
       edits_are = d.edits_are ∙ sym (placed_more style macros t nothing_seen d.cuts d.texts w None d.are_edits
-          ∙ append-nil (placed d.cuts d.texts));
+          ∙ append-nil (placed_edits d.cuts d.texts));
     }
 
 -- a text is written in its place
@@ -186,7 +186,7 @@ draft_put style macros t s at out edits d token tokens takes new is later_at lon
     ∙ sym (append-nil front) in
     let made : (out ++ d.tail) ++ (d.gap ++ new) ≡ longer ++ [] = append_assoc out d.tail (d.gap ++ new)
     ∙ ap (λ z. out ++ z) (sym (append_assoc d.tail d.gap new)) ∙ sym out_is ∙ sym (append-nil longer) in
-    let one : (lo hi : ℕ) → w.at ≡ lo → source_end w ≡ hi → (lo, hi, new) ∷ [] ≡ placed (w ∷ []) (e ∷ []) =
+    let one : (lo hi : ℕ) → w.at ≡ lo → source_end w ≡ hi → (lo, hi, new) ∷ [] ≡ placed_edits (w ∷ []) (e ∷ []) =
     λ lo hi f g. ap (λ z. (z, hi, new) ∷ []) (sym f) ∙ ap (λ z. (w.at, z, new) ∷ []) (sym g) in
     record {
       whole = n.whole;
@@ -214,7 +214,7 @@ draft_put style macros t s at out edits d token tokens takes new is later_at lon
           (subst (λ z. IsEdited 0 ((d.front ++ d.tail) ++ (d.gap ++ x)) (d.cuts ++ w ∷ []) (d.texts ++ e ∷ []) z) made
           more);
       edits_are = told_is ∙ ap (λ z. z ++ (token.lo, token.hi, new) ∷ []) d.edits_are
-          ∙ ap (λ z. placed d.cuts d.texts ++ z) (one token.lo token.hi takes.is_cut.lo_is takes.is_cut.hi_is)
+          ∙ ap (λ z. placed_edits d.cuts d.texts ++ z) (one token.lo token.hi takes.is_cut.lo_is takes.is_cut.hi_is)
           ∙ sym (placed_more style macros t nothing_seen d.cuts d.texts w e d.are_edits);
     }
 
@@ -229,7 +229,7 @@ record AtLiteral (style : Style) (macros : Macros) (t : List ℕ) (at : ℕ) (ou
   takes : TakesSource s.tokens l.token tokens
   is_literal : IsLiteralOfSource l.token
   field_is : l.is_field ≡ is_field s.dots l.token.text.now
-  inside_is : l.in_macro ≡ is_inside s.calls
+  inside_is : l.in_macro ≡ is_in_call s.calls
   new_is : new ≡ passed s l.token tokens
 
 -- a token's cut is a literal where the token is one
@@ -327,10 +327,10 @@ edit_of style macros t at out edits l new e a is = go is
     before : List ℕ
     before = (a.draft.front ++ a.draft.tail) ++ a.draft.gap
 
-    same : is_taken macros l.is_field l.in_macro
-        ≡ is_taken macros (is_field a.s.dots (bytes_of a.takes.cut)) (is_inside a.s.calls)
-    same = ap (λ z. is_taken macros z l.in_macro) (a.field_is ∙ ap (is_field a.s.dots) (sym a.takes.is_cut.bytes_are))
-        ∙ ap (λ z. is_taken macros (is_field a.s.dots (bytes_of a.takes.cut)) z) a.inside_is
+    same : is_chosen macros l.is_field l.in_macro
+        ≡ is_chosen macros (is_field a.s.dots (cut_bytes a.takes.cut)) (is_in_call a.s.calls)
+    same = ap (λ z. is_chosen macros z l.in_macro) (a.field_is ∙ ap (is_field a.s.dots) (sym a.takes.is_cut.bytes_are))
+        ∙ ap (λ z. is_chosen macros (is_field a.s.dots (cut_bytes a.takes.cut)) z) a.inside_is
 
     go : IsTextOf style macros t l e → IsEditOf style macros t (seen_of a.s) a.takes.cut e
     go (inl (taken, writes)) = inl (

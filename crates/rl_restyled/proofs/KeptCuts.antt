@@ -1,14 +1,13 @@
 -- A source in a style is cut as before.
 use Rattle.rl_text.proofs.Common.{◌≡◌, ℕ, arith, inl, inr, List, [], ◌∷◌, ◌++◌, Option, Some, None, none-some, refl, sym, AllByRecursion}
 use Rattle.rl_text.specs.Texts.{byte_len}
-use Rattle.rl_lexer.specs.Lexemes.{lexeme_text}
 use Rattle.rl_lexer.specs.Sources.{BadQuoteToken, CutSource, DocBlockToken, DocLineToken, IsLiteralText, LifetimeToken, PlainToken, RawIdentifierToken, RawLifetimeToken, SourceLexeme, StrayToken, source_kind, source_text}
 use Rattle.rl_style.specs.Recut.{IsSound, IsSoundToken}
-use Rattle.rl_style.specs.Restyled.{AreInStyle, IsInStyle, StandsAfter}
+use Rattle.rl_style.specs.Restyled.{AreInStyle, IsInStyle}
 use Rattle.rl_style.specs.Rewriting.{Rewrites}
 use Rattle.rl_style.specs.declared.style.Style.{Style}
 use Rattle.rl_style.proofs.EditedCuts.{keeps_the_edited_source}
-use Rattle.rl_restyled.specs.Edits.{AreEdits, KeepsTheRestyledSource, Seen, nothing_seen, seen_after}
+use Rattle.rl_restyled.specs.Edits.{AreEdits, KeepsTheWholeSource, Seen, nothing_seen, seen_after}
 use Rattle.rl_restyled.specs.declared.edit.Macros.{Macros}
 
 -- a literal of a sound source is a token of the lexer
@@ -47,6 +46,6 @@ in_style style macros t seen (w ∷ ws) (Some new ∷ es) (first, sound)
 in_style style macros t seen (w ∷ ws) (Some new ∷ es) (first, sound) (inr (not_taken, none), are) =
     absurd (none-some new (sym none))
 
-pub keeps_the_restyled_source : KeepsTheRestyledSource
+pub keeps_the_restyled_source : KeepsTheWholeSource
 keeps_the_restyled_source style macros t new edits r sound = keeps_the_edited_source style t r.cuts r.texts new []
     r.is_code r.are_cuts sound r.is_edited (in_style style macros t nothing_seen r.cuts r.texts sound r.are_edits)

@@ -1,5 +1,5 @@
 -- What is written in the place of a literal.
-use Rattle.rl_text.proofs.Common.{◌≡◌, ◌≢◌, ◌++◌, inl, length, take, drop, take-append_seam, chars-append, IsTrue, List, Ok, Err, Option, Result, Some, None, ℕ, refl, sym, ◌∙◌, ap, subst, chars, encode_utf8_all, encodes-chars, string_bytes, IsUtf8, IfNone, IfOk, IfSome}
+use Rattle.rl_text.proofs.Common.{◌≡◌, ◌≢◌, ◌++◌, inl, length, take, drop, take-append_seam, chars-append, IsTrue, List, Ok, Err, Option, Result, Some, None, ℕ, sym, ◌∙◌, ap, subst, chars, encode_utf8_all, encodes-chars, string_bytes, IsUtf8, IfNone, IfOk, IfSome}
 use Rattle.std.specs.Prelude.{String}
 use Rattle.rl_strict.specs.StrictShapes.{IsToken}
 use Rattle.rl_reasons.specs.StrictFlaws.{ExplainsStrictly}
@@ -10,7 +10,7 @@ use Rattle.rl_style.proofs.OneAnswer.{one_answer}
 use Rattle.rl_style.proofs.SameLiterals.{same_number}
 use Rattle.rl_style.specs.declared.restylable.Restylable.{Restylable}
 use Rattle.rl_restyled.specs.Places.{StandsBetween}
-use Rattle.rl_restyled.specs.Edits.{IsRewritten, IsTextOf, is_taken, text_in}
+use Rattle.rl_restyled.specs.Edits.{IsRewritten, IsTextOf, is_chosen, text_in}
 use Rattle.rl_restyled.specs.declared.edit.Macros.{Macros}
 
 -- texts of the same characters are of the same bytes
@@ -38,7 +38,7 @@ all_items n written items whole is long = is ∙ ap (λ z. take z (written ++ dr
 
 -- the literal's text, where it is taken, after what stands before it
 pub literal_text : {A E : Type 0} (style : Style) (macros : Macros) (source : List ℕ) (l : Restylable)
-    (before : List ℕ) (made : Result (Option (String A)) E) → IsTrue (is_taken macros l.is_field l.in_macro)
+    (before : List ℕ) (made : Result (Option (String A)) E) → IsTrue (is_chosen macros l.is_field l.in_macro)
     → ((front : List ℕ) → StandsBetween source 0 l.token.lo front → before ≡ front)
     → IfOk made (λ m. IsRewritten style before (chars l.token.text.now) (text_in m))
     → IfOk made (λ m. IsTextOf style macros source l (text_in m))

@@ -1,12 +1,12 @@
 -- Where the tokens of a source stand in it, and edits one after another.
-use Rattle.rl_text.proofs.Common.{◌≡◌, ℕ, ◌+◌, ◌⊎◌, inl, inr, Bool, true, false, cond, ◌==◌, List, [], ◌∷◌, ◌++◌, Option, Some, None, refl, sym, ◌∙◌, ap, subst, arith, append_assoc, append-nil, encode_utf8_all}
+use Rattle.rl_text.proofs.Common.{◌≡◌, ℕ, ◌+◌, inl, inr, Bool, true, false, cond, ◌==◌, List, [], ◌∷◌, ◌++◌, Option, Some, None, refl, sym, ◌∙◌, ap, arith, append_assoc, append-nil}
 use Rattle.rl_text.specs.Texts.{byte_len}
 use Rattle.rl_lexer.specs.Skipping.{Skipped}
-use Rattle.rl_lexer.specs.Sources.{CutSource, IsCutUpTo, IsScriptLine, IsWithoutLine, IsWithoutPreamble, SourcesUpTo, source_end, source_text, without_mark}
+use Rattle.rl_lexer.specs.Sources.{CutSource, IsCutUpTo, IsWithoutLine, IsWithoutPreamble, SourcesUpTo, source_end, source_text, without_mark}
 use Rattle.rl_lexer.proofs.CutLemmas.{byte_len-append}
 use Rattle.rl_style.specs.Restyled.{IsEdited, edited_text}
 use Rattle.rl_style.specs.declared.style.Style.{Style}
-use Rattle.rl_restyled.specs.Edits.{AreEdits, IsEditOf, Seen, placed, seen_after}
+use Rattle.rl_restyled.specs.Edits.{AreEdits, IsEditOf, Seen, placed_edits, seen_after}
 use Rattle.rl_restyled.specs.Mirrors.{seen_all}
 use Rattle.rl_restyled.specs.declared.edit.Macros.{Macros}
 
@@ -188,7 +188,7 @@ seen_more seen (v ∷ ws) w = seen_more (seen_after seen v) ws w
 
 pub placed_more : (style : Style) (macros : Macros) (t : List ℕ) (seen : Seen) (ws : List CutSource)
     (es : List (Option (List ℕ))) (w : CutSource) (e : Option (List ℕ)) → AreEdits style macros t seen ws es
-    → placed (ws ++ w ∷ []) (es ++ e ∷ []) ≡ placed ws es ++ placed (w ∷ []) (e ∷ [])
+    → placed_edits (ws ++ w ∷ []) (es ++ e ∷ []) ≡ placed_edits ws es ++ placed_edits (w ∷ []) (e ∷ [])
 placed_more style macros t seen [] [] w e are = refl
 placed_more style macros t seen [] (d ∷ es) w e are = absurd are
 placed_more style macros t seen (v ∷ ws) [] w e are = absurd are

@@ -4,7 +4,7 @@ use Rattle.std.specs.List.{AllByRecursion}
 use Rattle.std.specs.Str.{chars}
 use Rattle.rl_text.specs.Texts.{byte_len}
 use Rattle.rl_lexer.specs.Sources.{CutSource, IsCutUpTo, IsLiteralText, SourceError, source_end, source_kind, source_text}
-use Rattle.rl_style.specs.Calls.{CallState, Outside, calls_after, is_inside}
+use Rattle.rl_style.specs.Calls.{CallState, Outside, calls_after, is_in_call}
 use Rattle.rl_style.specs.Recut.{IsSound, begins_with_code}
 use Rattle.rl_style.specs.Restylable.{dots_after, is_field}
 use Rattle.rl_style.specs.Restyled.{IsEdited, IsEditedSource}
@@ -31,26 +31,26 @@ pub record Seen : Type 0 where
 abbrev pub nothing_seen : Seen
 nothing_seen = record { dots = No; end = 0; calls = Outside }
 
-abbrev pub bytes_of : CutSource → List ℕ
-bytes_of w = encode_utf8_all (source_text w.token)
+abbrev pub cut_bytes : CutSource → List ℕ
+cut_bytes w = encode_utf8_all (source_text w.token)
 
 abbrev pub seen_after : Seen → CutSource → Seen
 seen_after seen w = record {
   dots = dots_after seen.dots seen.end (source_kind w.token) w.at;
   end = source_end w;
-  calls = calls_after seen.calls (source_kind w.token) (bytes_of w);
+  calls = calls_after seen.calls (source_kind w.token) (cut_bytes w);
 }
 
 -- whether a literal is to be written anew, of one that may be a field and one that stands inside of a macro call
-abbrev pub is_taken : Macros → Bool → Bool → Bool
-is_taken Skip field inside = not field && not inside
-is_taken All field inside = not field
+abbrev pub is_chosen : Macros → Bool → Bool → Bool
+is_chosen Skip field inside = not field && not inside
+is_chosen All field inside = not field
 
 -- the token is a literal that is to be written anew
-abbrev pub IsTaken : Macros → Seen → CutSource → Type 0
-IsTaken macros seen w =
+abbrev pub IsChosen : Macros → Seen → CutSource → Type 0
+IsChosen macros seen w =
     IsLiteralText (source_kind w.token) (source_text w.token)
-    × IsTrue (is_taken macros (is_field seen.dots (bytes_of w)) (is_inside seen.calls))
+    × IsTrue (is_chosen macros (is_field seen.dots (cut_bytes w)) (is_in_call seen.calls))
 
 -- ---- what is written
 
@@ -69,7 +69,7 @@ IsRewrittenAt style t w e =
 -- what is written in the place of any token
 abbrev pub IsEditOf : Style → Macros → List ℕ → Seen → CutSource → Option (List ℕ) → Type 0
 IsEditOf style macros t seen w e =
-    (IsTaken macros seen w × IsRewrittenAt style t w e) ⊎ ((IsTaken macros seen w → ⊥) × (e ≡ None))
+    (IsChosen macros seen w × IsRewrittenAt style t w e) ⊎ ((IsChosen macros seen w → ⊥) × (e ≡ None))
 
 abbrev pub AreEdits : Style → Macros → List ℕ → Seen → List CutSource → List (Option (List ℕ)) → Type 0
 AreEdits style macros t seen [] [] = ⊤
@@ -78,10 +78,10 @@ AreEdits style macros t seen (w ∷ ws) (e ∷ es) =
 AreEdits style macros t seen _ _ = ⊥
 
 -- where the new texts are written: from which place of the old text up to which
-abbrev pub placed : List CutSource → List (Option (List ℕ)) → List (ℕ × ℕ × List ℕ)
-placed (w ∷ ws) (Some new ∷ es) = (w.at, source_end w, new) ∷ placed ws es
-placed (w ∷ ws) (None ∷ es) = placed ws es
-placed _ _ = []
+abbrev pub placed_edits : List CutSource → List (Option (List ℕ)) → List (ℕ × ℕ × List ℕ)
+placed_edits (w ∷ ws) (Some new ∷ es) = (w.at, source_end w, new) ∷ placed_edits ws es
+placed_edits (w ∷ ws) (None ∷ es) = placed_edits ws es
+placed_edits _ _ = []
 
 -- ---- a source
 
@@ -94,7 +94,7 @@ pub record Restyles (style : Style) (macros : Macros) (t new : List ℕ) (edits 
   pub are_cuts : IsCutUpTo t cuts []
   pub are_edits : AreEdits style macros t nothing_seen cuts texts
   pub is_edited : IsEdited 0 t cuts texts new
-  pub edits_are : edits ≡ placed cuts texts
+  pub edits_are : edits ≡ placed_edits cuts texts
 
 -- why nothing is written anew
 abbrev pub IsRestyleError : List ℕ → RestyleError → Type 0
@@ -113,15 +113,15 @@ text_in new = option_map (λ s. chars (string_bytes s)) new
 -- what is written in the place of a literal of the source
 abbrev pub IsTextOf : Style → Macros → List ℕ → Restylable → Option (List ℕ) → Type 0
 IsTextOf style macros source l e =
-    (IsTrue (is_taken macros l.is_field l.in_macro)
+    (IsTrue (is_chosen macros l.is_field l.in_macro)
     × ((front : List ℕ) → StandsBetween source 0 l.token.lo front
     → IsRewritten style front (chars l.token.text.now) e))
-    ⊎ (IsFalse (is_taken macros l.is_field l.in_macro) × (e ≡ None))
+    ⊎ (IsFalse (is_chosen macros l.is_field l.in_macro) × (e ≡ None))
 
 -- ---- a law
 
 -- A source in a style, without bad quotes and stray characters, is cut as before, but for what was written.
-abbrev pub KeepsTheRestyledSource : Type 0
-KeepsTheRestyledSource =
+abbrev pub KeepsTheWholeSource : Type 0
+KeepsTheWholeSource =
     (style : Style) (macros : Macros) (t new : List ℕ) (edits : List (ℕ × ℕ × List ℕ))
     → (r : Restyles style macros t new edits) → AllByRecursion IsSound r.cuts → IsEditedSource new r.cuts r.texts []

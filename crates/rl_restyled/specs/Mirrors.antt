@@ -8,7 +8,7 @@ use Rattle.rl_style.specs.Restylable.{GivesLiteral, RestylableState}
 use Rattle.rl_style.specs.Restyled.{IsEdited}
 use Rattle.rl_style.specs.declared.restylable.Restylable.{Restylable}
 use Rattle.rl_style.specs.declared.style.Style.{Style}
-use Rattle.rl_restyled.specs.Edits.{AreEdits, Seen, nothing_seen, placed, seen_after}
+use Rattle.rl_restyled.specs.Edits.{AreEdits, Seen, nothing_seen, placed_edits, seen_after}
 use Rattle.rl_restyled.specs.declared.edit.Macros.{Macros}
 
 abbrev pub seen_all : Seen → List CutSource → Seen
@@ -35,7 +35,7 @@ pub record IsDraft (style : Style) (macros : Macros) (t : List ℕ) (s : Restyla
   pub text_is : t ≡ (front ++ tail) ++ (gap ++ chars s.tokens.rest)
   pub at_is : at ≡ byte_len front
   pub is_edited : IsEdited 0 (front ++ tail) cuts texts (out ++ tail)
-  pub edits_are : edits ≡ placed cuts texts
+  pub edits_are : edits ≡ placed_edits cuts texts
 
 -- The literal is the next after such a state.
 abbrev pub IsNextIn : Style → Macros → List ℕ → Restylable → ℕ → List ℕ → List (ℕ × ℕ × List ℕ) → Type 0

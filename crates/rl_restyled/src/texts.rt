@@ -3,7 +3,7 @@
 ghost use Rattle.std.specs.Prelude.{◌≡◌, ◌≢◌, ◌+◌, ◌*◌, ℕ, List, length, string_bytes, IfNone, IfOk, IfSome};
 ghost use Rattle.std.specs.Str.{chars};
 ghost use Rattle.rl_restyled.specs.Places.{StandsBetween};
-ghost use Rattle.rl_restyled.specs.Edits.{IsRewritten, IsTextOf, is_taken, text_in};
+ghost use Rattle.rl_restyled.specs.Edits.{IsRewritten, IsTextOf, is_chosen, text_in};
 
 use crate::edit::Macros;
 use crate::slices::between;
@@ -58,8 +58,8 @@ fn new_text<A: Allocator + Copy>(
 }
 
 /// Whether the literal is to be written anew, if the style writes it otherwise.
-fn is_taken(macros: Macros, literal: Restylable<'_>) -> bool
-    ensures { result ≡ is_taken macros literal.entry.is_field literal.entry.in_macro }
+fn is_chosen(macros: Macros, literal: Restylable<'_>) -> bool
+    ensures { result ≡ is_chosen macros literal.entry.is_field literal.entry.in_macro }
 {
     match macros {
         Macros::Skip => !literal.is_field && !literal.in_macro,
@@ -78,7 +78,7 @@ pub(crate) fn text_of<A: Allocator + Copy>(
     requires { (front : List ℕ) × StandsBetween (chars source.now) 0 literal.token.lo front }
     ensures { IfOk result (λ new. IsTextOf style macros (chars source.now) literal.entry (text_in new)) }
 {
-    if !is_taken(macros, literal) {
+    if !is_chosen(macros, literal) {
         return Ok(None);
     }
     new_text(

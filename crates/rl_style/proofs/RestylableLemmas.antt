@@ -3,7 +3,7 @@ use Rattle.rl_text.proofs.Common.{◌≡◌, ℕ, chars, subst, sym}
 use Rattle.rl_lexer.specs.Cursors.{CursorState}
 use Rattle.rl_lexer.specs.Sources.{BeginsNoSource, TakesSource, source_view}
 use Rattle.rl_lexer.specs.declared.sources.SourceToken.{SourceToken}
-use Rattle.rl_style.specs.Calls.{CallState, calls_after, is_inside}
+use Rattle.rl_style.specs.Calls.{CallState, calls_after, is_in_call}
 use Rattle.rl_style.specs.declared.restylable.Dots.{Dots}
 use Rattle.rl_style.specs.declared.restylable.Restylable.{Restylable}
 use Rattle.rl_style.specs.Restylable.{GivesLiteral, GivesNone, Here, Behind, Passes, Stops, IsLiteralOfSource, RestylableState, dots_after, is_field, passed}
@@ -34,7 +34,7 @@ unstepped P s token tokens dots calls steps h =
 -- a literal comes next, where the tokens so far were passed
 pub literal_here : (was start s : RestylableState) (l : Restylable) (tokens : CursorState) (dots : Dots)
     (calls : CallState) → start ≡ was → Steps s l.token dots calls → TakesSource s.tokens l.token tokens
-    → IsLiteralOfSource l.token → l.is_field ≡ is_field s.dots l.token.text.now → l.in_macro ≡ is_inside s.calls
+    → IsLiteralOfSource l.token → l.is_field ≡ is_field s.dots l.token.text.now → l.in_macro ≡ is_in_call s.calls
     → ((it : Restylable) (new : RestylableState) → GivesLiteral s it new → GivesLiteral start it new)
     → GivesLiteral was l (state tokens dots l.token.hi calls)
 literal_here was start s l tokens dots calls same steps takes is field inside on =

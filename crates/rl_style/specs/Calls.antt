@@ -1,11 +1,11 @@
 -- Where a token stands inside of a macro call, of a macro's definition or of an attribute, by the tokens before it. A word is
 -- a list of bytes.
-use Rattle.std.specs.Prelude.{◌≡◌, ℕ, ◌+◌, ◌-◌, Bool, true, false, not, ◌&&◌, ◌||◌, ◌==◌, nat_lt, List, [], ◌∷◌, codes, if◌then◌else◌}
+use Rattle.std.specs.Prelude.{ℕ, ◌+◌, ◌-◌, Bool, true, false, not, ◌&&◌, ◌==◌, nat_lt, List, [], ◌∷◌, codes, if◌then◌else◌}
 use Rattle.std.specs.List.{list_any}
 use Rattle.std.specs.Str.{bytes_eq}
 use Prim.Native.Char.{code}
 use Rattle.rl_text.specs.Texts.{is_among}
-use Rattle.rl_lexer.specs.Lexemes.{LexemeForm, LiteralForm, IdentifierForm, DelimiterForm, MarkForm}
+use Rattle.rl_lexer.specs.Lexemes.{LiteralForm, IdentifierForm, DelimiterForm, MarkForm}
 use Rattle.rl_lexer.specs.Sources.{SourceKind, PlainKind, RawIdentifierKind, LifetimeKind, DocCommentKind, StrayKind}
 use Rattle.rl_style.specs.declared.calls.Calls.{Calls}
 use Rattle.rl_style.specs.declared.calls.Calls.TheVariants as found
@@ -70,29 +70,29 @@ abbrev pub after_closer : CallState → CallState
 after_closer (Inside depth) = if nat_lt 1 depth then Inside (depth - 1) else Outside
 after_closer _ = Outside
 
-abbrev pub after_delimiter : CallState → ℕ → CallState
-after_delimiter s bracket = if is_among (codes "([{") bracket then after_opener s bracket else after_closer s
+abbrev pub after_bracket : CallState → ℕ → CallState
+after_bracket s bracket = if is_among (codes "([{") bracket then after_opener s bracket else after_closer s
 
 -- a literal, a lifetime, a doc comment or a stray character
-abbrev pub after_other : CallState → CallState
-after_other (Inside depth) = Inside depth
-after_other _ = Outside
+abbrev pub after_any_other : CallState → CallState
+after_any_other (Inside depth) = Inside depth
+after_any_other _ = Outside
 
 -- after a token of this kind, with these bytes
 abbrev pub calls_after : CallState → SourceKind → List ℕ → CallState
 calls_after s (PlainKind IdentifierForm) bytes = after_word s bytes
-calls_after s (PlainKind (DelimiterForm c)) bytes = after_delimiter s c
+calls_after s (PlainKind (DelimiterForm c)) bytes = after_bracket s c
 calls_after s (PlainKind (MarkForm c)) bytes = after_mark s c
-calls_after s (PlainKind LiteralForm) bytes = after_other s
+calls_after s (PlainKind LiteralForm) bytes = after_any_other s
 calls_after s RawIdentifierKind bytes = after_word s bytes
-calls_after s LifetimeKind bytes = after_other s
-calls_after s DocCommentKind bytes = after_other s
-calls_after s StrayKind bytes = after_other s
+calls_after s LifetimeKind bytes = after_any_other s
+calls_after s DocCommentKind bytes = after_any_other s
+calls_after s StrayKind bytes = after_any_other s
 
 -- the next token stands inside
-abbrev pub is_inside : CallState → Bool
-is_inside (Inside depth) = true
-is_inside _ = false
+abbrev pub is_in_call : CallState → Bool
+is_in_call (Inside depth) = true
+is_in_call _ = false
 
 -- what the code tells
 abbrev pub calls_seen : Calls → CallState

@@ -7,7 +7,7 @@ use Rattle.rl_lexer.specs.Cursors.{CursorState}
 use Rattle.rl_lexer.specs.Lexemes.{MarkForm}
 use Rattle.rl_lexer.specs.Sources.{BeginsNoSource, IsLiteralText, PlainKind, SourceKind, TakesSource, source_view}
 use Rattle.rl_lexer.specs.declared.sources.SourceToken.{SourceToken}
-use Rattle.rl_style.specs.Calls.{CallState, calls_after, is_inside}
+use Rattle.rl_style.specs.Calls.{CallState, calls_after, is_in_call}
 use Rattle.rl_style.specs.declared.restylable.Dots.{Dots}
 use Rattle.rl_style.specs.declared.restylable.Dots.TheVariants.{No, One, More}
 use Rattle.rl_style.specs.declared.restylable.Restylable.{Restylable}
@@ -62,7 +62,7 @@ IsLiteralOfSource token = IsLiteralText (source_view token.form) (chars token.te
 -- The next literal, after tokens that are none.
 pub data GivesLiteral : RestylableState → Restylable → RestylableState → Type 0 where
   Here : {s : RestylableState} → {l : Restylable} → {tokens : CursorState} → TakesSource s.tokens l.token tokens
-      → IsLiteralOfSource l.token → l.is_field ≡ is_field s.dots l.token.text.now → l.in_macro ≡ is_inside s.calls
+      → IsLiteralOfSource l.token → l.is_field ≡ is_field s.dots l.token.text.now → l.in_macro ≡ is_in_call s.calls
       → GivesLiteral s l (passed s l.token tokens)
   Behind : {s end : RestylableState} → {l : Restylable} → {token : SourceToken} → {tokens : CursorState}
       → TakesSource s.tokens token tokens → (IsLiteralOfSource token → ⊥) → GivesLiteral (passed s token tokens) l end

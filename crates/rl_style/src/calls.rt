@@ -3,7 +3,7 @@
 ghost use Rattle.std.specs.Prelude.{◌≡◌};
 ghost use Rattle.rl_lexer.specs.Cursors.{form_view};
 ghost use Rattle.rl_lexer.specs.Sources.{PlainKind, source_view};
-ghost use Rattle.rl_style.specs.Calls.{after_closer, after_delimiter, after_mark, after_opener, after_other, after_word, calls_after, calls_seen, deeper, is_inside, is_keyword};
+ghost use Rattle.rl_style.specs.Calls.{after_closer, after_bracket, after_mark, after_opener, after_any_other, after_word, calls_after, calls_seen, deeper, is_in_call, is_keyword};
 
 use rl_lexer::{Form, SourceForm, SourceToken};
 
@@ -118,8 +118,8 @@ fn after_closer(calls: Calls<'_>) -> Calls<'_>
 }
 
 /// After a bracket.
-fn after_delimiter(calls: Calls<'_>, bracket: char) -> Calls<'_>
-    ensures { calls_seen result ≡ after_delimiter (calls_seen calls.entry) bracket }
+fn after_bracket(calls: Calls<'_>, bracket: char) -> Calls<'_>
+    ensures { calls_seen result ≡ after_bracket (calls_seen calls.entry) bracket }
 {
     if matches!(bracket, '(' | '[' | '{') {
         return after_opener(calls, bracket);
@@ -128,8 +128,8 @@ fn after_delimiter(calls: Calls<'_>, bracket: char) -> Calls<'_>
 }
 
 /// After any other token.
-fn after_other(calls: Calls<'_>) -> Calls<'_>
-    ensures { calls_seen result ≡ after_other (calls_seen calls.entry) }
+fn after_any_other(calls: Calls<'_>) -> Calls<'_>
+    ensures { calls_seen result ≡ after_any_other (calls_seen calls.entry) }
 {
     match calls {
         Calls::Inside(_) => calls,
@@ -143,9 +143,9 @@ fn after_lexeme<'t>(calls: Calls<'t>, form: Form, text: &'t str) -> Calls<'t>
 {
     match form {
         Form::Identifier => after_word(calls, text),
-        Form::Delimiter(bracket) => after_delimiter(calls, bracket),
+        Form::Delimiter(bracket) => after_bracket(calls, bracket),
         Form::Mark(mark) => after_mark(calls, mark),
-        Form::Literal => after_other(calls),
+        Form::Literal => after_any_other(calls),
     }
 }
 
@@ -156,13 +156,13 @@ pub(crate) fn calls_after<'t>(calls: Calls<'t>, token: SourceToken<'t>) -> Calls
     match token.form {
         SourceForm::Token(form) => after_lexeme(calls, form, token.text),
         SourceForm::RawIdentifier => after_word(calls, token.text),
-        _ => after_other(calls),
+        _ => after_any_other(calls),
     }
 }
 
 /// Whether the next token stands inside of a call.
-pub(crate) fn is_inside(calls: Calls<'_>) -> bool
-    ensures { result ≡ is_inside (calls_seen calls.entry) }
+pub(crate) fn is_in_call(calls: Calls<'_>) -> bool
+    ensures { result ≡ is_in_call (calls_seen calls.entry) }
 {
     matches!(calls, Calls::Inside(_))
 }

@@ -8,7 +8,7 @@ ghost use Rattle.rl_style.specs.Calls.{Outside};
 ghost use Rattle.rl_style.specs.Restylable.{GivesLiteral, GivesNone, dots_after, is_field};
 ghost use Rattle.rl_style.specs.declared.restylable.Dots.TheVariants as dots;
 
-use crate::calls::{Calls, calls_after, is_inside};
+use crate::calls::{Calls, calls_after, is_in_call};
 use rl_lexer::{Form, LexError, SourceForm, SourceToken, Sources};
 use std::marker::Model;
 
@@ -108,7 +108,7 @@ impl<'t> Restylables<'t> {
                 return Some(Restylable {
                     token,
                     is_field: is_field(dots, token),
-                    in_macro: is_inside(calls),
+                    in_macro: is_in_call(calls),
                 });
             }
         }

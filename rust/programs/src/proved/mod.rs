@@ -11,6 +11,7 @@ pub mod rl_output;
 pub mod rl_program;
 pub mod rl_quoted;
 pub mod rl_reports;
+pub mod rl_restyled;
 pub mod rl_scan;
 pub mod rl_sources;
 pub mod rl_styles;

@@ -102,7 +102,7 @@ fn after_closer(calls: Calls<'_>) -> Calls<'_> {
 }
 
 /// After a bracket.
-fn after_delimiter(calls: Calls<'_>, bracket: char) -> Calls<'_> {
+fn after_bracket(calls: Calls<'_>, bracket: char) -> Calls<'_> {
     if matches!(bracket, '(' | '[' | '{') {
         return after_opener(calls, bracket);
     }
@@ -110,7 +110,7 @@ fn after_delimiter(calls: Calls<'_>, bracket: char) -> Calls<'_> {
 }
 
 /// After any other token.
-fn after_other(calls: Calls<'_>) -> Calls<'_> {
+fn after_any_other(calls: Calls<'_>) -> Calls<'_> {
     match calls {
         Calls::Inside(_) => calls,
         _ => Calls::Outside,
@@ -121,9 +121,9 @@ fn after_other(calls: Calls<'_>) -> Calls<'_> {
 fn after_lexeme<'t>(calls: Calls<'t>, form: Form, text: &'t str) -> Calls<'t> {
     match form {
         Form::Identifier => after_word(calls, text),
-        Form::Delimiter(bracket) => after_delimiter(calls, bracket),
+        Form::Delimiter(bracket) => after_bracket(calls, bracket),
         Form::Mark(mark) => after_mark(calls, mark),
-        Form::Literal => after_other(calls),
+        Form::Literal => after_any_other(calls),
     }
 }
 
@@ -132,11 +132,11 @@ pub(crate) fn calls_after<'t>(calls: Calls<'t>, token: SourceToken<'t>) -> Calls
     match token.form {
         SourceForm::Token(form) => after_lexeme(calls, form, token.text),
         SourceForm::RawIdentifier => after_word(calls, token.text),
-        _ => after_other(calls),
+        _ => after_any_other(calls),
     }
 }
 
 /// Whether the next token stands inside of a call.
-pub(crate) fn is_inside(calls: Calls<'_>) -> bool {
+pub(crate) fn is_in_call(calls: Calls<'_>) -> bool {
     matches!(calls, Calls::Inside(_))
 }

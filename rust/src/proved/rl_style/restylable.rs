@@ -1,7 +1,7 @@
 // Rendered from crates/rl_style/src/restylable.rt by tools/render, which erases contracts: change that file, and render anew.
 //! The literals of a source that may be written anew.
 
-use crate::rl_style::calls::{Calls, calls_after, is_inside};
+use crate::rl_style::calls::{Calls, calls_after, is_in_call};
 use crate::rl_lexer::{Form, LexError, SourceForm, SourceToken, Sources};
 
 /// How many dots end the tokens so far, one right after the other.
@@ -75,7 +75,7 @@ impl<'t> Restylables<'t> {
                 return Some(Restylable {
                     token,
                     is_field: is_field(dots, token),
-                    in_macro: is_inside(calls),
+                    in_macro: is_in_call(calls),
                 });
             }
         }

@@ -47,7 +47,7 @@ fn new_text<A: Allocator + Copy>(
 }
 
 /// Whether the literal is to be written anew, if the style writes it otherwise.
-fn is_taken(macros: Macros, literal: Restylable<'_>) -> bool {
+fn is_chosen(macros: Macros, literal: Restylable<'_>) -> bool {
     match macros {
         Macros::Skip => !literal.is_field && !literal.in_macro,
         Macros::All => !literal.is_field,
@@ -62,7 +62,7 @@ pub(crate) fn text_of<A: Allocator + Copy>(
     source: &str,
     literal: Restylable<'_>,
 ) -> Result<Option<String<A>>, AllocError> {
-    if !is_taken(macros, literal) {
+    if !is_chosen(macros, literal) {
         return Ok(None);
     }
     new_text(

@@ -9,11 +9,11 @@ returns-then-is_literal-clause-found c =
     let now = c.loop-token.self-inside in
     literal_here c.args.self.now (state c.self.inside.tokens c.self.inside.dots c.self.inside.end (calls_seen c.self.inside.calls))
     (state now.tokens now.dots now.end (calls_seen now.calls))
-    (record { token = c.in-Some.token; is_field = c.is_field.result; in_macro = c.is_inside.result })
+    (record { token = c.in-Some.token; is_field = c.is_field.result; in_macro = c.is_in_call.result })
     c.next.new.self c.dots_after-self-inside.result (calls_seen c.calls_after-self-inside.result) c.self.view_is
     (record { dots_are = c.dots_after-self-inside.ensures; calls_are = c.calls_after-self-inside.ensures })
     c.in-Some.ensures.next
-    (c.is_literal.ensures.0 c.if-is_literal.true) c.is_field.ensures c.is_inside.ensures
+    (c.is_literal.ensures.0 c.if-is_literal.true) c.is_field.ensures c.is_in_call.ensures
     c.loop-token.invariant.literal
 
 pub returns-then-is_literal-clause-shorter : goal.returns-then-is_literal-clause-shorter

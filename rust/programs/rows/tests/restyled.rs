@@ -1,0 +1,137 @@
+//! Whole sources in a style, by the programs' library: each text is expected by hand, and sources of this repository as the package
+//! writes them.
+
+use navyspindle::rendered::rl_style::{Case, Style as Rules};
+use navyspindle::{restyle as package_restyle, Style};
+use navyspindle_programs::rattle_std::alloc::Global;
+use navyspindle_programs::rl_restyled::{restyle, Macros, RestyleError};
+use std::fs;
+use std::path::Path;
+
+/// Hexadecimal digits in lower case, no underscores, and no backslash before a quote that needs none.
+const RULES: Rules = Rules {
+    hex_digits: Some(Case::Lower),
+    underscores: true,
+    leading_zeros: false,
+    suffix_separator: None,
+    digit_groups: None,
+    float_zero: false,
+    exponent_letter: None,
+    exponent_plus: false,
+    escape_digits: None,
+    code_digits: false,
+    ascii_escapes: false,
+    named_escapes: false,
+    quote_escapes: true,
+    raw_hashes: true,
+    raw: false,
+    hidden: false,
+};
+
+/// An edit: its places, and the new text.
+type Told = (usize, usize, String);
+
+/// The new text, and the edits.
+fn made(macros: Macros, text: &str) -> Result<(String, Vec<Told>), RestyleError> {
+    let made = restyle(Global, RULES, macros, text)?;
+    let edits = made.edits.as_slice().iter();
+    let told = edits.map(|edit| (edit.lo, edit.hi, edit.text.as_str().to_owned()));
+    Ok((made.text.as_str().to_owned(), told.collect()))
+}
+
+fn styled(macros: Macros, text: &str) -> String {
+    made(macros, text).unwrap_or_else(|_| panic!("{text:?}")).0
+}
+
+#[test]
+fn texts_are_written_anew() {
+    for (text, written) in [
+        ("", ""),
+        ("// 0xA", "// 0xA"),
+        ("0xAu8 + 0xb\n", "0xau8 + 0xb\n"),
+        (
+            " f(0xA, \"\\'\", r##\"a\"##, t.0xB)",
+            " f(0xa, \"'\", r\"a\", t.0xB)",
+        ),
+        ("é 0xA é 1_0é 'é'", "é 0xa é 10é 'é'"),
+        ("\u{feff}0xA", "\u{feff}0xa"),
+        ("0b12 '\\q' 0xA", "0b12 '\\q' 0xa"),
+        ("m!(0xA) + 0xB", "m!(0xA) + 0xb"),
+        ("#![a(0xA)] return !(0xB)", "#![a(0xA)] return !(0xb)"),
+    ] {
+        assert_eq!(styled(Macros::Skip, text), written, "{text:?}");
+    }
+    assert_eq!(styled(Macros::All, "m!(0xA) + 0xB"), "m!(0xa) + 0xb");
+}
+
+#[test]
+fn edits_stand_in_order() {
+    let Ok((text, edits)) = made(Macros::All, "é(0xA, 1_0, 7, m!(\"\\'\"))") else {
+        panic!("it is a source");
+    };
+    assert_eq!(text, "é(0xa, 10, 7, m!(\"'\"))");
+    let told = [(3, 6, "0xa"), (8, 11, "10"), (19, 23, "\"'\"")];
+    assert_eq!(edits, told.map(|(lo, hi, text)| (lo, hi, text.to_owned())));
+}
+
+#[test]
+fn nothing_is_made_of_other_texts() {
+    for text in ["#!/bin/sh\n0xA", "\u{feff}#! [a] 0xA", "#!"] {
+        assert!(
+            matches!(made(Macros::All, text), Err(RestyleError::Script)),
+            "{text:?}"
+        );
+    }
+    for (text, at) in [("0xA \"b", 4), ("0xA /* b", 4), ("é 'ab\n 0xA r#\"b\"", 12)] {
+        match made(Macros::All, text) {
+            Err(RestyleError::Source(error)) => assert_eq!(error.at, at, "{text:?}"),
+            _ => panic!("{text:?}"),
+        }
+    }
+}
+
+/// The Rust sources below a folder.
+fn sources(folder: &Path, found: &mut Vec<String>) {
+    for entry in fs::read_dir(folder).expect("it is a folder").flatten() {
+        let path = entry.path();
+        if path.is_dir() {
+            sources(&path, found);
+        } else if path.extension().is_some_and(|it| it == "rs") {
+            found.push(fs::read_to_string(&path).expect("it is a text"));
+        }
+    }
+}
+
+#[test]
+fn sources_are_written_as_the_package_does() {
+    let style = Style::new()
+        .hex_digits(navyspindle::Case::Lower)
+        .drop_underscores(true)
+        .drop_quote_escapes(true)
+        .fewest_hashes(true);
+    let mut texts = Vec::new();
+    sources(
+        &Path::new(env!("CARGO_MANIFEST_DIR")).join("../../src"),
+        &mut texts,
+    );
+    sources(
+        &Path::new(env!("CARGO_MANIFEST_DIR")).join("../../tests"),
+        &mut texts,
+    );
+    let mut count = 0;
+    for text in texts {
+        for (macros, skips) in [(Macros::Skip, true), (Macros::All, false)] {
+            let asked = package_restyle(&text, style).skip_macros(skips);
+            let edits = asked.map(|edit| {
+                edit.map(|it| (it.range().start, it.range().end, it.text().to_owned()))
+            });
+            let expected: Vec<Told> = edits.collect::<Result<_, _>>().expect("rustc takes it");
+            let Ok((_, found)) = made(macros, &text) else {
+                panic!("rustc takes it");
+            };
+            assert_eq!(found, expected);
+            count += found.len();
+        }
+    }
+    assert!(count > 100, "{count}");
+}
