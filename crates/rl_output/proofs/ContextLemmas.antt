@@ -1,6 +1,6 @@
 -- A line, and carets below it.
-use Rattle.rl_text.proofs.Common.{Bool, IsUtf8, List, [], ap, append-nil, append_assoc, append_cancel_right, arith, chars, chars-nil, chars_from_encodes, codes, cond, drop, encodes-append, encodes-chars, eqb-true, false, inl, inr, length-append, ne_eqb, subst, take, take-append_seam, IsUtf8-take, ◌+◌, ◌-◌, ◌⊎◌, ◌||◌, ◌≤◌, if◌then◌else◌, length, refl, rules, suc, zero, ◌<◌, sym, true, ℕ, ◌++◌, ◌==◌, ◌∙◌, ◌∷◌, ◌≡◌}
-use Rattle.std.specs.Prelude.{encode_utf8_all}
+use Rattle.rl_text.proofs.Common.{Bool, IsUtf8, List, [], ap, append-nil, append_assoc, append_cancel_right, arith, chars, chars-nil, chars_from_encodes, codes, cond, drop, encodes-append, encodes-chars, eqb-true, false, inl, inr, length-append, ne_eqb, subst, take, take-append_seam, IsUtf8-take, ◌+◌, ◌-◌, ◌⊎◌, ◌||◌, ◌≤◌, if◌then◌else◌, length, ltb-true, nat_tests, refl, rules, suc, zero, ◌<◌, sym, true, ℕ, ◌++◌, ◌==◌, ◌∙◌, ◌∷◌, ◌≡◌}
+use Rattle.std.specs.Prelude.{encode_utf8_all, nat_lt}
 use Rattle.std.proofs.Common.{add-one}
 use Rattle.std.proofs.lemmas.Bool.{false≢true}
 use Rattle.rl_files.specs.Visible.{visible, visible_char}
@@ -13,7 +13,8 @@ use Rattle.std.specs.Str.{IsCharBoundary}
 use Rattle.std.specs.Prelude.{encode_utf8}
 use Rattle.rl_output.specs.Spots.{IsSpotAt, first_spot, next_spot, spot_after}
 use Rattle.rl_output.specs.declared.spot.Spot.{Spot}
-use Rattle.rl_output.specs.Contexts.{IsBeforeInLine, has_end, carets, ends_line, first_line, line_char, line_text, marks_below, after_first_line, shown_line, shown_lines}
+use Rattle.rl_lexer.proofs.ErrorKinds.{char_len}
+use Rattle.rl_output.specs.Contexts.{IsBeforeInLine, has_end, carets, context_lines, ends_line, first_line, is_long, left_out, line_char, line_text, marked_line, marks_below, after_first_line, shown_line, shown_lines}
 use Rattle.rl_output.proofs.Pieces.{back_utf8, four_parts, five_parts}
 
 -- Of a text's first line these characters were passed.
@@ -102,6 +103,74 @@ pub eight_parts : (o a b d e f g h new p q r s t u v w : List ℕ) → a ≡ o +
 eight_parts o a b d e f g h new p q r s t u v w i j k l m n x y =
     four_parts o a b d new p q r (s ++ (t ++ (u ++ (v ++ w)))) i j k
     (five_parts d e f g h new s t u v w l m n x y)
+
+-- ---- lines that are too long
+
+over_more : (a b : ℕ) → 1024 < a → nat_lt 1024 a ≡ nat_lt 1024 (a + b)
+over_more a b more =
+    let first : nat_lt 1024 a ≡ true = grind (arith, nat_tests) in
+    let both : nat_lt 1024 (a + b) ≡ true = grind (arith, nat_tests) in
+    first ∙ sym both
+
+over_left : (a b : ℕ) → a ≤ 1024 → nat_lt (1024 - a) b ≡ nat_lt 1024 (a + b)
+over_left a b within = go (nat_lt (1024 - a) b) refl
+  where
+    go : (t : Bool) → nat_lt (1024 - a) b ≡ t → nat_lt (1024 - a) b ≡ nat_lt 1024 (a + b)
+    go true e =
+        let both : nat_lt 1024 (a + b) ≡ true = grind (arith, nat_tests) in
+        e ∙ sym both
+    go false e =
+        let both : nat_lt 1024 (a + b) ≡ false = grind (arith, nat_tests) in
+        e ∙ sym both
+
+-- how long a line is of which this stands before a place, and this after it
+long_whole : (before after : List ℕ) → IsUtf8 before → IsUtf8 after
+    → is_long (chars before ++ chars after) ≡ nat_lt 1024 (length before + length after)
+long_whole before after u v = ap (nat_lt 1024) (byte_len-append (chars before) (chars after)
+    ∙ ap (λ (n : ℕ). n + byte_len (chars after)) (char_len before u)
+    ∙ ap (λ (n : ℕ). length before + n) (char_len after v))
+
+pub long_before : (before after : List ℕ) → IsUtf8 before → IsUtf8 after → 1024 < length before
+    → nat_lt 1024 (length before) ≡ is_long (chars before ++ chars after)
+long_before before after u v more = over_more (length before) (length after) more ∙ sym (long_whole before after u v)
+
+pub long_with : (before after : List ℕ) → IsUtf8 before → IsUtf8 after → length before ≤ 1024
+    → nat_lt (1024 - length before) (length after) ≡ is_long (chars before ++ chars after)
+long_with before after u v within =
+    over_left (length before) (length after) within ∙ sym (long_whole before after u v)
+
+-- a line is too long where what stands before a place is
+pub long_about : (before after : List ℕ) (r : Bool) → r ≡ is_long (chars before ++ chars []) → r ≡ true
+    → r ≡ is_long (chars before ++ after)
+long_about before after r is more =
+    let nothing : chars before ++ chars [] ≡ chars before = ap (λ (z : List ℕ). chars before ++ z) chars-nil
+    ∙ append-nil (chars before) in
+    let front : nat_lt 1024 (byte_len (chars before)) ≡ true = sym (ap is_long nothing) ∙ sym is ∙ more in
+    let over : 1024 < byte_len (chars before) = ltb-true 1024 (byte_len (chars before)) front in
+    more ∙ sym front ∙ over_more (byte_len (chars before)) (byte_len after) over
+    ∙ sym (ap (nat_lt 1024) (byte_len-append (chars before) after))
+
+-- in place of such a line stands that it is one
+pub long_shown : (text old new : List ℕ) → is_long (first_line text) ≡ true → new ≡ old ++ left_out
+    → new ≡ old ++ shown_line text
+long_shown text old new long e = e ∙ ap (λ (b : Bool). old
+    ++ cond b left_out (codes "    " ++ (line_text (first_line text) ++ codes "\n"))) (sym long)
+
+pub whole_shown : (text line old new : List ℕ) → line ≡ first_line text → is_long (first_line text) ≡ false
+    → new ≡ old ++ (codes "    " ++ (line_text line ++ codes "\n")) → new ≡ old ++ shown_line text
+whole_shown text line old new line_is short e =
+    e ∙ ap (λ (z : List ℕ). old ++ (codes "    " ++ (line_text z ++ codes "\n"))) line_is
+    ∙ ap (λ (b : Bool). old ++ cond b left_out (codes "    " ++ (line_text (first_line text) ++ codes "\n"))) (sym short)
+
+pub long_marked : (before rest : List ℕ) (bytes : ℕ) (old new : List ℕ) → is_long (before ++ first_line rest) ≡ true
+    → new ≡ old ++ left_out → new ≡ old ++ context_lines before rest bytes
+long_marked before rest bytes old new long e =
+    e ∙ ap (λ (b : Bool). old ++ cond b left_out (marked_line before rest bytes)) (sym long)
+
+pub whole_marked : (before rest : List ℕ) (bytes : ℕ) (old new : List ℕ) → is_long (before ++ first_line rest) ≡ false
+    → new ≡ old ++ marked_line before rest bytes → new ≡ old ++ context_lines before rest bytes
+whole_marked before rest bytes old new short e =
+    e ∙ ap (λ (b : Bool). old ++ cond b left_out (marked_line before rest bytes)) (sym short)
 
 -- ---- lines, one after another
 

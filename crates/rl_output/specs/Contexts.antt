@@ -1,10 +1,10 @@
 -- The line of a source where a place stands, carets below it, and lines before and after it. All are lists of
 -- characters, but
 -- where bytes are said.
-use Rattle.std.specs.Prelude.{◌≡◌, ◌⊎◌, ℕ, ◌≤◌, ◌==◌, Bool, false, ◌||◌, ◌&&◌, cond, List, [], ◌∷◌, ◌++◌, codes, encode_utf8_all, if◌then◌else◌, zero, suc}
+use Rattle.std.specs.Prelude.{◌≡◌, ◌⊎◌, ℕ, ◌≤◌, ◌==◌, nat_lt, Bool, false, ◌||◌, ◌&&◌, cond, List, [], ◌∷◌, ◌++◌, codes, encode_utf8_all, if◌then◌else◌, zero, suc}
 use Prim.Native.Char.{code}
 use Rattle.std.specs.List.{count_by, flat_map, list_any}
-use Rattle.rl_text.specs.Texts.{begins_char}
+use Rattle.rl_text.specs.Texts.{begins_char, byte_len}
 use Rattle.rl_files.specs.Visible.{visible_char}
 use Rattle.rl_lexer.specs.Sources.{without_mark}
 use Rattle.rl_output.specs.Spots.{covered}
@@ -51,16 +51,26 @@ abbrev pub carets : List ℕ → List ℕ
 carets [] = codes "^"
 carets (c ∷ cs) = marks_below (code "^") (code "^") (c ∷ cs)
 
--- What is shown of a place: the line where it begins, four columns in, and below it carets under the place, up to the
--- end of that line.
+-- a line has more bytes than are shown
+abbrev pub is_long : List ℕ → Bool
+is_long line = nat_lt 1024 (byte_len line)
+
+-- what stands in its place
+abbrev pub left_out : List ℕ
+left_out = codes "    (a line of more than 1024 bytes)\n"
+
+-- the line where a place begins, four columns in, and below it carets under the place, up to the end of that line.
 -- `before` stands in that line before the place, `rest` begins with it, and so many bytes of that are in it. A tab
--- before it is one in
--- the line of carets too.
-abbrev pub context_lines : List ℕ → List ℕ → ℕ → List ℕ
-context_lines before rest bytes =
+-- before it is one in the line of carets too.
+abbrev pub marked_line : List ℕ → List ℕ → ℕ → List ℕ
+marked_line before rest bytes =
     codes "    " ++ (line_text before ++ (line_text (first_line rest) ++ (codes "\n"
     ++ (codes "    " ++ (marks_below (code " ") (code "\t") before
     ++ (carets (first_line (covered bytes rest)) ++ codes "\n"))))))
+
+-- what is shown of a place: that, where its line isn't too long
+abbrev pub context_lines : List ℕ → List ℕ → ℕ → List ℕ
+context_lines before rest bytes = cond (is_long (before ++ first_line rest)) left_out (marked_line before rest bytes)
 
 -- ---- lines before and after it
 
@@ -96,9 +106,10 @@ abbrev pub after_first_line : List ℕ → List ℕ
 after_first_line [] = []
 after_first_line (c ∷ cs) = if c == code "\n" then cs else after_first_line cs
 
--- a line as it is shown, four columns in
+-- the first line of a text as it is shown, four columns in, where it isn't too long
 abbrev pub shown_line : List ℕ → List ℕ
-shown_line text = codes "    " ++ (line_text (first_line text) ++ codes "\n")
+shown_line text =
+    cond (is_long (first_line text)) left_out (codes "    " ++ (line_text (first_line text) ++ codes "\n"))
 
 -- the first lines of a text as they are shown, so many, or all where there are fewer
 abbrev pub shown_lines : ℕ → List ℕ → List ℕ

@@ -1,11 +1,11 @@
 //! The line of a source where a place stands, carets below it, and lines before and after it.
 
-ghost use Rattle.std.specs.Prelude.{◌≡◌, ◌++◌, ◌∷◌, [], OnOk, string_bytes, encode_utf8_all};
+ghost use Rattle.std.specs.Prelude.{◌≡◌, ◌++◌, ◌∷◌, [], codes, OnOk, string_bytes, encode_utf8_all};
 ghost use Rattle.std.specs.Char.Escape.{escape_default};
 ghost use Rattle.std.specs.List.{flat_map};
 ghost use Rattle.std.specs.Str.{chars};
 ghost use Rattle.rl_text.specs.Texts.{IsTail};
-ghost use Rattle.rl_output.specs.Contexts.{ends_line as is_end, first_line as up_to_end, line_char, line_text, mark_below, marks_below, carets, context_lines, after_first_line as text_after, shown_line, shown_lines};
+ghost use Rattle.rl_output.specs.Contexts.{ends_line as is_end, first_line as up_to_end, line_char, line_text, mark_below, marks_below, carets, context_lines, is_long as is_too_long, marked_line, after_first_line as text_after, shown_line, shown_lines};
 
 use crate::member::push_ascii;
 use crate::spot::front_covered;
@@ -15,6 +15,12 @@ use std::alloc::{AllocError, Allocator};
 
 /// How far a line stands in.
 const MARGIN: &str = "    ";
+
+/// A line of more bytes isn't shown.
+const MOST_BYTES: usize = 1024;
+
+/// What stands in its place.
+const LEFT_OUT: &str = "    (a line of more than 1024 bytes)\n";
 
 /// How many lines are shown before and after that of a place.
 #[derive(Clone, Copy)]
@@ -140,6 +146,13 @@ fn push_carets<A: Allocator>(out: &mut String<A>, text: &str) -> Result<(), Allo
     push_marks(out, text, '^', '^')
 }
 
+/// Whether a line of which so much stands before a place, and so much after it, has more bytes than are shown.
+fn is_long(before: &str, after: &str) -> bool
+    ensures { result ≡ is_too_long (chars before.now ++ chars after.now) }
+{
+    before.len() > MOST_BYTES || after.len() > MOST_BYTES - before.len()
+}
+
 /// The text after its first line.
 fn after_first_line(text: &str) -> &str
     ensures { chars result.now ≡ text_after (chars text.now) }
@@ -154,14 +167,26 @@ fn after_first_line(text: &str) -> &str
     rest
 }
 
+/// Appends a line, four columns in.
+fn push_whole_line<A: Allocator>(out: &mut String<A>, line: &str) -> Result<(), AllocError>
+    ensures { OnOk result (chars (string_bytes out.new)
+        ≡ chars (string_bytes out.old) ++ (codes "    " ++ (line_text (chars line.now) ++ codes "\n"))) }
+{
+    push_ascii(out, MARGIN)?;
+    push_line(out, line)?;
+    push_ascii(out, "\n")
+}
+
 /// Appends the first line of a text, as it is shown.
 fn push_shown_line<A: Allocator>(out: &mut String<A>, text: &str) -> Result<(), AllocError>
     ensures { OnOk result (chars (string_bytes out.new)
         ≡ chars (string_bytes out.old) ++ shown_line (chars text.now)) }
 {
-    push_ascii(out, MARGIN)?;
-    push_line(out, first_line(text))?;
-    push_ascii(out, "\n")
+    let line = first_line(text);
+    if is_long("", line) {
+        return push_ascii(out, LEFT_OUT);
+    }
+    push_whole_line(out, line)
 }
 
 /// Appends the first lines of a text, so many, or all where there are fewer.
@@ -186,6 +211,21 @@ fn push_shown_lines<A: Allocator>(
     Ok(())
 }
 
+/// Appends the lines of a text after its first one, so many, or all where there are fewer.
+fn push_lines_after<A: Allocator>(
+    out: &mut String<A>,
+    text: &str,
+    count: usize,
+) -> Result<(), AllocError>
+    ensures { OnOk result (chars (string_bytes out.new)
+        ≡ chars (string_bytes out.old) ++ shown_lines count (text_after (chars text.now))) }
+{
+    if count == 0 {
+        return Ok(());
+    }
+    push_shown_lines(out, after_first_line(text), count)
+}
+
 /// Appends the line where a place begins, and below it carets under the place, up to the end of that line.
 fn push_marked_line<A: Allocator>(
     out: &mut String<A>,
@@ -194,7 +234,7 @@ fn push_marked_line<A: Allocator>(
     bytes: usize,
 ) -> Result<(), AllocError>
     ensures { OnOk result (chars (string_bytes out.new) ≡ chars (string_bytes out.old)
-        ++ context_lines (chars before.now) (chars rest.now) bytes) }
+        ++ marked_line (chars before.now) (chars rest.now) bytes) }
 {
     push_ascii(out, MARGIN)?;
     push_line(out, before)?;
@@ -206,9 +246,33 @@ fn push_marked_line<A: Allocator>(
     push_ascii(out, "\n")
 }
 
+/// Whether the line of a place has more bytes than are shown: so much of it stands before the place, with which a rest begins.
+fn is_long_about(before: &str, rest: &str) -> bool
+    ensures { result ≡ is_too_long (chars before.now ++ up_to_end (chars rest.now)) }
+{
+    is_long(before, "") || is_long(before, first_line(rest))
+}
+
+/// Appends what is shown of the line of a place: that line and carets, or where it is too long that it is.
+fn push_place_line<A: Allocator>(
+    out: &mut String<A>,
+    before: &str,
+    rest: &str,
+    bytes: usize,
+) -> Result<(), AllocError>
+    ensures { OnOk result (chars (string_bytes out.new) ≡ chars (string_bytes out.old)
+        ++ context_lines (chars before.now) (chars rest.now) bytes) }
+{
+    if is_long_about(before, rest) {
+        return push_ascii(out, LEFT_OUT);
+    }
+    push_marked_line(out, before, rest, bytes)
+}
+
 /// Appends the line where a place begins, with carets below it under the place, up to the end of that line, and lines before and after
 /// it. `lines` stands before that line: its first lines are shown, as many as are wanted. `before` stands in the line before the place,
-/// `rest` begins with it, and so many bytes of that are in it. A tab before the place is one in the line of carets too.
+/// `rest` begins with it, and so many bytes of that are in it. A tab before the place is one in the line of carets too. A line of more
+/// than 1,024 bytes isn't shown: in its place, and that of its carets, stands that it is so long.
 ///
 /// # Errors
 ///
@@ -226,6 +290,6 @@ pub fn push_context<A: Allocator>(
         ++ shown_lines context.after (text_after (chars rest.now))))) }
 {
     push_shown_lines(out, lines, context.before)?;
-    push_marked_line(out, before, rest, bytes)?;
-    push_shown_lines(out, after_first_line(rest), context.after)
+    push_place_line(out, before, rest, bytes)?;
+    push_lines_after(out, rest, context.after)
 }

@@ -148,6 +148,36 @@ fn context_of_literals() {
     );
 }
 
+/// A line of more than 1,024 bytes is left out, its carets too, also where it is one of the lines about a place; its end isn't counted.
+#[test]
+fn context_of_long_lines() {
+    let options = Options {
+        by_line: true,
+        context: Some(Context {
+            before: 1,
+            after: 1,
+        }),
+        ..bad(Form::Plain, Some("a.rs"))
+    };
+    let blank = " ".repeat(1019);
+    let whole = format!("\u{e9}{blank}1u9");
+    assert_eq!(whole.len(), 1024);
+    let left_out = "    (a line of more than 1024 bytes)";
+    assert_eq!(
+        printed(options, &format!("{whole}\r\n{whole} \n1u9\n ")),
+        format!(
+            "a.rs:1:1021: error: unknown suffix: 1u9\n    {whole}\n     {blank}^^^\n{left_out}\n\
+             a.rs:2:1021: error: unknown suffix: 1u9\n    {whole}\n{left_out}\n    1u9\n\
+             a.rs:3:1: error: unknown suffix: 1u9\n{left_out}\n    1u9\n    ^^^\n     \n"
+        )
+    );
+    let front = "x".repeat(1025);
+    assert_eq!(
+        printed(options, &format!("{front}\"")),
+        format!("a.rs:1:1026: error: unclosed quote\n{left_out}\n")
+    );
+}
+
 /// Objects and annotations have no context.
 #[test]
 fn context_of_words_alone() {

@@ -1,0 +1,13 @@
+use Rattle.rl_text.proofs.Common.{chars, on_ok_weaker, sym, ◌∙◌}
+use Rattle.rl_output.proofs.ContextLemmas.{long_marked, whole_marked}
+use Rattle.rl_output.proofs.context.push_place_line.Goals as goal
+
+pub returns-then-is_long_about : goal.returns-then-is_long_about
+returns-then-is_long_about g c = on_ok_weaker c.push_ascii.result (long_marked (chars c.args.before.now)
+    (chars c.args.rest.now) c.args.bytes _ _ (sym c.is_long_about.ensures ∙ c.if-is_long_about.true))
+    c.push_ascii.ensures
+
+pub returns : goal.returns
+returns g c = on_ok_weaker c.push_marked_line.result (whole_marked (chars c.args.before.now)
+    (chars c.args.rest.now) c.args.bytes _ _ (sym c.is_long_about.ensures ∙ c.if-is_long_about.false))
+    c.push_marked_line.ensures
