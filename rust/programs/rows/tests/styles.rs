@@ -1,0 +1,212 @@
+//! Styles that configurations say: those that are expected, and those that the package reads of the same text.
+
+use navyspindle::rendered::rl_style;
+use navyspindle::{Case, DigitGroups, Separator, Settings, Style};
+use navyspindle_programs::rl_styles::{default_style, style_of};
+
+fn case_of(case: rl_style::Case) -> Case {
+    match case {
+        rl_style::Case::Lower => Case::Lower,
+        rl_style::Case::Upper => Case::Upper,
+    }
+}
+
+fn groups_of(groups: rl_style::DigitGroups) -> DigitGroups {
+    DigitGroups::new()
+        .binary(groups.binary)
+        .octal(groups.octal)
+        .decimal(groups.decimal)
+        .hexadecimal(groups.hexadecimal)
+        .least(groups.least)
+}
+
+/// The style as the package has it.
+fn shown(style: rl_style::Style) -> Style {
+    let mut shown = Style::new()
+        .drop_underscores(style.underscores)
+        .drop_leading_zeros(style.leading_zeros)
+        .float_zero(style.float_zero)
+        .drop_exponent_plus(style.exponent_plus)
+        .fewest_escape_digits(style.code_digits)
+        .drop_ascii_escapes(style.ascii_escapes)
+        .named_escapes(style.named_escapes)
+        .drop_quote_escapes(style.quote_escapes)
+        .fewest_hashes(style.raw_hashes)
+        .drop_raw(style.raw)
+        .escape_hidden(style.hidden);
+    if let Some(case) = style.hex_digits {
+        shown = shown.hex_digits(case_of(case));
+    }
+    if let Some(case) = style.exponent_letter {
+        shown = shown.exponent_letter(case_of(case));
+    }
+    if let Some(case) = style.escape_digits {
+        shown = shown.escape_digits(case_of(case));
+    }
+    if let Some(separator) = style.suffix_separator {
+        shown = shown.suffix_separator(match separator {
+            rl_style::Separator::Nothing => Separator::Nothing,
+            rl_style::Separator::Underscore => Separator::Underscore,
+        });
+    }
+    match style.digit_groups {
+        Some(groups) => shown.digit_groups(groups_of(groups)),
+        None => shown,
+    }
+}
+
+/// The style that the text says, or its error in words.
+fn told(text: &str) -> Result<Style, String> {
+    match style_of(text) {
+        Ok(style) => Ok(shown(style)),
+        Err(error) => Err(format!("{}..{} {}", error.lo, error.hi, error.kind)),
+    }
+}
+
+#[test]
+fn styles_that_are_expected() {
+    let new = Style::new();
+    let groups = DigitGroups::new();
+    for (text, expected) in [
+        ("", new),
+        ("// nothing\n\n", new),
+        ("drop_raw = false\nleast_grouped = 0", new),
+        ("hex_digits = r#\"lower\"#", new.hex_digits(Case::Lower)),
+        (
+            "/* a */ octal_groups = 0x3, least_grouped = 5usize,\nescape_hidden = true",
+            new.digit_groups(groups.octal(3).least(5))
+                .escape_hidden(true),
+        ),
+        (
+            "suffix_separator = \"\" // none\nexponent_letter = \"upper\"",
+            new.suffix_separator(Separator::Nothing)
+                .exponent_letter(Case::Upper),
+        ),
+    ] {
+        assert_eq!(told(text), Ok(expected), "{text}");
+    }
+}
+
+#[test]
+fn errors_that_are_expected() {
+    for (text, expected) in [
+        ("drop_row = true", "0..8 no rule has this name"),
+        ("drop_raw.a = true", "0..10 no rule has this name"),
+        ("drop_raw = true\ndrop_raw = 1", "16..24 repeated name"),
+        ("drop_raw = true\ndrop_raw", "16..24 repeated name"),
+        ("drop_raw = 1", "11..12 expected `true` or `false`"),
+        ("octal_groups = -1", "15..17 expected a number of digits"),
+        ("octal_groups = - 1", "15..18 expected a number of digits"),
+        ("octal_groups = 3u8", "15..18 expected a number of digits"),
+        (
+            "octal_groups = 18446744073709551616",
+            "15..35 expected a number of digits",
+        ),
+        (
+            "hex_digits = \"Lower\"",
+            "13..20 expected `\"lower\"` or `\"upper\"`",
+        ),
+        (
+            "hex_digits = \"lower\"x",
+            "13..21 expected `\"lower\"` or `\"upper\"`",
+        ),
+        (
+            "hex_digits = \"\\x6cower\"",
+            "13..23 expected `\"lower\"` or `\"upper\"`",
+        ),
+        (
+            "suffix_separator = '_'",
+            "19..22 expected `\"\"` or `\"_\"`",
+        ),
+        ("drop_raw true", "9..13 expected `=`"),
+        ("drop_raw = true float_zero = true", "16..26 expected `,`"),
+        ("drop_raw = \"", "11..11 quoted literal isn't closed"),
+        (
+            "drop_raw =",
+            "10..10 unexpected end of input, expected literal",
+        ),
+        // The first one from the left.
+        ("drop_raw = 1\nno = \"", "11..12 expected `true` or `false`"),
+    ] {
+        assert_eq!(told(text), Err(expected.to_string()), "{text}");
+    }
+}
+
+#[test]
+fn what_is_on_by_default() {
+    let expected = Style::new()
+        .drop_quote_escapes(true)
+        .fewest_hashes(true)
+        .exponent_letter(Case::Lower)
+        .float_zero(true);
+    assert_eq!(shown(default_style()), expected);
+}
+
+/// The names, and one that no rule has.
+const NAMES: [&str; 21] = [
+    "hex_digits",
+    "drop_underscores",
+    "drop_leading_zeros",
+    "suffix_separator",
+    "binary_groups",
+    "octal_groups",
+    "decimal_groups",
+    "hexadecimal_groups",
+    "least_grouped",
+    "float_zero",
+    "exponent_letter",
+    "drop_exponent_plus",
+    "escape_digits",
+    "fewest_escape_digits",
+    "drop_ascii_escapes",
+    "named_escapes",
+    "drop_quote_escapes",
+    "fewest_hashes",
+    "drop_raw",
+    "escape_hidden",
+    "raw_hashes",
+];
+
+const VALUES: [&str; 20] = [
+    "true",
+    "false",
+    "0",
+    "3",
+    "0x4",
+    "1_0",
+    "5usize",
+    "5u8",
+    "-1",
+    "1.0",
+    "\"lower\"",
+    "\"upper\"",
+    "r\"upper\"",
+    "\"\"",
+    "\"_\"",
+    "\"__\"",
+    "\"Lower\"",
+    "\"lower\"x",
+    "'_'",
+    "18446744073709551616",
+];
+
+/// Each name with each value, and each two of these that differ by a prime, are read as the package reads them.
+#[test]
+fn as_the_package_reads() {
+    let entries: Vec<String> = NAMES
+        .iter()
+        .flat_map(|name| VALUES.iter().map(move |value| format!("{name} = {value}")))
+        .collect();
+    let mut styles = 0;
+    for step in [0, 1, 19, 37, 101, 211] {
+        for at in 0..entries.len() {
+            let other = &entries[(at + step) % entries.len()];
+            let text = format!("{}\n{other}{}", entries[at], [",", ""][at % 2]);
+            let text = if step == 0 { entries[at].clone() } else { text };
+            let package = Settings::read_config(&text).and_then(|read| Style::from_settings(&read));
+            assert_eq!(told(&text).ok(), package.ok(), "{text}");
+            styles += usize::from(told(&text).is_ok());
+        }
+    }
+    assert!(styles > 100, "only {styles}");
+}
