@@ -1,1 +1,2 @@
 pub mod DiffLemmas
+pub mod PatchLemmas

@@ -3,6 +3,7 @@
 
 mod change;
 mod diff;
+pub mod laws;
 
 pub use crate::change::push_change;
 pub use crate::diff::push_diff;
