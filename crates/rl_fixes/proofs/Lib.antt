@@ -1,2 +1,3 @@
 pub mod DiffLemmas
 pub mod ChangeLemmas
+pub mod PatchLemmas

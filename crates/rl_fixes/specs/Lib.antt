@@ -1,3 +1,4 @@
 pub mod Changes
 pub mod Diffs
 pub mod Outcomes
+pub mod Patches

@@ -5,6 +5,7 @@
 mod change;
 mod changes;
 mod diff;
+pub mod laws;
 mod outcome;
 
 pub use crate::change::push_change;
