@@ -5,6 +5,7 @@ use Rattle.std.proofs.lemmas.Bool.{false≢true}
 use Rattle.std.specs.Io.KnownBytes.{Keeps}
 use Rattle.std.proofs.KnownBytes.{Appends-nil}
 use Rattle.rl_files.specs.Globs.{borrowed_texts}
+use Rattle.rl_files.specs.Replacements.{Replacement}
 use Rattle.rl_files.specs.Trees.{World}
 use Rattle.rl_files.specs.Walks.{Spot}
 use Rattle.rl_files.proofs.WalkLemmas.{some_visits}
@@ -17,8 +18,9 @@ use Rattle.rl_reports.specs.declared.command.Console.{Console}
 use Rattle.rl_reports.specs.declared.words.WordError.{WordError}
 use Rattle.rl_reports.specs.declared.ending.CallError.{CallError}
 use Rattle.rl_reports.specs.declared.ending.CallError.TheVariants.{NoArguments, Word, Walk, List as NoList, NoFile, Write}
-use Rattle.rl_reports.specs.Reports.{nothing}
+use Rattle.rl_reports.specs.Visits.{nothing}
 use Rattle.rl_reports.specs.Runs.{Streams, WritesFront}
+use Rattle.rl_reports.proofs.Handing.{hands_none, written_on}
 use Rattle.rl_reports.proofs.RunLemmas.{not_empty}
 use Rattle.rl_reports.specs.Words.{Wishes, wishes_of}
 use Rattle.rl_reports.specs.Endings.{AskForWishes, EndsText, EndsWish, EndsAsked, EndsAsScan, EndsFrom, EndsListed, EndsPaths, EndsScan, paths_read, IsCommandFor, IsSelecting}
@@ -30,23 +32,23 @@ keeps_same (Some xs) = refl
 
 -- a text was written
 pub ends_help : {B : Type 0} (wishes : Wishes) (is_terminal : Bool) (holds : Option World) (o0 o1 e : Option (List ℕ))
-    (text : List ℕ) (ending : Ending (CallError B)) → wishes.wish ≡ Help → EndsText text o0 o1 ending
-    → EndsAsked wishes is_terminal holds (record { out_old = o0; out_new = o1; err_old = e; err_new = e }) ending
-ends_help wishes is_terminal holds o0 o1 e text ending is ends = rw is (text, ends, keeps_same e)
+    (h : Option (List Replacement)) (text : List ℕ) (ending : Ending (CallError B)) → wishes.wish ≡ Help
+    → EndsText text o0 o1 ending → EndsAsked wishes is_terminal holds (written_on o0 o1 e e h h) ending
+ends_help wishes is_terminal holds o0 o1 e h text ending is ends = rw is (text, ends, keeps_same e, refl)
 
 pub ends_version : {B : Type 0} (wishes : Wishes) (is_terminal : Bool) (holds : Option World)
-    (o0 o1 e : Option (List ℕ)) (text : List ℕ) (ending : Ending (CallError B)) → wishes.wish ≡ Version
-    → EndsText text o0 o1 ending → EndsAsked wishes is_terminal holds
-    (record { out_old = o0; out_new = o1; err_old = e; err_new = e }) ending
-ends_version wishes is_terminal holds o0 o1 e text ending is ends = rw is (text, ends, keeps_same e)
+    (o0 o1 e : Option (List ℕ)) (h : Option (List Replacement)) (text : List ℕ) (ending : Ending (CallError B))
+    → wishes.wish ≡ Version → EndsText text o0 o1 ending
+    → EndsAsked wishes is_terminal holds (written_on o0 o1 e e h h) ending
+ends_version wishes is_terminal holds o0 o1 e h text ending is ends = rw is (text, ends, keeps_same e, refl)
 
 -- nothing was written yet
 pub front_none : (command : Command) (holds : Option World) (spots : List Spot) (o e : Option (List ℕ))
-    → IfSome holds (λ w. WritesFront command w spots (record { out_old = o; out_new = o; err_old = e; err_new = e }))
-front_none command None spots o e = tt
-front_none command (Some w) spots o e =
+    (h : Option (List Replacement)) → IfSome holds (λ w. WritesFront command w spots (written_on o o e e h h))
+front_none command None spots o e h = tt
+front_none command (Some w) spots o e h =
     let more = some_visits command.selection w spots in
-    inl ([], more.0, nothing, more.1, refl, ((0, Appends-nil o), (0, Appends-nil e)))
+    inl ([], more.0, nothing, more.1, refl, ((0, Appends-nil o), (0, Appends-nil e), hands_none h))
 
 -- a command that selects is the one that is asked for
 pub command_for : (command selecting : Command) (finds extensions excludes lists paths : List (List ℕ))
@@ -112,15 +114,15 @@ no_arguments : (B : Type 0) (wish : Wish) (wishes : Wishes) (is_terminal : Bool)
     (streams : Streams) → EndsWish {B = B} wish wishes is_terminal holds streams (Failed NoArguments) → ⊥
 no_arguments B Scan wishes is_terminal holds streams ends = scan_arguments B wishes is_terminal holds streams ends
 no_arguments B Files wishes is_terminal holds streams ends = scan_arguments B wishes is_terminal holds streams ends
-no_arguments B Help wishes is_terminal holds streams (text, (never, begun), kept) = never
-no_arguments B Version wishes is_terminal holds streams (text, (never, begun), kept) = never
+no_arguments B Help wishes is_terminal holds streams (text, (never, begun), kept, same) = never
+no_arguments B Version wishes is_terminal holds streams (text, (never, begun), kept, same) = never
 
 no_word : {B : Type 0} (error : WordError B) (wish : Wish) (wishes : Wishes) (is_terminal : Bool) (holds : Option World)
     (streams : Streams) → EndsWish {B = B} wish wishes is_terminal holds streams (Failed (Word error)) → ⊥
 no_word error Scan wishes is_terminal holds streams ends = scan_word error wishes is_terminal holds streams ends
 no_word error Files wishes is_terminal holds streams ends = scan_word error wishes is_terminal holds streams ends
-no_word error Help wishes is_terminal holds streams (text, (never, begun), kept) = never
-no_word error Version wishes is_terminal holds streams (text, (never, begun), kept) = never
+no_word error Help wishes is_terminal holds streams (text, (never, begun), kept, same) = never
+no_word error Version wishes is_terminal holds streams (text, (never, begun), kept, same) = never
 
 pub call_asked : {A B : Type 0} (args : List (String A)) (console : Console) (holds : Option World) (streams : Streams)
     (ending : Ending (CallError B)) (wishes : Wishes) → AskForWishes console.has_colors args wishes

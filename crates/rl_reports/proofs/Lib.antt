@@ -1,5 +1,7 @@
 pub mod WordLemmas
 pub mod ReportLemmas
+pub mod Handing
+pub mod VisitLemmas
 pub mod RunLemmas
 pub mod EndingLemmas
 pub mod MeantLemmas

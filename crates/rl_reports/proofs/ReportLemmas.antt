@@ -1,22 +1,17 @@
 -- What is reported of a file.
 use Rattle.rl_text.proofs.Common.{false, true, IsAscii, IsUtf8, List, None, Option, Some, [], ap, append_assoc, chars, chars-IsAscii, chars-nil, codes, encodes-chars, inl, inr, refl, subst, sym, ℕ, ◌++◌, ◌∙◌, ◌≡◌, ◌⊎◌}
 use Rattle.std.specs.Prelude.{encode_utf8_all, IfSome, IfOk, MatchOption, Ok, Err}
-use Rattle.std.specs.declared.result.Result.{Result}
 use Rattle.std.proofs.lemmas.Str.{IsAscii-append}
-use Rattle.rl_files.specs.Trees.{World}
 use Rattle.rl_files.specs.Visible.{visible}
-use Rattle.rl_files.specs.Walks.{FileAt, path_error_message}
+use Rattle.rl_files.specs.Walks.{path_error_message}
 use Rattle.rl_files.specs.declared.tree.PathError.{PathError}
 use Rattle.rl_files.specs.declared.tree.PathError.TheVariants.{NotFound, PermissionDenied, IsADirectory, NotADirectory, PathTooLong, NameNotUtf8, NotUtf8, TooLong, OutOfMemory, NotAFile, Changed, NoRoom, ReadOnly, ReadFailed, WriteFailed}
 use Rattle.rl_lexer.specs.declared.lex_error.LexKind.{LexKind}
 use Rattle.rl_lines.proofs.LineLemmas.{pushed}
 use Rattle.rl_output.specs.declared.context.Context.{Context}
 use Rattle.rl_output.specs.declared.place.Place.{Place}
-use Rattle.rl_reports.specs.declared.command.Command.{Command}
-use Rattle.rl_reports.specs.declared.report.Report.{Report}
 use Rattle.rl_sources.specs.declared.options.Options.{Options}
-use Rattle.rl_reports.specs.Reports.{in_report, AreBareLines, IsScannedAs, IsTextReport, IsErrorReport, IsListReport, IsNotUtf8, IsReadReport, IsReport}
-use Rattle.rl_reports.specs.Words.{lists_files}
+use Rattle.rl_reports.specs.Reports.{AreBareLines, IsScannedAs}
 use Rattle.rl_output.proofs.Pieces.{decimal_ascii, low_text}
 
 -- what is appended to nothing
@@ -66,51 +61,9 @@ error_reported path why a b errors utf8 first shown written =
     ∙ ap (λ (z : List ℕ). z ++ after) (shown ∙ ap (λ (z : List ℕ). z ++ visible (chars path)) begun)
     ∙ append_assoc (codes "rl_scan: ") (visible (chars path)) after
 
--- a file that was read
-pub was_read : {A : Type 0} (command : Command) (holds : Option World) (path bytes : List ℕ) (p : Report A)
-    → IfSome holds (λ w. w.bytes path ≡ Ok bytes) → (IsUtf8 bytes × IsTextReport command path bytes (in_report p))
-    ⊎ ((why : PathError) × IsNotUtf8 bytes why × IsErrorReport path why (in_report p))
-    → IfSome holds (λ w. IsReadReport command w path (in_report p))
-was_read command None path bytes p found is = tt
-was_read command (Some w) path bytes p found (inl (utf8, is)) = inl (bytes, found, utf8, is)
-was_read command (Some w) path bytes p found (inr (why, no_text, is)) = inr (why, inr (inr (bytes, found, no_text)), is)
-
--- what is no text
-pub no_text_reported : {A E : Type 0} (command : Command) (path bytes : List ℕ) (why : PathError)
-    (r : Result (Report A) E)
-    → IsNotUtf8 bytes why → IfOk r (λ p. IsErrorReport path why (in_report p))
-    → IfOk r (λ p. (IsUtf8 bytes × IsTextReport command path bytes (in_report p))
-    ⊎ ((other : PathError) × IsNotUtf8 bytes other × IsErrorReport path other (in_report p)))
-no_text_reported command path bytes why (Ok p) no_text is = inr (why, no_text, is)
-no_text_reported command path bytes why (Err e) no_text is = tt
-
 -- lines without context
 pub bare_lines : (options : Options) (text lines : List ℕ) → options.context ≡ None
     → AreBareLines options text lines lines
 bare_lines options text lines none = subst (λ (context : Option Context). MatchOption context (lines ≡ lines) (λ _.
     (error : Option (Place × LexKind)) × IsScannedAs (record options { context = None }) text lines error)) (sym none)
     refl
-
--- what is a text
-pub text_reported : {A E : Type 0} (command : Command) (path bytes : List ℕ) (r : Result (Report A) E) → IsUtf8 bytes
-    → IfOk r (λ p. IsTextReport command path bytes (in_report p))
-    → IfOk r (λ p. (IsUtf8 bytes × IsTextReport command path bytes (in_report p))
-    ⊎ ((other : PathError) × IsNotUtf8 bytes other × IsErrorReport path other (in_report p)))
-text_reported command path bytes (Ok p) utf8 is = inl (utf8, is)
-text_reported command path bytes (Err e) utf8 is = tt
-
--- a file that is listed, and one that is read
-pub listed_reported : {A E : Type 0} (command : Command) (holds : Option World) (path : List ℕ)
-    (r : Result (Report A) E) → lists_files command.wish ≡ true → IfOk r (λ p. IsListReport command path (in_report p))
-    → IfOk r (λ p. IfSome holds (λ w. IsReport command w (FileAt path) (in_report p)))
-listed_reported command holds path (Err e) lists is = tt
-listed_reported command None path (Ok p) lists is = tt
-listed_reported command (Some w) path (Ok p) lists is = inl (lists, is)
-
-pub read_reported : {A E : Type 0} (command : Command) (holds : Option World) (path : List ℕ)
-    (r : Result (Report A) E) → lists_files command.wish ≡ false
-    → IfOk r (λ p. IfSome holds (λ w. IsReadReport command w path (in_report p)))
-    → IfOk r (λ p. IfSome holds (λ w. IsReport command w (FileAt path) (in_report p)))
-read_reported command holds path (Err e) reads is = tt
-read_reported command None path (Ok p) reads is = tt
-read_reported command (Some w) path (Ok p) reads is = inr (reads, is)

@@ -7,12 +7,16 @@ use Rattle.std.specs.Io.Iter.{u64_saturate}
 use Rattle.std.specs.Io.KnownBytes.{Appends, Keeps}
 use Rattle.std.proofs.KnownBytes.{Appends-nil, Appends-trans, Appends-kept}
 use Rattle.rl_program.specs.Streams.{AppendsBeginning}
+use Rattle.rl_files.specs.Replacements.{Replacement}
 use Rattle.rl_files.specs.Trees.{World}
 use Rattle.rl_files.specs.Walks.{Spot, Visited, Visits, VisitsFirst}
 use Rattle.rl_files.proofs.WalkLemmas.{some_visits}
 use Rattle.rl_reports.specs.declared.command.Command.{Command}
 use Rattle.rl_reports.specs.declared.runs.Tally.{Tally}
-use Rattle.rl_reports.specs.Reports.{Findings, Totals, IsReport, AreReports, nothing, both_of, totals_of}
+use Rattle.rl_reports.specs.Reports.{Findings, HandsOn, with_handed}
+use Rattle.rl_reports.specs.Visits.{AreReports, IsReport, Reports, Totals, both_of, nothing, totals_of}
+use Rattle.rl_reports.specs.declared.report.Report.{Report}
+use Rattle.rl_reports.proofs.Handing.{hands_both, hands_none, written_on}
 use Rattle.rl_reports.specs.Runs.{Streams, both_tallies, shown_errors, IsWritten, WritesReport, WritesReports, WritesSome, WritesFirst, WritesFront, WritesWalk}
 use Rattle.rl_reports.specs.Stats.{tally_of, shown_stats}
 
@@ -34,11 +38,11 @@ told_nothing command = go command.tells_errors
     go false = refl
 
 -- nothing was written yet
-pub ran_start : (command : Command) (holds : Option World) (spots : List Spot) (o e : Option (List ℕ)) (tally : Tally)
-    → tally ≡ tally_of nothing
-    → IfSome holds (λ w. Ran command w spots spots (record { out_old = o; out_new = o; err_old = e; err_new = e }) tally)
-ran_start command None spots o e tally is = tt
-ran_start command (Some w) spots o e tally is = record {
+pub ran_start : (command : Command) (holds : Option World) (spots : List Spot) (o e : Option (List ℕ))
+    (h : Option (List Replacement)) (tally : Tally) → tally ≡ tally_of nothing
+    → IfSome holds (λ w. Ran command w spots spots (written_on o o e e h h) tally)
+ran_start command None spots o e h tally is = tt
+ran_start command (Some w) spots o e h tally is = record {
   visits = [];
   totals = nothing;
   goes = λ more m. m;
@@ -46,6 +50,7 @@ ran_start command (Some w) spots o e tally is = record {
   written = record {
     on_out = Appends-nil o;
     on_err = subst (λ (z : List ℕ). Appends e e z) (sym (told_nothing command)) (Appends-nil e);
+    handed = hands_none h;
     tally_is = is;
   };
 }
@@ -55,18 +60,19 @@ pub not_empty : (n : ℕ) → not (suc n == 0) ≡ true
 not_empty n = search rules
 
 -- two that are the same
-same_totals : (q : Totals) {a b : List ℕ} {v r f n e : ℕ} → a ≡ q.out → b ≡ q.errors → v ≡ q.visited → r ≡ q.read
+same_totals : (q : Totals) {a b : List ℕ} {d : List Replacement} {v r f n e : ℕ} → a ≡ q.out → b ≡ q.errors
+    → d ≡ q.handed → v ≡ q.visited → r ≡ q.read
     → f ≡ q.with_findings → n ≡ q.findings → e ≡ q.with_errors
-    → record { out = a; errors = b; visited = v; read = r; with_findings = f; findings = n; with_errors = e } ≡ q
-same_totals q a b v r f n e = rw (a, b, v, r, f, n, e) refl
+    → record { out = a; errors = b; handed = d; visited = v; read = r; with_findings = f; findings = n; with_errors = e } ≡ q
+same_totals q a b d v r f n e = rw (a, b, d, v, r, f, n, e) refl
 
 nothing_before : (t : Totals) → both_of nothing t ≡ both_of t nothing
-nothing_before t = same_totals (both_of t nothing) (sym (append-nil t.out)) (sym (append-nil t.errors)) (omega arith)
+nothing_before t = same_totals (both_of t nothing) (sym (append-nil t.out)) (sym (append-nil t.errors)) (sym (append-nil t.handed)) (omega arith)
     (omega arith) (omega arith) (omega arith) (omega arith)
 
 both_assoc : (p q r : Totals) → both_of (both_of p q) r ≡ both_of p (both_of q r)
 both_assoc p q r = same_totals (both_of p (both_of q r)) (append_assoc p.out q.out r.out)
-    (append_assoc p.errors q.errors r.errors) (omega arith) (omega arith) (omega arith) (omega arith) (omega arith)
+    (append_assoc p.errors q.errors r.errors) (append_assoc p.handed q.handed r.handed) (omega arith) (omega arith) (omega arith) (omega arith) (omega arith)
 
 -- one more is reported after the others
 reports_more : (command : Command) (w : World) (visits : List Visited) (visit : Visited) (done : Totals) (one : Findings)
@@ -110,33 +116,30 @@ tally_both s t = rw (
 ) refl
 
 -- both writes together
-written_more : (command : Command) (o0 o1 o2 e0 e1 e2 : Option (List ℕ)) (done one : Totals)
-    (before more after : Tally)
-    → IsWritten command (record { out_old = o0; out_new = o1; err_old = e0; err_new = e1 }) done before
-    → IsWritten command (record { out_old = o1; out_new = o2; err_old = e1; err_new = e2 }) one more
-    → after ≡ both_tallies before more
-    → IsWritten command (record { out_old = o0; out_new = o2; err_old = e0; err_new = e2 }) (both_of done one) after
-written_more command o0 o1 o2 e0 e1 e2 done one before more after first second both = record {
+written_more : (command : Command) (o0 o1 o2 e0 e1 e2 : Option (List ℕ)) (h0 h1 h2 : Option (List Replacement))
+    (done one : Totals) (before more after : Tally) → IsWritten command (written_on o0 o1 e0 e1 h0 h1) done before
+    → IsWritten command (written_on o1 o2 e1 e2 h1 h2) one more → after ≡ both_tallies before more
+    → IsWritten command (written_on o0 o2 e0 e2 h0 h2) (both_of done one) after
+written_more command o0 o1 o2 e0 e1 e2 h0 h1 h2 done one before more after first second both = record {
   on_out = Appends-trans o0 o1 o2 done.out one.out first.on_out second.on_out;
   on_err = subst (λ (z : List ℕ). Appends e0 e2 z) (told_both command done.errors one.errors)
       (Appends-trans e0 e1 e2 (shown_errors command done.errors) (shown_errors command one.errors) first.on_err
       second.on_err);
+  handed = hands_both h0 h1 h2 done.handed one.handed first.handed second.handed;
   tally_is = both ∙ ap (λ (z : Tally). both_tallies z more) first.tally_is
       ∙ ap (λ (z : Tally). both_tallies (tally_of done) z) second.tally_is ∙ tally_both done one;
 }
 
 -- one more
 pub ran_more : (command : Command) (holds : Option World) (old mid new : List Spot) (visit : Visited)
-    (o0 o1 o2 e0 e1 e2 : Option (List ℕ)) (before more after : Tally)
-    → IfSome holds (λ w. Ran command w old mid (record { out_old = o0; out_new = o1; err_old = e0; err_new = e1 })
-    before)
+    (o0 o1 o2 e0 e1 e2 : Option (List ℕ)) (h0 h1 h2 : Option (List Replacement)) (before more after : Tally)
+    → IfSome holds (λ w. Ran command w old mid (written_on o0 o1 e0 e1 h0 h1) before)
     → VisitsFirst command.selection holds mid visit new
-    → IfSome holds (λ w. WritesReport command w visit (record { out_old = o1; out_new = o2; err_old = e1; err_new = e2 }) more)
+    → IfSome holds (λ w. WritesReport command w visit (written_on o1 o2 e1 e2 h1 h2) more)
     → after ≡ both_tallies before more
-    → IfSome holds (λ w. Ran command w old new (record { out_old = o0; out_new = o2; err_old = e0; err_new = e2 })
-    after)
-ran_more command None old mid new visit o0 o1 o2 e0 e1 e2 before more after ran visits writes both = tt
-ran_more command (Some w) old mid new visit o0 o1 o2 e0 e1 e2 before more after ran visits (one, is, written) both =
+    → IfSome holds (λ w. Ran command w old new (written_on o0 o2 e0 e2 h0 h2) after)
+ran_more command None old mid new visit o0 o1 o2 e0 e1 e2 h0 h1 h2 before more after ran visits writes both = tt
+ran_more command (Some w) old mid new visit o0 o1 o2 e0 e1 e2 h0 h1 h2 before more after ran visits (one, is, written) both =
     record {
       visits = ran.visits ++ visit ∷ [];
       totals = both_of ran.totals (totals_of one);
@@ -144,7 +147,7 @@ ran_more command (Some w) old mid new visit o0 o1 o2 e0 e1 e2 before more after 
           (sym (append_assoc ran.visits (visit ∷ []) others))
           (ran.goes (visit ∷ others) (visits others m));
       reports = reports_more command w ran.visits visit ran.totals one ran.reports is;
-      written = written_more command o0 o1 o2 e0 e1 e2 ran.totals (totals_of one) before more after ran.written written
+      written = written_more command o0 o1 o2 e0 e1 e2 h0 h1 h2 ran.totals (totals_of one) before more after ran.written written
           both;
     }
 
@@ -180,6 +183,7 @@ ran_front command (Some w) old mid streams tally ran =
         all_of streams.out_old streams.out_new ran.totals.out ran.written.on_out,
         all_of streams.err_old
             streams.err_new (shown_errors command ran.totals.errors) ran.written.on_err,
+        ran.written.handed,
       ),
     )
 
@@ -189,14 +193,13 @@ kept a b c bytes h k = all_of a c bytes (Appends-kept a b c bytes h k)
 
 -- a write failed
 pub ran_some : (command : Command) (holds : Option World) (old mid new : List Spot) (visit : Visited)
-    (o0 o1 o2 e0 e1 e2 : Option (List ℕ)) (before : Tally)
-    → IfSome holds (λ w. Ran command w old mid (record { out_old = o0; out_new = o1; err_old = e0; err_new = e1 })
-    before)
+    (o0 o1 o2 e0 e1 e2 : Option (List ℕ)) (h0 h1 h2 : Option (List Replacement)) (before : Tally)
+    → IfSome holds (λ w. Ran command w old mid (written_on o0 o1 e0 e1 h0 h1) before)
     → VisitsFirst command.selection holds mid visit new
-    → IfSome holds (λ w. WritesSome command w visit (record { out_old = o1; out_new = o2; err_old = e1; err_new = e2 }))
-    → IfSome holds (λ w. WritesFirst command w old (record { out_old = o0; out_new = o2; err_old = e0; err_new = e2 }))
-ran_some command None old mid new visit o0 o1 o2 e0 e1 e2 before ran visits writes = tt
-ran_some command (Some w) old mid new visit o0 o1 o2 e0 e1 e2 before ran visits (inl (same, quiet)) =
+    → IfSome holds (λ w. WritesSome command w visit (written_on o1 o2 e1 e2 h1 h2))
+    → IfSome holds (λ w. WritesFirst command w old (written_on o0 o2 e0 e2 h0 h2))
+ran_some command None old mid new visit o0 o1 o2 e0 e1 e2 h0 h1 h2 before ran visits writes = tt
+ran_some command (Some w) old mid new visit o0 o1 o2 e0 e1 e2 h0 h1 h2 before ran visits (inl (same, quiet, unhanded)) =
     let more = some_visits command.selection w mid in (
       ran.visits,
       more.0,
@@ -207,9 +210,10 @@ ran_some command (Some w) old mid new visit o0 o1 o2 e0 e1 e2 before ran visits 
         kept o0 o1 o2 ran.totals.out ran.written.on_out same,
         kept e0 e1 e2 (shown_errors command ran.totals.errors) ran.written.on_err
             quiet,
+        unhanded ∙ ran.written.handed,
       ),
     )
-ran_some command (Some w) old mid new visit o0 o1 o2 e0 e1 e2 before ran visits (inr (one, is, begun)) =
+ran_some command (Some w) old mid new visit o0 o1 o2 e0 e1 e2 h0 h1 h2 before ran visits (inr (one, is, begun)) =
     let more = some_visits command.selection w new in (
       ran.visits ++ visit ∷ [],
       more.0,
@@ -222,45 +226,56 @@ ran_some command (Some w) old mid new visit o0 o1 o2 e0 e1 e2 before ran visits 
         subst (λ (z : List ℕ). AppendsBeginning e0 e2 z) (told_both command ran.totals.errors one.errors)
             (more_of e0 e1 e2 (shown_errors command ran.totals.errors) (shown_errors command one.errors)
             ran.written.on_err begun.1),
+        hands_both h0 h1 h2 ran.totals.handed one.handed ran.written.handed begun.2,
       ),
     )
 
 -- the first write failed
-pub out_failed : (command : Command) (holds : Option World) (visit : Visited) (one : Findings)
-    (o0 o1 e0 : Option (List ℕ)) → IfSome holds (λ w. IsReport command w visit one) → AppendsBeginning o0 o1 one.out
-    → IfSome holds (λ w. WritesSome command w visit (record { out_old = o0; out_new = o1; err_old = e0; err_new = e0 }))
-out_failed command None visit one o0 o1 e0 is begun = tt
-out_failed command (Some w) visit one o0 o1 e0 is begun = inr (one, is, (begun, (0, Appends-nil e0)))
+pub out_failed : {A : Type 0} (command : Command) (holds : Option World) (visit : Visited) (one : Report A)
+    (o0 o1 e0 : Option (List ℕ)) (h0 h1 : Option (List Replacement))
+    → IfSome holds (λ w. Reports (IsReport command w visit) one h0 h1) → AppendsBeginning o0 o1 one.out.items
+    → IfSome holds (λ w. WritesSome command w visit (written_on o0 o1 e0 e0 h0 h1))
+out_failed command None visit one o0 o1 e0 h0 h1 is begun = tt
+out_failed command (Some w) visit one o0 o1 e0 h0 h1 (handed, is, on) begun =
+    inr (with_handed handed one, is, (begun, (0, Appends-nil e0), on))
 
 -- the second write failed
-pub err_failed : (command : Command) (holds : Option World) (visit : Visited) (one : Findings)
-    (o0 o1 e0 e1 : Option (List ℕ)) → IfSome holds (λ w. IsReport command w visit one) → Appends o0 o1 one.out
-    → AppendsBeginning e0 e1 (shown_errors command one.errors) → IfSome holds (λ w. WritesSome command w visit
-    (record { out_old = o0; out_new = o1; err_old = e0; err_new = e1 }))
-err_failed command None visit one o0 o1 e0 e1 is all begun = tt
-err_failed command (Some w) visit one o0 o1 e0 e1 is all begun = inr (one, is, (all_of o0 o1 one.out all, begun))
+pub err_failed : {A : Type 0} (command : Command) (holds : Option World) (visit : Visited) (one : Report A)
+    (o0 o1 e0 e1 : Option (List ℕ)) (h0 h1 : Option (List Replacement))
+    → IfSome holds (λ w. Reports (IsReport command w visit) one h0 h1) → Appends o0 o1 one.out.items
+    → AppendsBeginning e0 e1 (shown_errors command one.errors.items)
+    → IfSome holds (λ w. WritesSome command w visit (written_on o0 o1 e0 e1 h0 h1))
+err_failed command None visit one o0 o1 e0 e1 h0 h1 is all begun = tt
+err_failed command (Some w) visit one o0 o1 e0 e1 h0 h1 (handed, is, on) all begun =
+    inr (with_handed handed one, is, (all_of o0 o1 one.out.items all, begun, on))
+
+-- all was written
+pub all_written : {A : Type 0} (command : Command) (holds : Option World) (visit : Visited) (one : Report A)
+    (o0 o1 e0 e1 : Option (List ℕ)) (h0 h1 : Option (List Replacement)) (tally : Tally)
+    → IfSome holds (λ w. Reports (IsReport command w visit) one h0 h1) → Appends o0 o1 one.out.items
+    → Appends e0 e1 (shown_errors command one.errors.items) → tally ≡ tally_of (totals_of (with_handed [] one))
+    → IfSome holds (λ w. WritesReport command w visit (written_on o0 o1 e0 e1 h0 h1) tally)
+all_written command None visit one o0 o1 e0 e1 h0 h1 tally is out err tally_is = tt
+all_written command (Some w) visit one o0 o1 e0 e1 h0 h1 tally (handed, is, on) out err tally_is =
+    (with_handed handed one, is, record { on_out = out; on_err = err; handed = on; tally_is = tally_is })
 
 -- it was told how much was read and found
 pub walk_told : (command : Command) (holds : Option World) (spots : List Spot) (o0 o1 o2 e0 e1 : Option (List ℕ))
-    (tally : Tally)
-    → IfSome holds (λ w. WritesReports command w spots
-    (record { out_old = o0; out_new = o1; err_old = e0; err_new = e1 }) tally)
+    (h0 h1 : Option (List Replacement)) (tally : Tally)
+    → IfSome holds (λ w. WritesReports command w spots (written_on o0 o1 e0 e1 h0 h1) tally)
     → Appends o1 o2 (shown_stats command tally)
-    → IfSome holds (λ w. WritesWalk command w spots
-    (record { out_old = o0; out_new = o2; err_old = e0; err_new = e1 }) tally)
-walk_told command None spots o0 o1 o2 e0 e1 tally writes told = tt
-walk_told command (Some w) spots o0 o1 o2 e0 e1 tally writes told = (o1, writes, told)
+    → IfSome holds (λ w. WritesWalk command w spots (written_on o0 o2 e0 e1 h0 h1) tally)
+walk_told command None spots o0 o1 o2 e0 e1 h0 h1 tally writes told = tt
+walk_told command (Some w) spots o0 o1 o2 e0 e1 h0 h1 tally writes told = (o1, writes, told)
 
 -- that failed
 pub walk_untold : (command : Command) (holds : Option World) (spots : List Spot) (o0 o1 o2 e0 e1 : Option (List ℕ))
-    (tally : Tally)
-    → IfSome holds (λ w. WritesReports command w spots
-    (record { out_old = o0; out_new = o1; err_old = e0; err_new = e1 }) tally)
+    (h0 h1 : Option (List Replacement)) (tally : Tally)
+    → IfSome holds (λ w. WritesReports command w spots (written_on o0 o1 e0 e1 h0 h1) tally)
     → AppendsBeginning o1 o2 (shown_stats command tally)
-    → IfSome holds (λ w. WritesFront command w spots
-    (record { out_old = o0; out_new = o2; err_old = e0; err_new = e1 }))
-walk_untold command None spots o0 o1 o2 e0 e1 tally writes told = tt
-walk_untold command (Some w) spots o0 o1 o2 e0 e1 tally writes told = inr (o1, tally, writes, told)
+    → IfSome holds (λ w. WritesFront command w spots (written_on o0 o2 e0 e1 h0 h1))
+walk_untold command None spots o0 o1 o2 e0 e1 h0 h1 tally writes told = tt
+walk_untold command (Some w) spots o0 o1 o2 e0 e1 h0 h1 tally writes told = inr (o1, tally, writes, told)
 
 -- the walk ended early
 pub walk_cut : (command : Command) (holds : Option World) (spots : List Spot) (streams : Streams)

@@ -47,9 +47,11 @@ abbrev pub paths_read : Bool → List (List ℕ) → List (List ℕ)
 paths_read is_terminal [] = cond is_terminal (codes ".") (codes "-") ∷ []
 paths_read is_terminal (path ∷ paths) = path ∷ paths
 
--- nothing was written
+-- nothing was written, and nothing handed on
 abbrev pub WritesNothing : Streams → Type 0
-WritesNothing streams = Keeps streams.out_old streams.out_new × Keeps streams.err_old streams.err_new
+WritesNothing streams =
+    Keeps streams.out_old streams.out_new × Keeps streams.err_old streams.err_new
+    × (streams.handed_new ≡ streams.handed_old)
 
 -- paths were named, and nothing was visited
 abbrev pub finds_no_file : Bool → Tally → Bool
@@ -59,7 +61,7 @@ finds_no_file has_paths tally = has_paths && (tally.visited == 0)
 abbrev pub RunsWith : Command → Option World → Bool → List Spot → Streams → ℕ → Type 0
 RunsWith command holds has_paths spots streams status =
     (tally : Tally) × IfSome holds (λ w. WritesWalk command w spots streams tally)
-    × (finds_no_file has_paths tally ≡ false) × (asked_status command.wish command.searches command.shown tally
+    × (finds_no_file has_paths tally ≡ false) × (asked_status command tally
     ≡ status)
 
 -- nothing was visited, though paths were named
@@ -161,7 +163,7 @@ EndsScan wishes is_terminal holds streams ending =
 abbrev pub EndsWriting : {B : Type 0} → Streams → Ending (CallError B) → Type 0
 EndsWriting streams ending =
     (text : List ℕ) × EndsText text streams.out_old streams.out_new ending
-    × Keeps streams.err_old streams.err_new
+    × Keeps streams.err_old streams.err_new × (streams.handed_new ≡ streams.handed_old)
 
 -- how a call ends that asks for this: as a run over files, or as the writing of how the program is used, or of its
 -- version

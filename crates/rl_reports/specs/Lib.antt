@@ -1,6 +1,9 @@
 pub mod Meant
 pub mod Words
 pub mod Reports
+pub mod Restyling
+pub mod Visits
+pub mod Rules
 pub mod Stats
 pub mod Runs
 pub mod Listed

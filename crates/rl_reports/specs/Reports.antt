@@ -1,14 +1,15 @@
--- What is reported of what a walk visits. All are lists of bytes, but where `chars` makes characters of
+-- What is reported of a text, of a file that is listed, and of what can't be read. All are lists of bytes, but where `chars` makes characters of
 -- them.
-use Rattle.std.specs.Prelude.{◌≡◌, ◌⊎◌, ℕ, ◌==◌, Bool, true, false, cond, not, ◌&&◌, ◌||◌, List, [], ◌∷◌, ◌++◌, ◌+◌, length, codes, MatchBool, MatchOption, string_bytes, encode_utf8_all, Option, Some, None, is_some}
+use Rattle.std.specs.Prelude.{◌≡◌, ◌⊎◌, ℕ, ◌==◌, Bool, true, false, cond, not, ◌&&◌, ◌||◌, List, [], ◌∷◌, ◌++◌, length, codes, MatchBool, MatchOption, encode_utf8_all, Option, Some, None, is_some, option_map}
 use denote.Ref.{Bor}
 use Rattle.std.specs.declared.result.Result.TheVariants.{Ok, Err}
 use Rattle.std.specs.Fmt.{decimal}
 use Rattle.std.specs.List.{count_by}
 use Rattle.std.specs.Str.{chars, bytes_eq, IsUtf8, IsValidUpTo}
+use Rattle.rl_files.specs.Replacements.{Replacement}
 use Rattle.rl_files.specs.Trees.{World}
 use Rattle.rl_files.specs.Visible.{visible}
-use Rattle.rl_files.specs.Walks.{Visited, FileAt, ErrorAt, path_error_message}
+use Rattle.rl_files.specs.Walks.{path_error_message}
 use Rattle.rl_files.specs.declared.tree.PathError.{PathError}
 use Rattle.rl_files.specs.declared.tree.PathError.TheVariants.{NotUtf8, OutOfMemory}
 use Rattle.rl_lexer.specs.declared.lex_error.LexKind.{LexKind}
@@ -31,7 +32,6 @@ use Rattle.rl_output.specs.Colors.{painted}
 use Rattle.rl_output.specs.Forms.{is_json}
 use Rattle.rl_output.specs.Fronts.{line_front}
 use Rattle.rl_sources.specs.Scans.{Scans, StopsAtError, error_end}
-use Rattle.rl_reports.specs.Words.{lists_files}
 
 -- the path of standard input
 abbrev pub is_input : List ℕ → Bool
@@ -158,23 +158,33 @@ abbrev pub listed_of : Output → Bool → Form → Option (Bor (List ℕ)) → 
 listed_of output.Nothing nul form path = []
 listed_of _ nul form path = path_line nul form path
 
--- What is written on standard output and on standard error, whether a text was read, whether something was found, and
--- how many findings there are, where that is asked for.
+-- these were handed on, to be written in place of files, where that is known
+abbrev pub HandsOn : Option (List Replacement) → Option (List Replacement) → List Replacement → Type 0
+HandsOn old new handed = new ≡ option_map (λ before. before ++ handed) old
+
+-- What is written on standard output and on standard error, what is handed on to be written in place of files, whether a text
+-- was read, whether something was found, and how many findings there are, where that is asked for.
 pub record Findings : Type 0 where
   pub out : List ℕ
   pub errors : List ℕ
+  pub handed : List Replacement
   pub read : Bool
   pub found : Bool
   pub count : ℕ
 
-abbrev pub in_report : {A : Type 0} → Report A → Findings
-in_report report = record {
+-- this is handed on beside what a report has
+abbrev pub with_handed : {A : Type 0} → List Replacement → Report A → Findings
+with_handed handed report = record {
   out = report.out.items;
-  errors = string_bytes report.errors;
+  errors = report.errors.items;
+  handed = handed;
   read = report.read;
   found = report.found;
   count = report.count;
 }
+
+abbrev pub in_report : {A : Type 0} → Report A → Findings
+in_report report = with_handed [] report
 
 -- the lines of a text without those of context: these, where it has none
 abbrev pub AreBareLines : Options → List ℕ → List ℕ → List ℕ → Type 0
@@ -196,6 +206,7 @@ pub record IsReportOf (command : Command) (options : Options) (path : Option (Bo
   pub out : printed.out
       ≡ printed_of command.output command.nul_after_paths options.form path lines
   pub errors : printed.errors ≡ error
+  pub handed : printed.handed ≡ []
   pub read : printed.read ≡ true
   pub found : printed.found ≡ not (length lines == 0)
 
@@ -214,6 +225,7 @@ pub record IsListReport (command : Command) (path : List ℕ) (printed : Finding
   pub named_is : IsPathIn command.nul_after_paths path named
   pub out : printed.out ≡ listed_of command.output command.nul_after_paths command.form named
   pub errors : printed.errors ≡ []
+  pub handed : printed.handed ≡ []
   pub read : printed.read ≡ false
   pub found : printed.found ≡ true
   pub count : printed.count ≡ 0
@@ -221,6 +233,7 @@ pub record IsListReport (command : Command) (path : List ℕ) (printed : Finding
 -- Of a path that can't be read one line is reported.
 pub record IsErrorReport (path : List ℕ) (why : PathError) (printed : Findings) : Type 0 where
   pub out : printed.out ≡ []
+  pub handed : printed.handed ≡ []
   pub read : printed.read ≡ false
   pub found : printed.found ≡ false
   pub count : printed.count ≡ 0
@@ -236,71 +249,3 @@ abbrev pub IsReadError : World → List ℕ → PathError → Type 0
 IsReadError w path why =
     (why ≡ OutOfMemory) ⊎ (w.bytes path ≡ Err why)
     ⊎ ((bytes : List ℕ) × (w.bytes path ≡ Ok bytes) × IsNotUtf8 bytes why)
-
--- what is reported of a file that is read
-abbrev pub IsReadReport : Command → World → List ℕ → Findings → Type 0
-IsReadReport command w path printed =
-    ((text : List ℕ) × (w.bytes path ≡ Ok text) × IsUtf8 text × IsTextReport command path text printed)
-    ⊎ ((why : PathError) × IsReadError w path why × IsErrorReport path why printed)
-
--- what is reported of a file, which is listed or read, or of a path that can't be gone into
-abbrev pub IsReport : Command → World → Visited → Findings → Type 0
-IsReport command w (FileAt path) printed =
-    ((lists_files command.wish ≡ true) × IsListReport command path printed)
-    ⊎ ((lists_files command.wish ≡ false) × IsReadReport command w path printed)
-IsReport command w (ErrorAt path why) printed = IsErrorReport path why printed
-
--- What is written of all that is visited, how much that is, how many texts were read, how many have findings, how many
--- findings there are, and of how much an error is reported.
-pub record Totals : Type 0 where
-  pub out : List ℕ
-  pub errors : List ℕ
-  pub visited : ℕ
-  pub read : ℕ
-  pub with_findings : ℕ
-  pub findings : ℕ
-  pub with_errors : ℕ
-
--- of nothing, of one, and of one after another
-abbrev pub nothing : Totals
-nothing = record {
-  out = [];
-  errors = [];
-  visited = 0;
-  read = 0;
-  with_findings = 0;
-  findings = 0;
-  with_errors = 0;
-}
-
-abbrev pub one_if : Bool → ℕ
-one_if is = cond is 1 0
-
-abbrev pub totals_of : Findings → Totals
-totals_of one = record {
-  out = one.out;
-  errors = one.errors;
-  visited = 1;
-  read = one_if one.read;
-  with_findings = one_if one.found;
-  findings = one.count;
-  with_errors = one_if (not (length one.errors == 0));
-}
-
-abbrev pub both_of : Totals → Totals → Totals
-both_of first second = record {
-  out = first.out ++ second.out;
-  errors = first.errors ++ second.errors;
-  visited = first.visited + second.visited;
-  read = first.read + second.read;
-  with_findings = first.with_findings + second.with_findings;
-  findings = first.findings + second.findings;
-  with_errors = first.with_errors + second.with_errors;
-}
-
--- what is reported of all that is visited, in order
-abbrev pub AreReports : Command → World → List Visited → Totals → Type 0
-AreReports command w [] totals = totals ≡ nothing
-AreReports command w (visit ∷ visits) totals =
-    (first : Findings) × (others : Totals) × IsReport command w visit first × AreReports command w visits others
-    × (totals ≡ both_of (totals_of first) others)

@@ -21,6 +21,8 @@ use Rattle.rl_reports.specs.Reports.{Findings, IsErrorReport, IsPathIn, IsShownP
 pub record PrintsAlone (out : List ℕ) (found : Bool) (handed : List Replacement) (printed : Findings) : Type 0 where
   pub out_is : printed.out ≡ out
   pub errors_are : printed.errors ≡ []
+  pub read_is : printed.read ≡ true
+  pub count_is : printed.count ≡ 0
   pub found_is : printed.found ≡ found
   pub handed_is : printed.handed ≡ handed
 
@@ -87,6 +89,8 @@ IsChanged Fix command options path named text new edits printed =
 pub record PrintsRejections (lines : List ℕ) (printed : Findings) : Type 0 where
   pub out_is : printed.out ≡ []
   pub errors_are : printed.errors ≡ lines
+  pub read_is : printed.read ≡ true
+  pub count_is : printed.count ≡ 0
   pub found_is : printed.found ≡ false
   pub handed_is : printed.handed ≡ []
 
@@ -98,5 +102,5 @@ IsRestyledReport restyling command path text printed =
     × IsJudging command.edition (is_by_line command.places path) shown options × AreRejections options text lines
     × (((length lines == 0) ≡ false) × PrintsRejections lines printed
     ⊎ ((lines ≡ []) × ((new : List ℕ) × (edits : List (ℕ × ℕ × List ℕ)) × IsUtf8 new
-    × IsRestyledAs command.style command.macros (chars text) (chars new) edits
+    × IsRestyledAs command.rules command.macros (chars text) (chars new) edits
     × IsChanged restyling command options path named text new edits printed)))

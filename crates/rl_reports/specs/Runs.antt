@@ -1,34 +1,41 @@
 -- What a run over a walk writes, and the status that it ends with.
-use Rattle.std.specs.Prelude.{◌≡◌, ◌⊎◌, ℕ, ◌==◌, ◌+◌, Bool, cond, not, ◌&&◌, List, [], ◌++◌, Option}
+use Rattle.std.specs.Prelude.{◌≡◌, ◌⊎◌, ℕ, ◌==◌, ◌+◌, Bool, cond, not, ◌&&◌, List, [], ◌++◌, Option, Some, None}
 use Rattle.std.specs.Io.Iter.{u64_saturate}
 use Rattle.std.specs.Io.KnownBytes.{Appends, Keeps}
+use Rattle.rl_files.specs.Replacements.{Replacement}
 use Rattle.rl_files.specs.Trees.{World}
 use Rattle.rl_files.specs.Walks.{Spot, Visited, Visits}
 use Rattle.rl_program.specs.Streams.{AppendsBeginning}
 use Rattle.rl_reports.specs.declared.command.Command.{Command}
 use Rattle.rl_sources.specs.declared.options.Shown.{Shown}
 use Rattle.rl_sources.specs.declared.options.Shown.TheVariants.{All}
-use Rattle.rl_reports.specs.declared.command.Wish.{Wish}
+use Rattle.rl_reports.specs.declared.command.Restyling.{Restyling}
+use Rattle.rl_reports.specs.declared.command.Restyling.TheVariants.{Fix, Check, Diff}
 use Rattle.rl_reports.specs.declared.runs.Tally.{Tally}
-use Rattle.rl_reports.specs.Reports.{Findings, Totals, totals_of, IsReport, AreReports, is_alarm}
+use Rattle.rl_reports.specs.Reports.{Findings, HandsOn, is_alarm}
+use Rattle.rl_reports.specs.Visits.{AreReports, IsReport, Totals, totals_of}
 use Rattle.rl_reports.specs.Stats.{tally_of, shown_stats}
 use Rattle.rl_reports.specs.Words.{lists_files}
 
--- The bytes that two writers held before and hold now: standard output and standard error.
+-- The bytes that two writers held before and hold now, standard output and standard error; and what was handed on before and
+-- now, to be written in place of files.
 pub record Streams : Type 0 where
   pub out_old : Option (List ℕ)
   pub out_new : Option (List ℕ)
   pub err_old : Option (List ℕ)
   pub err_new : Option (List ℕ)
+  pub handed_old : Option (List Replacement)
+  pub handed_new : Option (List Replacement)
 
 -- what is told of errors: nothing, where that isn't wanted
 abbrev pub shown_errors : Command → List ℕ → List ℕ
 shown_errors command errors = cond command.tells_errors errors []
 
--- All of this was written, and it is returned how much that is.
+-- All of this was written and handed on, and it is returned how much that is.
 pub record IsWritten (command : Command) (streams : Streams) (totals : Totals) (tally : Tally) : Type 0 where
   pub on_out : Appends streams.out_old streams.out_new totals.out
   pub on_err : Appends streams.err_old streams.err_new (shown_errors command totals.errors)
+  pub handed : HandsOn streams.handed_old streams.handed_new totals.handed
   pub tally_is : tally ≡ tally_of totals
 
 -- both together
@@ -62,16 +69,18 @@ WritesWalk command w spots streams tally =
     (middle : Option (List ℕ)) × WritesReports command w spots (up_to middle streams) tally
     × Appends middle streams.out_new (shown_stats command tally)
 
--- a beginning of this was written
+-- a beginning of this was written, and all was handed on
 abbrev pub WritesBeginning : Command → Streams → Totals → Type 0
 WritesBeginning command streams totals =
     AppendsBeginning streams.out_old streams.out_new totals.out
     × AppendsBeginning streams.err_old streams.err_new (shown_errors command totals.errors)
+    × HandsOn streams.handed_old streams.handed_new totals.handed
 
 -- what was written of one visit where that failed: nothing, or a beginning of what is reported
 abbrev pub WritesSome : Command → World → Visited → Streams → Type 0
 WritesSome command w visit streams =
-    (Keeps streams.out_old streams.out_new × Keeps streams.err_old streams.err_new)
+    (Keeps streams.out_old streams.out_new × Keeps streams.err_old streams.err_new
+    × (streams.handed_new ≡ streams.handed_old))
     ⊎ ((printed : Findings) × IsReport command w visit printed
     × WritesBeginning command streams (totals_of printed))
 
@@ -106,7 +115,19 @@ run_status shown tally = cond (has_errors tally) 2 (cond (is_alarm shown && has_
 abbrev pub find_status : Tally → ℕ
 find_status tally = cond (has_errors tally) 2 (cond (has_findings tally) 0 1)
 
--- the status of a run, by whether files were listed, a text was looked for, and what was wanted
-abbrev pub asked_status : Wish → Bool → Shown → Tally → ℕ
-asked_status wish searches shown tally = cond (lists_files wish) (run_status All tally)
-    (cond searches (find_status tally) (run_status shown tally))
+-- The status of a run in which literals are written anew: 2 where an error was reported; else 1 where something would change;
+-- else 0.
+abbrev pub restyle_status : Restyling → Tally → ℕ
+restyle_status Fix tally = cond (has_errors tally) 2 0
+restyle_status Check tally = cond (has_errors tally) 2 (cond (has_findings tally) 1 0)
+restyle_status Diff tally = cond (has_errors tally) 2 (cond (has_findings tally) 1 0)
+
+-- the status of a run that reads files
+abbrev pub read_status : Option Restyling → Command → Tally → ℕ
+read_status (Some restyling) command tally = restyle_status restyling tally
+read_status None command tally = cond command.searches (find_status tally) (run_status command.shown tally)
+
+-- the status of a run, by whether files were listed, and what was wanted of those that were read
+abbrev pub asked_status : Command → Tally → ℕ
+asked_status command tally = cond (lists_files command.wish) (run_status All tally)
+    (read_status command.restyle command tally)

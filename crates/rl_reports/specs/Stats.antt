@@ -6,7 +6,7 @@ use Rattle.rl_output.specs.declared.form.Form.{Form}
 use Rattle.rl_output.specs.Forms.{is_json}
 use Rattle.rl_reports.specs.declared.command.Command.{Command}
 use Rattle.rl_reports.specs.declared.runs.Tally.{Tally}
-use Rattle.rl_reports.specs.Reports.{Totals}
+use Rattle.rl_reports.specs.Visits.{Totals}
 
 -- how much it is in a tally: of each count, the largest number of 64 bits where there are more
 abbrev pub tally_of : Totals → Tally

@@ -1,5 +1,5 @@
 -- What is reported of what a walk visits. All are lists of bytes.
-use Rattle.std.specs.Prelude.{◌≡◌, ◌⊎◌, ℕ, true, false, ◌||◌, List, [], ◌∷◌, ◌++◌, Option, Some, None}
+use Rattle.std.specs.Prelude.{◌≡◌, ◌⊎◌, ℕ, ◌+◌, ◌==◌, Bool, true, false, not, cond, List, [], ◌∷◌, ◌++◌, length, Option, Some, None}
 use Rattle.std.specs.declared.result.Result.TheVariants.{Ok}
 use Rattle.std.specs.Str.{IsUtf8}
 use Rattle.rl_files.specs.Replacements.{Replacement}
@@ -21,14 +21,14 @@ IsWantedReport (Some restyling) command path text printed = IsRestyledReport res
 -- what is reported of bytes, which may be no text
 abbrev pub IsBytesReport : Command → List ℕ → List ℕ → Findings → Type 0
 IsBytesReport command path bytes printed =
-    (IsUtf8 bytes × IsWantedReport command.restyling command path bytes printed)
+    (IsUtf8 bytes × IsWantedReport command.restyle command path bytes printed)
     ⊎ ((why : PathError) × IsNotUtf8 bytes why × IsErrorReport path why printed)
 
 -- what is reported of a file that is read
 abbrev pub IsReadReport : Command → World → List ℕ → Findings → Type 0
 IsReadReport command w path printed =
     ((text : List ℕ) × (w.bytes path ≡ Ok text) × IsUtf8 text
-    × IsWantedReport command.restyling command path text printed)
+    × IsWantedReport command.restyle command path text printed)
     ⊎ ((why : PathError) × IsReadError w path why × IsErrorReport path why printed)
 
 -- what is reported of a file, which is listed or read, or of a path that can't be gone into
@@ -44,21 +44,61 @@ abbrev pub Reports : {A : Type 0} → (Findings → Type 0) → Report A → Opt
 Reports IsThis report old new =
     (handed : List Replacement) × IsThis (with_handed handed report) × HandsOn old new handed
 
--- nothing, and one after another
-abbrev pub nothing : Findings
-nothing = record { out = []; errors = []; handed = []; found = false }
+-- What is written of all that is visited, what is handed on, how much that is, how many texts were read, how many have findings, how many
+-- findings there are, and of how much an error is reported.
+pub record Totals : Type 0 where
+  pub out : List ℕ
+  pub errors : List ℕ
+  pub handed : List Replacement
+  pub visited : ℕ
+  pub read : ℕ
+  pub with_findings : ℕ
+  pub findings : ℕ
+  pub with_errors : ℕ
 
-abbrev pub both_of : Findings → Findings → Findings
+-- of nothing, of one, and of one after another
+abbrev pub nothing : Totals
+nothing = record {
+  out = [];
+  errors = [];
+  handed = [];
+  visited = 0;
+  read = 0;
+  with_findings = 0;
+  findings = 0;
+  with_errors = 0;
+}
+
+abbrev pub one_if : Bool → ℕ
+one_if is = cond is 1 0
+
+abbrev pub totals_of : Findings → Totals
+totals_of one = record {
+  out = one.out;
+  errors = one.errors;
+  handed = one.handed;
+  visited = 1;
+  read = one_if one.read;
+  with_findings = one_if one.found;
+  findings = one.count;
+  with_errors = one_if (not (length one.errors == 0));
+}
+
+abbrev pub both_of : Totals → Totals → Totals
 both_of first second = record {
   out = first.out ++ second.out;
   errors = first.errors ++ second.errors;
   handed = first.handed ++ second.handed;
-  found = first.found || second.found;
+  visited = first.visited + second.visited;
+  read = first.read + second.read;
+  with_findings = first.with_findings + second.with_findings;
+  findings = first.findings + second.findings;
+  with_errors = first.with_errors + second.with_errors;
 }
 
 -- what is reported of all that is visited, in order
-abbrev pub AreReports : Command → World → List Visited → Findings → Type 0
-AreReports command w [] printed = printed ≡ nothing
-AreReports command w (visit ∷ visits) printed =
-    (first : Findings) × (others : Findings) × IsReport command w visit first × AreReports command w visits others
-    × (printed ≡ both_of first others)
+abbrev pub AreReports : Command → World → List Visited → Totals → Type 0
+AreReports command w [] totals = totals ≡ nothing
+AreReports command w (visit ∷ visits) totals =
+    (first : Findings) × (others : Totals) × IsReport command w visit first × AreReports command w visits others
+    × (totals ≡ both_of (totals_of first) others)

@@ -1,7 +1,9 @@
 //! What a call of the program asks for.
 
 use rl_files::Selection;
+pub use rl_restyled::Macros;
 use rl_sources::{Edition, Form, Matching, Shown, Spelling};
+use rl_style::Style;
 
 /// What a call asks for.
 #[derive(Clone, Copy)]
@@ -38,6 +40,17 @@ pub enum Output {
     Path,
     /// Nothing.
     Nothing,
+}
+
+/// What is done with literals that a style writes otherwise.
+#[derive(Clone, Copy)]
+pub enum Restyling {
+    /// Files are written anew.
+    Fix,
+    /// It is printed what would change.
+    Check,
+    /// The same, as a unified diff.
+    Diff,
 }
 
 /// What a call asks for, but for the paths.
@@ -83,6 +96,12 @@ pub struct Command<'a> {
     pub tells_errors: bool,
     /// Whether it is told after all how much was read and found.
     pub tells_stats: bool,
+    /// What is done with literals that a style writes otherwise, where that is asked for in place of what is printed.
+    pub restyle: Option<Restyling>,
+    /// The rules of the style.
+    pub rules: Style,
+    /// Which literals in calls of macros are written anew.
+    pub macros: Macros,
 }
 
 /// What a call knows of where it runs.

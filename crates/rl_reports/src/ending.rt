@@ -13,7 +13,7 @@ use crate::listed::push_all_listed;
 use crate::report::visible_text;
 use crate::runs::{RunStop, Tally, run};
 use crate::words::{Asked, WordError, asked_by};
-use rl_files::{PathError, Selection, Tree, Walk, WalkError};
+use rl_files::{PathError, Replace, Selection, Tree, Walk, WalkError};
 use rl_program::{Ending, RunError, WriteError, write_bytes};
 use rl_sources::Shown;
 use std::alloc::{AllocError, Allocator, Global};
@@ -190,14 +190,15 @@ fn add_usual<A: Allocator + Copy>(
 
 /// The status that a run ends with which found this.
 fn status_of(command: Command<'_>, tally: Tally) -> u8
-    ensures { result ≡ asked_status command.entry.wish command.entry.searches command.entry.shown tally }
+    ensures { result ≡ asked_status command.entry tally }
 {
     if lists_files(command.wish) {
-        tally.status(Shown::All)
-    } else if command.searches {
-        tally.find_status()
-    } else {
-        tally.status(command.shown)
+        return tally.status(Shown::All);
+    }
+    match command.restyle {
+        Some(restyling) => tally.restyle_status(restyling),
+        None if command.searches => tally.find_status(),
+        None => tally.status(command.shown),
     }
 }
 
@@ -209,7 +210,7 @@ fn is_in_vain(has_paths: bool, tally: Tally) -> bool
 }
 
 /// Scans the files of a walk of paths, of which there are some or none.
-fn scan_walk<A: Allocator + Copy, T: Tree, W: Write, E: Write>(
+fn scan_walk<A: Allocator + Copy, T: Tree, W: Write, E: Write, F: Replace>(
     alloc: A,
     command: Command<'_>,
     tree: &T,
@@ -217,15 +218,18 @@ fn scan_walk<A: Allocator + Copy, T: Tree, W: Write, E: Write>(
     walk: &mut Walk<A>,
     out: &mut W,
     err: &mut E,
+    files: &mut F,
 ) -> Ending<CallError<A>>
     ensures { EndsRun command.entry (T.holds tree.now) has_paths walk.old (record {
       out_old = W.contents out.old;
       out_new = W.contents out.new;
       err_old = E.contents err.old;
       err_new = E.contents err.new;
+      handed_old = F.handed files.old;
+      handed_new = F.handed files.new;
     }) result }
 {
-    match run(alloc, command, tree, walk, out, err) {
+    match run(alloc, command, tree, walk, out, err, files) {
         Ok(tally) if is_in_vain(has_paths, tally) => Ending::Failed(CallError::NoFile),
         Ok(tally) => match status_of(command, tally) {
             0 => Ending::Done,
@@ -238,30 +242,33 @@ fn scan_walk<A: Allocator + Copy, T: Tree, W: Write, E: Write>(
 }
 
 /// Scans the files that paths name.
-fn scan_paths<A: Allocator + Copy, T: Tree, W: Write, E: Write>(
+fn scan_paths<A: Allocator + Copy, T: Tree, W: Write, E: Write, F: Replace>(
     alloc: A,
     command: Command<'_>,
     tree: &T,
     paths: &mut Vec<String<A>, A>,
     out: &mut W,
     err: &mut E,
+    files: &mut F,
 ) -> Ending<CallError<A>>
     ensures { EndsPaths command.entry (T.holds tree.now) (string_texts paths.old.items) (record {
       out_old = W.contents out.old;
       out_new = W.contents out.new;
       err_old = E.contents err.old;
       err_new = E.contents err.new;
+      handed_old = F.handed files.old;
+      handed_new = F.handed files.new;
     }) result }
 {
     let has_paths = !paths.is_empty();
     match Walk::of_paths(alloc, paths) {
-        Ok(mut walk) => scan_walk(alloc, command, tree, has_paths, &mut walk, out, err),
+        Ok(mut walk) => scan_walk(alloc, command, tree, has_paths, &mut walk, out, err, files),
         Err(_) => Ending::Failed(CallError::Walk(WalkError::OutOfMemory)),
     }
 }
 
 /// Scans the files that paths name; where there are none, `.` or standard input.
-fn scan_named<A: Allocator + Copy, T: Tree, W: Write, E: Write>(
+fn scan_named<A: Allocator + Copy, T: Tree, W: Write, E: Write, F: Replace>(
     alloc: A,
     command: Command<'_>,
     is_terminal: bool,
@@ -269,6 +276,7 @@ fn scan_named<A: Allocator + Copy, T: Tree, W: Write, E: Write>(
     paths: &mut Vec<String<A>, A>,
     out: &mut W,
     err: &mut E,
+    files: &mut F,
 ) -> Ending<CallError<A>>
     ensures { EndsPaths command.entry (T.holds tree.now)
         (paths_read is_terminal (string_texts paths.old.items)) (record {
@@ -276,10 +284,12 @@ fn scan_named<A: Allocator + Copy, T: Tree, W: Write, E: Write>(
           out_new = W.contents out.new;
           err_old = E.contents err.old;
           err_new = E.contents err.new;
+          handed_old = F.handed files.old;
+          handed_new = F.handed files.new;
         }) result }
 {
     match add_usual(alloc, is_terminal, paths) {
-        Ok(()) => scan_paths(alloc, command, tree, paths, out, err),
+        Ok(()) => scan_paths(alloc, command, tree, paths, out, err, files),
         Err(_) => Ending::Failed(CallError::Walk(WalkError::OutOfMemory)),
     }
 }
@@ -295,7 +305,7 @@ fn list_error<A: Allocator + Copy>(alloc: A, file: &str, why: PathError) -> Endi
 }
 
 /// Scans the files that paths name, and those that files name.
-fn scan_listed<A: Allocator + Copy, T: Tree, W: Write, E: Write>(
+fn scan_listed<A: Allocator + Copy, T: Tree, W: Write, E: Write, F: Replace>(
     alloc: A,
     command: Command<'_>,
     files: &[&str],
@@ -303,16 +313,19 @@ fn scan_listed<A: Allocator + Copy, T: Tree, W: Write, E: Write>(
     paths: &mut Vec<String<A>, A>,
     out: &mut W,
     err: &mut E,
+    files: &mut F,
 ) -> Ending<CallError<A>>
     ensures { EndsListed command.entry (borrowed_texts files.now) (T.holds tree.now) (string_texts paths.old.items) (record {
       out_old = W.contents out.old;
       out_new = W.contents out.new;
       err_old = E.contents err.old;
       err_new = E.contents err.new;
+      handed_old = F.handed files.old;
+      handed_new = F.handed files.new;
     }) result }
 {
     match push_all_listed(alloc, tree, files, paths) {
-        Ok(()) => scan_paths(alloc, command, tree, paths, out, err),
+        Ok(()) => scan_paths(alloc, command, tree, paths, out, err, files),
         Err(unread) => list_error(alloc, unread.file, unread.why),
     }
 }
@@ -366,23 +379,29 @@ fn selecting<'a>(
         files_from: lists,
         tells_errors: command.tells_errors,
         tells_stats: command.tells_stats,
+        restyle: command.restyle,
+        rules: command.rules,
+        macros: command.macros,
     }
 }
 
 /// Scans what the words ask for.
-fn scan_asked<A: Allocator + Copy, T: Tree, W: Write, E: Write>(
+fn scan_asked<A: Allocator + Copy, T: Tree, W: Write, E: Write, F: Replace>(
     alloc: A,
     asked: Asked<'_, A>,
     is_terminal: bool,
     tree: &T,
     out: &mut W,
     err: &mut E,
+    files: &mut F,
 ) -> Ending<CallError<A>>
     ensures { EndsScan (wishes_in asked.entry) is_terminal (T.holds tree.now) (record {
       out_old = W.contents out.old;
       out_new = W.contents out.new;
       err_old = E.contents err.old;
       err_new = E.contents err.new;
+      handed_old = F.handed files.old;
+      handed_new = F.handed files.new;
     }) result }
 {
     let Asked {
@@ -403,32 +422,35 @@ fn scan_asked<A: Allocator + Copy, T: Tree, W: Write, E: Write>(
     );
     let files = command.files_from;
     if files.is_empty() {
-        scan_named(alloc, command, is_terminal, tree, &mut paths, out, err)
+        scan_named(alloc, command, is_terminal, tree, &mut paths, out, err, files)
     } else {
-        scan_listed(alloc, command, files, tree, &mut paths, out, err)
+        scan_listed(alloc, command, files, tree, &mut paths, out, err, files)
     }
 }
 
 /// Does what the words ask for.
-fn answer<A: Allocator + Copy, T: Tree, W: Write, E: Write>(
+fn answer<A: Allocator + Copy, T: Tree, W: Write, E: Write, F: Replace>(
     alloc: A,
     asked: Asked<'_, A>,
     is_terminal: bool,
     tree: &T,
     out: &mut W,
     err: &mut E,
+    files: &mut F,
 ) -> Ending<CallError<A>>
     ensures { EndsAsked (wishes_in asked.entry) is_terminal (T.holds tree.now) (record {
       out_old = W.contents out.old;
       out_new = W.contents out.new;
       err_old = E.contents err.old;
       err_new = E.contents err.new;
+      handed_old = F.handed files.old;
+      handed_new = F.handed files.new;
     }) result }
 {
     match asked.command.wish {
         Wish::Help => write_text(out, HELP),
         Wish::Version => write_text(out, VERSION),
-        Wish::Scan | Wish::Files => scan_asked(alloc, asked, is_terminal, tree, out, err),
+        Wish::Scan | Wish::Files => scan_asked(alloc, asked, is_terminal, tree, out, err, files),
     }
 }
 
@@ -441,26 +463,29 @@ pub fn out_of_memory<A: Allocator>() -> Ending<CallError<A>>
 }
 
 /// A call of the program with these arguments, its own name the first.
-pub fn call<A: Allocator + Copy, T: Tree, W: Write, E: Write>(
+pub fn call<A: Allocator + Copy, T: Tree, W: Write, E: Write, F: Replace>(
     alloc: A,
     args: &[String<A>],
     console: Console,
     tree: &T,
     out: &mut W,
     err: &mut E,
+    files: &mut F,
 ) -> Ending<CallError<A>>
     ensures { EndsAsScan args.now console (T.holds tree.now) (record {
       out_old = W.contents out.old;
       out_new = W.contents out.new;
       err_old = E.contents err.old;
       err_new = E.contents err.new;
+      handed_old = F.handed files.old;
+      handed_new = F.handed files.new;
     }) result }
 {
     let [_, words @ ..] = args else {
         return Ending::Failed(CallError::NoArguments);
     };
     match asked_by(alloc, console.has_colors, words) {
-        Ok(asked) => answer(alloc, asked, console.input_is_terminal, tree, out, err),
+        Ok(asked) => answer(alloc, asked, console.input_is_terminal, tree, out, err, files),
         Err(error) => Ending::Failed(CallError::Word(error)),
     }
 }

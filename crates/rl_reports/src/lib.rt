@@ -8,12 +8,16 @@ mod flags;
 mod listed;
 mod meant;
 mod report;
+mod restyling;
+mod rules;
 mod runs;
 mod stats;
+mod visits;
 mod words;
 
-pub use crate::command::{Command, Console, Output, PlaceForm, Wish};
+pub use crate::command::{Command, Console, Macros, Output, PlaceForm, Restyling, Wish};
 pub use crate::ending::{CallError, HELP, VERSION, call, out_of_memory};
-pub use crate::report::{Report, report_of};
+pub use crate::report::Report;
 pub use crate::runs::{RunStop, Tally, run};
+pub use crate::visits::report_of;
 pub use crate::words::WordError;

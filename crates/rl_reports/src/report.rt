@@ -1,18 +1,16 @@
-//! What is reported of what a walk visits.
+//! What is reported of a text, of a file that is listed, and of what can't be read.
 
-ghost use Rattle.std.specs.Prelude.{◌≡◌, ◌⊎◌, ◌++◌, [], OnOk, IfOk, IfSome, string_bytes, encode_utf8_all};
-ghost use Rattle.std.specs.Str.{chars, IsUtf8};
+ghost use Rattle.std.specs.Prelude.{◌≡◌, ◌++◌, [], OnOk, IfOk, string_bytes, encode_utf8_all};
+ghost use Rattle.std.specs.Str.{chars};
 ghost use Rattle.rl_files.specs.Visible.{visible};
-ghost use Rattle.rl_files.specs.Walks.{visited};
 ghost use Rattle.rl_files.specs.declared.tree.PathError.{PathError};
 ghost use Rattle.rl_output.specs.Fronts.{line_front};
 ghost use Rattle.rl_sources.specs.Scans.{error_end};
-ghost use Rattle.rl_reports.specs.Reports.{is_input as input, is_by_line as by_line, is_bad as bad, is_alarm as alarm, asks_context as asks, context_of as context, side_lines as on_side, IsShownPath, IsPathIn, IsListReport, IsOptionsFor, IsReadReport, IsScannedAs, worded_place as as_words, error_text, after_path as path_end, line_count, count_line, listed_of, path_line, printed_of, in_report, IsTextReport, IsErrorReport, IsNotUtf8, IsReport};
+ghost use Rattle.rl_reports.specs.Reports.{is_input as input, is_by_line as by_line, is_bad as bad, is_alarm as alarm, asks_context as asks, context_of as context, side_lines as on_side, IsShownPath, IsPathIn, IsListReport, IsOptionsFor, IsScannedAs, worded_place as as_words, error_text, after_path as path_end, line_count, count_line, listed_of, path_line, printed_of, in_report, IsTextReport, IsErrorReport};
 
-use crate::clash::lists_files;
 use crate::command::{Command, Output, PlaceForm};
 use crate::stats::asked_count;
-use rl_files::{PathError, Tree, Visit, push_visible};
+use rl_files::{PathError, push_visible};
 use rl_sources::{
     Context, Form, Options, Paint, Place, ScanError, Shown, is_json, push_painted,
     push_source_error, scan,
@@ -26,7 +24,7 @@ pub struct Report<A: Allocator = Global> {
     /// On standard output.
     pub out: Vec<u8, A>,
     /// On standard error.
-    pub errors: String<A>,
+    pub errors: Vec<u8, A>,
     /// Whether a text was read.
     pub read: bool,
     /// Whether something was found.
@@ -43,7 +41,7 @@ pub(crate) struct Scanned<A: Allocator = Global> {
 }
 
 /// Whether a path is standard input.
-fn is_input(path: &str) -> bool
+pub(crate) fn is_input(path: &str) -> bool
     ensures { result ≡ input path.now }
 {
     path == "-"
@@ -59,7 +57,7 @@ pub(crate) fn visible_text<A: Allocator>(alloc: A, text: &str) -> Result<String<
 }
 
 /// Whether the places in a file are printed by lines and columns.
-fn is_by_line(form: PlaceForm, path: &str) -> bool
+pub(crate) fn is_by_line(form: PlaceForm, path: &str) -> bool
     ensures { result ≡ by_line form path.now }
 {
     match form {
@@ -84,7 +82,7 @@ pub(crate) fn is_alarm(shown: Shown<'_>) -> bool
 }
 
 /// What stands before each place in a file, whose path is printed so; nothing before those of standard input.
-fn path_before<'a>(path: &str, shown: &'a str) -> Option<&'a str>
+pub(crate) fn path_before<'a>(path: &str, shown: &'a str) -> Option<&'a str>
     requires { chars shown.now ≡ visible (chars path.now) }
     ensures { IsShownPath path.now result }
 {
@@ -95,7 +93,7 @@ fn path_before<'a>(path: &str, shown: &'a str) -> Option<&'a str>
 }
 
 /// How a path is written which is printed so: itself, where that is asked for.
-fn path_in<'a>(is_exact: bool, path: &'a str, shown: Option<&'a str>) -> Option<&'a str>
+pub(crate) fn path_in<'a>(is_exact: bool, path: &'a str, shown: Option<&'a str>) -> Option<&'a str>
     requires { IsShownPath path.now shown }
     ensures { IsPathIn is_exact path.now result }
 {
@@ -259,22 +257,21 @@ fn push_path_line<A: Allocator>(
 }
 
 /// What is printed of the lines of a file, of whose path this is printed.
-fn written<A: Allocator + Copy>(
+pub(crate) fn written<A: Allocator + Copy>(
     alloc: A,
-    command: Command<'_>,
+    output: Output,
+    nul: bool,
     form: Form,
     path: Option<&str>,
     lines: Vec<u8, A>,
 ) -> Result<Vec<u8, A>, AllocError>
-    ensures { IfOk result (λ out. out.items
-        ≡ printed_of command.entry.output command.entry.nul_after_paths form path.entry lines.items) }
+    ensures { IfOk result (λ out. out.items ≡ printed_of output nul form path.entry lines.items) }
 {
     if lines.is_empty() {
         return Ok(lines);
     }
-    let nul = command.nul_after_paths;
     let mut line = String::new(alloc);
-    match command.output {
+    match output {
         Output::Lines => return Ok(lines),
         Output::Count => {
             push_count_line(&mut line, nul, form, path, count_lines(lines.as_slice()))?
@@ -286,7 +283,7 @@ fn written<A: Allocator + Copy>(
 }
 
 /// What is reported of a source.
-fn report_text<A: Allocator + Copy>(
+pub(crate) fn report_text<A: Allocator + Copy>(
     alloc: A,
     command: Command<'_>,
     path: &str,
@@ -302,11 +299,13 @@ fn report_text<A: Allocator + Copy>(
     let asked = command.tells_stats;
     let count = asked_count(alloc, asked, options, text, scanned.lines.as_slice())?;
     let found = !scanned.lines.is_empty();
-    let named = path_in(command.nul_after_paths, path, before);
-    let out = written(alloc, command, options.form, named, scanned.lines)?;
+    let nul = command.nul_after_paths;
+    let named = path_in(nul, path, before);
+    let lines = scanned.lines;
+    let out = written(alloc, command.output, nul, options.form, named, lines)?;
     Ok(Report {
         out,
-        errors,
+        errors: errors.into_bytes(),
         read: true,
         found,
         count,
@@ -314,7 +313,7 @@ fn report_text<A: Allocator + Copy>(
 }
 
 /// What is reported of a path that can't be read.
-fn report_error<A: Allocator + Copy>(
+pub(crate) fn report_error<A: Allocator + Copy>(
     alloc: A,
     path: &str,
     error: PathError,
@@ -326,27 +325,11 @@ fn report_error<A: Allocator + Copy>(
     writeln!(&mut errors, ": {error}")?;
     Ok(Report {
         out: Vec::new(alloc),
-        errors,
+        errors: errors.into_bytes(),
         read: false,
         found: false,
         count: 0,
     })
-}
-
-/// What is reported of a file whose bytes these are.
-fn report_bytes<A: Allocator + Copy>(
-    alloc: A,
-    command: Command<'_>,
-    path: &str,
-    bytes: &[u8],
-) -> Result<Report<A>, AllocError>
-    ensures { IfOk result (λ r. (IsUtf8 bytes.now × IsTextReport command.entry path.now bytes.now (in_report r))
-        ⊎ ((why : PathError) × IsNotUtf8 bytes.now why × IsErrorReport path.now why (in_report r))) }
-{
-    match std::str::from_utf8(bytes) {
-        Ok(text) => report_text(alloc, command, path, text),
-        Err(error) => report_error(alloc, path, PathError::NotUtf8(error.valid_up_to())),
-    }
 }
 
 /// What is printed of a file that is listed, of whose path this is printed.
@@ -367,7 +350,7 @@ fn listed<A: Allocator>(
 }
 
 /// What is reported of a file that is listed, and not read.
-fn report_listed<A: Allocator + Copy>(
+pub(crate) fn report_listed<A: Allocator + Copy>(
     alloc: A,
     command: Command<'_>,
     path: &str,
@@ -380,53 +363,9 @@ fn report_listed<A: Allocator + Copy>(
     let line = listed(alloc, command, named)?;
     Ok(Report {
         out: line.into_bytes(),
-        errors: String::new(alloc),
+        errors: Vec::new(alloc),
         read: false,
         found: true,
         count: 0,
     })
-}
-
-/// What is reported of a file, whose bytes are let go before the next is read.
-fn report_file<A: Allocator + Copy, T: Tree>(
-    alloc: A,
-    command: Command<'_>,
-    tree: &T,
-    path: &str,
-) -> Result<Report<A>, AllocError>
-    ensures { IfOk result (λ r. IfSome (T.holds tree.now)
-        (λ w. IsReadReport command.entry w path.now (in_report r))) }
-{
-    let bytes = match tree.bytes(alloc, path) {
-        Ok(bytes) => bytes,
-        Err(error) => return report_error(alloc, path, error),
-    };
-    match report_bytes(alloc, command, path, bytes.as_slice()) {
-        Ok(report) => Ok(report),
-        Err(_) => report_error(alloc, path, PathError::OutOfMemory),
-    }
-}
-
-/// What is reported of what a walk visits: of a file what is printed of its text, or its path where files are listed; of what
-/// can't be read one line.
-///
-/// # Errors
-///
-/// An allocation failure, where not even that line could be made.
-pub fn report_of<A: Allocator + Copy, T: Tree>(
-    alloc: A,
-    command: Command<'_>,
-    tree: &T,
-    visit: &Visit<A>,
-) -> Result<Report<A>, AllocError>
-    ensures { IfOk result (λ r. IfSome (T.holds tree.now)
-        (λ w. IsReport command.entry w (visited visit.now) (in_report r))) }
-{
-    match visit {
-        Visit::File(path) if lists_files(command.wish) => {
-            report_listed(alloc, command, path.as_str())
-        }
-        Visit::File(path) => report_file(alloc, command, tree, path.as_str()),
-        Visit::Failed(path, error) => report_error(alloc, path.as_str(), *error),
-    }
 }

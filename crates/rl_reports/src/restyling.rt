@@ -23,7 +23,9 @@ fn report_out<A: Allocator + Copy>(alloc: A, out: Vec<u8, A>, found: bool) -> Re
     Report {
         out,
         errors: Vec::new(alloc),
+        read: true,
         found,
+        count: 0,
     }
 }
 
@@ -172,7 +174,9 @@ fn report_rejected<A: Allocator + Copy>(alloc: A, lines: Vec<u8, A>) -> Report<A
     Report {
         out: Vec::new(alloc),
         errors: lines,
+        read: true,
         found: false,
+        count: 0,
     }
 }
 
@@ -192,7 +196,7 @@ pub(crate) fn report_restyled<A: Allocator + Copy, F: Replace>(
     let shown = visible_text(alloc, path)?;
     let before = path_before(path, shown.as_str());
     let options = judging(command.edition, is_by_line(command.places, path), before);
-    match written_anew(alloc, options, command.style, command.macros, text)? {
+    match written_anew(alloc, options, command.rules, command.macros, text)? {
         Outcome::Rejected(lines) => Ok(report_rejected(alloc, lines)),
         Outcome::Restyled(restyled) => {
             let named = path_in(command.nul_after_paths, path, before);

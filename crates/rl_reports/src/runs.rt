@@ -2,14 +2,16 @@
 
 ghost use Rattle.std.specs.Prelude.{◌≡◌, IfOk, OnErr, IfSome};
 ghost use Rattle.rl_files.specs.Walks.{visited};
-ghost use Rattle.rl_reports.specs.Reports.{in_report, nothing, one_if as one_where, totals_of};
-ghost use Rattle.rl_reports.specs.Runs.{both_tallies as both, has_errors, has_findings, shown_errors, WritesReport, WritesSome, WritesReports, WritesFirst, WritesWalk, WritesFront, find_status, run_status};
+ghost use Rattle.rl_reports.specs.Reports.{in_report};
+ghost use Rattle.rl_reports.specs.Visits.{nothing, one_if as one_where, totals_of};
+ghost use Rattle.rl_reports.specs.Runs.{both_tallies as both, has_errors, has_findings, shown_errors, WritesReport, WritesSome, WritesReports, WritesFirst, WritesWalk, WritesFront, find_status, restyle_status, run_status};
 ghost use Rattle.rl_reports.specs.Stats.{tally_of};
 
-use crate::command::Command;
-use crate::report::{Report, is_alarm, report_of};
+use crate::command::{Command, Restyling};
+use crate::report::{Report, is_alarm};
 use crate::stats::write_stats;
-use rl_files::{Tree, Visit, Walk, WalkError};
+use crate::visits::report_of;
+use rl_files::{Replace, Tree, Visit, Walk, WalkError};
 use rl_program::{WriteError, write_bytes};
 use rl_sources::Shown;
 use std::alloc::Allocator;
@@ -62,7 +64,7 @@ impl Tally {
             read: one_if(report.read),
             with_findings: one_if(report.found),
             findings: report.count as u64,
-            with_errors: one_if(!report.errors.as_bytes().is_empty()),
+            with_errors: one_if(!report.errors.is_empty()),
         }
     }
 
@@ -118,6 +120,20 @@ impl Tally {
             (false, false) => 1,
         }
     }
+
+    /// The status that a run ends with in which literals are written anew, and which found this: 2 where an error was reported; else 1
+    /// where something would change; else 0.
+    pub fn restyle_status(self, restyling: Restyling) -> u8
+        ensures { result ≡ restyle_status restyling self }
+    {
+        if self.has_errors() {
+            return 2;
+        }
+        match restyling {
+            Restyling::Check | Restyling::Diff if self.has_findings() => 1,
+            _ => 0,
+        }
+    }
 }
 
 /// How many it is: one or none.
@@ -128,24 +144,25 @@ fn one_if(is: bool) -> u64
 }
 
 /// What is told of errors: nothing, where that isn't wanted.
-fn told_errors<'a>(command: Command<'_>, errors: &'a str) -> &'a [u8]
+fn told_errors<'a>(command: Command<'_>, errors: &'a [u8]) -> &'a [u8]
     ensures { result.now ≡ shown_errors command.entry errors.now }
 {
     if command.tells_errors {
-        errors.as_bytes()
+        errors
     } else {
         b"".as_slice()
     }
 }
 
 /// Writes what is reported of what a walk visits.
-fn write_report<A: Allocator + Copy, T: Tree, W: Write, E: Write>(
+fn write_report<A: Allocator + Copy, T: Tree, W: Write, E: Write, F: Replace>(
     alloc: A,
     command: Command<'_>,
     tree: &T,
     visit: &Visit<A>,
     out: &mut W,
     err: &mut E,
+    files: &mut F,
 ) -> Result<Tally, RunStop>
     ensures all { IfOk result (λ tally. IfSome (T.holds tree.now) (λ w.
         WritesReport command.entry w (visited visit.now) (record {
@@ -153,6 +170,8 @@ fn write_report<A: Allocator + Copy, T: Tree, W: Write, E: Write>(
           out_new = W.contents out.new;
           err_old = E.contents err.old;
           err_new = E.contents err.new;
+          handed_old = F.handed files.old;
+          handed_new = F.handed files.new;
         }) tally)) }
     ensures front { OnErr result (IfSome (T.holds tree.now) (λ w.
         WritesSome command.entry w (visited visit.now) (record {
@@ -160,9 +179,11 @@ fn write_report<A: Allocator + Copy, T: Tree, W: Write, E: Write>(
           out_new = W.contents out.new;
           err_old = E.contents err.old;
           err_new = E.contents err.new;
+          handed_old = F.handed files.old;
+          handed_new = F.handed files.new;
         }))) }
 {
-    let report = match report_of(alloc, command, tree, visit) {
+    let report = match report_of(alloc, command, tree, files, visit) {
         Ok(report) => report,
         Err(_) => return Err(RunStop::Walk(WalkError::OutOfMemory)),
     };
@@ -170,7 +191,7 @@ fn write_report<A: Allocator + Copy, T: Tree, W: Write, E: Write>(
         Ok(()) => {}
         Err(error) => return Err(RunStop::Write(error)),
     }
-    match write_bytes(err, told_errors(command, report.errors.as_str())) {
+    match write_bytes(err, told_errors(command, report.errors.as_slice())) {
         Ok(()) => {}
         Err(error) => return Err(RunStop::Write(error)),
     }
@@ -182,13 +203,14 @@ fn write_report<A: Allocator + Copy, T: Tree, W: Write, E: Write>(
 /// # Errors
 ///
 /// Where the walk ended early, or a write failed; a beginning of what is reported was written then.
-fn write_reports<A: Allocator + Copy, T: Tree, W: Write, E: Write>(
+fn write_reports<A: Allocator + Copy, T: Tree, W: Write, E: Write, F: Replace>(
     alloc: A,
     command: Command<'_>,
     tree: &T,
     walk: &mut Walk<A>,
     out: &mut W,
     err: &mut E,
+    files: &mut F,
 ) -> Result<Tally, RunStop>
     ensures all { IfOk result (λ tally. IfSome (T.holds tree.now) (λ w.
         WritesReports command.entry w walk.old (record {
@@ -196,6 +218,8 @@ fn write_reports<A: Allocator + Copy, T: Tree, W: Write, E: Write>(
           out_new = W.contents out.new;
           err_old = E.contents err.old;
           err_new = E.contents err.new;
+          handed_old = F.handed files.old;
+          handed_new = F.handed files.new;
         }) tally)) }
     ensures front { OnErr result (IfSome (T.holds tree.now) (λ w.
         WritesFirst command.entry w walk.old (record {
@@ -203,6 +227,8 @@ fn write_reports<A: Allocator + Copy, T: Tree, W: Write, E: Write>(
           out_new = W.contents out.new;
           err_old = E.contents err.old;
           err_new = E.contents err.new;
+          handed_old = F.handed files.old;
+          handed_new = F.handed files.new;
         }))) }
 {
     let mut tally = Tally::new();
@@ -210,7 +236,7 @@ fn write_reports<A: Allocator + Copy, T: Tree, W: Write, E: Write>(
         match walk.next(alloc, command.selection, tree) {
             Err(error) => return Err(RunStop::Walk(error)),
             Ok(None) => return Ok(tally),
-            Ok(Some(visit)) => match write_report(alloc, command, tree, &visit, out, err) {
+            Ok(Some(visit)) => match write_report(alloc, command, tree, &visit, out, err, files) {
                 Ok(more) => tally = tally.and(more),
                 Err(stop) => return Err(stop),
             },
@@ -226,13 +252,14 @@ fn write_reports<A: Allocator + Copy, T: Tree, W: Write, E: Write>(
 ///
 /// Where the walk ended early, or a write failed; a beginning of what is reported was written then, and where that is all, a
 /// beginning of what is told after it.
-pub fn run<A: Allocator + Copy, T: Tree, W: Write, E: Write>(
+pub fn run<A: Allocator + Copy, T: Tree, W: Write, E: Write, F: Replace>(
     alloc: A,
     command: Command<'_>,
     tree: &T,
     walk: &mut Walk<A>,
     out: &mut W,
     err: &mut E,
+    files: &mut F,
 ) -> Result<Tally, RunStop>
     ensures all { IfOk result (λ tally. IfSome (T.holds tree.now) (λ w.
         WritesWalk command.entry w walk.old (record {
@@ -240,6 +267,8 @@ pub fn run<A: Allocator + Copy, T: Tree, W: Write, E: Write>(
           out_new = W.contents out.new;
           err_old = E.contents err.old;
           err_new = E.contents err.new;
+          handed_old = F.handed files.old;
+          handed_new = F.handed files.new;
         }) tally)) }
     ensures front { OnErr result (IfSome (T.holds tree.now) (λ w.
         WritesFront command.entry w walk.old (record {
@@ -247,9 +276,11 @@ pub fn run<A: Allocator + Copy, T: Tree, W: Write, E: Write>(
           out_new = W.contents out.new;
           err_old = E.contents err.old;
           err_new = E.contents err.new;
+          handed_old = F.handed files.old;
+          handed_new = F.handed files.new;
         }))) }
 {
-    let tally = match write_reports(alloc, command, tree, walk, out, err) {
+    let tally = match write_reports(alloc, command, tree, walk, out, err, files) {
         Ok(tally) => tally,
         Err(stop) => return Err(stop),
     };

@@ -20,11 +20,11 @@ fn report_wanted<A: Allocator + Copy, F: Replace>(
     path: &str,
     text: &str,
 ) -> Result<Report<A>, AllocError>
-    ensures reports { IfOk result (λ r. Reports (IsWantedReport command.entry.restyling command.entry path.now text.now)
+    ensures reports { IfOk result (λ r. Reports (IsWantedReport command.entry.restyle command.entry path.now text.now)
         r (F.handed files.old) (F.handed files.new)) }
     ensures kept { IfErr result (F.handed files.new ≡ F.handed files.old) }
 {
-    match command.restyling {
+    match command.restyle {
         Some(restyling) => report_restyled(alloc, command, restyling, files, path, text),
         None => report_text(alloc, command, path, text),
     }

@@ -9,7 +9,7 @@ ghost use Rattle.rl_reports.specs.declared.words.WordError.TheVariants.{Memory};
 ghost use Rattle.rl_reports.specs.Words.{IsKindWord, AreKindWords, IsUnknownKind, is_path_word, taken_by as flag_before, next_after as follows, NamesLetter, NamesUnknown, AreLetters, AreRejectedLetters, first_wishes, wishes_of, wishes_in, MayStand, with_kinds, with_path, with_text, with_pattern, with_list, IsWithoutDot, IsAdded, IsTaken, IsStep, Asks, IsRejectedFlag, IsRejectedText, IsRejectedJoined, IsRejectedWord, IsMissing, AreRejected};
 
 use crate::clash::clash_of;
-use crate::command::{Command, Output, PlaceForm, Wish};
+use crate::command::{Command, Macros, Output, PlaceForm, Wish};
 use crate::flags::{
     Flag, Next, Operand, When, add_flag, after_front, count_of, edition_of, flag_of, form_in,
     form_when, format_of, has_other_mark, joined_of, letter_of, next_after, recolored, taken_by,
@@ -19,6 +19,7 @@ use crate::meant::{meant_by, option_part};
 use crate::report::visible_text;
 use rl_files::Selection;
 use rl_sources::{Edition, Matching, Shown, Spelling, names};
+use rl_styles::default_style;
 use rl_tokens::text::split_char;
 use std::alloc::{AllocError, Allocator, Global};
 use std::fmt;
@@ -626,6 +627,9 @@ fn first_command<'a>(has_colors: bool) -> Command<'a>
         files_from: &[],
         tells_errors: true,
         tells_stats: false,
+        restyle: None,
+        rules: default_style(),
+        macros: Macros::Skip,
     }
 }
 

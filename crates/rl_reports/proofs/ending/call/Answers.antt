@@ -1,3 +1,4 @@
+use Rattle.rl_text.proofs.Common.{refl}
 use Rattle.rl_reports.specs.Words.{wishes_in}
 use Rattle.rl_reports.proofs.EndingLemmas.{call_asked, keeps_same}
 use Rattle.rl_reports.proofs.WordLemmas.{ask_for, cannot_ask}
@@ -12,5 +13,5 @@ pub returns-in-Err : goal.returns-in-Err
 returns-in-Err g c = (
   cannot_ask c.args.console.has_colors c.args.args.now c.in-Err.error c.in-len1-up.len_at_least
       c.in-Err.ensures.rejected,
-  (keeps_same _, keeps_same _),
+  (keeps_same _, keeps_same _, refl),
 )

@@ -1,4 +1,4 @@
-use Rattle.std.proofs.Common.{inl, inr}
+use Rattle.std.proofs.Common.{inl, inr, refl}
 use Rattle.rl_files.specs.Trees.{string_texts}
 use Rattle.rl_reports.proofs.EndingLemmas.{keeps_same}
 use Rattle.rl_reports.proofs.ending.scan_listed.Goals as goal
@@ -8,6 +8,6 @@ returns-in-Ok g c = inr (string_texts c.push_all_listed.new.paths.items, c.in-Ok
 
 pub returns-in-Err : goal.returns-in-Err
 returns-in-Err g c = inl (
-  (keeps_same _, keeps_same _),
+  (keeps_same _, keeps_same _, refl),
   (c.in-Err.unread.file.now, c.in-Err.unread.why, c.in-Err.ensures.error, c.list_error.ensures),
 )

@@ -5,4 +5,4 @@ use Rattle.rl_reports.proofs.ending.scan_paths.Goals as goal
 
 pub returns-in-Err : goal.returns-in-Err
 returns-in-Err g c = front_none c.args.command (g.T.Tree.holds c.args.tree.now)
-    (given_spots (string_texts c.args.paths.now.items)) _ _
+    (given_spots (string_texts c.args.paths.now.items)) _ _ _
