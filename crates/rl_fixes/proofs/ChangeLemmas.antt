@@ -1,5 +1,5 @@
 -- Lines of changes.
-use Rattle.rl_text.proofs.Common.{◌≡◌, ℕ, ◌+◌, List, [], ◌∷◌, ◌++◌, length, drop, refl, sym, ◌∙◌, ap, subst, arith, append-nil, append_assoc, chars, IsCharBoundary, IsUtf8}
+use Rattle.rl_text.proofs.Common.{◌≡◌, ℕ, ◌+◌, List, [], ◌∷◌, ◌++◌, length, drop, map, refl, sym, ◌∙◌, ap, subst, arith, append-nil, append_assoc, chars, IsCharBoundary, IsUtf8}
 use Rattle.std.proofs.lemmas.List.{length-drop}
 use Rattle.rl_lexer.specs.Cursors.{IsCursorState}
 use Rattle.rl_lines.specs.Lines.{Appends}
@@ -78,3 +78,21 @@ told_all options form text all before now told = (
   subst (λ (z : List ℕ). AreChangeLines options form text all z) (append-nil told.made) (told.goes [] refl),
   told.now_is,
 )
+
+-- one line more, of the first of the edits that are left
+pub told_step : (options : Options) (form : Form) (text : List ℕ) (all rest after : List (ℕ × ℕ × List ℕ))
+    (edit : ℕ × ℕ × List ℕ) (before now later : List ℕ) → rest ≡ edit ∷ after → StandIn text rest
+    → Told options form text all rest before now → Appends (IsChangeLine options form text edit) now later
+    → StandIn text after × Told options form text all after before later
+told_step options form text all rest after edit before now later is stands told line = (
+  (subst (λ (z : List (ℕ × ℕ × List ℕ)). StandIn text z) is stands).1,
+  told_more options form text all after edit before now later
+      (subst (λ (z : List (ℕ × ℕ × List ℕ)). Told options form text all z before now) is told) line,
+)
+
+-- none is left
+pub told_end : {X : Type 0} (f : X → ℕ × ℕ × List ℕ) (xs : List X) (options : Options) (form : Form) (text : List ℕ)
+    (all : List (ℕ × ℕ × List ℕ)) (before now : List ℕ) → length xs ≡ 0
+    → Told options form text all (map f xs) before now → Appends (AreChangeLines options form text all) before now
+told_end f [] options form text all before now none told = told_all options form text all before now told
+told_end f (x ∷ xs) options form text all before now none told = absurd (omega (arith, none))

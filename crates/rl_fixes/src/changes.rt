@@ -52,7 +52,7 @@ pub fn push_changes<A: Allocator, B: Allocator>(
 {
     let mut places = Places::new(text);
     let mut rest = edits;
-    while let [edit, after @ ..] = rest {
+    while let Some((edit, after)) = rest.split_first() {
         push_edit(out, &options, form, text, &mut places, edit)?;
         rest = after;
     }

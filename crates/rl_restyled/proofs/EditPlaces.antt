@@ -5,13 +5,13 @@ use Rattle.rl_lexer.proofs.CutLemmas.{byte_len-append}
 use Rattle.rl_lexer.specs.Sources.{CutSource, source_end, source_text}
 use Rattle.rl_style.specs.Restyled.{IsEdited}
 use Rattle.rl_style.specs.declared.style.Style.{Style}
-use Rattle.rl_restyled.specs.Edits.{Restyles, placed}
+use Rattle.rl_restyled.specs.Edits.{Restyles, placed_edits}
 use Rattle.rl_restyled.specs.Places.{StandIn, StandsBetween}
 use Rattle.rl_restyled.specs.declared.edit.Macros.{Macros}
 
 -- those of a rest of the text, which begins at a byte
 stand_on : (text front old new : List ℕ) (at : ℕ) (ws : List CutSource) (es : List (Option (List ℕ)))
-    → text ≡ front ++ old → at ≡ byte_len front → IsEdited at old ws es new → StandIn text (placed ws es)
+    → text ≡ front ++ old → at ≡ byte_len front → IsEdited at old ws es new → StandIn text (placed_edits ws es)
 stand_on text front old new at [] [] is at_is edited = tt
 stand_on text front old new at [] (e ∷ es) is at_is edited = tt
 stand_on text front old new at (w ∷ ws) [] is at_is edited = absurd edited
