@@ -308,14 +308,14 @@ fn list_error<A: Allocator + Copy>(alloc: A, file: &str, why: PathError) -> Endi
 fn scan_listed<A: Allocator + Copy, T: Tree, W: Write, E: Write, F: Replace>(
     alloc: A,
     command: Command<'_>,
-    files: &[&str],
+    lists: &[&str],
     tree: &T,
     paths: &mut Vec<String<A>, A>,
     out: &mut W,
     err: &mut E,
     files: &mut F,
 ) -> Ending<CallError<A>>
-    ensures { EndsListed command.entry (borrowed_texts files.now) (T.holds tree.now) (string_texts paths.old.items) (record {
+    ensures { EndsListed command.entry (borrowed_texts lists.now) (T.holds tree.now) (string_texts paths.old.items) (record {
       out_old = W.contents out.old;
       out_new = W.contents out.new;
       err_old = E.contents err.old;
@@ -324,7 +324,7 @@ fn scan_listed<A: Allocator + Copy, T: Tree, W: Write, E: Write, F: Replace>(
       handed_new = F.handed files.new;
     }) result }
 {
-    match push_all_listed(alloc, tree, files, paths) {
+    match push_all_listed(alloc, tree, lists, paths) {
         Ok(()) => scan_paths(alloc, command, tree, paths, out, err, files),
         Err(unread) => list_error(alloc, unread.file, unread.why),
     }
@@ -420,11 +420,20 @@ fn scan_asked<A: Allocator + Copy, T: Tree, W: Write, E: Write, F: Replace>(
         excludes.as_slice(),
         lists.as_slice(),
     );
-    let files = command.files_from;
-    if files.is_empty() {
-        scan_named(alloc, command, is_terminal, tree, &mut paths, out, err, files)
+    let named = command.files_from;
+    if named.is_empty() {
+        scan_named(
+            alloc,
+            command,
+            is_terminal,
+            tree,
+            &mut paths,
+            out,
+            err,
+            files,
+        )
     } else {
-        scan_listed(alloc, command, files, tree, &mut paths, out, err, files)
+        scan_listed(alloc, command, named, tree, &mut paths, out, err, files)
     }
 }
 
