@@ -55,7 +55,7 @@ carets (c ∷ cs) = marks_below (code "^") (code "^") (c ∷ cs)
 abbrev pub is_long : List ℕ → Bool
 is_long line = nat_lt 1024 (byte_len line)
 
--- what stands in its place
+-- what stands in its place, and of a place in such a line alone
 abbrev pub left_out : List ℕ
 left_out = codes "    (a line of more than 1024 bytes)\n"
 
@@ -67,10 +67,6 @@ marked_line before rest bytes =
     codes "    " ++ (line_text before ++ (line_text (first_line rest) ++ (codes "\n"
     ++ (codes "    " ++ (marks_below (code " ") (code "\t") before
     ++ (carets (first_line (covered bytes rest)) ++ codes "\n"))))))
-
--- what is shown of a place: that, where its line isn't too long
-abbrev pub context_lines : List ℕ → List ℕ → ℕ → List ℕ
-context_lines before rest bytes = cond (is_long (before ++ first_line rest)) left_out (marked_line before rest bytes)
 
 -- ---- lines before and after it
 
@@ -116,3 +112,9 @@ abbrev pub shown_lines : ℕ → List ℕ → List ℕ
 shown_lines zero text = []
 shown_lines (suc count) [] = []
 shown_lines (suc count) (c ∷ cs) = shown_line (c ∷ cs) ++ shown_lines count (after_first_line (c ∷ cs))
+
+-- what is shown of a place: its line, between first ones of these, which stand before it, and of those after it; where it is too
+-- long that alone
+abbrev pub context_lines : ℕ → ℕ → List ℕ → List ℕ → List ℕ → ℕ → List ℕ
+context_lines above below lines before rest bytes = cond (is_long (before ++ first_line rest)) left_out
+    (shown_lines above lines ++ (marked_line before rest bytes ++ shown_lines below (after_first_line rest)))

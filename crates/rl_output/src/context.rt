@@ -211,21 +211,6 @@ fn push_shown_lines<A: Allocator>(
     Ok(())
 }
 
-/// Appends the lines of a text after its first one, so many, or all where there are fewer.
-fn push_lines_after<A: Allocator>(
-    out: &mut String<A>,
-    text: &str,
-    count: usize,
-) -> Result<(), AllocError>
-    ensures { OnOk result (chars (string_bytes out.new)
-        ≡ chars (string_bytes out.old) ++ shown_lines count (text_after (chars text.now))) }
-{
-    if count == 0 {
-        return Ok(());
-    }
-    push_shown_lines(out, after_first_line(text), count)
-}
-
 /// Appends the line where a place begins, and below it carets under the place, up to the end of that line.
 fn push_marked_line<A: Allocator>(
     out: &mut String<A>,
@@ -253,26 +238,28 @@ fn is_long_about(before: &str, rest: &str) -> bool
     is_long(before, "") || is_long(before, first_line(rest))
 }
 
-/// Appends what is shown of the line of a place: that line and carets, or where it is too long that it is.
-fn push_place_line<A: Allocator>(
+/// Appends the line where a place begins, with carets below it, and lines before and after it.
+fn push_whole_context<A: Allocator>(
     out: &mut String<A>,
+    context: Context,
+    lines: &str,
     before: &str,
     rest: &str,
     bytes: usize,
 ) -> Result<(), AllocError>
     ensures { OnOk result (chars (string_bytes out.new) ≡ chars (string_bytes out.old)
-        ++ context_lines (chars before.now) (chars rest.now) bytes) }
+        ++ (shown_lines context.before (chars lines.now) ++ (marked_line (chars before.now) (chars rest.now) bytes
+        ++ shown_lines context.after (text_after (chars rest.now))))) }
 {
-    if is_long_about(before, rest) {
-        return push_ascii(out, LEFT_OUT);
-    }
-    push_marked_line(out, before, rest, bytes)
+    push_shown_lines(out, lines, context.before)?;
+    push_marked_line(out, before, rest, bytes)?;
+    push_shown_lines(out, after_first_line(rest), context.after)
 }
 
 /// Appends the line where a place begins, with carets below it under the place, up to the end of that line, and lines before and after
 /// it. `lines` stands before that line: its first lines are shown, as many as are wanted. `before` stands in the line before the place,
-/// `rest` begins with it, and so many bytes of that are in it. A tab before the place is one in the line of carets too. A line of more
-/// than 1,024 bytes isn't shown: in its place, and that of its carets, stands that it is so long.
+/// `rest` begins with it, and so many bytes of that are in it. A tab before the place is one in the line of carets too. In place of a
+/// line of more than 1,024 bytes stands that it is so long; of a place in such a line that alone is shown.
 ///
 /// # Errors
 ///
@@ -286,10 +273,10 @@ pub fn push_context<A: Allocator>(
     bytes: usize,
 ) -> Result<(), AllocError>
     ensures { OnOk result (chars (string_bytes out.new) ≡ chars (string_bytes out.old)
-        ++ (shown_lines context.before (chars lines.now) ++ (context_lines (chars before.now) (chars rest.now) bytes
-        ++ shown_lines context.after (text_after (chars rest.now))))) }
+        ++ context_lines context.before context.after (chars lines.now) (chars before.now) (chars rest.now) bytes) }
 {
-    push_shown_lines(out, lines, context.before)?;
-    push_place_line(out, before, rest, bytes)?;
-    push_lines_after(out, rest, context.after)
+    if is_long_about(before, rest) {
+        return push_ascii(out, LEFT_OUT);
+    }
+    push_whole_context(out, context, lines, before, rest, bytes)
 }

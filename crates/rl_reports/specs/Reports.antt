@@ -126,7 +126,7 @@ worded_place by_line (Whole e) =
 abbrev pub error_text : Bool → Option (Bor (List ℕ)) → Option (Place × LexKind) → List ℕ
 error_text by_line shown None = []
 error_text by_line shown (Some (place, kind)) =
-    line_front Plain shown (worded_place by_line place) ++ error_end Plain kind
+    line_front Plain shown (worded_place by_line place) ++ error_end Plain kind []
 
 -- how many lines there are
 abbrev pub line_count : List ℕ → ℕ

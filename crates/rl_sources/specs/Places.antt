@@ -3,7 +3,7 @@ use Rattle.std.specs.Prelude.{◌≡◌, ℕ, ◌+◌, ◌-◌, false, true, con
 use Rattle.std.specs.Str.{chars}
 use Rattle.rl_text.specs.Texts.{byte_len}
 use Rattle.rl_lexer.specs.declared.lines.LineColumn.{LineColumn}
-use Rattle.rl_output.specs.Contexts.{HasLinesBefore, after_first_line, context_lines, shown_lines}
+use Rattle.rl_output.specs.Contexts.{HasLinesBefore, context_lines}
 use Rattle.rl_output.specs.declared.context.Context.{Context}
 use Rattle.rl_output.specs.Forms.{has_extents}
 use Rattle.rl_output.specs.Spots.{IsExtentOf, IsSpotAt}
@@ -32,16 +32,14 @@ abbrev pub context_for : Options → Option Context
 context_for options = cond (has_extents options.form) None options.context
 
 -- What is shown of the source for these bytes of it: lines before the one where they begin, that line with carets below
--- them,
--- and lines after it.
+-- them, and lines after it; or that it is too long.
 pub record IsContextOf (context : Context) (whole : List ℕ) (lo hi : ℕ) (shown : List ℕ) : Type 0 where
   pub rest : List ℕ
   pub before : List ℕ
   pub last : List ℕ
   pub begins : lo + byte_len rest ≡ byte_len whole
   pub lines : HasLinesBefore context.before whole rest last before
-  pub shown_is : shown ≡ shown_lines context.before (chars last) ++ (context_lines before rest (hi - lo)
-      ++ shown_lines context.after (after_first_line rest))
+  pub shown_is : shown ≡ context_lines context.before context.after (chars last) before rest (hi - lo)
 
 -- the same where that is wanted, else nothing
 abbrev pub IsContextFor : Option Context → List ℕ → ℕ → ℕ → List ℕ → Type 0

@@ -82,10 +82,11 @@ fn scan_hidden<A: Allocator + Copy, W: Write>(
 /// Rust rejects has the place and the reason of its flaw, as `rl_grammar` explains it. With `finds` only literals whose
 /// contents hold one of those texts have a line, with the place of what gives the one that stands first. With `Hidden` no literal has a
 /// line, but each character that turns or hides text, wherever it stands, with its number. In the form `Json` a line is an
-/// object: `path`, `lo`, `hi`, `line`, `column`, and of a literal `kind`, `text`, `value` and `suffix`, of a flaw `text`,
+/// object: `path`, `lo`, `hi`, `line`, `column`, and of a literal `kind`, `text`, `value` and `suffix`, of a flaw `text`, `id`,
 /// `error` and `piece`, of such a character `id` and `hidden`. Tokens are cut by [`Sources`]; the words `true` and `false` are literals
-/// too. With `explains` the first error of the source has a line too, the last one. Lines are written as they are made, 64 KB at
-/// once; with `Hidden` all at once. Returns whether any line was written.
+/// too. With `explains` the first error of the source has a line too, the last one, and with `rejects_strays` each stray character
+/// before it: as an object `id`, `error`, and of a stray character `piece`. Lines are written as they are made, 64 KB at once; with
+/// `Hidden` all at once. Returns whether any line was written.
 ///
 /// # Errors
 ///

@@ -148,7 +148,8 @@ fn context_of_literals() {
     );
 }
 
-/// A line of more than 1,024 bytes is left out, its carets too, also where it is one of the lines about a place; its end isn't counted.
+/// A line of more than 1,024 bytes is left out, also where it is one of the lines about a place; of a place in one that alone is
+/// shown. A line's end isn't counted.
 #[test]
 fn context_of_long_lines() {
     let options = Options {
@@ -167,7 +168,7 @@ fn context_of_long_lines() {
         printed(options, &format!("{whole}\r\n{whole} \n1u9\n ")),
         format!(
             "a.rs:1:1021: error: unknown suffix: 1u9\n    {whole}\n     {blank}^^^\n{left_out}\n\
-             a.rs:2:1021: error: unknown suffix: 1u9\n    {whole}\n{left_out}\n    1u9\n\
+             a.rs:2:1021: error: unknown suffix: 1u9\n{left_out}\n\
              a.rs:3:1: error: unknown suffix: 1u9\n{left_out}\n    1u9\n    ^^^\n     \n"
         )
     );

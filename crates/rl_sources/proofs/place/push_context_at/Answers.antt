@@ -1,6 +1,6 @@
 use Rattle.rl_text.proofs.Common.{ap, arith, chars, on_ok_weaker, refl, ◌∙◌, ℕ, string_bytes, ◌++◌}
 use Rattle.rl_lexer.proofs.ErrorKinds.{char_len}
-use Rattle.rl_output.specs.Contexts.{after_first_line, context_lines, shown_lines}
+use Rattle.rl_output.specs.Contexts.{context_lines}
 use Rattle.rl_sources.proofs.place.push_context_at.Goals as goal
 
 pub returns-clause-context : goal.returns-clause-context
@@ -20,7 +20,6 @@ returns-clause-context g c = on_ok_weaker c.push_context.result (λ written. (
     shown_is = refl;
   },
   written ∙ ap (λ (n : ℕ). chars (string_bytes c.args.out.now)
-      ++ (shown_lines c.args.context.before (chars c.lines_before.result.0.now)
-      ++ (context_lines (chars c.lines_before.result.1.now) (chars c.args.rest.now) n
-      ++ shown_lines c.args.context.after (after_first_line (chars c.args.rest.now))))) c.saturating_sub-bytes.ensures,
+      ++ context_lines c.args.context.before c.args.context.after (chars c.lines_before.result.0.now)
+      (chars c.lines_before.result.1.now) (chars c.args.rest.now) n) c.saturating_sub-bytes.ensures,
 )) c.push_context.ensures

@@ -52,7 +52,7 @@ pub struct Options<'a> {
     /// How each line is written.
     pub form: Form,
     /// Where it is given, the line of the source where a place begins stands below each line, with carets under the place, and so many
-    /// lines before and after it; not in the forms `Json` and `Github`.
+    /// lines before and after it; of a line of more than 1,024 bytes that it is so long; not in the forms `Json` and `Github`.
     pub context: Option<Context>,
     /// Whether places are printed as lines and columns, and not as bytes.
     pub by_line: bool,

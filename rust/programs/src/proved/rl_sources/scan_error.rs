@@ -12,7 +12,7 @@ pub enum ScanError<A: Allocator = Global> {
     /// An allocation or a write failed; in a run also a read, or the input isn't UTF-8.
     Fault(Fault<A>),
     /// An error of the source, at a place: a quote or a comment that isn't closed, or a stray
-    /// character where these are rejected.
+    /// character where one ends the source.
     Source(Place, LexKind),
 }
 
