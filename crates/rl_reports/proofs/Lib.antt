@@ -2,6 +2,7 @@ pub mod WordLemmas
 pub mod ReportLemmas
 pub mod Handing
 pub mod VisitLemmas
+pub mod RulesLemmas
 pub mod RunLemmas
 pub mod EndingLemmas
 pub mod MeantLemmas

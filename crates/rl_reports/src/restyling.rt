@@ -1,6 +1,6 @@
 //! What is reported of a source whose literals are written anew.
 
-ghost use Rattle.std.specs.Prelude.{◌≡◌, [], IfErr, IfOk, map, string_bytes};
+ghost use Rattle.std.specs.Prelude.{◌≡◌, [], OnErr, IfOk, map, string_bytes};
 ghost use Rattle.std.specs.Str.{chars};
 ghost use Rattle.rl_restyled.specs.Edits.{edit_told};
 ghost use Rattle.rl_restyled.specs.Places.{StandIn};
@@ -18,7 +18,7 @@ use std::alloc::{AllocError, Allocator};
 
 /// What is reported where only this is printed.
 fn report_out<A: Allocator + Copy>(alloc: A, out: Vec<u8, A>, found: bool) -> Report<A>
-    ensures { PrintsAlone out.entry.items found [] (in_report result) }
+    ensures { PrintsAlone out.items found [] (in_report result) }
 {
     Report {
         out,
@@ -103,9 +103,9 @@ fn report_replaced<A: Allocator + Copy, F: Replace>(
     new: &str,
     out: Vec<u8, A>,
 ) -> Result<Report<A>, AllocError>
-    ensures reports { IfOk result (λ r. Reports (IsReplaced path.now text.now new.now out.entry.items)
+    ensures reports { IfOk result (λ r. Reports (IsReplaced path.now text.now new.now out.items)
         r (F.handed files.old) (F.handed files.new)) }
-    ensures kept { IfErr result (F.handed files.new ≡ F.handed files.old) }
+    ensures kept { OnErr result (F.handed files.new ≡ F.handed files.old) }
 {
     match files.replace(alloc, path, text.as_bytes(), new.as_bytes()) {
         Ok(()) => Ok(report_out(alloc, out, false)),
@@ -124,11 +124,11 @@ fn report_fixed<A: Allocator + Copy, F: Replace>(
     text: &str,
     restyled: Restyled<A>,
 ) -> Result<Report<A>, AllocError>
-    requires { StandIn (chars text.now) (map edit_told restyled.entry.edits.items) }
+    requires { StandIn (chars text.now) (map edit_told restyled.edits.items) }
     ensures reports { IfOk result (λ r. Reports (IsFixed command.entry options.entry path.now named.entry text.now
-        (string_bytes restyled.entry.text) (map edit_told restyled.entry.edits.items))
+        (string_bytes restyled.text) (map edit_told restyled.edits.items))
         r (F.handed files.old) (F.handed files.new)) }
-    ensures kept { IfErr result (F.handed files.new ≡ F.handed files.old) }
+    ensures kept { OnErr result (F.handed files.new ≡ F.handed files.old) }
 {
     if is_input(path) {
         return Ok(report_out(alloc, restyled.text.into_bytes(), false));
@@ -154,11 +154,11 @@ fn report_change<A: Allocator + Copy, F: Replace>(
     text: &str,
     restyled: Restyled<A>,
 ) -> Result<Report<A>, AllocError>
-    requires { StandIn (chars text.now) (map edit_told restyled.entry.edits.items) }
+    requires { StandIn (chars text.now) (map edit_told restyled.edits.items) }
     ensures reports { IfOk result (λ r. Reports (IsChanged restyling command.entry options.entry path.now named.entry
-        text.now (string_bytes restyled.entry.text) (map edit_told restyled.entry.edits.items))
+        text.now (string_bytes restyled.text) (map edit_told restyled.edits.items))
         r (F.handed files.old) (F.handed files.new)) }
-    ensures kept { IfErr result (F.handed files.new ≡ F.handed files.old) }
+    ensures kept { OnErr result (F.handed files.new ≡ F.handed files.old) }
 {
     match restyling {
         Restyling::Check => report_checked(alloc, command, options, named, text, &restyled),
@@ -169,7 +169,7 @@ fn report_change<A: Allocator + Copy, F: Replace>(
 
 /// What is reported where Rust rejects this of a text: that alone, on standard error.
 fn report_rejected<A: Allocator + Copy>(alloc: A, lines: Vec<u8, A>) -> Report<A>
-    ensures { PrintsRejections lines.entry.items (in_report result) }
+    ensures { PrintsRejections lines.items (in_report result) }
 {
     Report {
         out: Vec::new(alloc),
@@ -191,7 +191,7 @@ pub(crate) fn report_restyled<A: Allocator + Copy, F: Replace>(
 ) -> Result<Report<A>, AllocError>
     ensures reports { IfOk result (λ r. Reports (IsRestyledReport restyling command.entry path.now text.now)
         r (F.handed files.old) (F.handed files.new)) }
-    ensures kept { IfErr result (F.handed files.new ≡ F.handed files.old) }
+    ensures kept { OnErr result (F.handed files.new ≡ F.handed files.old) }
 {
     let shown = visible_text(alloc, path)?;
     let before = path_before(path, shown.as_str());

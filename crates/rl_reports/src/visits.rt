@@ -1,6 +1,6 @@
 //! What is reported of what a walk visits.
 
-ghost use Rattle.std.specs.Prelude.{◌≡◌, IfErr, IfOk, IfSome};
+ghost use Rattle.std.specs.Prelude.{◌≡◌, OnErr, IfOk, IfSome};
 ghost use Rattle.std.specs.Str.{IsUtf8};
 ghost use Rattle.rl_files.specs.Walks.{visited};
 ghost use Rattle.rl_reports.specs.Visits.{IsBytesReport, IsReadReport, IsReport, IsWantedReport, Reports};
@@ -22,7 +22,7 @@ fn report_wanted<A: Allocator + Copy, F: Replace>(
 ) -> Result<Report<A>, AllocError>
     ensures reports { IfOk result (λ r. Reports (IsWantedReport command.entry.restyle command.entry path.now text.now)
         r (F.handed files.old) (F.handed files.new)) }
-    ensures kept { IfErr result (F.handed files.new ≡ F.handed files.old) }
+    ensures kept { OnErr result (F.handed files.new ≡ F.handed files.old) }
 {
     match command.restyle {
         Some(restyling) => report_restyled(alloc, command, restyling, files, path, text),
@@ -40,7 +40,7 @@ fn report_bytes<A: Allocator + Copy, F: Replace>(
 ) -> Result<Report<A>, AllocError>
     ensures reports { IfOk result (λ r. Reports (IsBytesReport command.entry path.now bytes.now)
         r (F.handed files.old) (F.handed files.new)) }
-    ensures kept { IfErr result (F.handed files.new ≡ F.handed files.old) }
+    ensures kept { OnErr result (F.handed files.new ≡ F.handed files.old) }
 {
     match std::str::from_utf8(bytes) {
         Ok(text) => report_wanted(alloc, command, files, path, text),
@@ -58,7 +58,7 @@ fn report_file<A: Allocator + Copy, T: Tree, F: Replace>(
 ) -> Result<Report<A>, AllocError>
     ensures reports { IfOk result (λ r. IfSome (T.holds tree.now)
         (λ w. Reports (IsReadReport command.entry w path.now) r (F.handed files.old) (F.handed files.new))) }
-    ensures kept { IfErr result (F.handed files.new ≡ F.handed files.old) }
+    ensures kept { OnErr result (F.handed files.new ≡ F.handed files.old) }
 {
     let bytes = match tree.bytes(alloc, path) {
         Ok(bytes) => bytes,
@@ -85,7 +85,7 @@ pub fn report_of<A: Allocator + Copy, T: Tree, F: Replace>(
 ) -> Result<Report<A>, AllocError>
     ensures reports { IfOk result (λ r. IfSome (T.holds tree.now)
         (λ w. Reports (IsReport command.entry w (visited visit.now)) r (F.handed files.old) (F.handed files.new))) }
-    ensures kept { IfErr result (F.handed files.new ≡ F.handed files.old) }
+    ensures kept { OnErr result (F.handed files.new ≡ F.handed files.old) }
 {
     match visit {
         Visit::File(path) if lists_files(command.wish) => {

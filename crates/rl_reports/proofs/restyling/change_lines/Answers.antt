@@ -1,0 +1,12 @@
+use Rattle.rl_text.proofs.Common.{IsUtf8-string_bytes}
+use Rattle.rl_reports.proofs.ReportLemmas.{bytes_from_nothing}
+use Rattle.rl_reports.proofs.restyling.change_lines.Goals as goal
+
+pub returns : goal.returns
+returns g c =
+    let told = c.in_ok-push_changes.ensures in (
+      told.0,
+      told.1,
+      rw c.into_bytes.ensures.value (bytes_from_nothing _ _ _ (IsUtf8-string_bytes c.push_changes.new.out)
+          c.new-lines.ensures.bytes told.2),
+    )
