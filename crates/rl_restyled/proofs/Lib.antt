@@ -3,3 +3,4 @@ pub mod Pieces
 pub mod NewTexts
 pub mod Drafts
 pub mod KeptCuts
+pub mod OneText
