@@ -34,7 +34,7 @@ EXAMPLES = {
 TERMS_IN = """
     rl_quoted rust_literals rl_attributes rl_lines rl_program rl_commands rl_files rl_output rl_sources rl_tool rl_scan
     rl_uses rl_example rl_bench rl_tokens rl_grammar rl_c rl_text rl_forms rl_lexer rl_reading rl_parts rl_recovery rl_leading
-    rl_settings rl_strict rl_reasons rl_file_reasons rl_flaws rl_types rl_fronts rl_writing rl_style""".split()
+    rl_settings rl_strict rl_reasons rl_file_reasons rl_flaws rl_types rl_fronts rl_writing rl_style rl_restyled""".split()
 # Words of others, and of what stands in no crate.
 FOREIGN = {'parse_str', 'proc_macro2'}
 # Pages that name what isn't here.
