@@ -444,10 +444,16 @@ source_error style macros text s at out edits e code d is place = (
 
 -- ---- what calls return
 
-pub on_all : {X E : Type 0} {T A D : Type 0} {P : Type 0} (r : Result X E) → OnOk r T → OnOk r A → OnOk r D
-    → (T → A → D → P) → OnOk r P
-on_all (Ok x) t a d f = f t a d
-on_all (Err e) t a d f = tt
+pub put_done : {X E : Type 0} (style : Style) (macros : Macros) (t : List ℕ) (at : ℕ) (out : List ℕ)
+    (edits : List (ℕ × ℕ × List ℕ)) (l : Restylable) (x : List ℕ) (later_at : ℕ) (longer : List ℕ)
+    (told : List (ℕ × ℕ × List ℕ)) (r : Result X E) → IsTextOf style macros t l (Some x)
+    → OnOk r ((middle : List ℕ) → StandsBetween t at l.token.lo middle → longer ≡ out ++ (middle ++ x))
+    → OnOk r (later_at ≡ l.token.hi) → OnOk r (told ≡ edits ++ (l.token.lo, l.token.hi, x) ∷ [])
+    → OnOk r ((old new : RestylableState) → IsDraft style macros t old at out edits → GivesLiteral old l new
+    → IsDraft style macros t new later_at longer told)
+put_done style macros t at out edits l x later_at longer told (Ok done) is text at_is told_is =
+    put_some style macros t at out edits l x later_at longer told is text at_is told_is
+put_done style macros t at out edits l x later_at longer told (Err e) is text at_is told_is = tt
 
 pub finished_whole : {A E : Type 0} (style : Style) (macros : Macros) (text : List ℕ) (s : RestylableState) (at : ℕ)
     (out : List ℕ) (edits : List (ℕ × ℕ × List ℕ)) (r : Result (Restyled A) E) → IsUtf8 text

@@ -4,3 +4,4 @@ pub mod NewTexts
 pub mod Drafts
 pub mod KeptCuts
 pub mod EditPlaces
+pub mod OneText

@@ -118,10 +118,16 @@ IsTextOf style macros source l e =
     → IsRewritten style front (chars l.token.text.now) e))
     ⊎ (IsFalse (is_chosen macros l.is_field l.in_macro) × (e ≡ None))
 
--- ---- a law
+-- ---- laws
 
 -- A source in a style, without bad quotes and stray characters, is cut as before, but for what was written.
 abbrev pub KeepsTheWholeSource : Type 0
 KeepsTheWholeSource =
     (style : Style) (macros : Macros) (t new : List ℕ) (edits : List (ℕ × ℕ × List ℕ))
     → (r : Restyles style macros t new edits) → AllByRecursion IsSound r.cuts → IsEditedSource new r.cuts r.texts []
+
+-- A source is one text in a style, by one list of edits.
+abbrev pub HasOneText : Type 0
+HasOneText =
+    (style : Style) (macros : Macros) (t new other : List ℕ) (edits others : List (ℕ × ℕ × List ℕ))
+    → Restyles style macros t new edits → Restyles style macros t other others → (new ≡ other) × (edits ≡ others)

@@ -23,6 +23,7 @@ pub(crate) enum Calls<'t> {
 }
 
 /// Whether the word is a keyword in all editions: no macro has such a name, and `!` after it is an operator or a type.
+#[inline(never)]
 fn is_keyword(word: &str) -> bool
     ensures { result ≡ is_keyword word.now }
 {
@@ -73,6 +74,7 @@ fn deeper(depth: usize) -> usize
 }
 
 /// After a word.
+#[inline(always)]
 fn after_word<'t>(calls: Calls<'t>, word: &'t str) -> Calls<'t>
     ensures { calls_seen result ≡ after_word (calls_seen calls.entry) word.now }
 {
@@ -83,6 +85,7 @@ fn after_word<'t>(calls: Calls<'t>, word: &'t str) -> Calls<'t>
 }
 
 /// After a mark.
+#[inline(always)]
 fn after_mark(calls: Calls<'_>, mark: char) -> Calls<'_>
     ensures { calls_seen result ≡ after_mark (calls_seen calls.entry) mark }
 {
@@ -118,6 +121,7 @@ fn after_closer(calls: Calls<'_>) -> Calls<'_>
 }
 
 /// After a bracket.
+#[inline(always)]
 fn after_bracket(calls: Calls<'_>, bracket: char) -> Calls<'_>
     ensures { calls_seen result ≡ after_bracket (calls_seen calls.entry) bracket }
 {
@@ -128,6 +132,7 @@ fn after_bracket(calls: Calls<'_>, bracket: char) -> Calls<'_>
 }
 
 /// After any other token.
+#[inline(always)]
 fn after_any_other(calls: Calls<'_>) -> Calls<'_>
     ensures { calls_seen result ≡ after_any_other (calls_seen calls.entry) }
 {
@@ -138,6 +143,7 @@ fn after_any_other(calls: Calls<'_>) -> Calls<'_>
 }
 
 /// After a token of the lexer.
+#[inline(always)]
 fn after_lexeme<'t>(calls: Calls<'t>, form: Form, text: &'t str) -> Calls<'t>
     ensures { calls_seen result ≡ calls_after (calls_seen calls.entry) (PlainKind (form_view form)) text.now }
 {
@@ -150,6 +156,7 @@ fn after_lexeme<'t>(calls: Calls<'t>, form: Form, text: &'t str) -> Calls<'t>
 }
 
 /// What the tokens say after one more.
+#[inline(always)]
 pub(crate) fn calls_after<'t>(calls: Calls<'t>, token: SourceToken<'t>) -> Calls<'t>
     ensures { calls_seen result ≡ calls_after (calls_seen calls.entry) (source_view token.entry.form) token.entry.text.now }
 {
@@ -161,6 +168,7 @@ pub(crate) fn calls_after<'t>(calls: Calls<'t>, token: SourceToken<'t>) -> Calls
 }
 
 /// Whether the next token stands inside of a call.
+#[inline(always)]
 pub(crate) fn is_in_call(calls: Calls<'_>) -> bool
     ensures { result ≡ is_in_call (calls_seen calls.entry) }
 {

@@ -19,6 +19,7 @@ pub(crate) enum Calls<'t> {
 }
 
 /// Whether the word is a keyword in all editions: no macro has such a name, and `!` after it is an operator or a type.
+#[inline(never)]
 fn is_keyword(word: &str) -> bool {
     matches!(
         word,
@@ -65,6 +66,7 @@ fn deeper(depth: usize) -> usize {
 }
 
 /// After a word.
+#[inline(always)]
 fn after_word<'t>(calls: Calls<'t>, word: &'t str) -> Calls<'t> {
     match calls {
         Calls::AfterBang | Calls::Inside(_) => calls,
@@ -73,6 +75,7 @@ fn after_word<'t>(calls: Calls<'t>, word: &'t str) -> Calls<'t> {
 }
 
 /// After a mark.
+#[inline(always)]
 fn after_mark(calls: Calls<'_>, mark: char) -> Calls<'_> {
     match calls {
         Calls::Inside(_) => calls,
@@ -102,6 +105,7 @@ fn after_closer(calls: Calls<'_>) -> Calls<'_> {
 }
 
 /// After a bracket.
+#[inline(always)]
 fn after_bracket(calls: Calls<'_>, bracket: char) -> Calls<'_> {
     if matches!(bracket, '(' | '[' | '{') {
         return after_opener(calls, bracket);
@@ -110,6 +114,7 @@ fn after_bracket(calls: Calls<'_>, bracket: char) -> Calls<'_> {
 }
 
 /// After any other token.
+#[inline(always)]
 fn after_any_other(calls: Calls<'_>) -> Calls<'_> {
     match calls {
         Calls::Inside(_) => calls,
@@ -118,6 +123,7 @@ fn after_any_other(calls: Calls<'_>) -> Calls<'_> {
 }
 
 /// After a token of the lexer.
+#[inline(always)]
 fn after_lexeme<'t>(calls: Calls<'t>, form: Form, text: &'t str) -> Calls<'t> {
     match form {
         Form::Identifier => after_word(calls, text),
@@ -128,6 +134,7 @@ fn after_lexeme<'t>(calls: Calls<'t>, form: Form, text: &'t str) -> Calls<'t> {
 }
 
 /// What the tokens say after one more.
+#[inline(always)]
 pub(crate) fn calls_after<'t>(calls: Calls<'t>, token: SourceToken<'t>) -> Calls<'t> {
     match token.form {
         SourceForm::Token(form) => after_lexeme(calls, form, token.text),
@@ -137,6 +144,7 @@ pub(crate) fn calls_after<'t>(calls: Calls<'t>, token: SourceToken<'t>) -> Calls
 }
 
 /// Whether the next token stands inside of a call.
+#[inline(always)]
 pub(crate) fn is_in_call(calls: Calls<'_>) -> bool {
     matches!(calls, Calls::Inside(_))
 }

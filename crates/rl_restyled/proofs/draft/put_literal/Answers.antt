@@ -1,6 +1,6 @@
 use Rattle.rl_text.proofs.Common.{chars, map, string_bytes}
 use Rattle.rl_restyled.specs.Edits.{edit_told}
-use Rattle.rl_restyled.proofs.Drafts.{next_front, next_middle, on_all, put_none, put_some}
+use Rattle.rl_restyled.proofs.Drafts.{next_front, next_middle, put_done, put_none}
 use Rattle.rl_restyled.proofs.draft.put_literal.Goals as goal
 
 pub text_of-requires : goal.text_of-requires
@@ -19,10 +19,10 @@ pub returns-in-Some : goal.returns-in-Some
 returns-in-Some g c =
     let draft = c.args.draft.now in
     let later = c.put.new.draft in
-    on_all c.put.result c.put.ensures.text c.put.ensures.at c.put.ensures.edits
-    (put_some c.args.style c.args.macros (chars c.args.source.now) draft.at (chars (string_bytes draft.text))
+    put_done c.args.style c.args.macros (chars c.args.source.now) draft.at (chars (string_bytes draft.text))
     (map edit_told draft.edits.items) c.args.literal (chars (string_bytes c.in-Some.new)) later.at
-    (chars (string_bytes later.text)) (map edit_told later.edits.items) (rw c.in-Some.is at c.in_ok-new.ensures))
+    (chars (string_bytes later.text)) (map edit_told later.edits.items) c.put.result
+    (rw c.in-Some.is at c.in_ok-new.ensures) c.put.ensures.text c.put.ensures.at c.put.ensures.edits
 
 pub returns-in-None : goal.returns-in-None
 returns-in-None g c =
