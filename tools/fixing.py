@@ -4,8 +4,8 @@
     tools/fixing.py PROGRAM        a line for each case; status 1 where one fails
 
 PROGRAM is an `rl_scan` with `--fix`, which has to make `1e5` of `1E5` in its default style. Of a file the permissions to read, write
-and run it stay, and so do the links to it; its owner, other names of it (hard links), setuid and the like, and extended attributes
-don't. Cases that need root, a tmpfs, `strace` or `chattr` are said to be skipped where there is none. Nothing shows what happens to a
+and run it stay, its owner and group where the system allows it, and the links to it; other names of it (hard links), setuid and the
+like, and extended attributes don't. Cases that need root, a tmpfs, `strace` or `chattr` are said to be skipped where there is none. Nothing shows what happens to a
 file that changes between the last look at it and the rename: that is the one gap.
 """
 
@@ -105,6 +105,24 @@ def permissions_stay(folder):
         os.umask(old)
         found = stat.S_IMODE(path.stat().st_mode)
         expect(found == mode, f"{found:o}, not {mode:o}")
+
+
+@case
+def the_owner_stays(folder):
+    if not IS_ROOT:
+        return SKIPPED
+    path = write(folder / "a.rs", mode=0o640)
+    os.chown(path, 1234, 2345)
+    expect_run(run(path), 0)
+    found = path.stat()
+    expect((found.st_uid, found.st_gid, stat.S_IMODE(found.st_mode)) == (1234, 2345, 0o640), f"{found}")
+    # Another user, who may not give it away, becomes its owner.
+    folder.chmod(0o777)
+    path = write(folder / "a.rs", mode=0o666)
+    os.chown(path, 1234, 2345)
+    expect_run(run(path, user=NOBODY, group=NOBODY), 0)
+    expect((path.stat().st_uid, path.read_bytes()) == (NOBODY, NEW), "another owner, or other bytes")
+    return None
 
 
 @case
