@@ -80,7 +80,9 @@ fn what_is_read_can_be_replaced() {
     let path = path.to_str().expect("a text");
     let rt = HostRuntime::new();
     let mut host = Host { rt: &rt };
-    let old = host.bytes(Global, path).expect("the file can be read");
+    let Ok(old) = host.bytes(Global, path) else {
+        panic!("the file can be read");
+    };
     assert!(host.replace(Global, path, old.as_slice(), b"").is_ok());
     assert_eq!(fs::read(path).expect("the file is there"), b"");
 }
