@@ -4,8 +4,8 @@
     tools/fixing.py PROGRAM        a line for each case; status 1 where one fails
 
 PROGRAM is an `rl_scan` with `--fix`, which has to make `1e5` of `1E5` in its default style. Of a file the permissions to read, write
-and run it stay, and so do the links to it; its owner, other names of it (hard links), setuid and the like, and extended attributes
-don't. Cases that need root, a tmpfs, `strace` or `chattr` are said to be skipped where there is none. Nothing shows what happens to a
+and run it stay, its owner and group where the system allows it, and the links to it; other names of it (hard links), setuid and the
+like, and extended attributes don't. Cases that need root, a tmpfs, `strace` or `chattr` are said to be skipped where there is none. Nothing shows what happens to a
 file that changes between the last look at it and the rename: that is the one gap.
 """
 
@@ -26,7 +26,6 @@ NEW = b"let a = 1e5;\n"
 # A text of several writes.
 LONG_OLD, LONG_NEW = OLD * 20_000, NEW * 20_000
 PROGRAM = Path(sys.argv[1]).resolve() if len(sys.argv) == 2 else sys.exit(__doc__)
-OURS = re.compile(r"a\.rs\.rl_scan-\d+")
 NOBODY = 65534
 IS_ROOT = os.geteuid() == 0
 SKIPPED = "skipped"
@@ -105,6 +104,24 @@ def permissions_stay(folder):
         os.umask(old)
         found = stat.S_IMODE(path.stat().st_mode)
         expect(found == mode, f"{found:o}, not {mode:o}")
+
+
+@case
+def the_owner_stays(folder):
+    if not IS_ROOT:
+        return SKIPPED
+    path = write(folder / "a.rs", mode=0o640)
+    os.chown(path, 1234, 2345)
+    expect_run(run(path), 0)
+    found = path.stat()
+    expect((found.st_uid, found.st_gid, stat.S_IMODE(found.st_mode)) == (1234, 2345, 0o640), f"{found}")
+    # Another user, who may not give it away, becomes its owner.
+    folder.chmod(0o777)
+    path = write(folder / "a.rs", mode=0o666)
+    os.chown(path, 1234, 2345)
+    expect_run(run(path, user=NOBODY, group=NOBODY), 0)
+    expect((path.stat().st_uid, path.read_bytes()) == (NOBODY, NEW), "another owner, or other bytes")
+    return None
 
 
 @case
@@ -290,30 +307,45 @@ def calls_that_fail(folder):
     return None
 
 
-def killed_at(folder, number):
-    """Whether the program was killed as it entered the system call of this number."""
+def fresh(folder):
+    """Two files to write, and no others."""
     for path in folder.iterdir():
         path.unlink()
-    paths = [write(folder / "a.rs", LONG_OLD), write(folder / "b.rs", LONG_OLD)]
-    before = strace("-e", "trace=%file,%desc,%process", "-e", f"inject=%file,%desc:signal=KILL:when={number}")
+    return [write(folder / "a.rs", LONG_OLD), write(folder / "b.rs", LONG_OLD)]
+
+
+def calls_of(folder):
+    """The system calls on files of a whole run, each with how often it was made up to there."""
+    paths = fresh(folder)
+    with tempfile.NamedTemporaryFile() as log:
+        expect_run(run(*paths, before=["strace", "-f", "-qq", "-o", log.name, "-e", "trace=%file,%desc"]), 0)
+        names = re.findall(r"^\d+\s+(\w+)\(", log.read().decode(), re.M)
+    # The first one starts the program.
+    return [(name, names[:at + 1].count(name)) for at, name in enumerate(names)][1:]
+
+
+def is_killed_at(folder, name, number):
+    """Whether the program was killed as it entered this call for the time of this number; each file is old or new then."""
+    paths = fresh(folder)
+    before = strace("-e", f"trace={name}", "-e", f"inject={name}:signal=KILL:when={number}")
     status, _ = run(*paths, before=before)
-    names = sorted(path.name for path in folder.iterdir() if path not in paths)
-    expect(len(names) <= 1 and all(re.fullmatch(r"[ab]\.rs\.rl_scan-\d+", name) for name in names), f"call {number}: left over: {names}")
+    left = sorted(path.name for path in folder.iterdir() if path not in paths)
+    is_ours = all(re.fullmatch(r"[ab]\.rs\.rl_scan-\d+", each) for each in left)
+    expect(len(left) <= 1 and is_ours, f"{name} {number}: left over: {left}")
     for path in paths:
-        expect(path.read_bytes() in (LONG_OLD, LONG_NEW), f"call {number}: {path.name} is neither old nor new")
+        expect(path.read_bytes() in (LONG_OLD, LONG_NEW), f"{name} {number}: {path.name} is neither old nor new")
     return status != 0
 
 
 @case
-def killed_between_any_two_calls(folder):
+def killed_at_each_call(folder):
     if not strace():
         return SKIPPED
-    number = 1
-    while killed_at(folder, number):
-        number += 1
-    expect(number > 20, f"only {number - 1} calls")
-    expect_files(folder, a_rs=LONG_NEW, b_rs=LONG_NEW)
-    return f"{number - 1} calls"
+    calls = calls_of(folder)
+    expect({"write", "fchmod", "fsync"} <= {name for name, _ in calls}, f"only {calls}")
+    for name, number in calls:
+        expect(is_killed_at(folder, name, number), f"{name} {number}: not killed")
+    return f"passed, {len(calls)} calls"
 
 
 def main():

@@ -3,8 +3,20 @@
 pub mod unix {
     pub mod fs {
         use crate::rattle_std::fs::OpenOptions;
+        use crate::rattle_std::io::Result;
+        use crate::rattle_std::rt::Files;
 
-        pub use std::os::unix::fs::PermissionsExt;
+        pub use std::os::unix::fs::{MetadataExt, PermissionsExt};
+
+        /// Gives the file at the path another owner, another group, or both.
+        pub fn chown<R: Files>(
+            _rt: &R,
+            path: &str,
+            uid: Option<u32>,
+            gid: Option<u32>,
+        ) -> Result<()> {
+            Ok(std::os::unix::fs::chown(path, uid, gid)?)
+        }
 
         /// How a file is opened.
         pub trait OpenOptionsExt {

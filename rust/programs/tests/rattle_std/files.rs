@@ -2,8 +2,12 @@
 
 use crate::fakes::{list_of, text, told};
 use crate::rattle_std::env::{self, VarError};
-use crate::rattle_std::fs::{read_dir, File};
-use crate::rattle_std::io::Read;
+use crate::rattle_std::fs::{
+    canonicalize, metadata, read_dir, remove_file, rename, symlink_metadata, File, OpenFile,
+    OpenOptions, Permissions,
+};
+use crate::rattle_std::io::{Read, Write};
+use crate::rattle_std::os::unix::fs::OpenOptionsExt;
 use crate::rattle_std::rt::HostRuntime;
 use std::ffi::OsStr;
 use std::os::unix::ffi::OsStrExt;
@@ -238,4 +242,71 @@ fn variables_that_are_not_there() {
         let value = env::var(&rt, name);
         assert!(matches!(value, Err(VarError::NotPresent)), "{name:?}");
     }
+}
+
+/// What opening a new file at the path answers.
+fn made(path: &str) -> String {
+    let rt = HostRuntime::new();
+    let mut options = OpenOptions::new();
+    let options = options.write(true).create_new(true).mode(0o600);
+    told(options.open(&rt, path).map(|_| "made"))
+}
+
+#[test]
+fn files_that_are_made() {
+    let here = directory("made");
+    let path = path_in(&here, "new");
+    assert_eq!(made(&path), "Ok(\"made\")");
+    assert_eq!(made(&path), "Err(AlreadyExists, Some(17))");
+    assert_eq!(made(&path_in(&here, "no/new")), MISSING);
+    assert_eq!(made("n\0"), NO_PATH);
+    let rt = HostRuntime::new();
+    let about = metadata(&rt, &path).expect("the file is there");
+    assert_eq!(about.permissions().mode() & 0o777, 0o600);
+}
+
+#[test]
+fn files_that_are_filled() {
+    let path = path_in(&directory("filled"), "file");
+    let rt = HostRuntime::new();
+    let mut options = OpenOptions::new();
+    let options = options.write(true).create_new(true);
+    let mut file = options.open(&rt, &path).expect("the file can be made");
+    file.write_all(b"fn").expect("the file can be written");
+    file.set_permissions(Permissions::from_mode(0o640))
+        .expect("the file can be changed");
+    file.sync_all().expect("the file can be stored");
+    assert_eq!(fs::read(&path).expect("the file is there"), b"fn");
+    let about = metadata(&rt, &path).expect("the file is there");
+    assert_eq!(about.permissions().mode() & 0o7777, 0o640);
+}
+
+#[test]
+fn paths_that_change() {
+    let here = directory("changed");
+    fs::write(here.join("a"), "a").expect("the file can be written");
+    fs::write(here.join("b"), "b").expect("the file can be written");
+    symlink("a", here.join("link")).expect("the link can be made");
+    let (a, b, link) = (
+        path_in(&here, "a"),
+        path_in(&here, "b"),
+        path_in(&here, "link"),
+    );
+    let rt = HostRuntime::new();
+    let is_link = |path: &str| told(symlink_metadata(&rt, path).map(|about| about.is_symlink()));
+    assert_eq!(
+        (is_link(&link).as_str(), is_link(&a).as_str()),
+        ("Ok(true)", "Ok(false)")
+    );
+    let real = canonicalize(&rt, &link).expect("the file is there");
+    assert_eq!(Path::new(real.as_str()).file_name(), Some(OsStr::new("a")));
+    let missing = path_in(&here, "no");
+    assert_eq!(told(canonicalize(&rt, &missing).map(|_| ())), MISSING);
+    assert_eq!(told(rename(&rt, &missing, &a)), MISSING);
+    assert_eq!(told(rename(&rt, &a, "n\0")), NO_PATH);
+    assert_eq!(told(rename(&rt, &a, &b)), "Ok(())");
+    assert_eq!(fs::read(&b).expect("the file is there"), b"a");
+    assert_eq!(told(remove_file(&rt, &b)), "Ok(())");
+    assert_eq!(told(remove_file(&rt, &b)), MISSING);
+    assert_eq!(is_link(&b), MISSING);
 }

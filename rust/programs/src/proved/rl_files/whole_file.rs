@@ -5,9 +5,9 @@ use crate::rattle_std::prelude::{Alloc, String, format};
 use crate::rl_files::host::{error_of, is_bad_name, read_all};
 use crate::rl_files::tree::PathError;
 use crate::rattle_std::alloc::{AllocError, Allocator};
-use crate::rattle_std::fs::{File, OpenFile, OpenOptions, Permissions};
+use crate::rattle_std::fs::{File, Metadata, OpenFile, OpenOptions, Permissions};
 use crate::rattle_std::io::{ErrorKind, Write};
-use crate::rattle_std::os::unix::fs::{OpenOptionsExt, PermissionsExt};
+use crate::rattle_std::os::unix::fs::{MetadataExt, OpenOptionsExt, PermissionsExt, chown};
 use crate::rattle_std::rt::Files;
 use crate::rattle_std::{fs, io};
 
@@ -132,19 +132,25 @@ fn kept_of(permissions: Permissions) -> Result<Permissions, PathError> {
     Ok(Permissions::from_mode(permissions.mode() & KEPT))
 }
 
-/// The permissions that stay of what may be replaced: no directory, device or pipe.
-fn permissions_of<R: Files>(rt: &R, path: &str) -> Result<Permissions, PathError> {
+/// What the system knows of a file that may be replaced: no directory, device or pipe.
+fn metadata_of<R: Files>(rt: &R, path: &str) -> Result<Metadata, PathError> {
     match fs::metadata(rt, path) {
-        Ok(about) if about.is_file() => kept_of(about.permissions()),
+        Ok(about) if about.is_file() => Ok(about),
         Ok(about) if about.is_dir() => Err(PathError::IsADirectory),
         Ok(_) => Err(PathError::NotAFile),
         Err(e) => Err(error_of(e.kind())),
     }
 }
 
+/// Gives a new file the group and the owner of the old one, where the system allows it.
+fn keep_owner<R: Files>(rt: &R, path: &str, about: &Metadata) {
+    let _ = chown(rt, path, None, Some(about.gid()));
+    let _ = chown(rt, path, Some(about.uid()), None);
+}
+
 /// Puts new bytes in place of those that the file at this path held when it was read: writes them to a new file beside it, which
-/// then gets its path. The file of a link is replaced, and the link stays. Of its permissions those of `KEPT` stay; its owner, other
-/// names of it and what else the system knows of it don't.
+/// then gets its path. The file of a link is replaced, and the link stays. Of its permissions those of `KEPT` stay, and its owner and
+/// its group where the system allows it; other names of it and what else the system knows of it don't.
 ///
 /// # Errors
 ///
@@ -161,8 +167,10 @@ pub(crate) fn replace_file<A: Allocator + Copy, R: Files + Alloc>(
         Err(e) if is_bad_name(&e) => return Err(PathError::NameNotUtf8),
         Err(e) => return Err(error_of(e.kind())),
     };
-    let permissions = permissions_of(rt, real.as_str())?;
+    let about = metadata_of(rt, real.as_str())?;
+    let permissions = kept_of(about.permissions())?;
     let (mut file, beside) = open_beside(rt, alloc, real.as_str())?;
+    keep_owner(rt, beside.as_str(), &about);
     let done = fill_and_rename(
         rt,
         alloc,
