@@ -1,4 +1,4 @@
-//! Reads and writes Rust's literals: kinds, values, suffixes, the places of what they hold, and why a text is none.
+//! Reads and writes Rust's literals: kinds, values, suffixes, the places of what they hold, and why a text is no literal.
 //!
 //! [`Lit::parse`] reads one literal, [`source`] those of a whole file, [`literals`] and [`settings`] lists, [`config`] a
 //! configuration file, [`Settings`] what a reader of settings asks for; [`write_str`] and its siblings write values, and
