@@ -1,13 +1,11 @@
-//! Reads and writes Rust's literals: kinds, values, suffixes, the places of what they hold, and why a text is none.
+//! Reads and writes Rust's literals: kinds, values, suffixes, the places of what they hold, and why a text is no literal.
 //!
 //! [`Lit::parse`] reads one literal, [`source`] those of a whole file, [`literals`] and [`settings`] lists, [`config`] a
 //! configuration file, [`Settings`] what a reader of settings asks for; [`write_str`] and its siblings write values, and
 //! [`LitStr::new`] and its like make literals of them; [`rewrite`] writes literals anew in a [`Style`]. Places are byte offsets; [`LineIndex`] makes lines and columns of them.
 //!
-//! The code in `proved` is rendered from sources in Rattle, which is Rust with contracts: each function is proved there to do what
-//! its contract says, against a written grammar, and the contracts are erased. So every text has one reading, and that is the
-//! grammar's. Trusted besides are the eraser, rustc and `core`. The types around it, a table of Unicode's identifiers and a stand-in
-//! for lanes of bytes are tested, and held against the proved library. There is no `unsafe`.
+//! The code in `proved` is rendered from sources that are proved against a written grammar; `README.md` says what is proved, trusted
+//! and tested. There is no `unsafe`.
 //!
 //! ```
 //! use navyspindle::Lit;

@@ -1,4 +1,5 @@
 """The public items of the crates, with their documentation, as the sources have them."""
+import functools
 import glob
 import os
 import re
@@ -12,11 +13,13 @@ LIBRARIES = """
     rl_files rl_restyled rl_output rl_fixes rl_sources rl_uses rl_c""".split()
 
 
+@functools.cache
 def read(path):
     with open(os.path.join(TOP, path), encoding='utf-8') as it:
         return it.read()
 
 
+@functools.cache
 def paths(*patterns):
     found = set()
     for pattern in patterns:
@@ -198,6 +201,7 @@ def is_given(item, names):
     return names is None or owner in names
 
 
+@functools.cache
 def public_items(crate):
     """The items that the library gives out, each with its file; those of inner crates that a library before it gives out aren't."""
     given = modules(crate)

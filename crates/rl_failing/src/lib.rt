@@ -2,7 +2,7 @@
 //! what a call does where an allocation fails. No clause can tell what a cell holds, so what the counts
 //! say is shown by the runs that rest on them; that each block is a true one, and goes back as it came, is proved.
 //!
-//! Beside it, a text that is put together piece by piece, for what programs of rows print.
+//! Beside it, a text that is put together part by part, for what programs of rows print.
 #![tactic(auto)]
 
 mod page;

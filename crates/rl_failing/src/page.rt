@@ -1,9 +1,9 @@
-//! A text that is put together piece by piece.
+//! A text that is put together part by part.
 
 use std::alloc::{AllocError, Global};
 use std::fmt::{Debug, Display};
 
-/// A text that notes a failed allocation, so that pieces can be put one after another.
+/// A text that notes a failed allocation, so that parts can be put one after another.
 #[derive(Drop)]
 pub struct Page {
     alloc: Global,

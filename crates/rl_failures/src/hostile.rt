@@ -160,20 +160,20 @@ pub fn cuts(alloc: Global, text: &str, page: &mut Page) {
     tell_cuts(alloc, whole.text(), page);
 }
 
-/// Puts a part last: a number, a space, and a piece that stands so many times.
+/// Puts a part last: a number, a space, and a text that stands so many times.
 fn put_part(part: &str, text: &mut Page) {
     let (count, piece) = part.split_once(' ').unwrap_or(("", part));
     put_times(count.parse::<u32>().unwrap_or(1), piece, text);
 }
 
-/// Puts the piece last, so many times.
+/// Puts the text last, so many times.
 fn put_times(count: u32, piece: &str, text: &mut Page) {
     for _ in 0..count {
         text.put(piece);
     }
 }
 
-/// Puts last what the five calls answer to the text of these parts: each a number, a space, and a piece that stands so many
+/// Puts last what the five calls answer to the text of these parts: each a number, a space, and a text that stands so many
 /// times; tabs between them.
 pub fn long(alloc: Global, parts: &str, page: &mut Page) {
     let mut whole = page.another();

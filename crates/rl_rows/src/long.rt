@@ -7,7 +7,7 @@ use rl_failing::Page;
 use rust_literals::Lit;
 use std::alloc::Global;
 
-/// Prints the number that a row of pieces spells.
+/// Prints the number that parts of a text spell.
 pub(crate) fn number(alloc: Global, row: &str, out: &mut Page) {
     let mut text = out.another();
     put_pieces(row, ' ', &mut text);

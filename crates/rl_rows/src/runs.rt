@@ -47,7 +47,7 @@ fn called(alloc: Global, bytes: &[u8], out: &mut Page) {
     put_call(alloc, text_of(words), input, "", out)
 }
 
-/// Prints a call whose input is spelled by pieces, over streams that words ask for.
+/// Prints a call whose input is spelled by parts, over streams that words ask for.
 fn called_by(alloc: Global, bytes: &[u8], out: &mut Page) {
     let (streams, rest) = parts_of(bytes);
     let (words, pieces) = parts_of(rest);
@@ -62,20 +62,20 @@ fn called_by(alloc: Global, bytes: &[u8], out: &mut Page) {
     )
 }
 
-/// Puts pieces last that a character parts, each after how often it stands there, as `3*a`.
+/// Puts parts last that a character parts, each after how often it stands there, as `3*a`.
 pub(crate) fn put_pieces(pieces: &str, between: char, text: &mut Page) {
     for part in pieces.split(between) {
         put_piece(part, text);
     }
 }
 
-/// Puts a piece last, after how often it stands there.
+/// Puts a part last, after how often it stands there.
 fn put_piece(part: &str, text: &mut Page) {
     let (count, piece) = part.split_once('*').unwrap_or(("1", part));
     put_often(count.parse::<u32>().unwrap_or(0), piece, text)
 }
 
-/// Puts a piece last so many times.
+/// Puts a part last so many times.
 pub(crate) fn put_often(count: u32, piece: &str, text: &mut Page) {
     for _ in 0..count {
         text.put(piece);

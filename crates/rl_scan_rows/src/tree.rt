@@ -176,7 +176,7 @@ fn copy_of<A: Allocator>(alloc: A, bytes: &[u8]) -> Result<Vec<u8, A>, AllocErro
     Ok(copy)
 }
 
-/// The pieces of a text that a character parts.
+/// The parts of a text between these characters.
 fn pieces<A: Allocator + Copy>(
     alloc: A,
     text: &str,

@@ -7,7 +7,11 @@ use proc_macro::TokenTree;
 use std::collections::HashSet;
 
 /// The trees after this mark.
-fn after<'t>(cut: &Cut<'_>, trees: &'t [TokenTree], mark: char) -> Result<&'t [TokenTree], Rejection> {
+fn after<'t>(
+    cut: &Cut<'_>,
+    trees: &'t [TokenTree],
+    mark: char,
+) -> Result<&'t [TokenTree], Rejection> {
     match trees.first() {
         Some(TokenTree::Punct(found)) if found.as_char() == mark => Ok(&trees[1..]),
         _ => Err(cut.expected(trees, &format!("`{mark}`"))),

@@ -5,7 +5,7 @@ use Rattle.std.specs.List.{list_all}
 use Prim.Native.Char.{code}
 use Rattle.rl_text.specs.Classes.{after_run}
 
--- digits without the zeros in front
+-- digits without leading zeros
 abbrev pub without_zeros : List ℕ → List ℕ
 without_zeros ds = after_run (λ d. d == code "0") ds
 
