@@ -98,6 +98,8 @@ pub struct Command<'a> {
     pub tells_stats: bool,
     /// What is done with literals that a style writes otherwise, where that is asked for in place of what is printed.
     pub restyle: Option<Restyling>,
+    /// The file with the rules of the style, where one is named.
+    pub style: Option<&'a str>,
     /// The rules of the style.
     pub rules: Style,
     /// Which literals in calls of macros are written anew.

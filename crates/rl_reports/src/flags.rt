@@ -1,14 +1,15 @@
 //! The options of a command line, and what they take.
 
 ghost use Rattle.std.specs.Prelude.{◌≡◌, ◌≢◌, ◌++◌, ℕ, List, IfOk, IfErr, IfSome, IfNone, MatchBool};
+ghost use Rattle.rl_restyled.specs.declared.edit.Macros.{Macros as AnyMacros};
 ghost use Rattle.rl_reports.specs.declared.flags.Flag.{Flag};
 ghost use Rattle.rl_reports.specs.declared.flags.Format.{Format as AnyFormat};
 ghost use Rattle.rl_types.specs.declared.before.Edition.{Edition as AnyEdition};
 ghost use Rattle.rl_reports.specs.declared.flags.Operand.{Operand};
 ghost use Rattle.rl_reports.specs.declared.flags.When.{When};
-ghost use Rattle.rl_reports.specs.Words.{IsCountWord, IsLetter, IsOptionWord, joined_word, taken_by as flag_before, color_word, wishes_of, IsAllowed, GoesWithFind, MayStand, IsRejectedFlag, with_flag as flagged, next_after as follows, colored_form, recolored as with_colors, edition_word, format_word, formatted, has_other_mark as other_mark};
+ghost use Rattle.rl_reports.specs.Words.{IsCountWord, IsLetter, IsOptionWord, joined_word, taken_by as flag_before, color_word, wishes_of, IsAllowed, GoesWithFind, MayStand, RestylesOnce, macros_word, with_restyling as restyled, IsRejectedFlag, with_flag as flagged, next_after as follows, colored_form, recolored as with_colors, edition_word, format_word, formatted, has_other_mark as other_mark};
 
-use crate::command::{Command, Output, PlaceForm, Wish};
+use crate::command::{Command, Macros, Output, PlaceForm, Restyling, Wish};
 use crate::words::WordError;
 use rl_sources::{Edition, Form, Shown, Spelling};
 use std::alloc::Allocator;
@@ -45,6 +46,11 @@ pub(crate) enum Flag {
     Quiet,
     Files,
     Stats,
+    Fix,
+    Check,
+    Diff,
+    Style,
+    Macros,
     Help,
     Version,
     Paths,
@@ -75,6 +81,10 @@ pub(crate) enum Operand {
     Before,
     /// How many are shown after it.
     After,
+    /// A file with the rules of a style.
+    Style,
+    /// Which literals in calls of macros are written anew.
+    Macros,
 }
 
 /// What the next word may be.
@@ -143,6 +153,11 @@ pub(crate) fn flag_of(word: &str) -> Option<Flag>
         "--quiet" => Some(Flag::Quiet),
         "--files" => Some(Flag::Files),
         "--stats" => Some(Flag::Stats),
+        "--fix" => Some(Flag::Fix),
+        "--check" => Some(Flag::Check),
+        "--diff" => Some(Flag::Diff),
+        "--style" => Some(Flag::Style),
+        "--macros" => Some(Flag::Macros),
         "--help" => Some(Flag::Help),
         "--version" => Some(Flag::Version),
         "--" => Some(Flag::Paths),
@@ -220,6 +235,12 @@ pub(crate) fn joined_of(word: &str) -> Option<(Operand, &str)>
     if let Some(count) = after_front("--after-context=", word) {
         return Some((Operand::After, count));
     }
+    if let Some(file) = after_front("--style=", word) {
+        return Some((Operand::Style, file));
+    }
+    if let Some(macros) = after_front("--macros=", word) {
+        return Some((Operand::Macros, macros));
+    }
     None
 }
 
@@ -239,7 +260,24 @@ pub(crate) fn taken_by(operand: Operand) -> Flag
         Operand::Around => Flag::Context,
         Operand::Before => Flag::Before,
         Operand::After => Flag::After,
+        Operand::Style => Flag::Style,
+        Operand::Macros => Flag::Macros,
     }
+}
+
+/// The command with an option more of those that write literals anew.
+fn with_restyling(command: Command<'_>, flag: Flag) -> Command<'_>
+    ensures { (finds extensions excludes lists paths : List (List ℕ))
+        → wishes_of result finds extensions excludes lists paths ≡ restyled flag (wishes_of command.entry finds extensions excludes lists paths) }
+{
+    let mut next = command;
+    match flag {
+        Flag::Fix => next.restyle = Some(Restyling::Fix),
+        Flag::Check => next.restyle = Some(Restyling::Check),
+        Flag::Diff => next.restyle = Some(Restyling::Diff),
+        _ => {}
+    }
+    next
 }
 
 /// The command with an option more; `None` where another option says already which literals are printed.
@@ -261,6 +299,9 @@ fn with_flag(command: Command<'_>, flag: Flag) -> Option<Command<'_>>
         (Flag::Context | Flag::Before | Flag::After, _) => {}
         (Flag::NoMessages, _) => next.tells_errors = false,
         (Flag::Stats, _) => next.tells_stats = true,
+        (Flag::Fix | Flag::Check | Flag::Diff | Flag::Style | Flag::Macros, _) => {
+            return Some(with_restyling(command, flag));
+        }
         (Flag::IgnoreCase, _) => next.matching.ignores_case = true,
         (Flag::WholeWords, _) => next.matching.whole_words = true,
         (Flag::AllDirectories, _) => next.selection.all = true,
@@ -294,11 +335,23 @@ fn goes_with_find(command: Command<'_>, flag: Flag) -> bool
     }
 }
 
+/// Whether an option goes with what the command says of writing literals anew: only one says that, once.
+fn restyles_once(command: Command<'_>, flag: Flag) -> bool
+    ensures { MatchBool result
+        ((finds extensions excludes lists paths : List (List ℕ)) → RestylesOnce flag (wishes_of command.entry finds extensions excludes lists paths))
+        ((finds extensions excludes lists paths : List (List ℕ)) → RestylesOnce flag (wishes_of command.entry finds extensions excludes lists paths) → ⊥) }
+{
+    match flag {
+        Flag::Fix | Flag::Check | Flag::Diff => command.restyle.is_none(),
+        _ => true,
+    }
+}
+
 /// The command with an option more.
 ///
 /// # Errors
 ///
-/// `TwoChoices` or `BadAndFind`, where the option doesn't go with what the command asks for.
+/// `TwoChoices`, `BadAndFind` or `TwoRestylings`, where the option doesn't go with what the command asks for.
 pub(crate) fn add_flag<A: Allocator>(
     command: Command<'_>,
     flag: Flag,
@@ -315,6 +368,9 @@ pub(crate) fn add_flag<A: Allocator>(
     };
     if !goes_with_find(command, flag) {
         return Err(WordError::BadAndFind);
+    }
+    if !restyles_once(command, flag) {
+        return Err(WordError::TwoRestylings);
     }
     Ok(next)
 }
@@ -335,6 +391,8 @@ pub(crate) fn next_after(flag: Flag) -> Next
         Flag::Context => Next::Operand(Operand::Around),
         Flag::Before => Next::Operand(Operand::Before),
         Flag::After => Next::Operand(Operand::After),
+        Flag::Style => Next::Operand(Operand::Style),
+        Flag::Macros => Next::Operand(Operand::Macros),
         Flag::Paths => Next::Path,
         _ => Next::Any,
     }
@@ -397,6 +455,18 @@ pub(crate) fn format_of(word: &str) -> Option<Format>
         "text" => Some(Format::Text),
         "json" => Some(Format::Json),
         "github" => Some(Format::Github),
+        _ => None,
+    }
+}
+
+/// Which literals in calls of macros are written anew, by its word.
+pub(crate) fn macros_of(word: &str) -> Option<Macros>
+    ensures known { IfSome result (λ macros. word.now ≡ macros_word macros) }
+    ensures unknown { IfNone result ((macros : AnyMacros) → word.now ≢ macros_word macros) }
+{
+    match word {
+        "skip" => Some(Macros::Skip),
+        "all" => Some(Macros::All),
         _ => None,
     }
 }
