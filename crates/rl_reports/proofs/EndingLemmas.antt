@@ -17,13 +17,16 @@ use Rattle.rl_reports.specs.declared.command.Command.{Command}
 use Rattle.rl_reports.specs.declared.command.Console.{Console}
 use Rattle.rl_reports.specs.declared.words.WordError.{WordError}
 use Rattle.rl_reports.specs.declared.ending.CallError.{CallError}
-use Rattle.rl_reports.specs.declared.ending.CallError.TheVariants.{NoArguments, Word, Walk, List as NoList, NoFile, Write}
+use Rattle.rl_reports.specs.declared.ending.CallError.TheVariants.{NoArguments, Word, Walk, List as NoList, Style as NoStyle, NoFile, Write}
+use Rattle.rl_style.specs.declared.style.Style.{Style}
+use Rattle.rl_styles.specs.Styles.{default_settings}
+use Rattle.rl_reports.specs.declared.rules.RulesError.TheVariants as rules
 use Rattle.rl_reports.specs.Visits.{nothing}
 use Rattle.rl_reports.specs.Runs.{Streams, WritesFront}
 use Rattle.rl_reports.proofs.Handing.{hands_none, written_on}
 use Rattle.rl_reports.proofs.RunLemmas.{not_empty}
 use Rattle.rl_reports.specs.Words.{Wishes, wishes_of}
-use Rattle.rl_reports.specs.Endings.{AskForWishes, EndsText, EndsWish, EndsAsked, EndsAsScan, EndsFrom, EndsListed, EndsPaths, EndsScan, paths_read, IsCommandFor, IsSelecting}
+use Rattle.rl_reports.specs.Endings.{AskForWishes, EndsText, EndsWish, EndsAsked, EndsAsScan, EndsFrom, EndsListed, EndsPaths, EndsScan, EndsStyled, paths_read, IsCommandFor, IsSelecting}
 
 -- what wasn't written to is kept
 pub keeps_same : (a : Option (List ℕ)) → Keeps a a
@@ -51,15 +54,16 @@ front_none command (Some w) spots o e h =
     inl ([], more.0, nothing, more.1, refl, ((0, Appends-nil o), (0, Appends-nil e), hands_none h))
 
 -- a command that selects is the one that is asked for
-pub command_for : (command selecting : Command) (finds extensions excludes lists paths : List (List ℕ))
-    → IsSelecting command finds extensions excludes lists selecting
-    → IsCommandFor (wishes_of command finds extensions excludes lists paths) selecting
-command_for command selecting finds extensions excludes lists paths is = record {
+pub command_for : (command selecting : Command) (style : Style) (finds extensions excludes lists paths : List (List ℕ))
+    → IsSelecting command style finds extensions excludes lists selecting
+    → IsCommandFor (wishes_of command finds extensions excludes lists paths) style selecting
+command_for command selecting style finds extensions excludes lists paths is = record {
   asked = is.same finds extensions excludes lists paths;
   finds_are = is.finds_are;
   extensions_are = is.extensions_are;
   excludes_are = is.excludes_are;
   lists_are = is.lists_are;
+  rules_are = is.rules_are;
 }
 
 -- no file names paths, or some do
@@ -78,21 +82,21 @@ pub ends_listed : {B : Type 0} (files : List (Bor (List ℕ))) (command : Comman
 ends_listed [] command is_terminal holds paths streams ending some ends = absurd (false≢true (sym some))
 ends_listed (file ∷ files) command is_terminal holds paths streams ending some ends = ends
 
-pub scan_ends : {B : Type 0} (command selecting : Command) (finds extensions excludes lists paths : List (List ℕ))
-    (is_terminal : Bool) (holds : Option World) (streams : Streams) (ending : Ending (CallError B))
-    → IsSelecting command finds extensions excludes lists selecting
+pub scan_ends : {B : Type 0} (command selecting : Command) (style : Style)
+    (finds extensions excludes lists paths : List (List ℕ)) (is_terminal : Bool) (holds : Option World) (streams : Streams) (ending : Ending (CallError B))
+    → IsSelecting command style finds extensions excludes lists selecting
     → EndsFrom (borrowed_texts selecting.files_from.now) selecting is_terminal holds paths streams ending
-    → EndsScan (wishes_of command finds extensions excludes lists paths) is_terminal holds streams ending
-scan_ends command selecting finds extensions excludes lists paths is_terminal holds streams ending is ends = (
+    → EndsScan (wishes_of command finds extensions excludes lists paths) style is_terminal holds streams ending
+scan_ends command selecting style finds extensions excludes lists paths is_terminal holds streams ending is ends = (
   selecting,
-  command_for command selecting finds extensions excludes lists paths is,
+  command_for command selecting style finds extensions excludes lists paths is,
   subst (λ (files : List (List ℕ)). EndsFrom files selecting is_terminal holds paths streams ending) is.lists_are ends,
 )
 
 -- what is asked for ends so
-scan_arguments : (B : Type 0) (wishes : Wishes) (is_terminal : Bool) (holds : Option World) (streams : Streams)
-    → EndsScan {B = B} wishes is_terminal holds streams (Failed NoArguments) → ⊥
-scan_arguments B wishes is_terminal holds streams (command, is, ends) = go wishes.files_from ends
+scan_arguments : (B : Type 0) (wishes : Wishes) (style : Style) (is_terminal : Bool) (holds : Option World) (streams : Streams)
+    → EndsScan {B = B} wishes style is_terminal holds streams (Failed NoArguments) → ⊥
+scan_arguments B wishes style is_terminal holds streams (command, is, ends) = go wishes.files_from ends
   where
     go : (from : List (List ℕ))
         → EndsFrom {B = B} from command is_terminal holds wishes.paths streams (Failed NoArguments) → ⊥
@@ -100,9 +104,9 @@ scan_arguments B wishes is_terminal holds streams (command, is, ends) = go wishe
     go (file ∷ files) (inl (_, (unread, why, read, never))) = never
     go (file ∷ files) (inr (all, are, never)) = never
 
-scan_word : {B : Type 0} (error : WordError B) (wishes : Wishes) (is_terminal : Bool) (holds : Option World)
-    (streams : Streams) → EndsScan {B = B} wishes is_terminal holds streams (Failed (Word error)) → ⊥
-scan_word {B} error wishes is_terminal holds streams (command, is, ends) = go wishes.files_from ends
+scan_word : {B : Type 0} (error : WordError B) (wishes : Wishes) (style : Style) (is_terminal : Bool) (holds : Option World)
+    (streams : Streams) → EndsScan {B = B} wishes style is_terminal holds streams (Failed (Word error)) → ⊥
+scan_word {B} error wishes style is_terminal holds streams (command, is, ends) = go wishes.files_from ends
   where
     go : (from : List (List ℕ))
         → EndsFrom {B = B} from command is_terminal holds wishes.paths streams (Failed (Word error)) → ⊥
@@ -110,17 +114,41 @@ scan_word {B} error wishes is_terminal holds streams (command, is, ends) = go wi
     go (file ∷ files) (inl (_, (unread, why, read, never))) = never
     go (file ∷ files) (inr (all, are, never)) = never
 
+styled_arguments : (B : Type 0) (file : Option (List ℕ)) (wishes : Wishes) (is_terminal : Bool)
+    (holds : Option World) (streams : Streams)
+    → EndsStyled {B = B} file wishes is_terminal holds streams (Failed NoArguments) → ⊥
+styled_arguments B None wishes is_terminal holds streams ends =
+    scan_arguments B wishes default_settings is_terminal holds streams ends
+styled_arguments B (Some file) wishes is_terminal holds streams (inl (_, (rules.Unread why, has, never))) = never
+styled_arguments B (Some file) wishes is_terminal holds streams (inl (_, (rules.Style error, has, never))) = never
+styled_arguments B (Some file) wishes is_terminal holds streams (inr (style, has, ends)) =
+    scan_arguments B wishes style is_terminal holds streams ends
+
+styled_word : {B : Type 0} (error : WordError B) (file : Option (List ℕ)) (wishes : Wishes) (is_terminal : Bool)
+    (holds : Option World) (streams : Streams)
+    → EndsStyled {B = B} file wishes is_terminal holds streams (Failed (Word error)) → ⊥
+styled_word error None wishes is_terminal holds streams ends =
+    scan_word error wishes default_settings is_terminal holds streams ends
+styled_word error (Some file) wishes is_terminal holds streams (inl (_, (rules.Unread why, has, never))) = never
+styled_word error (Some file) wishes is_terminal holds streams (inl (_, (rules.Style wrong, has, never))) = never
+styled_word error (Some file) wishes is_terminal holds streams (inr (style, has, ends)) =
+    scan_word error wishes style is_terminal holds streams ends
+
 no_arguments : (B : Type 0) (wish : Wish) (wishes : Wishes) (is_terminal : Bool) (holds : Option World)
     (streams : Streams) → EndsWish {B = B} wish wishes is_terminal holds streams (Failed NoArguments) → ⊥
-no_arguments B Scan wishes is_terminal holds streams ends = scan_arguments B wishes is_terminal holds streams ends
-no_arguments B Files wishes is_terminal holds streams ends = scan_arguments B wishes is_terminal holds streams ends
+no_arguments B Scan wishes is_terminal holds streams ends =
+    styled_arguments B wishes.style wishes is_terminal holds streams ends
+no_arguments B Files wishes is_terminal holds streams ends =
+    styled_arguments B wishes.style wishes is_terminal holds streams ends
 no_arguments B Help wishes is_terminal holds streams (text, (never, begun), kept, same) = never
 no_arguments B Version wishes is_terminal holds streams (text, (never, begun), kept, same) = never
 
 no_word : {B : Type 0} (error : WordError B) (wish : Wish) (wishes : Wishes) (is_terminal : Bool) (holds : Option World)
     (streams : Streams) → EndsWish {B = B} wish wishes is_terminal holds streams (Failed (Word error)) → ⊥
-no_word error Scan wishes is_terminal holds streams ends = scan_word error wishes is_terminal holds streams ends
-no_word error Files wishes is_terminal holds streams ends = scan_word error wishes is_terminal holds streams ends
+no_word error Scan wishes is_terminal holds streams ends =
+    styled_word error wishes.style wishes is_terminal holds streams ends
+no_word error Files wishes is_terminal holds streams ends =
+    styled_word error wishes.style wishes is_terminal holds streams ends
 no_word error Help wishes is_terminal holds streams (text, (never, begun), kept, same) = never
 no_word error Version wishes is_terminal holds streams (text, (never, begun), kept, same) = never
 
@@ -138,5 +166,6 @@ call_asked args console holds streams (Failed (Word error)) wishes asks ends = a
     (no_word error wishes.wish wishes console.input_is_terminal holds streams ends)
 call_asked args console holds streams (Failed (Walk error)) wishes asks ends = (wishes, asks, ends)
 call_asked args console holds streams (Failed (NoList file why)) wishes asks ends = (wishes, asks, ends)
+call_asked args console holds streams (Failed (NoStyle file error)) wishes asks ends = (wishes, asks, ends)
 call_asked args console holds streams (Failed NoFile) wishes asks ends = (wishes, asks, ends)
 call_asked args console holds streams (Failed Write) wishes asks ends = (wishes, asks, ends)

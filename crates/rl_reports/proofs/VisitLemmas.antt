@@ -24,8 +24,8 @@ unhanded IsThis (Err e) h is = tt
 pub reports_as : {A E : Type 0} (IsThis IsThat : Findings → Type 0) (r : Result (Report A) E)
     (old new : Option (List Replacement)) → ((f : Findings) → IsThis f → IsThat f)
     → IfOk r (λ p. Reports IsThis p old new) → IfOk r (λ p. Reports IsThat p old new)
-reports_as IsThis IsThat (Ok p) old new as (handed, is, on) = (handed, as _ is, on)
-reports_as IsThis IsThat (Err e) old new as is = tt
+reports_as IsThis IsThat (Ok p) old new so (handed, is, on) = (handed, so _ is, on)
+reports_as IsThis IsThat (Err e) old new so is = tt
 
 -- what is no text
 pub no_text_reported : {A E : Type 0} (command : Command) (path bytes : List ℕ) (why : PathError)

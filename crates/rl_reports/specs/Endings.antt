@@ -1,5 +1,6 @@
 -- How a call of the program ends.
-use Rattle.std.specs.Prelude.{◌≡◌, ◌⊎◌, ℕ, ◌==◌, Bool, true, false, cond, not, ◌&&◌, List, [], ◌∷◌, ◌++◌, length, codes, String, string_bytes, Option, IfSome, ⊤}
+use Rattle.std.specs.Prelude.{◌≡◌, ◌⊎◌, ℕ, ◌==◌, Bool, true, false, cond, not, ◌&&◌, List, [], ◌∷◌, ◌++◌, length, codes, String, string_bytes, Option, Some, None, IfSome, ⊤}
+use Rattle.std.specs.Fmt.{decimal}
 use Rattle.std.specs.Str.{chars}
 use Rattle.std.specs.Io.KnownBytes.{Appends, Keeps}
 use Rattle.rl_files.specs.Trees.{World, string_texts}
@@ -18,7 +19,13 @@ use Rattle.rl_reports.specs.declared.command.Console.{Console}
 use Rattle.rl_reports.specs.declared.runs.Tally.{Tally}
 use Rattle.rl_reports.specs.declared.words.WordError.{WordError}
 use Rattle.rl_reports.specs.declared.ending.CallError.{CallError}
-use Rattle.rl_reports.specs.declared.ending.CallError.TheVariants.{NoArguments, Word, Walk, List as NoList, NoFile, Write}
+use Rattle.rl_reports.specs.declared.ending.CallError.TheVariants.{NoArguments, Word, Walk, List as NoList, Style as NoStyle, NoFile, Write}
+use Rattle.rl_style.specs.declared.style.Style.{Style}
+use Rattle.rl_styles.specs.Styles.{default_settings, error_words}
+use Rattle.rl_styles.specs.declared.style_error.StyleError.{StyleError}
+use Rattle.rl_reports.specs.declared.rules.RulesError.{RulesError}
+use Rattle.rl_reports.specs.declared.rules.RulesError.TheVariants as rules
+use Rattle.rl_reports.specs.Rules.{HasNoRules, HasRules}
 use Rattle.rl_reports.specs.Listed.{AreWithAllListed, IsFirstUnread}
 use Rattle.rl_reports.specs.Runs.{Streams, WritesWalk, WritesFront, asked_status}
 use Rattle.rl_reports.specs.Words.{Wishes, wishes_of, Asks, AreRejected, word_message}
@@ -29,6 +36,9 @@ call_error_line NoArguments = codes "rl_scan: an argument is not UTF-8"
 call_error_line (Word error) = codes "rl_scan: " ++ word_message error
 call_error_line (Walk error) = codes "rl_scan: " ++ walk_error_message error
 call_error_line (NoList file why) = codes "rl_scan: " ++ (string_bytes file ++ (codes ": " ++ path_error_message why))
+call_error_line (NoStyle file error) =
+    codes "rl_scan: " ++ (string_bytes file ++ (codes ": " ++ (error_words error.kind ++ (codes " at byte "
+    ++ decimal error.lo))))
 call_error_line NoFile = codes "rl_scan: there was no file to read"
 call_error_line Write = codes "rl_scan: write failed"
 
@@ -99,6 +109,7 @@ EndsRun command holds has_paths spots streams (Usage line) = ⊥
 EndsRun command holds has_paths spots streams (Failed NoArguments) = ⊥
 EndsRun command holds has_paths spots streams (Failed (Word error)) = ⊥
 EndsRun command holds has_paths spots streams (Failed (NoList file why)) = ⊥
+EndsRun command holds has_paths spots streams (Failed (NoStyle file error)) = ⊥
 EndsRun command holds has_paths spots streams _ = IfSome holds (λ w. WritesFront command w spots streams)
 
 -- the same of what paths name
@@ -135,29 +146,53 @@ abbrev pub extensions_read : List (List ℕ) → List (List ℕ)
 extensions_read [] = codes "rs" ∷ []
 extensions_read (extension ∷ extensions) = extension ∷ extensions
 
--- The command looks for these texts, selects so, and reads these lists of paths, and is the same else.
-pub record IsSelecting (command : Command) (finds extensions excludes lists : List (List ℕ)) (selecting : Command)
-    : Type 0 where
+-- The command looks for these texts, selects so, reads these lists of paths, has these rules, and is the same else.
+pub record IsSelecting (command : Command) (rules : Style) (finds extensions excludes lists : List (List ℕ))
+    (selecting : Command) : Type 0 where
   pub same : (texts endings patterns files paths : List (List ℕ))
       → wishes_of selecting texts endings patterns files paths ≡ wishes_of command texts endings patterns files paths
   pub finds_are : borrowed_texts selecting.finds.now ≡ finds
   pub extensions_are : borrowed_texts selecting.selection.extensions.now ≡ extensions_read extensions
   pub excludes_are : borrowed_texts selecting.selection.excludes.now ≡ excludes
   pub lists_are : borrowed_texts selecting.files_from.now ≡ lists
+  pub rules_are : selecting.rules ≡ rules
 
--- The command does what is asked for.
-pub record IsCommandFor (wishes : Wishes) (command : Command) : Type 0 where
+-- The command does what is asked for, by these rules where literals are written anew.
+pub record IsCommandFor (wishes : Wishes) (rules : Style) (command : Command) : Type 0 where
   pub asked : wishes_of command wishes.finds wishes.extensions wishes.excludes wishes.files_from wishes.paths ≡ wishes
   pub finds_are : borrowed_texts command.finds.now ≡ wishes.finds
   pub extensions_are : borrowed_texts command.selection.extensions.now ≡ extensions_read wishes.extensions
   pub excludes_are : borrowed_texts command.selection.excludes.now ≡ wishes.excludes
   pub lists_are : borrowed_texts command.files_from.now ≡ wishes.files_from
+  pub rules_are : command.rules ≡ rules
 
--- how a call ends that scans: as the run over the paths
-abbrev pub EndsScan : {B : Type 0} → Wishes → Bool → Option World → Streams → Ending (CallError B) → Type 0
-EndsScan wishes is_terminal holds streams ending =
-    (command : Command) × IsCommandFor wishes command
+-- how a call ends that scans, by these rules where literals are written anew: as the run over the paths
+abbrev pub EndsScan : {B : Type 0} → Wishes → Style → Bool → Option World → Streams → Ending (CallError B) → Type 0
+EndsScan wishes rules is_terminal holds streams ending =
+    (command : Command) × IsCommandFor wishes rules command
     × EndsFrom wishes.files_from command is_terminal holds wishes.paths streams ending
+
+-- the error names the file, and what is wrong with the rules that it holds; or memory ran out for that
+abbrev pub IsStyleError : {B : Type 0} → List ℕ → StyleError → Ending (CallError B) → Type 0
+IsStyleError file error (Failed (NoStyle said other)) =
+    (chars (string_bytes said) ≡ visible (chars file)) × (other ≡ error)
+IsStyleError file error (Failed (Walk reason)) = reason ≡ OutOfMemory
+IsStyleError file error _ = ⊥
+
+abbrev pub IsRulesError : {B : Type 0} → List ℕ → RulesError → Ending (CallError B) → Type 0
+IsRulesError file (rules.Unread why) ending = IsListError file why ending
+IsRulesError file (rules.Style error) ending = IsStyleError file error ending
+
+-- how a call ends that scans: by the usual rules; or by those of a file, where nothing is written if it has none
+abbrev pub EndsStyled : {B : Type 0} → Option (List ℕ) → Wishes → Bool → Option World → Streams → Ending (CallError B)
+    → Type 0
+EndsStyled None wishes is_terminal holds streams ending =
+    EndsScan wishes default_settings is_terminal holds streams ending
+EndsStyled (Some file) wishes is_terminal holds streams ending =
+    (WritesNothing streams × ((error : RulesError) × IfSome holds (λ w. HasNoRules w file error)
+    × IsRulesError file error ending))
+    ⊎ ((style : Style) × IfSome holds (λ w. HasRules w file style)
+    × EndsScan wishes style is_terminal holds streams ending)
 
 -- how the writing of some text ends
 abbrev pub EndsWriting : {B : Type 0} → Streams → Ending (CallError B) → Type 0
@@ -168,8 +203,8 @@ EndsWriting streams ending =
 -- how a call ends that asks for this: as a run over files, or as the writing of how the program is used, or of its
 -- version
 abbrev pub EndsWish : {B : Type 0} → Wish → Wishes → Bool → Option World → Streams → Ending (CallError B) → Type 0
-EndsWish Scan wishes is_terminal holds streams ending = EndsScan wishes is_terminal holds streams ending
-EndsWish Files wishes is_terminal holds streams ending = EndsScan wishes is_terminal holds streams ending
+EndsWish Scan wishes is_terminal holds streams ending = EndsStyled wishes.style wishes is_terminal holds streams ending
+EndsWish Files wishes is_terminal holds streams ending = EndsStyled wishes.style wishes is_terminal holds streams ending
 EndsWish Help wishes is_terminal holds streams ending = EndsWriting streams ending
 EndsWish Version wishes is_terminal holds streams ending = EndsWriting streams ending
 

@@ -3,19 +3,22 @@
 ghost use Rattle.std.specs.Prelude.{◌≡◌, OnOk};
 ghost use Rattle.rl_files.specs.Globs.{borrowed_texts};
 ghost use Rattle.rl_files.specs.Trees.{string_texts};
-ghost use Rattle.rl_reports.specs.Endings.{extensions_read, finds_no_file, paths_read, EndsAsScan, EndsAsked, EndsListed, EndsPaths, EndsRun, EndsScan, EndsText, EndsWithoutMemory, IsListError, IsSelecting, IsUnwritten};
+ghost use Rattle.rl_reports.specs.Endings.{extensions_read, finds_no_file, paths_read, EndsAsScan, EndsAsked, EndsListed, EndsPaths, EndsRun, EndsScan, EndsStyled, EndsText, EndsWithoutMemory, IsListError, IsRulesError, IsSelecting, IsStyleError, IsUnwritten};
 ghost use Rattle.rl_reports.specs.Runs.{asked_status};
-ghost use Rattle.rl_reports.specs.Words.{wishes_in};
+ghost use Rattle.rl_reports.specs.Words.{style_of, wishes_in};
 
 use crate::clash::lists_files;
 use crate::command::{Command, Console, Wish};
 use crate::listed::push_all_listed;
 use crate::report::visible_text;
+use crate::rules::{RulesError, rules_in};
 use crate::runs::{RunStop, Tally, run};
 use crate::words::{Asked, WordError, asked_by};
 use rl_files::{PathError, Replace, Selection, Tree, Walk, WalkError};
 use rl_program::{Ending, RunError, WriteError, write_bytes};
 use rl_sources::Shown;
+use rl_style::Style;
+use rl_styles::{StyleError, default_style};
 use std::alloc::{AllocError, Allocator, Global};
 use std::fmt;
 use std::io::Write;
@@ -123,8 +126,10 @@ pub enum CallError<A: Allocator = Global> {
     Word(WordError<A>),
     /// An allocation failed, or there was no end of directories.
     Walk(WalkError),
-    /// A file can't be read that names paths.
+    /// A file can't be read that names paths, or that has the rules of a style.
     List(String<A>, PathError),
+    /// What a file holds are no rules of a style.
+    Style(String<A>, StyleError),
     /// There was no file to read in what the paths name.
     NoFile,
     /// A write failed.
@@ -153,6 +158,9 @@ impl<A: Allocator> fmt::Display for CallError<A> {
             CallError::Word(error) => write!(f, "rl_scan: {error}"),
             CallError::Walk(error) => write!(f, "rl_scan: {error}"),
             CallError::List(file, why) => write!(f, "rl_scan: {file}: {why}"),
+            CallError::Style(file, error) => {
+                write!(f, "rl_scan: {file}: {} at byte {}", error.kind, error.lo)
+            }
             CallError::NoFile => write!(f, "rl_scan: there was no file to read"),
             CallError::Write => write!(f, "rl_scan: write failed"),
         }
@@ -351,15 +359,16 @@ fn usual_unless<'a>(extensions: &'a [&'a str]) -> &'a [&'a str]
     }
 }
 
-/// The command with the texts that it looks for, with what it selects, and the files that name paths.
+/// The command with the texts that it looks for, with what it selects, the files that name paths, and the rules of the style.
 fn selecting<'a>(
     command: Command<'a>,
+    rules: Style,
     finds: &'a [&'a str],
     extensions: &'a [&'a str],
     excludes: &'a [&'a str],
     lists: &'a [&'a str],
 ) -> Command<'a>
-    ensures { IsSelecting command.entry (borrowed_texts finds.now) (borrowed_texts extensions.now) (borrowed_texts excludes.now) (borrowed_texts lists.now) result }
+    ensures { IsSelecting command.entry rules (borrowed_texts finds.now) (borrowed_texts extensions.now) (borrowed_texts excludes.now) (borrowed_texts lists.now) result }
 {
     Command {
         wish: command.wish,
@@ -388,22 +397,23 @@ fn selecting<'a>(
         tells_stats: command.tells_stats,
         restyle: command.restyle,
         style: command.style,
-        rules: command.rules,
+        rules,
         macros: command.macros,
     }
 }
 
-/// Scans what the words ask for.
+/// Scans what the words ask for, by the rules of a style where literals are written anew.
 fn scan_asked<A: Allocator + Copy, T: Tree, W: Write, E: Write, F: Replace>(
     alloc: A,
     asked: Asked<'_, A>,
+    rules: Style,
     is_terminal: bool,
     tree: &T,
     out: &mut W,
     err: &mut E,
     files: &mut F,
 ) -> Ending<CallError<A>>
-    ensures { EndsScan (wishes_in asked.entry) is_terminal (T.holds tree.now) (record {
+    ensures { EndsScan (wishes_in asked.entry) rules is_terminal (T.holds tree.now) (record {
       out_old = W.contents out.old;
       out_new = W.contents out.new;
       err_old = E.contents err.old;
@@ -423,6 +433,7 @@ fn scan_asked<A: Allocator + Copy, T: Tree, W: Write, E: Write, F: Replace>(
     } = asked;
     let command = selecting(
         command,
+        rules,
         finds.as_slice(),
         extensions.as_slice(),
         excludes.as_slice(),
@@ -442,6 +453,62 @@ fn scan_asked<A: Allocator + Copy, T: Tree, W: Write, E: Write, F: Replace>(
         )
     } else {
         scan_listed(alloc, command, named, tree, &mut paths, out, err, files)
+    }
+}
+
+/// How a call ends where the file holds no rules of a style.
+fn style_error<A: Allocator + Copy>(
+    alloc: A,
+    file: &str,
+    error: StyleError,
+) -> Ending<CallError<A>>
+    ensures { IsStyleError file.now error result }
+{
+    match visible_text(alloc, file) {
+        Ok(shown) => Ending::Failed(CallError::Style(shown, error)),
+        Err(_) => Ending::Failed(CallError::Walk(WalkError::OutOfMemory)),
+    }
+}
+
+/// How a call ends where the rules of a style can't be had.
+fn rules_error<A: Allocator + Copy>(
+    alloc: A,
+    file: &str,
+    error: RulesError,
+) -> Ending<CallError<A>>
+    ensures { IsRulesError file.now error result }
+{
+    match error {
+        RulesError::Unread(why) => list_error(alloc, file, why),
+        RulesError::Style(error) => style_error(alloc, file, error),
+    }
+}
+
+/// Scans what the words ask for, by the rules of the style that they name.
+fn scan_styled<A: Allocator + Copy, T: Tree, W: Write, E: Write, F: Replace>(
+    alloc: A,
+    asked: Asked<'_, A>,
+    is_terminal: bool,
+    tree: &T,
+    out: &mut W,
+    err: &mut E,
+    files: &mut F,
+) -> Ending<CallError<A>>
+    ensures { EndsStyled (style_of asked.entry.command.style) (wishes_in asked.entry) is_terminal (T.holds tree.now) (record {
+      out_old = W.contents out.old;
+      out_new = W.contents out.new;
+      err_old = E.contents err.old;
+      err_new = E.contents err.new;
+      handed_old = F.handed files.old;
+      handed_new = F.handed files.new;
+    }) result }
+{
+    let Some(file) = asked.command.style else {
+        return scan_asked(alloc, asked, default_style(), is_terminal, tree, out, err, files);
+    };
+    match rules_in(alloc, tree, file) {
+        Ok(rules) => scan_asked(alloc, asked, rules, is_terminal, tree, out, err, files),
+        Err(error) => rules_error(alloc, file, error),
     }
 }
 
@@ -467,7 +534,7 @@ fn answer<A: Allocator + Copy, T: Tree, W: Write, E: Write, F: Replace>(
     match asked.command.wish {
         Wish::Help => write_text(out, HELP),
         Wish::Version => write_text(out, VERSION),
-        Wish::Scan | Wish::Files => scan_asked(alloc, asked, is_terminal, tree, out, err, files),
+        Wish::Scan | Wish::Files => scan_styled(alloc, asked, is_terminal, tree, out, err, files),
     }
 }
 

@@ -6,7 +6,7 @@ use Rattle.rl_reports.proofs.Handing.{written_on}
 use Rattle.rl_reports.proofs.ending.scan_asked.Goals as goal
 
 pub returns-then-is_empty : goal.returns-then-is_empty
-returns-then-is_empty g c = scan_ends c.args.asked.command c.selecting-command.result
+returns-then-is_empty g c = scan_ends c.args.asked.command c.selecting-command.result c.args.rules
     (borrowed_texts c.args.asked.finds.items)
     (borrowed_texts c.args.asked.extensions.items) (borrowed_texts c.args.asked.excludes.items)
     (borrowed_texts c.args.asked.lists.items) (string_texts c.args.asked.paths.items) c.args.is_terminal
@@ -22,7 +22,7 @@ returns-then-is_empty g c = scan_ends c.args.asked.command c.selecting-command.r
     (g.F.Replace.handed c.scan_named.new.files)) c.scan_named.result (sym c.is_empty.ensures ∙ c.if-is_empty.true) c.scan_named.ensures)
 
 pub returns : goal.returns
-returns g c = scan_ends c.args.asked.command c.selecting-command.result (borrowed_texts c.args.asked.finds.items)
+returns g c = scan_ends c.args.asked.command c.selecting-command.result c.args.rules (borrowed_texts c.args.asked.finds.items)
     (borrowed_texts c.args.asked.extensions.items) (borrowed_texts c.args.asked.excludes.items)
     (borrowed_texts c.args.asked.lists.items) (string_texts c.args.asked.paths.items) c.args.is_terminal
     (g.T.Tree.holds c.args.tree.now) (written_on (g.W.Write.contents c.args.out.now) (g.W.Write.contents c.scan_listed.new.out)
