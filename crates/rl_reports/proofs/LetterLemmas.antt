@@ -4,7 +4,7 @@ use Rattle.std.specs.Prelude.{IfErr, OnOk}
 use Rattle.std.specs.declared.result.Result.{Result}
 use Rattle.std.specs.declared.result.Result.TheVariants.{Err, Ok}
 use Rattle.rl_reports.specs.declared.flags.Flag.{Flag}
-use Rattle.rl_reports.specs.declared.flags.Flag.TheVariants.{Bad, Hidden, Only, Find, IgnoreCase, WholeWords, Text, Json, Format, Context, Before, After, Color, Bytes, Lines, NoStray, AnySuffix, Edition, AllDirectories, Extension, Exclude, FilesFrom, NoMessages, Count, FilesWithMatches, Nul, Quiet, Files, Stats, Help, Version, Paths}
+use Rattle.rl_reports.specs.declared.flags.Flag.TheVariants.{Bad, Hidden, Only, Find, IgnoreCase, WholeWords, Text, Json, Format, Context, Before, After, Color, Bytes, Lines, NoStray, AnySuffix, Edition, AllDirectories, Extension, Exclude, FilesFrom, NoMessages, Count, FilesWithMatches, Nul, Quiet, Files, Stats, Fix, Check, Diff, Style, Macros, Help, Version, Paths}
 use Rattle.rl_reports.specs.declared.flags.Operand.{Operand}
 use Rattle.rl_reports.specs.declared.flags.Operand.TheVariants as takes
 use Rattle.rl_reports.specs.declared.flags.Next.{Next}
@@ -45,6 +45,11 @@ letter_low FilesFrom c is = absurd is
 letter_low NoMessages c is = absurd is
 letter_low Files c is = absurd is
 letter_low Stats c is = absurd is
+letter_low Fix c is = absurd is
+letter_low Check c is = absurd is
+letter_low Diff c is = absurd is
+letter_low Style c is = absurd is
+letter_low Macros c is = absurd is
 letter_low Paths c is = absurd is
 
 -- a letter begins the bytes
@@ -195,6 +200,11 @@ letter_taken A hc word old letters now new then last rest after c flag split is 
     go NoMessages is none added front = absurd is
     go Files is none added front = absurd is
     go Stats is none added front = absurd is
+    go Fix is none added front = absurd is
+    go Check is none added front = absurd is
+    go Diff is none added front = absurd is
+    go Style is none added front = absurd is
+    go Macros is none added front = absurd is
     go Paths is none added front = absurd is
 
 -- a letter and what it takes
@@ -276,6 +286,9 @@ taken_flag FilesWithMatches operand e = absurd (cc)
 taken_flag Nul operand e = absurd (cc)
 taken_flag Files operand e = absurd (cc)
 taken_flag Stats operand e = absurd (cc)
+taken_flag Fix operand e = absurd (cc)
+taken_flag Check operand e = absurd (cc)
+taken_flag Diff operand e = absurd (cc)
 taken_flag Quiet operand e = absurd (cc)
 taken_flag Help operand e = absurd (cc)
 taken_flag Version operand e = absurd (cc)
@@ -287,6 +300,8 @@ taken_flag Extension operand e = let same : takes.Extension ≡ operand = (cc) i
 taken_flag Exclude operand e = let same : takes.Pattern ≡ operand = (cc) in ap taken_by same
 taken_flag FilesFrom operand e = let same : takes.List ≡ operand = (cc) in ap taken_by same
 taken_flag Edition operand e = let same : takes.Edition ≡ operand = (cc) in ap taken_by same
+taken_flag Style operand e = let same : takes.Style ≡ operand = (cc) in ap taken_by same
+taken_flag Macros operand e = let same : takes.Macros ≡ operand = (cc) in ap taken_by same
 taken_flag Format operand e = let same : takes.Format ≡ operand = (cc) in ap taken_by same
 
 pub takes_nothing : (flag : Flag) → ((operand : Operand) → next_after flag ≢ next.Operand operand)
@@ -319,8 +334,13 @@ takes_nothing FilesWithMatches none = inl refl
 takes_nothing Nul none = inl refl
 takes_nothing Files none = inl refl
 takes_nothing Stats none = inl refl
+takes_nothing Fix none = inl refl
+takes_nothing Check none = inl refl
+takes_nothing Diff none = inl refl
 takes_nothing Quiet none = inl refl
 takes_nothing Help none = inl refl
+takes_nothing Style none = absurd (none takes.Style refl)
+takes_nothing Macros none = absurd (none takes.Macros refl)
 takes_nothing Version none = inl refl
 takes_nothing Paths none = inr refl
 

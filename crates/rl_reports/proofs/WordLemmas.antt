@@ -5,7 +5,7 @@ use Rattle.std.specs.Str.Parse.{ParsesUnsigned}
 use Rattle.std.specs.Str.Pattern.{FindsTextPrefix}
 use Rattle.rl_reports.specs.declared.flags.Next.{Next}
 use Rattle.rl_reports.specs.declared.flags.Operand.{Operand}
-use Rattle.rl_reports.specs.declared.flags.Operand.TheVariants.{Kinds, Text, Color, Extension, Pattern, List as Names, Edition, Format, Around, Before, After}
+use Rattle.rl_reports.specs.declared.flags.Operand.TheVariants.{Kinds, Text, Color, Extension, Pattern, List as Names, Edition, Format, Around, Before, After, Style, Macros}
 use Rattle.rl_reports.specs.declared.words.WordError.{WordError}
 use Rattle.rl_reports.specs.Endings.{AskForWishes, CannotAsk}
 use Rattle.rl_reports.specs.Words.{Wishes, IsCountWord, joined_word, IsStep, AreSteps, AskSoFar, Asks, IsRejectedWord, AreRejected}
@@ -33,18 +33,21 @@ pub no_joined : (word : List ℕ) → ((rest : List ℕ) → word ≢ codes "--o
     → ((rest : List ℕ) → word ≢ codes "--format=" ++ rest) → ((rest : List ℕ) → word ≢ codes "--context=" ++ rest)
     → ((rest : List ℕ) → word ≢ codes "--before-context=" ++ rest)
     → ((rest : List ℕ) → word ≢ codes "--after-context=" ++ rest)
+    → ((rest : List ℕ) → word ≢ codes "--style=" ++ rest) → ((rest : List ℕ) → word ≢ codes "--macros=" ++ rest)
     → (operand : Operand) (text : List ℕ) → word ≢ joined_word operand text
-no_joined word kinds text color extension pattern list edition format around before after Kinds x = kinds x
-no_joined word kinds text color extension pattern list edition format around before after Text x = text x
-no_joined word kinds text color extension pattern list edition format around before after Color x = color x
-no_joined word kinds text color extension pattern list edition format around before after Extension x = extension x
-no_joined word kinds text color extension pattern list edition format around before after Pattern x = pattern x
-no_joined word kinds text color extension pattern list edition format around before after Names x = list x
-no_joined word kinds text color extension pattern list edition format around before after Edition x = edition x
-no_joined word kinds text color extension pattern list edition format around before after Format x = format x
-no_joined word kinds text color extension pattern list edition format around before after Around x = around x
-no_joined word kinds text color extension pattern list edition format around before after Before x = before x
-no_joined word kinds text color extension pattern list edition format around before after After x = after x
+no_joined word kinds text color extension pattern list edition format around before after style macros Kinds x = kinds x
+no_joined word kinds text color extension pattern list edition format around before after style macros Text x = text x
+no_joined word kinds text color extension pattern list edition format around before after style macros Color x = color x
+no_joined word kinds text color extension pattern list edition format around before after style macros Extension x = extension x
+no_joined word kinds text color extension pattern list edition format around before after style macros Pattern x = pattern x
+no_joined word kinds text color extension pattern list edition format around before after style macros Names x = list x
+no_joined word kinds text color extension pattern list edition format around before after style macros Edition x = edition x
+no_joined word kinds text color extension pattern list edition format around before after style macros Format x = format x
+no_joined word kinds text color extension pattern list edition format around before after style macros Around x = around x
+no_joined word kinds text color extension pattern list edition format around before after style macros Before x = before x
+no_joined word kinds text color extension pattern list edition format around before after style macros After x = after x
+no_joined word kinds text color extension pattern list edition format around before after style macros Style x = style x
+no_joined word kinds text color extension pattern list edition format around before after style macros Macros x = macros x
 
 -- ---- what is no number: it takes the clause of `parse`
 

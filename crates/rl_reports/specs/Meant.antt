@@ -9,7 +9,7 @@ use Rattle.rl_sources.specs.Options.{words_of}
 -- the options; commas separate them
 abbrev pub option_list : List ℕ
 option_list =
-    codes "--bad,--hidden,--only,--find,--ignore-case,--word,--no-stray,--any-suffix,--edition,--all,--extension,--exclude,--files-from,--no-messages,--bytes,--lines,--text,--json,--format,--context,--before-context,--after-context,--color,--count,--files-with-matches,--null,--quiet,--files,--stats,--help,--version"
+    codes "--bad,--hidden,--only,--find,--ignore-case,--word,--no-stray,--any-suffix,--edition,--all,--extension,--exclude,--files-from,--no-messages,--bytes,--lines,--text,--json,--format,--context,--before-context,--after-context,--color,--count,--files-with-matches,--null,--quiet,--files,--stats,--fix,--check,--diff,--style,--macros,--help,--version"
 
 -- the first two changed places
 abbrev pub swapped : List ℕ → List ℕ

@@ -1,6 +1,7 @@
 -- What the words of a command line ask for. Words are lists of bytes.
-use Rattle.std.specs.Prelude.{◌≡◌, ◌≢◌, ◌⊎◌, ℕ, ◌==◌, Bool, true, false, cond, not, ◌||◌, ◌&&◌, List, [], ◌∷◌, ◌++◌, codes, encode_utf8, string_bytes, IsTrue, ⊤, Option, Some, None, ◌<◌, ◌^◌}
+use Rattle.std.specs.Prelude.{◌≡◌, ◌≢◌, ◌⊎◌, ℕ, ◌==◌, Bool, true, false, cond, not, ◌||◌, ◌&&◌, List, [], ◌∷◌, ◌++◌, codes, encode_utf8, string_bytes, IsTrue, ⊤, Option, Some, None, is_some, ◌<◌, ◌^◌}
 use Prim.Native.Char.{code}
+use denote.Ref.{Bor}
 use Rattle.std.specs.List.{All, Any, list_any, starts_with}
 use Rattle.std.specs.Str.{chars, bytes_eq}
 use Rattle.std.specs.Str.Parse.{IsNumeral, digits_value, without_leading_plus}
@@ -14,6 +15,10 @@ use Rattle.rl_reports.specs.declared.command.PlaceForm.TheVariants as form
 use Rattle.rl_reports.specs.declared.command.Output.{Output}
 use Rattle.rl_reports.specs.declared.command.Output.TheVariants as output
 use Rattle.rl_reports.specs.declared.command.Command.{Command}
+use Rattle.rl_reports.specs.declared.command.Restyling.{Restyling}
+use Rattle.rl_reports.specs.declared.command.Restyling.TheVariants as restyling
+use Rattle.rl_reports.specs.declared.command.Macros.{Macros as AnyMacros}
+use Rattle.rl_reports.specs.declared.command.Macros.TheVariants as macros
 use Rattle.rl_output.specs.Forms.{has_extents}
 use Rattle.rl_output.specs.declared.form.Form.{Form}
 use Rattle.rl_output.specs.declared.form.Form.TheVariants as written
@@ -22,7 +27,7 @@ use Rattle.rl_sources.specs.declared.options.Spelling.{Spelling}
 use Rattle.rl_sources.specs.declared.options.Spelling.TheVariants.{Value, Source}
 use Rattle.rl_sources.specs.declared.options.Shown.TheVariants as shown
 use Rattle.rl_reports.specs.declared.flags.Flag.{Flag}
-use Rattle.rl_reports.specs.declared.flags.Flag.TheVariants.{Bad, Hidden, Only, Find, IgnoreCase, WholeWords, Text, Json, Format, Context, Before, After, Color, Bytes, Lines, NoStray, AnySuffix, Edition, AllDirectories, Extension, Exclude, FilesFrom, NoMessages, Count, FilesWithMatches, Nul, Quiet, Files, Stats, Help, Version, Paths}
+use Rattle.rl_reports.specs.declared.flags.Flag.TheVariants.{Bad, Hidden, Only, Find, IgnoreCase, WholeWords, Text, Json, Format, Context, Before, After, Color, Bytes, Lines, NoStray, AnySuffix, Edition, AllDirectories, Extension, Exclude, FilesFrom, NoMessages, Count, FilesWithMatches, Nul, Quiet, Files, Stats, Fix, Check, Diff, Style, Macros, Help, Version, Paths}
 use Rattle.rl_reports.specs.declared.flags.Format.{Format as AnyFormat}
 use Rattle.rl_reports.specs.declared.flags.Format.TheVariants as format
 use Rattle.rl_types.specs.declared.before.Edition.{Edition as AnyEdition}
@@ -35,7 +40,7 @@ use Rattle.rl_reports.specs.declared.flags.When.{When}
 use Rattle.rl_reports.specs.declared.flags.When.TheVariants.{Auto, Always, Never}
 use Rattle.rl_reports.specs.declared.words.Asked.{Asked}
 use Rattle.rl_reports.specs.declared.words.WordError.{WordError}
-use Rattle.rl_reports.specs.declared.words.WordError.TheVariants.{Memory, UnknownOption, UnknownLetter, NoValue, UnknownKind, NoKinds, TwoChoices, NoText, EmptyText, BadAndFind, TextlessKinds, ObjectsOfPaths, StatsOfPaths, NoColor, UnknownColor, NoExtension, NoPattern, EmptyPattern, OtherPattern, NoList, NoEdition, UnknownEdition, NoFormat, UnknownFormat, NoCount, UnknownCount}
+use Rattle.rl_reports.specs.declared.words.WordError.TheVariants.{Memory, UnknownOption, UnknownLetter, NoValue, UnknownKind, NoKinds, TwoChoices, NoText, EmptyText, BadAndFind, TextlessKinds, ObjectsOfPaths, StatsOfPaths, TwoRestylings, RestylesAlone, StyleAlone, NoStyle, NoMacros, UnknownMacros, NoColor, UnknownColor, NoExtension, NoPattern, EmptyPattern, OtherPattern, NoList, NoEdition, UnknownEdition, NoFormat, UnknownFormat, NoCount, UnknownCount}
 use Rattle.rl_sources.specs.Options.{Names, words_of}
 use Rattle.rl_reports.specs.Meant.{IsMeant, option_part}
 
@@ -70,6 +75,11 @@ IsOptionWord Nul word = word ≡ codes "--null"
 IsOptionWord Quiet word = word ≡ codes "--quiet"
 IsOptionWord Files word = word ≡ codes "--files"
 IsOptionWord Stats word = word ≡ codes "--stats"
+IsOptionWord Fix word = word ≡ codes "--fix"
+IsOptionWord Check word = word ≡ codes "--check"
+IsOptionWord Diff word = word ≡ codes "--diff"
+IsOptionWord Style word = word ≡ codes "--style"
+IsOptionWord Macros word = word ≡ codes "--macros"
 IsOptionWord Help word = word ≡ codes "--help"
 IsOptionWord Version word = word ≡ codes "--version"
 IsOptionWord Paths word = word ≡ codes "--"
@@ -103,6 +113,8 @@ joined_word takes.Format text = codes "--format=" ++ text
 joined_word takes.Around text = codes "--context=" ++ text
 joined_word takes.Before text = codes "--before-context=" ++ text
 joined_word takes.After text = codes "--after-context=" ++ text
+joined_word takes.Style text = codes "--style=" ++ text
+joined_word takes.Macros text = codes "--macros=" ++ text
 
 -- the option that takes it
 abbrev pub taken_by : Operand → Flag
@@ -117,6 +129,8 @@ taken_by takes.Format = Format
 taken_by takes.Around = Context
 taken_by takes.Before = Before
 taken_by takes.After = After
+taken_by takes.Style = Style
+taken_by takes.Macros = Macros
 
 -- the word that says when lines have colours
 abbrev pub color_word : When → List ℕ
@@ -158,6 +172,11 @@ formatted has_colors written.Json format.Text = colored_form has_colors Auto
 formatted has_colors written.Github format.Text = colored_form has_colors Auto
 formatted has_colors written.Plain format.Text = written.Plain
 formatted has_colors written.Colored format.Text = written.Colored
+
+-- the word that says which literals in calls of macros are written anew
+abbrev pub macros_word : AnyMacros → List ℕ
+macros_word macros.Skip = codes "skip"
+macros_word macros.All = codes "all"
 
 -- the word is a number in base ten that fits into 64 bits; a plus may stand before it
 pub record IsCountWord (word : List ℕ) (count : ℕ) : Type 0 where
@@ -236,6 +255,9 @@ pub record Wishes : Type 0 where
   pub all_directories : Bool
   pub tells_errors : Bool
   pub tells_stats : Bool
+  pub restyle : Option Restyling
+  pub style : Option (List ℕ)
+  pub macros : AnyMacros
   pub extensions : List (List ℕ)
   pub excludes : List (List ℕ)
   pub files_from : List (List ℕ)
@@ -264,11 +286,19 @@ first_wishes has_colors = record {
   all_directories = false;
   tells_errors = true;
   tells_stats = false;
+  restyle = None;
+  style = None;
+  macros = macros.Skip;
   extensions = [];
   excludes = [];
   files_from = [];
   paths = [];
 }
+
+-- the file with the rules of a style
+abbrev pub style_of : Option (Bor (List ℕ)) → Option (List ℕ)
+style_of None = None
+style_of (Some file) = Some file.now
 
 -- what the code holds
 abbrev pub wishes_of : Command → List (List ℕ) → List (List ℕ) → List (List ℕ) → List (List ℕ) → List (List ℕ) → Wishes
@@ -293,6 +323,9 @@ wishes_of command finds extensions excludes lists paths = record {
   all_directories = command.selection.all;
   tells_errors = command.tells_errors;
   tells_stats = command.tells_stats;
+  restyle = command.restyle;
+  style = style_of command.style;
+  macros = command.macros;
   extensions = extensions;
   excludes = excludes;
   files_from = lists;
@@ -332,18 +365,53 @@ sums_lines output.Nothing = false
 abbrev pub prints_no_objects : Wish → Output → Bool
 prints_no_objects wish output = lists_files wish || sums_lines output
 
--- What is asked for goes together: a text is looked for only where literals that are wanted may hold it, objects and
--- annotations are wanted only of lines, and how much was found only where files are read.
-abbrev pub GoTogether : Wishes → Type 0
-GoTogether w =
+-- it is said which literals are printed, and how lines are
+abbrev pub picks_literals : Wanted → Bool → Bool
+picks_literals AllWanted searches = searches
+picks_literals (OnlyWanted list) searches = true
+picks_literals BadWanted searches = true
+picks_literals HiddenWanted searches = true
+
+abbrev pub spells_lines : Spelling → Form → Bool
+spells_lines Value form = has_extents form
+spells_lines Source form = true
+
+-- it is said what is printed
+abbrev pub says_printed : Wishes → Bool
+says_printed w =
+    picks_literals w.wanted w.searches || spells_lines w.spelling w.form
+    || (is_some w.around || is_some w.before || is_some w.after) || prints_no_objects w.wish w.output || w.tells_stats
+
+-- literals are written anew, and it is said what is printed
+abbrev pub restyles_and_prints : Wishes → Bool
+restyles_and_prints w = is_some w.restyle && says_printed w
+
+-- a style is named, and no literals are written anew
+abbrev pub has_needless_style : Wishes → Bool
+has_needless_style w = is_some w.style && not (is_some w.restyle)
+
+-- neither is so
+abbrev pub RestyleTogether : Wishes → Type 0
+RestyleTogether w = (restyles_and_prints w ≡ false) × (has_needless_style w ≡ false)
+
+-- a text is looked for only where literals that are wanted may hold it, objects and annotations are wanted only of
+-- lines, and how much was found only where files are read
+abbrev pub PrintTogether : Wishes → Type 0
+PrintTogether w =
     (IsTrue w.searches → MayHold w.wanted) × ((has_extents w.form && prints_no_objects w.wish w.output) ≡ false)
     × ((w.tells_stats && lists_files w.wish) ≡ false)
+
+-- what is asked for goes together
+abbrev pub GoTogether : Wishes → Type 0
+GoTogether w = PrintTogether w × RestyleTogether w
 
 -- why it doesn't
 abbrev pub IsClash : {A : Type 0} → Wishes → WordError A → Type 0
 IsClash w TextlessKinds = IsTrue w.searches × (MayHold w.wanted → ⊥)
 IsClash w ObjectsOfPaths = (has_extents w.form && prints_no_objects w.wish w.output) ≡ true
 IsClash w StatsOfPaths = (w.tells_stats && lists_files w.wish) ≡ true
+IsClash w RestylesAlone = restyles_and_prints w ≡ true
+IsClash w StyleAlone = has_needless_style w ≡ true
 IsClash w _ = ⊥
 
 -- only one option may say which literals are wanted
@@ -360,9 +428,16 @@ GoesWithFind Hidden w = w.searches ≡ false
 GoesWithFind Find w = (w.wanted ≢ BadWanted) × (w.wanted ≢ HiddenWanted)
 GoesWithFind _ w = ⊤
 
+-- only one option asks for literals written anew, once
+abbrev pub RestylesOnce : Flag → Wishes → Type 0
+RestylesOnce Fix w = w.restyle ≡ None
+RestylesOnce Check w = w.restyle ≡ None
+RestylesOnce Diff w = w.restyle ≡ None
+RestylesOnce _ w = ⊤
+
 -- the option goes with what is asked for
 abbrev pub MayStand : Flag → Wishes → Type 0
-MayStand flag w = IsAllowed flag w × GoesWithFind flag w
+MayStand flag w = IsAllowed flag w × GoesWithFind flag w × RestylesOnce flag w
 
 abbrev pub with_flag : Flag → Wishes → Wishes
 with_flag Bad w = record w { wanted = BadWanted }
@@ -394,6 +469,11 @@ with_flag Nul w = record w { nul_after_paths = true }
 with_flag Quiet w = record w { output = output.Nothing }
 with_flag Files w = record w { wish = wish.Files }
 with_flag Stats w = record w { tells_stats = true }
+with_flag Fix w = record w { restyle = Some restyling.Fix }
+with_flag Check w = record w { restyle = Some restyling.Check }
+with_flag Diff w = record w { restyle = Some restyling.Diff }
+with_flag Style w = w
+with_flag Macros w = w
 with_flag Help w = record w { wish = wish.Help }
 with_flag Version w = record w { wish = wish.Version }
 with_flag Paths w = w
@@ -415,6 +495,8 @@ next_after Format = next.Operand takes.Format
 next_after Context = next.Operand takes.Around
 next_after Before = next.Operand takes.Before
 next_after After = next.Operand takes.After
+next_after Style = next.Operand takes.Style
+next_after Macros = next.Operand takes.Macros
 next_after Paths = next.Path
 next_after _ = next.Any
 
@@ -469,6 +551,9 @@ IsTaken has_colors takes.Before old word new =
     (count : ℕ) × IsCountWord word count × (new ≡ record old { before = Some count })
 IsTaken has_colors takes.After old word new =
     (count : ℕ) × IsCountWord word count × (new ≡ record old { after = Some count })
+IsTaken has_colors takes.Style old file new = new ≡ record old { style = Some file }
+IsTaken has_colors takes.Macros old word new =
+    (macros : AnyMacros) × (word ≡ macros_word macros) × (new ≡ record old { macros = macros })
 
 -- With these letters, one after another, so much is asked for, and such a word may stand next: what an option
 -- takes stands after its letter, or is the next word.
@@ -540,6 +625,13 @@ word_message TextlessKinds =
 word_message ObjectsOfPaths =
     codes "--json and --format json, github can't be used with -c, --count, -l, --files-with-matches, --files"
 word_message StatsOfPaths = codes "--stats can't be used with --files, which reads none"
+word_message TwoRestylings = codes "--fix, --check and --diff: one of them, once"
+word_message RestylesAlone =
+    codes "--fix, --check and --diff can't be used with what says what is printed: --bad, --hidden, --only, -e, -c, -l, --files, --text, --json, --format, -C, -B, -A, --stats"
+word_message StyleAlone = codes "--style goes with one of --fix, --check, --diff"
+word_message NoStyle = codes "--style: which file? as in --style style.txt"
+word_message NoMacros = codes "--macros: which? one of skip, all"
+word_message (UnknownMacros word) = codes "unknown macros '" ++ (string_bytes word ++ codes "': one of skip, all")
 word_message NoColor = codes "--color: when? one of auto, always, never"
 word_message (UnknownColor word) =
     codes "unknown colour '" ++ (string_bytes word ++ codes "': one of auto, always, never")
@@ -564,6 +656,7 @@ word_message (UnknownCount word) =
 abbrev pub IsRejectedFlag : {A : Type 0} → Flag → Wishes → WordError A → Type 0
 IsRejectedFlag flag old TwoChoices = IsAllowed flag old → ⊥
 IsRejectedFlag flag old BadAndFind = GoesWithFind flag old → ⊥
+IsRejectedFlag flag old TwoRestylings = RestylesOnce flag old → ⊥
 IsRejectedFlag flag old _ = ⊥
 
 -- why this isn't what an option takes
@@ -587,6 +680,9 @@ IsRejectedText operand text (UnknownFormat said) =
     × (chars (string_bytes said) ≡ visible (chars text))
 IsRejectedText operand text (UnknownCount said) =
     IsSide operand × ((count : ℕ) → IsCountWord text count → ⊥)
+    × (chars (string_bytes said) ≡ visible (chars text))
+IsRejectedText operand text (UnknownMacros said) =
+    (operand ≡ takes.Macros) × ((macros : AnyMacros) → text ≢ macros_word macros)
     × (chars (string_bytes said) ≡ visible (chars text))
 IsRejectedText operand text _ = ⊥
 
@@ -669,6 +765,8 @@ IsMissing takes.Format error = error ≡ NoFormat
 IsMissing takes.Around error = error ≡ NoCount
 IsMissing takes.Before error = error ≡ NoCount
 IsMissing takes.After error = error ≡ NoCount
+IsMissing takes.Style error = error ≡ NoStyle
+IsMissing takes.Macros error = error ≡ NoMacros
 
 -- Why the words can't be asked for: where they end, what an option takes is missing, or what they ask for doesn't go
 -- together; or they ask for something up to one that can't be asked for.

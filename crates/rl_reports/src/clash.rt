@@ -1,12 +1,13 @@
 //! Whether what the words ask for goes together.
 
-ghost use Rattle.std.specs.Prelude.{◌≡◌, ◌↔◌, ℕ, List, IfNone, IfSome, IsTrue, MatchBool};
-ghost use Rattle.rl_reports.specs.Words.{GoTogether, HasTextKind, IsClash, MayHold, lists_files as lists, prints_no_objects as no_objects, sums_lines as sums, wanted_of, wishes_of};
+ghost use Rattle.std.specs.Prelude.{◌≡◌, ◌↔◌, ℕ, List, [], IfNone, IfSome, IsTrue, MatchBool};
+ghost use Rattle.rl_reports.specs.Words.{GoTogether, HasTextKind, IsClash, MayHold, PrintTogether, RestyleTogether, lists_files as lists, picks_literals as picks, says_printed, has_needless_style as needless_style, restyles_and_prints as with_printing, spells_lines as spells, prints_no_objects as no_objects, sums_lines as sums, wanted_of, wishes_of};
 
 use crate::command::{Command, Output, Wish};
+use crate::report::asks_context;
 use crate::words::WordError;
 use rl_output::has_extents;
-use rl_sources::{Shown, names};
+use rl_sources::{Shown, Spelling, names};
 use std::alloc::Allocator;
 
 /// The kinds of literals whose contents may hold a text.
@@ -50,12 +51,70 @@ fn prints_no_objects(command: Command<'_>) -> bool
     lists_files(command.wish) || sums_lines(command.output)
 }
 
-/// What doesn't go together of what is asked for: `None` where all does.
-pub(crate) fn clash_of<A: Allocator>(command: Command<'_>) -> Option<WordError<A>>
+/// Whether it is said which literals are printed.
+fn picks_literals(command: Command<'_>) -> bool
+    ensures { result ≡ picks (wanted_of command.entry.shown) command.entry.searches }
+{
+    !matches!(command.shown, Shown::All) || command.searches
+}
+
+/// Whether it is said how lines are printed.
+fn spells_lines(command: Command<'_>) -> bool
+    ensures { result ≡ spells command.entry.spelling command.entry.form }
+{
+    matches!(command.spelling, Spelling::Source) || has_extents(command.form)
+}
+
+/// Whether it is said what is printed.
+fn says_what_is_printed(command: Command<'_>) -> bool
+    ensures { result ≡ says_printed (wishes_of command.entry [] [] [] [] []) }
+{
+    picks_literals(command)
+        || spells_lines(command)
+        || asks_context(command)
+        || prints_no_objects(command)
+        || command.tells_stats
+}
+
+/// Whether literals are written anew, and it is said what is printed.
+fn restyles_and_prints(command: Command<'_>) -> bool
+    ensures { result ≡ with_printing (wishes_of command.entry [] [] [] [] []) }
+{
+    command.restyle.is_some() && says_what_is_printed(command)
+}
+
+/// Whether a style is named, and no literals are written anew.
+fn has_needless_style(command: Command<'_>) -> bool
+    ensures { result ≡ needless_style (wishes_of command.entry [] [] [] [] []) }
+{
+    match (command.style, command.restyle) {
+        (Some(_), None) => true,
+        (Some(_), Some(_)) | (None, _) => false,
+    }
+}
+
+/// What doesn't go together of what is asked for of literals that are written anew.
+fn restyling_clash<A: Allocator>(command: Command<'_>) -> Option<WordError<A>>
     ensures some { IfSome result (λ error. (finds extensions excludes lists paths : List (List ℕ))
         → IsClash (wishes_of command.entry finds extensions excludes lists paths) error) }
     ensures none { IfNone result ((finds extensions excludes lists paths : List (List ℕ))
-        → GoTogether (wishes_of command.entry finds extensions excludes lists paths)) }
+        → RestyleTogether (wishes_of command.entry finds extensions excludes lists paths)) }
+{
+    if restyles_and_prints(command) {
+        return Some(WordError::RestylesAlone);
+    }
+    if has_needless_style(command) {
+        return Some(WordError::StyleAlone);
+    }
+    None
+}
+
+/// What doesn't go together of what is asked for of what is printed.
+fn printing_clash<A: Allocator>(command: Command<'_>) -> Option<WordError<A>>
+    ensures some { IfSome result (λ error. (finds extensions excludes lists paths : List (List ℕ))
+        → IsClash (wishes_of command.entry finds extensions excludes lists paths) error) }
+    ensures none { IfNone result ((finds extensions excludes lists paths : List (List ℕ))
+        → PrintTogether (wishes_of command.entry finds extensions excludes lists paths)) }
 {
     if command.searches && !may_hold(command.shown) {
         return Some(WordError::TextlessKinds);
@@ -65,6 +124,22 @@ pub(crate) fn clash_of<A: Allocator>(command: Command<'_>) -> Option<WordError<A
     }
     if command.tells_stats && lists_files(command.wish) {
         return Some(WordError::StatsOfPaths);
+    }
+    None
+}
+
+/// What doesn't go together of what is asked for: `None` where all does.
+pub(crate) fn clash_of<A: Allocator>(command: Command<'_>) -> Option<WordError<A>>
+    ensures some { IfSome result (λ error. (finds extensions excludes lists paths : List (List ℕ))
+        → IsClash (wishes_of command.entry finds extensions excludes lists paths) error) }
+    ensures none { IfNone result ((finds extensions excludes lists paths : List (List ℕ))
+        → GoTogether (wishes_of command.entry finds extensions excludes lists paths)) }
+{
+    if let Some(error) = printing_clash(command) {
+        return Some(error);
+    }
+    if let Some(error) = restyling_clash(command) {
+        return Some(error);
     }
     None
 }

@@ -12,7 +12,7 @@ mod runs;
 mod stats;
 mod words;
 
-pub use crate::command::{Command, Console, Output, PlaceForm, Wish};
+pub use crate::command::{Command, Console, Macros, Output, PlaceForm, Restyling, Wish};
 pub use crate::ending::{CallError, HELP, VERSION, call, out_of_memory};
 pub use crate::report::{Report, report_of};
 pub use crate::runs::{RunStop, Tally, run};

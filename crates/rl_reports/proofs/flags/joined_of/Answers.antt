@@ -12,3 +12,4 @@ returns-clause-none c = no_joined c.args.word.now c.in_default.ensures.none c.in
     c.in_default-after_front-6.ensures.none c.in_default-after_front-7.ensures.none
     c.in_default-after_front-8.ensures.none c.in_default-after_front-9.ensures.none
     c.in_default-after_front-10.ensures.none
+    c.in_default-after_front-11.ensures.none c.in_default-after_front-12.ensures.none
