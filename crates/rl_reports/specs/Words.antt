@@ -394,12 +394,16 @@ has_needless_style w = is_some w.style && not (is_some w.restyle)
 abbrev pub RestyleTogether : Wishes → Type 0
 RestyleTogether w = (restyles_and_prints w ≡ false) × (has_needless_style w ≡ false)
 
--- What is asked for goes together: a text is looked for only where literals that are wanted may hold it, objects and
--- annotations are wanted only of lines, and how much was found only where files are read.
-abbrev pub GoTogether : Wishes → Type 0
-GoTogether w =
+-- a text is looked for only where literals that are wanted may hold it, objects and annotations are wanted only of
+-- lines, and how much was found only where files are read
+abbrev pub PrintTogether : Wishes → Type 0
+PrintTogether w =
     (IsTrue w.searches → MayHold w.wanted) × ((has_extents w.form && prints_no_objects w.wish w.output) ≡ false)
-    × ((w.tells_stats && lists_files w.wish) ≡ false) × RestyleTogether w
+    × ((w.tells_stats && lists_files w.wish) ≡ false)
+
+-- what is asked for goes together
+abbrev pub GoTogether : Wishes → Type 0
+GoTogether w = PrintTogether w × RestyleTogether w
 
 -- why it doesn't
 abbrev pub IsClash : {A : Type 0} → Wishes → WordError A → Type 0
@@ -435,13 +439,6 @@ RestylesOnce _ w = ⊤
 abbrev pub MayStand : Flag → Wishes → Type 0
 MayStand flag w = IsAllowed flag w × GoesWithFind flag w × RestylesOnce flag w
 
--- with an option more of those that write literals anew, and with any, so much is asked for
-abbrev pub with_restyling : Flag → Wishes → Wishes
-with_restyling Fix w = record w { restyle = Some restyling.Fix }
-with_restyling Check w = record w { restyle = Some restyling.Check }
-with_restyling Diff w = record w { restyle = Some restyling.Diff }
-with_restyling _ w = w
-
 abbrev pub with_flag : Flag → Wishes → Wishes
 with_flag Bad w = record w { wanted = BadWanted }
 with_flag Hidden w = record w { wanted = HiddenWanted }
@@ -472,9 +469,9 @@ with_flag Nul w = record w { nul_after_paths = true }
 with_flag Quiet w = record w { output = output.Nothing }
 with_flag Files w = record w { wish = wish.Files }
 with_flag Stats w = record w { tells_stats = true }
-with_flag Fix w = with_restyling Fix w
-with_flag Check w = with_restyling Check w
-with_flag Diff w = with_restyling Diff w
+with_flag Fix w = record w { restyle = Some restyling.Fix }
+with_flag Check w = record w { restyle = Some restyling.Check }
+with_flag Diff w = record w { restyle = Some restyling.Diff }
 with_flag Style w = w
 with_flag Macros w = w
 with_flag Help w = record w { wish = wish.Help }

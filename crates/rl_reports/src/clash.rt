@@ -1,7 +1,7 @@
 //! Whether what the words ask for goes together.
 
 ghost use Rattle.std.specs.Prelude.{◌≡◌, ◌↔◌, ℕ, List, [], IfNone, IfSome, IsTrue, MatchBool};
-ghost use Rattle.rl_reports.specs.Words.{GoTogether, HasTextKind, IsClash, MayHold, RestyleTogether, lists_files as lists, picks_literals as picks, says_printed, has_needless_style as needless_style, restyles_and_prints as with_printing, spells_lines as spells, prints_no_objects as no_objects, sums_lines as sums, wanted_of, wishes_of};
+ghost use Rattle.rl_reports.specs.Words.{GoTogether, HasTextKind, IsClash, MayHold, PrintTogether, RestyleTogether, lists_files as lists, picks_literals as picks, says_printed, has_needless_style as needless_style, restyles_and_prints as with_printing, spells_lines as spells, prints_no_objects as no_objects, sums_lines as sums, wanted_of, wishes_of};
 
 use crate::command::{Command, Output, Wish};
 use crate::report::asks_context;
@@ -109,12 +109,12 @@ fn restyling_clash<A: Allocator>(command: Command<'_>) -> Option<WordError<A>>
     None
 }
 
-/// What doesn't go together of what is asked for: `None` where all does.
-pub(crate) fn clash_of<A: Allocator>(command: Command<'_>) -> Option<WordError<A>>
+/// What doesn't go together of what is asked for of what is printed.
+fn printing_clash<A: Allocator>(command: Command<'_>) -> Option<WordError<A>>
     ensures some { IfSome result (λ error. (finds extensions excludes lists paths : List (List ℕ))
         → IsClash (wishes_of command.entry finds extensions excludes lists paths) error) }
     ensures none { IfNone result ((finds extensions excludes lists paths : List (List ℕ))
-        → GoTogether (wishes_of command.entry finds extensions excludes lists paths)) }
+        → PrintTogether (wishes_of command.entry finds extensions excludes lists paths)) }
 {
     if command.searches && !may_hold(command.shown) {
         return Some(WordError::TextlessKinds);
@@ -124,6 +124,19 @@ pub(crate) fn clash_of<A: Allocator>(command: Command<'_>) -> Option<WordError<A
     }
     if command.tells_stats && lists_files(command.wish) {
         return Some(WordError::StatsOfPaths);
+    }
+    None
+}
+
+/// What doesn't go together of what is asked for: `None` where all does.
+pub(crate) fn clash_of<A: Allocator>(command: Command<'_>) -> Option<WordError<A>>
+    ensures some { IfSome result (λ error. (finds extensions excludes lists paths : List (List ℕ))
+        → IsClash (wishes_of command.entry finds extensions excludes lists paths) error) }
+    ensures none { IfNone result ((finds extensions excludes lists paths : List (List ℕ))
+        → GoTogether (wishes_of command.entry finds extensions excludes lists paths)) }
+{
+    if let Some(error) = printing_clash(command) {
+        return Some(error);
     }
     if let Some(error) = restyling_clash(command) {
         return Some(error);

@@ -7,11 +7,12 @@ ghost use Rattle.rl_reports.specs.declared.flags.Format.{Format as AnyFormat};
 ghost use Rattle.rl_types.specs.declared.before.Edition.{Edition as AnyEdition};
 ghost use Rattle.rl_reports.specs.declared.flags.Operand.{Operand};
 ghost use Rattle.rl_reports.specs.declared.flags.When.{When};
-ghost use Rattle.rl_reports.specs.Words.{IsCountWord, IsLetter, IsOptionWord, joined_word, taken_by as flag_before, color_word, wishes_of, IsAllowed, GoesWithFind, MayStand, RestylesOnce, macros_word, with_restyling as restyled, IsRejectedFlag, with_flag as flagged, next_after as follows, colored_form, recolored as with_colors, edition_word, format_word, formatted, has_other_mark as other_mark};
+ghost use Rattle.rl_reports.specs.Words.{IsCountWord, IsLetter, IsOptionWord, joined_word, taken_by as flag_before, color_word, wishes_of, IsAllowed, GoesWithFind, MayStand, RestylesOnce, macros_word, IsRejectedFlag, with_flag as flagged, next_after as follows, colored_form, recolored as with_colors, edition_word, format_word, formatted, has_other_mark as other_mark};
 
 use crate::command::{Command, Macros, Output, PlaceForm, Restyling, Wish};
 use crate::words::WordError;
-use rl_sources::{Edition, Form, Shown, Spelling};
+use rl_files::Selection;
+use rl_sources::{Edition, Form, Matching, Shown, Spelling};
 use std::alloc::Allocator;
 
 /// An option.
@@ -265,21 +266,6 @@ pub(crate) fn taken_by(operand: Operand) -> Flag
     }
 }
 
-/// The command with an option more of those that write literals anew.
-fn with_restyling(command: Command<'_>, flag: Flag) -> Command<'_>
-    ensures { (finds extensions excludes lists paths : List (List ℕ))
-        → wishes_of result finds extensions excludes lists paths ≡ restyled flag (wishes_of command.entry finds extensions excludes lists paths) }
-{
-    let mut next = command;
-    match flag {
-        Flag::Fix => next.restyle = Some(Restyling::Fix),
-        Flag::Check => next.restyle = Some(Restyling::Check),
-        Flag::Diff => next.restyle = Some(Restyling::Diff),
-        _ => {}
-    }
-    next
-}
-
 /// The command with an option more; `None` where another option says already which literals are printed.
 fn with_flag(command: Command<'_>, flag: Flag) -> Option<Command<'_>>
     ensures some { IfSome result (λ next. (finds extensions excludes lists paths : List (List ℕ))
@@ -288,38 +274,115 @@ fn with_flag(command: Command<'_>, flag: Flag) -> Option<Command<'_>>
     ensures none { IfNone result ((finds extensions excludes lists paths : List (List ℕ))
         → IsAllowed flag (wishes_of command.entry finds extensions excludes lists paths) → ⊥) }
 {
-    let mut next = command;
     match (flag, command.shown) {
-        (Flag::Bad, Shown::All) => next.shown = Shown::Bad,
-        (Flag::Hidden, Shown::All) => next.shown = Shown::Hidden,
-        (Flag::Only, Shown::All) => {}
-        (Flag::Bad | Flag::Hidden | Flag::Only, _) => return None,
-        (Flag::Find | Flag::Color | Flag::Extension | Flag::Exclude, _) => {}
-        (Flag::FilesFrom | Flag::Edition | Flag::Format | Flag::Paths, _) => {}
-        (Flag::Context | Flag::Before | Flag::After, _) => {}
-        (Flag::NoMessages, _) => next.tells_errors = false,
-        (Flag::Stats, _) => next.tells_stats = true,
-        (Flag::Fix | Flag::Check | Flag::Diff | Flag::Style | Flag::Macros, _) => {
-            return Some(with_restyling(command, flag));
-        }
-        (Flag::IgnoreCase, _) => next.matching.ignores_case = true,
-        (Flag::WholeWords, _) => next.matching.whole_words = true,
-        (Flag::AllDirectories, _) => next.selection.all = true,
-        (Flag::Text, _) => next.spelling = Spelling::Source,
-        (Flag::Json, _) => next.form = Form::Json,
-        (Flag::Bytes, _) => next.places = PlaceForm::Bytes,
-        (Flag::Lines, _) => next.places = PlaceForm::Lines,
-        (Flag::NoStray, _) => next.rejects_strays = true,
-        (Flag::AnySuffix, _) => next.any_suffix = true,
-        (Flag::Count, _) => next.output = Output::Count,
-        (Flag::FilesWithMatches, _) => next.output = Output::Path,
-        (Flag::Nul, _) => next.nul_after_paths = true,
-        (Flag::Quiet, _) => next.output = Output::Nothing,
-        (Flag::Files, _) => next.wish = Wish::Files,
-        (Flag::Help, _) => next.wish = Wish::Help,
-        (Flag::Version, _) => next.wish = Wish::Version,
+        (Flag::Bad, Shown::All) => Some(Command {
+            shown: Shown::Bad,
+            ..command
+        }),
+        (Flag::Hidden, Shown::All) => Some(Command {
+            shown: Shown::Hidden,
+            ..command
+        }),
+        (Flag::Only, Shown::All) => Some(command),
+        (Flag::Bad | Flag::Hidden | Flag::Only, _) => None,
+        (Flag::Find | Flag::Color | Flag::Extension | Flag::Exclude, _) => Some(command),
+        (Flag::FilesFrom | Flag::Edition | Flag::Format | Flag::Paths, _) => Some(command),
+        (Flag::Context | Flag::Before | Flag::After, _) => Some(command),
+        (Flag::Style | Flag::Macros, _) => Some(command),
+        (Flag::NoMessages, _) => Some(Command {
+            tells_errors: false,
+            ..command
+        }),
+        (Flag::Stats, _) => Some(Command {
+            tells_stats: true,
+            ..command
+        }),
+        (Flag::Fix, _) => Some(Command {
+            restyle: Some(Restyling::Fix),
+            ..command
+        }),
+        (Flag::Check, _) => Some(Command {
+            restyle: Some(Restyling::Check),
+            ..command
+        }),
+        (Flag::Diff, _) => Some(Command {
+            restyle: Some(Restyling::Diff),
+            ..command
+        }),
+        (Flag::IgnoreCase, _) => Some(Command {
+            matching: Matching {
+                ignores_case: true,
+                ..command.matching
+            },
+            ..command
+        }),
+        (Flag::WholeWords, _) => Some(Command {
+            matching: Matching {
+                whole_words: true,
+                ..command.matching
+            },
+            ..command
+        }),
+        (Flag::AllDirectories, _) => Some(Command {
+            selection: Selection {
+                all: true,
+                ..command.selection
+            },
+            ..command
+        }),
+        (Flag::Text, _) => Some(Command {
+            spelling: Spelling::Source,
+            ..command
+        }),
+        (Flag::Json, _) => Some(Command {
+            form: Form::Json,
+            ..command
+        }),
+        (Flag::Bytes, _) => Some(Command {
+            places: PlaceForm::Bytes,
+            ..command
+        }),
+        (Flag::Lines, _) => Some(Command {
+            places: PlaceForm::Lines,
+            ..command
+        }),
+        (Flag::NoStray, _) => Some(Command {
+            rejects_strays: true,
+            ..command
+        }),
+        (Flag::AnySuffix, _) => Some(Command {
+            any_suffix: true,
+            ..command
+        }),
+        (Flag::Count, _) => Some(Command {
+            output: Output::Count,
+            ..command
+        }),
+        (Flag::FilesWithMatches, _) => Some(Command {
+            output: Output::Path,
+            ..command
+        }),
+        (Flag::Nul, _) => Some(Command {
+            nul_after_paths: true,
+            ..command
+        }),
+        (Flag::Quiet, _) => Some(Command {
+            output: Output::Nothing,
+            ..command
+        }),
+        (Flag::Files, _) => Some(Command {
+            wish: Wish::Files,
+            ..command
+        }),
+        (Flag::Help, _) => Some(Command {
+            wish: Wish::Help,
+            ..command
+        }),
+        (Flag::Version, _) => Some(Command {
+            wish: Wish::Version,
+            ..command
+        }),
     }
-    Some(next)
 }
 
 /// Whether an option goes with what is looked for: no text is where what is bad or hidden is wanted.

@@ -2,9 +2,10 @@
 //! Whether what the words ask for goes together.
 
 use crate::rl_reports::command::{Command, Output, Wish};
+use crate::rl_reports::report::asks_context;
 use crate::rl_reports::words::WordError;
 use crate::rl_output::has_extents;
-use crate::rl_sources::{Shown, names};
+use crate::rl_sources::{Shown, Spelling, names};
 use crate::rattle_std::alloc::Allocator;
 
 /// The kinds of literals whose contents may hold a text.
@@ -38,8 +39,51 @@ fn prints_no_objects(command: Command<'_>) -> bool {
     lists_files(command.wish) || sums_lines(command.output)
 }
 
-/// What doesn't go together of what is asked for: `None` where all does.
-pub(crate) fn clash_of<A: Allocator>(command: Command<'_>) -> Option<WordError<A>> {
+/// Whether it is said which literals are printed.
+fn picks_literals(command: Command<'_>) -> bool {
+    !matches!(command.shown, Shown::All) || command.searches
+}
+
+/// Whether it is said how lines are printed.
+fn spells_lines(command: Command<'_>) -> bool {
+    matches!(command.spelling, Spelling::Source) || has_extents(command.form)
+}
+
+/// Whether it is said what is printed.
+fn says_what_is_printed(command: Command<'_>) -> bool {
+    picks_literals(command)
+        || spells_lines(command)
+        || asks_context(command)
+        || prints_no_objects(command)
+        || command.tells_stats
+}
+
+/// Whether literals are written anew, and it is said what is printed.
+fn restyles_and_prints(command: Command<'_>) -> bool {
+    command.restyle.is_some() && says_what_is_printed(command)
+}
+
+/// Whether a style is named, and no literals are written anew.
+fn has_needless_style(command: Command<'_>) -> bool {
+    match (command.style, command.restyle) {
+        (Some(_), None) => true,
+        (Some(_), Some(_)) | (None, _) => false,
+    }
+}
+
+/// What doesn't go together of what is asked for of literals that are written anew.
+fn restyling_clash<A: Allocator>(command: Command<'_>) -> Option<WordError<A>> {
+    if restyles_and_prints(command) {
+        return Some(WordError::RestylesAlone);
+    }
+    if has_needless_style(command) {
+        return Some(WordError::StyleAlone);
+    }
+    None
+}
+
+/// What doesn't go together of what is asked for of what is printed.
+fn printing_clash<A: Allocator>(command: Command<'_>) -> Option<WordError<A>> {
     if command.searches && !may_hold(command.shown) {
         return Some(WordError::TextlessKinds);
     }
@@ -48,6 +92,17 @@ pub(crate) fn clash_of<A: Allocator>(command: Command<'_>) -> Option<WordError<A
     }
     if command.tells_stats && lists_files(command.wish) {
         return Some(WordError::StatsOfPaths);
+    }
+    None
+}
+
+/// What doesn't go together of what is asked for: `None` where all does.
+pub(crate) fn clash_of<A: Allocator>(command: Command<'_>) -> Option<WordError<A>> {
+    if let Some(error) = printing_clash(command) {
+        return Some(error);
+    }
+    if let Some(error) = restyling_clash(command) {
+        return Some(error);
     }
     None
 }

@@ -41,6 +41,26 @@ pub enum Output {
     Nothing,
 }
 
+/// What is done with literals that a style writes otherwise.
+#[derive(Clone, Copy)]
+pub enum Restyling {
+    /// Files are written anew.
+    Fix,
+    /// It is printed what would change.
+    Check,
+    /// The same, as a unified diff.
+    Diff,
+}
+
+/// Which literals in calls of macros are written anew.
+#[derive(Clone, Copy)]
+pub enum Macros {
+    /// None.
+    Skip,
+    /// All.
+    All,
+}
+
 /// What a call asks for, but for the paths.
 #[derive(Clone, Copy)]
 pub struct Command<'a> {
@@ -84,6 +104,12 @@ pub struct Command<'a> {
     pub tells_errors: bool,
     /// Whether it is told after all how much was read and found.
     pub tells_stats: bool,
+    /// What is done with literals that a style writes otherwise, where that is asked for in place of what is printed.
+    pub restyle: Option<Restyling>,
+    /// The file with the rules of the style, where one is named.
+    pub style: Option<&'a str>,
+    /// Which literals in calls of macros are written anew.
+    pub macros: Macros,
 }
 
 /// What a call knows of where it runs.

@@ -42,6 +42,13 @@ What is printed: every literal; or one of --bad, --hidden, --only; or --find
   -w, --word           of --find: TEXT as whole words
       --no-stray       a character that begins no token is an error
 
+Literals written anew, in place of that: one of --fix, --check, --diff
+      --fix            writes files anew
+      --check          prints what would change
+      --diff           the same, as a unified diff
+      --style FILE     by the rules in FILE
+      --macros WHICH   skip or all; those in calls of macros; else skip
+
 Which files are read:
       --all            hidden directories and `target` too
       --extension EXT  *.EXT in place of *.rs; may be said more than once
@@ -305,6 +312,9 @@ fn selecting<'a>(
         files_from: lists,
         tells_errors: command.tells_errors,
         tells_stats: command.tells_stats,
+        restyle: command.restyle,
+        style: command.style,
+        macros: command.macros,
     }
 }
 

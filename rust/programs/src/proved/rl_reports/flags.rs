@@ -1,9 +1,10 @@
 // Rendered from crates/rl_reports/src/flags.rt by tools/render, which erases contracts: change that file, and render anew.
 //! The options of a command line, and what they take.
 
-use crate::rl_reports::command::{Command, Output, PlaceForm, Wish};
+use crate::rl_reports::command::{Command, Macros, Output, PlaceForm, Restyling, Wish};
 use crate::rl_reports::words::WordError;
-use crate::rl_sources::{Edition, Form, Shown, Spelling};
+use crate::rl_files::Selection;
+use crate::rl_sources::{Edition, Form, Matching, Shown, Spelling};
 use crate::rattle_std::alloc::Allocator;
 
 /// An option.
@@ -38,6 +39,11 @@ pub(crate) enum Flag {
     Quiet,
     Files,
     Stats,
+    Fix,
+    Check,
+    Diff,
+    Style,
+    Macros,
     Help,
     Version,
     Paths,
@@ -68,6 +74,10 @@ pub(crate) enum Operand {
     Before,
     /// How many are shown after it.
     After,
+    /// A file with the rules of a style.
+    Style,
+    /// Which literals in calls of macros are written anew.
+    Macros,
 }
 
 /// What the next word may be.
@@ -133,6 +143,11 @@ pub(crate) fn flag_of(word: &str) -> Option<Flag> {
         "--quiet" => Some(Flag::Quiet),
         "--files" => Some(Flag::Files),
         "--stats" => Some(Flag::Stats),
+        "--fix" => Some(Flag::Fix),
+        "--check" => Some(Flag::Check),
+        "--diff" => Some(Flag::Diff),
+        "--style" => Some(Flag::Style),
+        "--macros" => Some(Flag::Macros),
         "--help" => Some(Flag::Help),
         "--version" => Some(Flag::Version),
         "--" => Some(Flag::Paths),
@@ -199,6 +214,12 @@ pub(crate) fn joined_of(word: &str) -> Option<(Operand, &str)> {
     if let Some(count) = after_front("--after-context=", word) {
         return Some((Operand::After, count));
     }
+    if let Some(file) = after_front("--style=", word) {
+        return Some((Operand::Style, file));
+    }
+    if let Some(macros) = after_front("--macros=", word) {
+        return Some((Operand::Macros, macros));
+    }
     None
 }
 
@@ -216,40 +237,122 @@ pub(crate) fn taken_by(operand: Operand) -> Flag {
         Operand::Around => Flag::Context,
         Operand::Before => Flag::Before,
         Operand::After => Flag::After,
+        Operand::Style => Flag::Style,
+        Operand::Macros => Flag::Macros,
     }
 }
 
 /// The command with an option more; `None` where another option says already which literals are printed.
 fn with_flag(command: Command<'_>, flag: Flag) -> Option<Command<'_>> {
-    let mut next = command;
     match (flag, command.shown) {
-        (Flag::Bad, Shown::All) => next.shown = Shown::Bad,
-        (Flag::Hidden, Shown::All) => next.shown = Shown::Hidden,
-        (Flag::Only, Shown::All) => {}
-        (Flag::Bad | Flag::Hidden | Flag::Only, _) => return None,
-        (Flag::Find | Flag::Color | Flag::Extension | Flag::Exclude, _) => {}
-        (Flag::FilesFrom | Flag::Edition | Flag::Format | Flag::Paths, _) => {}
-        (Flag::Context | Flag::Before | Flag::After, _) => {}
-        (Flag::NoMessages, _) => next.tells_errors = false,
-        (Flag::Stats, _) => next.tells_stats = true,
-        (Flag::IgnoreCase, _) => next.matching.ignores_case = true,
-        (Flag::WholeWords, _) => next.matching.whole_words = true,
-        (Flag::AllDirectories, _) => next.selection.all = true,
-        (Flag::Text, _) => next.spelling = Spelling::Source,
-        (Flag::Json, _) => next.form = Form::Json,
-        (Flag::Bytes, _) => next.places = PlaceForm::Bytes,
-        (Flag::Lines, _) => next.places = PlaceForm::Lines,
-        (Flag::NoStray, _) => next.rejects_strays = true,
-        (Flag::AnySuffix, _) => next.any_suffix = true,
-        (Flag::Count, _) => next.output = Output::Count,
-        (Flag::FilesWithMatches, _) => next.output = Output::Path,
-        (Flag::Nul, _) => next.nul_after_paths = true,
-        (Flag::Quiet, _) => next.output = Output::Nothing,
-        (Flag::Files, _) => next.wish = Wish::Files,
-        (Flag::Help, _) => next.wish = Wish::Help,
-        (Flag::Version, _) => next.wish = Wish::Version,
+        (Flag::Bad, Shown::All) => Some(Command {
+            shown: Shown::Bad,
+            ..command
+        }),
+        (Flag::Hidden, Shown::All) => Some(Command {
+            shown: Shown::Hidden,
+            ..command
+        }),
+        (Flag::Only, Shown::All) => Some(command),
+        (Flag::Bad | Flag::Hidden | Flag::Only, _) => None,
+        (Flag::Find | Flag::Color | Flag::Extension | Flag::Exclude, _) => Some(command),
+        (Flag::FilesFrom | Flag::Edition | Flag::Format | Flag::Paths, _) => Some(command),
+        (Flag::Context | Flag::Before | Flag::After, _) => Some(command),
+        (Flag::Style | Flag::Macros, _) => Some(command),
+        (Flag::NoMessages, _) => Some(Command {
+            tells_errors: false,
+            ..command
+        }),
+        (Flag::Stats, _) => Some(Command {
+            tells_stats: true,
+            ..command
+        }),
+        (Flag::Fix, _) => Some(Command {
+            restyle: Some(Restyling::Fix),
+            ..command
+        }),
+        (Flag::Check, _) => Some(Command {
+            restyle: Some(Restyling::Check),
+            ..command
+        }),
+        (Flag::Diff, _) => Some(Command {
+            restyle: Some(Restyling::Diff),
+            ..command
+        }),
+        (Flag::IgnoreCase, _) => Some(Command {
+            matching: Matching {
+                ignores_case: true,
+                ..command.matching
+            },
+            ..command
+        }),
+        (Flag::WholeWords, _) => Some(Command {
+            matching: Matching {
+                whole_words: true,
+                ..command.matching
+            },
+            ..command
+        }),
+        (Flag::AllDirectories, _) => Some(Command {
+            selection: Selection {
+                all: true,
+                ..command.selection
+            },
+            ..command
+        }),
+        (Flag::Text, _) => Some(Command {
+            spelling: Spelling::Source,
+            ..command
+        }),
+        (Flag::Json, _) => Some(Command {
+            form: Form::Json,
+            ..command
+        }),
+        (Flag::Bytes, _) => Some(Command {
+            places: PlaceForm::Bytes,
+            ..command
+        }),
+        (Flag::Lines, _) => Some(Command {
+            places: PlaceForm::Lines,
+            ..command
+        }),
+        (Flag::NoStray, _) => Some(Command {
+            rejects_strays: true,
+            ..command
+        }),
+        (Flag::AnySuffix, _) => Some(Command {
+            any_suffix: true,
+            ..command
+        }),
+        (Flag::Count, _) => Some(Command {
+            output: Output::Count,
+            ..command
+        }),
+        (Flag::FilesWithMatches, _) => Some(Command {
+            output: Output::Path,
+            ..command
+        }),
+        (Flag::Nul, _) => Some(Command {
+            nul_after_paths: true,
+            ..command
+        }),
+        (Flag::Quiet, _) => Some(Command {
+            output: Output::Nothing,
+            ..command
+        }),
+        (Flag::Files, _) => Some(Command {
+            wish: Wish::Files,
+            ..command
+        }),
+        (Flag::Help, _) => Some(Command {
+            wish: Wish::Help,
+            ..command
+        }),
+        (Flag::Version, _) => Some(Command {
+            wish: Wish::Version,
+            ..command
+        }),
     }
-    Some(next)
 }
 
 /// Whether an option goes with what is looked for: no text is where what is bad or hidden is wanted.
@@ -261,11 +364,19 @@ fn goes_with_find(command: Command<'_>, flag: Flag) -> bool {
     }
 }
 
+/// Whether an option goes with what the command says of writing literals anew: only one says that, once.
+fn restyles_once(command: Command<'_>, flag: Flag) -> bool {
+    match flag {
+        Flag::Fix | Flag::Check | Flag::Diff => command.restyle.is_none(),
+        _ => true,
+    }
+}
+
 /// The command with an option more.
 ///
 /// # Errors
 ///
-/// `TwoChoices` or `BadAndFind`, where the option doesn't go with what the command asks for.
+/// `TwoChoices`, `BadAndFind` or `TwoRestylings`, where the option doesn't go with what the command asks for.
 pub(crate) fn add_flag<A: Allocator>(
     command: Command<'_>,
     flag: Flag,
@@ -275,6 +386,9 @@ pub(crate) fn add_flag<A: Allocator>(
     };
     if !goes_with_find(command, flag) {
         return Err(WordError::BadAndFind);
+    }
+    if !restyles_once(command, flag) {
+        return Err(WordError::TwoRestylings);
     }
     Ok(next)
 }
@@ -293,6 +407,8 @@ pub(crate) fn next_after(flag: Flag) -> Next {
         Flag::Context => Next::Operand(Operand::Around),
         Flag::Before => Next::Operand(Operand::Before),
         Flag::After => Next::Operand(Operand::After),
+        Flag::Style => Next::Operand(Operand::Style),
+        Flag::Macros => Next::Operand(Operand::Macros),
         Flag::Paths => Next::Path,
         _ => Next::Any,
     }
@@ -342,6 +458,15 @@ pub(crate) fn format_of(word: &str) -> Option<Format> {
         "text" => Some(Format::Text),
         "json" => Some(Format::Json),
         "github" => Some(Format::Github),
+        _ => None,
+    }
+}
+
+/// Which literals in calls of macros are written anew, by its word.
+pub(crate) fn macros_of(word: &str) -> Option<Macros> {
+    match word {
+        "skip" => Some(Macros::Skip),
+        "all" => Some(Macros::All),
         _ => None,
     }
 }

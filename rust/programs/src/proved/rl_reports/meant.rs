@@ -3,7 +3,7 @@
 
 /// The options; commas separate them.
 const OPTIONS: &str =
-    "--bad,--hidden,--only,--find,--ignore-case,--word,--no-stray,--any-suffix,--edition,--all,--extension,--exclude,--files-from,--no-messages,--bytes,--lines,--text,--json,--format,--context,--before-context,--after-context,--color,--count,--files-with-matches,--null,--quiet,--files,--stats,--help,--version";
+    "--bad,--hidden,--only,--find,--ignore-case,--word,--no-stray,--any-suffix,--edition,--all,--extension,--exclude,--files-from,--no-messages,--bytes,--lines,--text,--json,--format,--context,--before-context,--after-context,--color,--count,--files-with-matches,--null,--quiet,--files,--stats,--fix,--check,--diff,--style,--macros,--help,--version";
 
 /// Whether two letters at the front changed places.
 fn is_swapped(said: &[u8], meant: &[u8]) -> bool {

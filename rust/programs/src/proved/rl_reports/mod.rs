@@ -12,7 +12,7 @@ mod runs;
 mod stats;
 mod words;
 
-pub use crate::rl_reports::command::{Command, Console, Output, PlaceForm, Wish};
+pub use crate::rl_reports::command::{Command, Console, Macros, Output, PlaceForm, Restyling, Wish};
 pub use crate::rl_reports::ending::{CallError, HELP, VERSION, call, out_of_memory};
 pub use crate::rl_reports::report::{Report, report_of};
 pub use crate::rl_reports::runs::{RunStop, Tally, run};

@@ -89,7 +89,7 @@ fn side_lines(own: Option<usize>, around: Option<usize>) -> usize {
 }
 
 /// Whether it is said how many lines are shown about that of a place.
-fn asks_context(command: Command<'_>) -> bool {
+pub(crate) fn asks_context(command: Command<'_>) -> bool {
     command.around.is_some() || command.before.is_some() || command.after.is_some()
 }
 

@@ -3,11 +3,11 @@
 
 use crate::rattle_std::prelude::{String, Vec};
 use crate::rl_reports::clash::clash_of;
-use crate::rl_reports::command::{Command, Output, PlaceForm, Wish};
+use crate::rl_reports::command::{Command, Macros, Output, PlaceForm, Wish};
 use crate::rl_reports::flags::{
     Flag, Next, Operand, When, add_flag, after_front, count_of, edition_of, flag_of, form_in,
-    form_when, format_of, has_other_mark, joined_of, letter_of, next_after, recolored, taken_by,
-    when_of,
+    form_when, format_of, has_other_mark, joined_of, letter_of, macros_of, next_after, recolored,
+    taken_by, when_of,
 };
 use crate::rl_reports::meant::{meant_by, option_part};
 use crate::rl_reports::report::visible_text;
@@ -45,6 +45,18 @@ pub enum WordError<A: Allocator = Global> {
     ObjectsOfPaths,
     /// It is asked how much was found, and files are listed and not read.
     StatsOfPaths,
+    /// Two options ask for literals written anew.
+    TwoRestylings,
+    /// Literals are written anew, and it is said what is printed.
+    RestylesAlone,
+    /// The rules of a style are named, and no literals are written anew.
+    StyleAlone,
+    /// After `--style` no word stands.
+    NoStyle,
+    /// After `--macros` no word stands.
+    NoMacros,
+    /// After `--macros` stands a word that is none of the two.
+    UnknownMacros(String<A>),
     /// After `--color` no word stands.
     NoColor,
     /// After `--color` stands a word that is none of the three.
@@ -117,6 +129,21 @@ impl<A: Allocator> fmt::Display for WordError<A> {
             ),
             WordError::StatsOfPaths => {
                 write!(f, "--stats can't be used with --files, which reads none")
+            }
+            WordError::TwoRestylings => {
+                write!(f, "--fix, --check and --diff: one of them, once")
+            }
+            WordError::RestylesAlone => write!(
+                f,
+                "--fix, --check and --diff can't be used with what says what is printed: --bad, --hidden, --only, -e, -c, -l, --files, --text, --json, --format, -C, -B, -A, --stats"
+            ),
+            WordError::StyleAlone => {
+                write!(f, "--style goes with one of --fix, --check, --diff")
+            }
+            WordError::NoStyle => write!(f, "--style: which file? as in --style style.txt"),
+            WordError::NoMacros => write!(f, "--macros: which? one of skip, all"),
+            WordError::UnknownMacros(word) => {
+                write!(f, "unknown macros '{word}': one of skip, all")
             }
             WordError::NoColor => write!(f, "--color: when? one of auto, always, never"),
             WordError::UnknownColor(word) => {
@@ -194,6 +221,8 @@ fn missing<A: Allocator>(operand: Operand) -> WordError<A> {
         Operand::Edition => WordError::NoEdition,
         Operand::Format => WordError::NoFormat,
         Operand::Around | Operand::Before | Operand::After => WordError::NoCount,
+        Operand::Style => WordError::NoStyle,
+        Operand::Macros => WordError::NoMacros,
     }
 }
 
@@ -337,6 +366,21 @@ impl<'a, A: Allocator + Copy> Asked<'a, A> {
         Ok(())
     }
 
+    /// Takes a file with the rules of a style.
+    fn take_style(&mut self, file: &'a str) -> Result<(), WordError<A>> {
+        self.command.style = Some(file);
+        Ok(())
+    }
+
+    /// Takes a word that says which literals in calls of macros are written anew.
+    fn take_macros(&mut self, alloc: A, word: &str) -> Result<(), WordError<A>> {
+        let Some(macros) = macros_of(word) else {
+            return Err(WordError::UnknownMacros(visible_text(alloc, word)?));
+        };
+        self.command.macros = macros;
+        Ok(())
+    }
+
     /// Takes what the names of files end with.
     fn take_extension(&mut self, text: &'a str) -> Result<(), WordError<A>> {
         match self.extensions.push(without_dot(text)) {
@@ -388,6 +432,8 @@ impl<'a, A: Allocator + Copy> Asked<'a, A> {
             Operand::Around => self.take_around(alloc, text),
             Operand::Before => self.take_before(alloc, text),
             Operand::After => self.take_after(alloc, text),
+            Operand::Style => self.take_style(text),
+            Operand::Macros => self.take_macros(alloc, text),
         }
     }
 
@@ -495,6 +541,9 @@ fn first_command<'a>(has_colors: bool) -> Command<'a> {
         files_from: &[],
         tells_errors: true,
         tells_stats: false,
+        restyle: None,
+        style: None,
+        macros: Macros::Skip,
     }
 }
 
@@ -503,7 +552,8 @@ fn first_command<'a>(has_colors: bool) -> Command<'a> {
 /// # Errors
 ///
 /// The first word that can't be asked for; or at the end what the last option takes is missing, as by `NoKinds`, or what is asked
-/// for doesn't go together: `TextlessKinds`, `ObjectsOfPaths`, `StatsOfPaths`.
+/// for doesn't go together: `TextlessKinds`, `ObjectsOfPaths`, `StatsOfPaths`,
+/// `RestylesAlone`, `StyleAlone`.
 pub(crate) fn asked_by<A: Allocator + Copy>(
     alloc: A,
     has_colors: bool,
