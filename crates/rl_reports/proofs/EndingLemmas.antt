@@ -25,7 +25,7 @@ use Rattle.rl_reports.specs.Visits.{nothing}
 use Rattle.rl_reports.specs.Runs.{Streams, WritesFront}
 use Rattle.rl_reports.proofs.Handing.{hands_none, written_on}
 use Rattle.rl_reports.proofs.RunLemmas.{not_empty}
-use Rattle.rl_reports.specs.Words.{Wishes, wishes_of}
+use Rattle.rl_reports.specs.Words.{Wishes, style_of, wishes_of}
 use Rattle.rl_reports.specs.Endings.{AskForWishes, EndsText, EndsWish, EndsAsked, EndsAsScan, EndsFrom, EndsListed, EndsPaths, EndsScan, EndsStyled, paths_read, IsCommandFor, IsSelecting}
 
 -- what wasn't written to is kept
@@ -92,6 +92,13 @@ scan_ends command selecting style finds extensions excludes lists paths is_termi
   command_for command selecting style finds extensions excludes lists paths is,
   subst (λ (files : List (List ℕ)). EndsFrom files selecting is_terminal holds paths streams ending) is.lists_are ends,
 )
+
+-- a file is named that has the rules of a style
+pub ends_styled : {B : Type 0} (said : Option (Bor (List ℕ))) (file : Bor (List ℕ)) (wishes : Wishes)
+    (is_terminal : Bool) (holds : Option World) (streams : Streams) (ending : Ending (CallError B)) → said ≡ Some file
+    → EndsStyled (Some file.now) wishes is_terminal holds streams ending
+    → EndsStyled (style_of said) wishes is_terminal holds streams ending
+ends_styled said file wishes is_terminal holds streams ending is ends = rw is ends
 
 -- what is asked for ends so
 scan_arguments : (B : Type 0) (wishes : Wishes) (style : Style) (is_terminal : Bool) (holds : Option World) (streams : Streams)

@@ -3,6 +3,7 @@ pub mod ReportLemmas
 pub mod Handing
 pub mod VisitLemmas
 pub mod RulesLemmas
+pub mod RestyleLemmas
 pub mod RunLemmas
 pub mod EndingLemmas
 pub mod MeantLemmas

@@ -1,5 +1,5 @@
 -- What is reported of what a walk visits.
-use Rattle.rl_text.proofs.Common.{false, true, IsUtf8, List, None, Option, Some, inl, inr, ℕ, ◌≡◌, ◌⊎◌}
+use Rattle.rl_text.proofs.Common.{false, true, IsUtf8, List, None, Option, Some, [], inl, inr, ℕ, ◌≡◌, ◌⊎◌, ◌∙◌}
 use Rattle.std.specs.Prelude.{IfSome, IfOk, Ok, Err}
 use Rattle.std.specs.declared.result.Result.{Result}
 use Rattle.rl_files.specs.Replacements.{Replacement}
@@ -15,10 +15,11 @@ use Rattle.rl_reports.specs.Words.{lists_files}
 use Rattle.rl_reports.proofs.Handing.{hands_none}
 
 -- it is reported so, and nothing was handed on
-pub unhanded : {A E : Type 0} (IsThis : Findings → Type 0) (r : Result (Report A) E) (h : Option (List Replacement))
-    → IfOk r (λ p. IsThis (in_report p)) → IfOk r (λ p. Reports IsThis p h h)
-unhanded IsThis (Ok p) h is = ([], is, hands_none h)
-unhanded IsThis (Err e) h is = tt
+pub unhanded : {A E : Type 0} (IsThis : Findings → Type 0) (r : Result (Report A) E)
+    (old new : Option (List Replacement)) → new ≡ old → IfOk r (λ p. IsThis (in_report p))
+    → IfOk r (λ p. Reports IsThis p old new)
+unhanded IsThis (Ok p) old new same is = ([], is, same ∙ hands_none old)
+unhanded IsThis (Err e) old new same is = tt
 
 -- what is so is so in another way
 pub reports_as : {A E : Type 0} (IsThis IsThat : Findings → Type 0) (r : Result (Report A) E)
@@ -47,14 +48,16 @@ was_read command (Some w) path bytes p old new found (handed, inr (why, no_text,
 
 -- one that wasn't
 pub was_unread : {A E : Type 0} (command : Command) (holds : Option World) (path : List ℕ) (why : PathError)
-    (r : Result (Report A) E) (h : Option (List Replacement))
+    (r : Result (Report A) E) (old new : Option (List Replacement)) → new ≡ old
     → (why ≡ OutOfMemory) ⊎ IfSome holds (λ w. w.bytes path ≡ Err why)
     → IfOk r (λ p. IsErrorReport path why (in_report p))
-    → IfOk r (λ p. IfSome holds (λ w. Reports (IsReadReport command w path) p h h))
-was_unread command holds path why (Err e) h unread is = tt
-was_unread command None path why (Ok p) h unread is = tt
-was_unread command (Some w) path why (Ok p) h (inl memory) is = ([], inr (why, inl memory, is), hands_none h)
-was_unread command (Some w) path why (Ok p) h (inr unread) is = ([], inr (why, inr (inl unread), is), hands_none h)
+    → IfOk r (λ p. IfSome holds (λ w. Reports (IsReadReport command w path) p old new))
+was_unread command holds path why (Err e) old new same unread is = tt
+was_unread command None path why (Ok p) old new same unread is = tt
+was_unread command (Some w) path why (Ok p) old new same (inl memory) is =
+    ([], inr (why, inl memory, is), same ∙ hands_none old)
+was_unread command (Some w) path why (Ok p) old new same (inr unread) is =
+    ([], inr (why, inr (inl unread), is), same ∙ hands_none old)
 
 -- a file that is listed, one that is read, and what can't be gone into
 pub listed_reported : {A E : Type 0} (command : Command) (holds : Option World) (path : List ℕ)

@@ -21,7 +21,7 @@ use Rattle.rl_reports.specs.declared.words.WordError.{WordError}
 use Rattle.rl_reports.specs.declared.ending.CallError.{CallError}
 use Rattle.rl_reports.specs.declared.ending.CallError.TheVariants.{NoArguments, Word, Walk, List as NoList, Style as NoStyle, NoFile, Write}
 use Rattle.rl_style.specs.declared.style.Style.{Style}
-use Rattle.rl_styles.specs.Styles.{default_settings, error_words}
+use Rattle.rl_styles.specs.Styles.{default_settings, style_error_words}
 use Rattle.rl_styles.specs.declared.style_error.StyleError.{StyleError}
 use Rattle.rl_reports.specs.declared.rules.RulesError.{RulesError}
 use Rattle.rl_reports.specs.declared.rules.RulesError.TheVariants as rules
@@ -37,7 +37,7 @@ call_error_line (Word error) = codes "rl_scan: " ++ word_message error
 call_error_line (Walk error) = codes "rl_scan: " ++ walk_error_message error
 call_error_line (NoList file why) = codes "rl_scan: " ++ (string_bytes file ++ (codes ": " ++ path_error_message why))
 call_error_line (NoStyle file error) =
-    codes "rl_scan: " ++ (string_bytes file ++ (codes ": " ++ (error_words error.kind ++ (codes " at byte "
+    codes "rl_scan: " ++ (string_bytes file ++ (codes ": " ++ (style_error_words error.kind ++ (codes " at byte "
     ++ decimal error.lo))))
 call_error_line NoFile = codes "rl_scan: there was no file to read"
 call_error_line Write = codes "rl_scan: write failed"

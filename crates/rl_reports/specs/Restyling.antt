@@ -1,5 +1,5 @@
 -- What is reported of a source whose literals are written anew. Texts are lists of characters, what is printed lists of bytes.
-use Rattle.std.specs.Prelude.{◌≡◌, ◌⊎◌, ℕ, ◌==◌, Bool, true, false, not, List, [], ◌∷◌, length, map, string_bytes, encode_utf8_all, Option, Some}
+use Rattle.std.specs.Prelude.{◌≡◌, ◌≢◌, ◌⊎◌, ℕ, ◌==◌, Bool, true, false, not, List, [], ◌∷◌, length, map, string_bytes, encode_utf8_all, Option, Some}
 use denote.Ref.{Bor}
 use Rattle.std.specs.declared.result.Result.TheVariants.{Ok}
 use Rattle.std.specs.Str.{chars, IsUtf8}
@@ -100,7 +100,7 @@ IsRestyledReport restyling command path text printed =
     (options : Options) × (shown named : Option (Bor (List ℕ))) × (lines : List ℕ)
     × IsShownPath path shown × IsPathIn command.nul_after_paths path named
     × IsJudging command.edition (is_by_line command.places path) shown options × AreRejections options text lines
-    × (((length lines == 0) ≡ false) × PrintsRejections lines printed
+    × ((lines ≢ []) × PrintsRejections lines printed
     ⊎ ((lines ≡ []) × ((new : List ℕ) × (edits : List (ℕ × ℕ × List ℕ)) × IsUtf8 new
     × IsRestyledAs command.rules command.macros (chars text) (chars new) edits
     × IsChanged restyling command options path named text new edits printed)))

@@ -133,7 +133,7 @@ fn report_fixed<A: Allocator + Copy, F: Replace>(
     if is_input(path) {
         return Ok(report_out(alloc, restyled.text.into_bytes(), false));
     }
-    if restyled.edits.is_empty() {
+    if restyled.edits.as_slice().is_empty() {
         return Ok(report_out(alloc, Vec::new(alloc), false));
     }
     let lines = change_lines(alloc, command, options, text, &restyled)?;
@@ -195,12 +195,12 @@ pub(crate) fn report_restyled<A: Allocator + Copy, F: Replace>(
 {
     let shown = visible_text(alloc, path)?;
     let before = path_before(path, shown.as_str());
+    let named = path_in(command.nul_after_paths, path, before);
     let options = judging(command.edition, is_by_line(command.places, path), before);
     match written_anew(alloc, options, command.rules, command.macros, text)? {
         Outcome::Rejected(lines) => Ok(report_rejected(alloc, lines)),
-        Outcome::Restyled(restyled) => {
-            let named = path_in(command.nul_after_paths, path, before);
-            report_change(alloc, command, restyling, options, files, path, named, text, restyled)
-        }
+        Outcome::Restyled(restyled) => report_change(
+            alloc, command, restyling, options, files, path, named, text, restyled,
+        ),
     }
 }

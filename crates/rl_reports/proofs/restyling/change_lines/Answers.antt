@@ -4,7 +4,7 @@ use Rattle.rl_reports.proofs.restyling.change_lines.Goals as goal
 
 pub returns : goal.returns
 returns g c =
-    let told = c.in_ok-push_changes.ensures in (
+    let told = rw c.as_slice.ensures.value at c.in_ok-push_changes.ensures in (
       told.0,
       told.1,
       rw c.into_bytes.ensures.value (bytes_from_nothing _ _ _ (IsUtf8-string_bytes c.push_changes.new.out)

@@ -1,0 +1,54 @@
+use Rattle.rl_text.proofs.Common.{IsUtf8-string_bytes, chars, inl, inr, map, refl, string_bytes, []}
+use Rattle.rl_restyled.specs.Edits.{edit_told}
+use Rattle.rl_reports.specs.Restyling.{IsChanged, IsRestyledReport}
+use Rattle.rl_reports.proofs.Handing.{hands_none}
+use Rattle.rl_reports.proofs.RestyleLemmas.{stand_in}
+use Rattle.rl_reports.proofs.VisitLemmas.{reports_as}
+use Rattle.rl_reports.proofs.restyling.report_restyled.Goals as goal
+
+pub returns-in-Rejected-clause-reports : goal.returns-in-Rejected-clause-reports
+returns-in-Rejected-clause-reports g c =
+    let outcome = rw c.in-Rejected.is at c.in_ok-lines.ensures in (
+      [],
+      (
+        c.judging-options.result,
+        c.path_before-before.result,
+        c.path_in-named.result,
+        c.in-Rejected.lines.items,
+        c.path_before-before.ensures,
+        c.path_in-named.ensures,
+        rw c.is_by_line.ensures at c.judging-options.ensures,
+        outcome.0,
+        inl (outcome.1, c.report_rejected.ensures),
+      ),
+      hands_none _,
+    )
+
+pub report_change-requires : goal.report_change-requires
+report_change-requires g c = stand_in c.args.command.rules c.args.command.macros (chars c.args.text.now)
+    (chars (string_bytes c.in-Restyled.restyled.text)) (map edit_told c.in-Restyled.restyled.edits.items)
+    ((rw c.in-Restyled.is at c.in_ok-lines.ensures).1)
+
+pub returns-clause-reports : goal.returns-clause-reports
+returns-clause-reports g c =
+    let outcome = rw c.in-Restyled.is at c.in_ok-lines.ensures in reports_as
+    (IsChanged c.args.restyling c.args.command c.judging-options.result c.args.path.now c.path_in-named.result
+    c.args.text.now (string_bytes c.in-Restyled.restyled.text) (map edit_told c.in-Restyled.restyled.edits.items))
+    (IsRestyledReport c.args.restyling c.args.command c.args.path.now c.args.text.now) c.report_change.result _ _
+    (λ f is. (
+      c.judging-options.result,
+      c.path_before-before.result,
+      c.path_in-named.result,
+      [],
+      c.path_before-before.ensures,
+      c.path_in-named.ensures,
+      rw c.is_by_line.ensures at c.judging-options.ensures,
+      outcome.0,
+      inr (refl, (
+        string_bytes c.in-Restyled.restyled.text,
+        map edit_told c.in-Restyled.restyled.edits.items,
+        IsUtf8-string_bytes c.in-Restyled.restyled.text,
+        outcome.1,
+        is,
+      )),
+    )) c.report_change.ensures.reports
