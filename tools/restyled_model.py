@@ -90,6 +90,12 @@ def said_of(row):
     return '!' if new is None else '=' if new == text else new.encode().hex()
 
 
+def answers_of(program, rows):
+    """What the package says of the rows."""
+    text = ''.join(f'{letters} {front.encode().hex() or "-"} {text.encode().hex() or "-"}\n' for letters, front, text in rows)
+    return subprocess.run([program], input=text, capture_output=True, text=True, check=True).stdout.split('\n')[:-1]
+
+
 def compared(program, share, jobs, pairs, seed):
     """Compares a share: how many rows were of literals, of them changed, how many were rejected, the hashes of the literals, and the
     first rows that differ."""
@@ -100,8 +106,7 @@ def compared(program, share, jobs, pairs, seed):
     source = every_row(share, jobs, dice)
     while found['literals'] < pairs and len(wrong) < 20:
         asked = list(itertools.islice(source, ROWS))
-        encoded = ''.join(f'{letters} {front.encode().hex() or "-"} {text.encode().hex() or "-"}\n' for letters, front, text in asked)
-        said = subprocess.run([program], input=encoded, capture_output=True, text=True, check=True).stdout.split('\n')[:-1]
+        said = answers_of(program, asked)
         wanted = [said_of(row) for row in asked]
         if said != wanted:
             wrong += [(*row, one, other) for row, one, other in zip(asked, said, wanted) if one != other] or [('rows', '', '', len(said), len(wanted))]
