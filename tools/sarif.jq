@@ -2,9 +2,15 @@
 #
 #     rl_scan --json --bad src | jq -s -f tools/sarif.jq
 #
-# Columns are counted in characters. Standard input has no path: its artifact is `-`.
-def uri: sub("^(\\./+)+"; "") | split("/") | map(@uri) | join("/");
-def rule: .id // "hidden-character";
+# Columns are counted in characters. Standard input has no path: its artifact is `-`. What objects don't hold may be said:
+# `--arg version "$(rl_scan -V)"`, the program's version; `--arg status N`, how it ended, without which no invocation is told:
+#
+#     rl_scan --json --bad src > found; jq -s --arg status $? --arg version "$(rl_scan -V)" -f tools/sarif.jq found
+def uri:
+  sub("^(\\./+)+"; "") | split("/") | map(@uri) | join("/") | if startswith("/") then "file://" + . else . end;
+# Objects of `--hidden` may have no id.
+def rule: .id // "hidden";
+def description: if has("hidden") then "a character that turns or hides text" else .error end;
 def message:
   if has("hidden") then .hidden
   elif has("piece") and .piece != "" then "\(.error): \(.piece)"
@@ -22,12 +28,16 @@ def result:
       }
     }]
   };
+def rules: group_by(rule) | map({id: (.[0] | rule), shortDescription: {text: (.[0] | description)}});
+def driver: {name: "rl_scan"} + ($ARGS.named.version | if . then {version: split(" ")[-1]} else {} end);
+def invocations:
+  $ARGS.named.status | if . then {invocations: [tonumber | {executionSuccessful: (. < 2), exitCode: .}]} else {} end;
 {
   version: "2.1.0",
   "$schema": "https://json.schemastore.org/sarif-2.1.0.json",
   runs: [{
-    tool: {driver: {name: "rl_scan", rules: (map(rule) | unique | map({id: .}))}},
+    tool: {driver: (driver + {rules: rules})},
     columnKind: "unicodeCodePoints",
     results: map(result)
-  }]
+  } + invocations]
 }
