@@ -1,12 +1,12 @@
 #!/usr/bin/env python3
 """Holds what the package writes of a literal between other texts against rustc's own lexer, in three editions.
 
-    tools/restyled_around.py [--random N] [--seed S]
+    tools/restyled_around.py [--random N] [--seed S] [--minutes M]
 
 Texts before, literals and texts after, each with each, and N more of two or three such texts and a literal at random. Where the literal
 is a token of rustc there, it is written by `rewrite_after` under each rule alone and under all of them; with the new one in its place
 rustc has to cut the same tokens, and report no error where it reported none. The last line has the numbers; the status is 1 where
-anything differs.
+anything differs. After M minutes no more are asked, and the numbers are those until then.
 """
 import argparse
 import collections
@@ -15,6 +15,7 @@ import random
 import subprocess
 import sys
 import tempfile
+import time
 
 sys.dont_write_bytecode = True
 
@@ -132,13 +133,15 @@ def main():
     words = argparse.ArgumentParser(description=__doc__, formatter_class=argparse.RawDescriptionHelpFormatter)
     words.add_argument('--random', type=int, default=200_000)
     words.add_argument('--seed', type=int, default=1)
+    words.add_argument('--minutes', type=float, default=10_000)
     asked = words.parse_args()
+    end = time.time() + 60 * asked.minutes
     tally, count = collections.Counter(), 0
     every = cases(random.Random(asked.seed), asked.random)
     with tempfile.TemporaryDirectory() as room:
         built(f'{room}/target')
         libraries = {edition: library_of(edition, room) for edition in EDITIONS}
-        while batch := list(itertools.islice(every, AT_ONCE)):
+        while time.time() < end and (batch := list(itertools.islice(every, AT_ONCE))):
             count += len(batch)
             compare(f'{room}/target/release/rewrite_all', libraries, batch, room, tally)
     for edition in EDITIONS:

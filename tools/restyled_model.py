@@ -1,12 +1,12 @@
 #!/usr/bin/env python3
 """Holds the package's `rewrite` and `rewrite_after` against tools/style_model.py, on many literals.
 
-    tools/restyled_model.py [--pairs N] [--seed S] [--jobs J]
+    tools/restyled_model.py [--pairs N] [--seed S] [--jobs J] [--minutes M]
 
 A pair is a text and a style of any of the rules: one of them alone, or some. The texts are all short ones over small alphabets, every
 character of Unicode by itself and as an escape, and longer ones at random until N pairs are of literals. Both have to write the same
 text, or both reject it; the package has to leave what it writes as it is. The last line has the numbers; the status is 1 where anything
-differs.
+differs. After M minutes no more are asked, and the numbers are those until then.
 """
 import argparse
 import array
@@ -17,6 +17,7 @@ import random
 import subprocess
 import sys
 import tempfile
+import time
 
 sys.dont_write_bytecode = True
 
@@ -96,7 +97,7 @@ def answers_of(program, rows):
     return subprocess.run([program], input=text, capture_output=True, text=True, check=True).stdout.split('\n')[:-1]
 
 
-def compared(program, share, jobs, pairs, seed):
+def compared(program, share, jobs, pairs, seed, end):
     """Compares a share: how many rows were of literals, of them changed, how many were rejected, the hashes of the literals, and the
     first rows that differ."""
     # What a text is, and what a unit becomes, is asked again and again.
@@ -104,7 +105,7 @@ def compared(program, share, jobs, pairs, seed):
     dice = random.Random(f'{seed} {share}')
     found, hashes, wrong = {'literals': 0, 'changed': 0, 'rejected': 0}, array.array('q'), []
     source = every_row(share, jobs, dice)
-    while found['literals'] < pairs and len(wrong) < 20:
+    while found['literals'] < pairs and len(wrong) < 20 and time.time() < end:
         asked = list(itertools.islice(source, ROWS))
         said = answers_of(program, asked)
         wanted = [said_of(row) for row in asked]
@@ -129,11 +130,13 @@ def main():
     words.add_argument('--pairs', type=int, default=10_000_000)
     words.add_argument('--seed', type=int, default=1)
     words.add_argument('--jobs', type=int, default=2)
+    words.add_argument('--minutes', type=float, default=10_000)
     asked = words.parse_args()
+    end = time.time() + 60 * asked.minutes
     total, hashes, wrong = {'literals': 0, 'changed': 0, 'rejected': 0}, array.array('q'), []
     with tempfile.TemporaryDirectory() as room, concurrent.futures.ProcessPoolExecutor(asked.jobs) as pool:
         built(f'{room}/target')
-        shares = [pool.submit(compared, f'{room}/target/release/rewrite_all', share, asked.jobs, -(-asked.pairs // asked.jobs), asked.seed)
+        shares = [pool.submit(compared, f'{room}/target/release/rewrite_all', share, asked.jobs, -(-asked.pairs // asked.jobs), asked.seed, end)
                   for share in range(asked.jobs)]
         for found, some, differs in (share.result() for share in shares):
             hashes.extend(some)
