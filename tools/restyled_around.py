@@ -1,9 +1,9 @@
 #!/usr/bin/env python3
 """Holds what the package writes of a literal between other texts against rustc's own lexer, in three editions.
 
-    tools/restyled_around.py [--random N] [--seed S] [--minutes M]
+    tools/restyled_around.py [--fixed N] [--random N] [--seed S] [--minutes M]
 
-Texts before, literals and texts after, each with each, and N more of two or three such texts and a literal at random. Where the literal
+Texts before, literals and texts after, each with each or N of these at random, and N more of two or three such texts and a literal at random. Where the literal
 is a token of rustc there, it is written by `rewrite_after` under each rule alone and under all of them; with the new one in its place
 rustc has to cut the same tokens, and report no error where it reported none. The last line has the numbers; the status is 1 where
 anything differs. After M minutes no more are asked, and the numbers are those until then.
@@ -25,7 +25,7 @@ from restyled_rustc import TOP, asked as ask_rustc, built  # noqa: E402
 
 EDITIONS = ('2015', '2021', '2024')
 STYLES = (*model.RULES, 'xuzsfgedcanpqhri', 'XuzSfGEDcanpqhri')
-AT_ONCE = 60_000
+AT_ONCE = 20_000
 BEFORE = ['', 'x', 'r', 'b', 'c', 'br', 'cr', 'rb', 'r#x', "'a", "'r#a", "'static", '1', '1.', '0', '0.', '0x1', '0x1.', '1u8', '1.5', '1.5.',
           '1e5', '1e5.', '1e', '1_.', '9.', '"s"', '"s"x', "'c'", "b'c'", 'r"s"', 'r#"s"#', '"s".', "'c'.", 'x.', 'x.1.', 'r.', '..', '...',
           '..=', '.', '#', '##', 'x#', 'x #', 'r #', 'br #', 'b#', 'br#', 'cr#', "'a#", "'a #", '1#', '"s"#', '#!', '!#', '-', '/', '*', '!',
@@ -58,10 +58,10 @@ def written(program, pairs):
     return news
 
 
-def cases(dice, count):
+def cases(dice, fixed, count):
     """Texts before, literals and texts after."""
-    yield from itertools.product(BEFORE, LITERALS, AFTER)
-    yield from ((before, literal, after) for (before, after), literal in itertools.product(PAIRS, LITERALS))
+    every = [*itertools.product(BEFORE, LITERALS, AFTER), *((before, literal, after) for (before, after), literal in itertools.product(PAIRS, LITERALS))]
+    yield from every if fixed is None else dice.sample(every, fixed)
     some = lambda texts: ''.join(dice.choice(texts) for _ in range(dice.choice([1, 2, 2, 3])))
     found = 0
     for literal in model.long_texts(dice, 2 * count):
@@ -83,11 +83,12 @@ def library_of(edition, folder):
 
 
 def cut(library, texts, room):
-    """What rustc makes of the texts: the tokens as words, and whether it reports an error."""
-    lines = (hexadecimal(text) + '\n' for text in texts)
+    """What rustc makes of the texts: the tokens as words, and whether it reports an error. One that it keeps to the end, as of a lifetime
+    that begins with a digit, belongs to no text: the last line is for it."""
+    lines = (hexadecimal(text) + '\n' for text in (*texts, ''))
     words = ('--edition', '2021', '-Zdeduplicate-diagnostics=no', '--error-format=short', '--cap-lints=allow')
     answers, printed = ask_rustc(library, 'cut_texts', lines, room, *words)
-    if len(answers) != len(texts):
+    if len(answers) != len(texts) + 1:
         sys.exit(f'{len(texts)} texts, {len(answers)} answers')
     wrong, at = set(), None
     for line in printed.splitlines():
@@ -131,13 +132,14 @@ def compare(program, libraries, batch, room, tally):
 def main():
     """Compares the cases, and prints the numbers."""
     words = argparse.ArgumentParser(description=__doc__, formatter_class=argparse.RawDescriptionHelpFormatter)
+    words.add_argument('--fixed', type=int)
     words.add_argument('--random', type=int, default=200_000)
     words.add_argument('--seed', type=int, default=1)
     words.add_argument('--minutes', type=float, default=10_000)
     asked = words.parse_args()
     end = time.time() + 60 * asked.minutes
     tally, count = collections.Counter(), 0
-    every = cases(random.Random(asked.seed), asked.random)
+    every = cases(random.Random(asked.seed), asked.fixed, asked.random)
     with tempfile.TemporaryDirectory() as room:
         built(f'{room}/target')
         libraries = {edition: library_of(edition, room) for edition in EDITIONS}
