@@ -36,18 +36,23 @@ def pairs_of(program, case, paths, folder):
     return [line.split('\t') for line in said.splitlines()]
 
 
+def asked(library, macro, lines, room, *words):
+    """The lines that a macro of the library writes of these lines, and what rustc prints meanwhile."""
+    with open(f'{room}/pairs', 'w', encoding='utf-8') as file:
+        file.writelines(lines)
+    with open(f'{room}/cut.rs', 'w', encoding='utf-8') as file:
+        file.write(f'restyled::{macro}!();\n')
+    words = ['rustc', *(words or ['--edition', '2021']), '--crate-type', 'lib', '--emit=metadata', '-o', f'{room}/cut', f'{room}/cut.rs', '--extern',
+             f'restyled={library}']
+    environment = {**os.environ, 'RESTYLED_PAIRS': f'{room}/pairs', 'RESTYLED_OUT': f'{room}/answers', 'RUSTC_BOOTSTRAP': '1'}
+    printed = subprocess.run(words, env=environment, capture_output=True, text=True, check=False).stderr
+    with open(f'{room}/answers', encoding='utf-8') as file:
+        return file.read().splitlines(), printed
+
+
 def answers_of(library, pairs, room):
     """What rustc says of the pairs, a list of lines for each."""
-    with open(f'{room}/pairs', 'w', encoding='utf-8') as file:
-        file.writelines(f'{old}\t{new}\n' for old, new in pairs)
-    with open(f'{room}/cut.rs', 'w', encoding='utf-8') as file:
-        file.write('restyled::cut!();\n')
-    words = ['rustc', '--edition', '2021', '--crate-type', 'lib', '--emit=metadata', '-o', f'{room}/cut', f'{room}/cut.rs', '--extern',
-             f'restyled={library}']
-    environment = {**os.environ, 'RESTYLED_PAIRS': f'{room}/pairs', 'RESTYLED_OUT': f'{room}/answers'}
-    subprocess.run(words, env=environment, capture_output=True, check=False)
-    with open(f'{room}/answers', encoding='utf-8') as file:
-        lines = file.read().splitlines()
+    lines, _ = asked(library, 'cut', (f'{old}\t{new}\n' for old, new in pairs), room)
     answers, now = [], []
     for line in lines:
         now.append(line.split('\t'))

@@ -2,8 +2,14 @@
 #
 #     rl_scan --json --bad src | jq -s -f tools/sarif.jq
 #
-# Columns are counted in characters. Standard input has no path: its artifact is `-`.
-def uri: sub("^(\\./+)+"; "") | split("/") | map(@uri) | join("/");
+# Columns are counted in characters. Standard input has no path: its artifact is `-`. What objects don't hold may be said:
+# `--arg version "$(rl_scan -V)"`, the program's version; `--arg status N`, how it ended, without which no invocation is told:
+#
+#     rl_scan --json --bad src > found; jq -s --arg status $? --arg version "$(rl_scan -V)" -f tools/sarif.jq found
+def uri:
+  sub("^(\\./+)+"; "") | split("/") | map(@uri) | join("/") | if startswith("/") then "file://" + . else . end;
+def rule: .id;
+def description: if has("hidden") then "a character that turns or hides text" else .error end;
 def message:
   if has("hidden") then .hidden
   elif has("piece") and .piece != "" then "\(.error): \(.piece)"
@@ -11,7 +17,7 @@ def message:
   else error("an object of neither --bad nor --hidden") end;
 def result:
   {
-    ruleId: .id,
+    ruleId: rule,
     level: "error",
     message: {text: message},
     locations: [{
@@ -21,12 +27,16 @@ def result:
       }
     }]
   };
+def rules: group_by(rule) | map({id: (.[0] | rule), shortDescription: {text: (.[0] | description)}});
+def driver: {name: "rl_scan"} + ($ARGS.named.version | if . then {version: split(" ")[-1]} else {} end);
+def invocations:
+  $ARGS.named.status | if . then {invocations: [tonumber | {executionSuccessful: (. < 2), exitCode: .}]} else {} end;
 {
   version: "2.1.0",
   "$schema": "https://json.schemastore.org/sarif-2.1.0.json",
   runs: [{
-    tool: {driver: {name: "rl_scan", rules: (map(.id) | unique | map({id: .}))}},
+    tool: {driver: (driver + {rules: rules})},
     columnKind: "unicodeCodePoints",
     results: map(result)
-  }]
+  } + invocations]
 }

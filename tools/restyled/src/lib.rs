@@ -1,7 +1,11 @@
 //! What rustc's own lexer makes of files before and after: `cut!()` reads the pairs of paths in the file that `RESTYLED_PAIRS` names, a
 //! pair on each line, and writes to `RESTYLED_OUT` a line for each: `same` and how many tokens both have, literals aside; `unread` where
 //! rustc rejects the old one; else `other` and at which token. Before it stand the literals that differ: `literal`, the old one and the
-//! new one, in hexadecimal.
+//! new one, in hexadecimal. `cut_texts!()` reads texts in hexadecimal from the same file, a line each, and writes the tokens of each, or
+//! `unread`; to standard error it prints `@` and the text's number, so that what follows it there is what rustc says of it.
+
+// Of the edition 2015 this is built, too.
+extern crate proc_macro;
 
 use proc_macro::{Delimiter, Spacing, TokenStream, TokenTree};
 use std::io::{BufWriter, Write};
@@ -33,15 +37,18 @@ fn flatten(stream: TokenStream, out: &mut Vec<Token>) {
     }
 }
 
-fn tokens(path: &str) -> Option<Vec<Token>> {
-    let text = fs::read_to_string(path).ok()?;
-    let text = text.strip_prefix('\u{feff}').unwrap_or(&text);
+fn tokens(text: &str) -> Option<Vec<Token>> {
     catch_unwind(|| {
         let mut out = Vec::new();
         flatten(text.parse().ok()?, &mut out);
         Some(out)
     })
     .unwrap_or(None)
+}
+
+fn tokens_of_file(path: &str) -> Option<Vec<Token>> {
+    let text = fs::read_to_string(path).ok()?;
+    tokens(text.strip_prefix('\u{feff}').unwrap_or(&text))
 }
 
 /// The bytes of a text, in hexadecimal.
@@ -63,15 +70,20 @@ fn first_other(old: &[Token], new: &[Token], out: &mut impl Write) -> Option<usi
     (old.len() != new.len()).then(|| old.len().min(new.len()))
 }
 
+/// What is asked, and where the answers go. What panics says nothing.
+fn asked() -> (String, impl Write) {
+    set_hook(Box::new(|_| {}));
+    let asked = fs::read_to_string(env::var("RESTYLED_PAIRS").expect("a path")).expect("a file");
+    let out = fs::File::create(env::var("RESTYLED_OUT").expect("a path")).expect("a file");
+    (asked, BufWriter::new(out))
+}
+
 #[proc_macro]
 pub fn cut(_: TokenStream) -> TokenStream {
-    set_hook(Box::new(|_| {}));
-    let pairs = fs::read_to_string(env::var("RESTYLED_PAIRS").expect("pairs")).expect("pairs");
-    let out = fs::File::create(env::var("RESTYLED_OUT").expect("a file")).expect("a file");
-    let mut out = BufWriter::new(out);
+    let (pairs, mut out) = asked();
     for pair in pairs.lines() {
         let (old, new) = pair.split_once('\t').expect("two paths");
-        let said = match (tokens(old), tokens(new)) {
+        let said = match (tokens_of_file(old), tokens_of_file(new)) {
             (None, _) => "unread".to_owned(),
             (Some(_), None) => "other\t0".to_owned(),
             (Some(old), Some(new)) => match first_other(&old, &new, &mut out) {
@@ -80,6 +92,37 @@ pub fn cut(_: TokenStream) -> TokenStream {
             },
         };
         writeln!(out, "{said}").expect("room for the answers");
+    }
+    out.flush().expect("room for the answers");
+    TokenStream::new()
+}
+
+/// The text of these hexadecimal digits.
+fn decoded(digits: &str) -> String {
+    let byte = |at| u8::from_str_radix(&digits[at..at + 2], 16).expect("digits");
+    String::from_utf8((0..digits.len()).step_by(2).map(byte).collect()).expect("a text")
+}
+
+/// A token as a word.
+fn word(token: &Token) -> String {
+    match token {
+        Token::Edge(delimiter, opens) => format!("{delimiter:?}{opens}"),
+        Token::Ident(name) => format!("I{}", hexadecimal(name)),
+        Token::Punct(c, spacing) => format!("{}{spacing:?}", hexadecimal(&c.to_string())),
+        Token::Literal(text) => format!("L{}", hexadecimal(text)),
+    }
+}
+
+#[proc_macro]
+pub fn cut_texts(_: TokenStream) -> TokenStream {
+    let (texts, mut out) = asked();
+    for (at, text) in texts.lines().enumerate() {
+        eprintln!("@{at}");
+        let words = match tokens(&decoded(text)) {
+            None => vec!["unread".to_owned()],
+            Some(tokens) => tokens.iter().map(word).collect(),
+        };
+        writeln!(out, "{}", words.join(" ")).expect("room for the answers");
     }
     out.flush().expect("room for the answers");
     TokenStream::new()
