@@ -1,7 +1,7 @@
 //! A small tree, and calls of the program over it.
 
 use crate::writers::Narrow;
-use rl_files::{PathError, Tree};
+use rl_files::{MemoryReplacement, MemoryReplacements, PathError, Tree, Unwritable};
 use rl_program::{Ending, RunError};
 use rl_reports::{Console, call};
 use std::alloc::{AllocError, Allocator, Global};
@@ -92,6 +92,21 @@ const PREFIXED: &str = "é x_9##\"é\"## 1#\"c\"";
 /// Stray characters, one of them hidden, beside a literal and an open quote.
 const STRAYS: &str = "a \\ 1u9 `\u{200b}`\n\t😀 \"b";
 
+/// Literals that the usual style writes otherwise, one of them in a macro call, and a field.
+const FIXED: &str = "f(1., \"it\\'s\"); m!(1E5);\nt.0 1E5f32 r##\"a\"##\n";
+
+/// Files that can't be written anew.
+const UNWRITABLE: [Unwritable<'static>; 2] = [
+    Unwritable {
+        path: "fix/full.rs",
+        why: PathError::NoRoom,
+    },
+    Unwritable {
+        path: "fix/other.rs",
+        why: PathError::Changed,
+    },
+];
+
 /// What a file of the tree holds that is a text.
 fn text_at(path: &str) -> Option<&'static str> {
     match path {
@@ -130,6 +145,13 @@ fn text_at(path: &str) -> Option<&'static str> {
         "list" => Some("\n./a.rs\n\nglobs/gen\nmissing\n"),
         "list0" => Some("./a.rs\0\0./t\n.rs\0none"),
         "empty" => Some(""),
+        "fix/a.rs" => Some(FIXED),
+        "fix/bad.rs" => Some("1. 0b12 \""),
+        "fix/full.rs" | "fix/other.rs" => Some("1.\n"),
+        "fix/none.rs" => Some("1.0 \"it's\"\n"),
+        "fix/script.rs" => Some("#!/bin/x\n1.\n"),
+        "style" => Some("// raw strings\ndrop_raw = true\n"),
+        "badstyle" => Some("drop_raw = true\nhex = 1\n"),
         _ => None,
     }
 }
@@ -164,6 +186,7 @@ fn names_at(path: &str) -> Result<&'static str, PathError> {
         "globs/b/" => Ok("gen.rs|deep/|a.rs"),
         "globs/b/deep/" => Ok("x12.rs|gen/"),
         "globs/gen" | "globs/gen/" | "globs/b/deep/gen/" => Ok("a.rs"),
+        "fix" => Ok("script.rs|other.rs|none.rs|full.rs|bad.rs|a.rs"),
         "./locked/" => Err(PathError::PermissionDenied),
         _ => Err(PathError::NotADirectory),
     }
@@ -254,8 +277,37 @@ fn show_call<W: Write>(
         input_is_terminal: false,
         has_colors,
     };
-    let ending = call(alloc, words, console, &Sample, &mut narrow, &mut err);
+    let mut files = MemoryReplacements {
+        alloc,
+        unwritable: &UNWRITABLE,
+        handed: Vec::new(alloc),
+    };
+    let ending = call(
+        alloc,
+        words,
+        console,
+        &Sample,
+        &mut narrow,
+        &mut err,
+        &mut files,
+    );
+    put_handed(alloc, files.handed.as_slice(), page)?;
     put_ended(alloc, narrow.held.as_slice(), err.as_slice(), ending, page)
+}
+
+/// Writes the paths and the new bytes of files that a call writes anew.
+fn put_handed<W: Write>(
+    alloc: Global,
+    handed: &[MemoryReplacement],
+    page: &mut W,
+) -> io::Result<()> {
+    for file in handed {
+        let head = format!(in alloc; "> {}\n", file.path)?;
+        page.write_all(head.as_bytes())?;
+        page.write_all(file.new.as_slice())?;
+        page.write_all(b"--\n".as_slice())?;
+    }
+    Ok(())
 }
 
 /// Writes what a call wrote, and how it ended.

@@ -2,7 +2,9 @@
 //! What a call of the program asks for.
 
 use crate::rl_files::Selection;
+pub use crate::rl_restyled::Macros;
 use crate::rl_sources::{Edition, Form, Matching, Shown, Spelling};
+use crate::rl_style::Style;
 
 /// What a call asks for.
 #[derive(Clone, Copy)]
@@ -52,15 +54,6 @@ pub enum Restyling {
     Diff,
 }
 
-/// Which literals in calls of macros are written anew.
-#[derive(Clone, Copy)]
-pub enum Macros {
-    /// None.
-    Skip,
-    /// All.
-    All,
-}
-
 /// What a call asks for, but for the paths.
 #[derive(Clone, Copy)]
 pub struct Command<'a> {
@@ -108,6 +101,8 @@ pub struct Command<'a> {
     pub restyle: Option<Restyling>,
     /// The file with the rules of the style, where one is named.
     pub style: Option<&'a str>,
+    /// The rules of the style.
+    pub rules: Style,
     /// Which literals in calls of macros are written anew.
     pub macros: Macros,
 }

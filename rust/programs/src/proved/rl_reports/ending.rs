@@ -6,11 +6,14 @@ use crate::rl_reports::clash::lists_files;
 use crate::rl_reports::command::{Command, Console, Wish};
 use crate::rl_reports::listed::push_all_listed;
 use crate::rl_reports::report::visible_text;
+use crate::rl_reports::rules::{RulesError, rules_in};
 use crate::rl_reports::runs::{RunStop, Tally, run};
 use crate::rl_reports::words::{Asked, WordError, asked_by};
-use crate::rl_files::{PathError, Selection, Tree, Walk, WalkError};
+use crate::rl_files::{PathError, Replace, Selection, Tree, Walk, WalkError};
 use crate::rl_program::{Ending, RunError, WriteError, write_bytes};
 use crate::rl_sources::Shown;
+use crate::rl_style::Style;
+use crate::rl_styles::{StyleError, default_style};
 use crate::rattle_std::alloc::{AllocError, Allocator, Global};
 use crate::rattle_std::fmt;
 use crate::rattle_std::io::Write;
@@ -117,8 +120,10 @@ pub enum CallError<A: Allocator = Global> {
     Word(WordError<A>),
     /// An allocation failed, or there was no end of directories.
     Walk(WalkError),
-    /// A file can't be read that names paths.
+    /// A file can't be read that names paths, or that has the rules of a style.
     List(String<A>, PathError),
+    /// What a file holds are no rules of a style.
+    Style(String<A>, StyleError),
     /// There was no file to read in what the paths name.
     NoFile,
     /// A write failed.
@@ -138,6 +143,9 @@ impl<A: Allocator> fmt::Display for CallError<A> {
             CallError::Word(error) => write!(f, "rl_scan: {error}"),
             CallError::Walk(error) => write!(f, "rl_scan: {error}"),
             CallError::List(file, why) => write!(f, "rl_scan: {file}: {why}"),
+            CallError::Style(file, error) => {
+                write!(f, "rl_scan: {file}: {} at byte {}", error.kind, error.lo)
+            }
             CallError::NoFile => write!(f, "rl_scan: there was no file to read"),
             CallError::Write => write!(f, "rl_scan: write failed"),
         }
@@ -176,11 +184,12 @@ fn add_usual<A: Allocator + Copy>(
 /// The status that a run ends with which found this.
 fn status_of(command: Command<'_>, tally: Tally) -> u8 {
     if lists_files(command.wish) {
-        tally.status(Shown::All)
-    } else if command.searches {
-        tally.find_status()
-    } else {
-        tally.status(command.shown)
+        return tally.status(Shown::All);
+    }
+    match command.restyle {
+        Some(restyling) => tally.restyle_status(restyling),
+        None if command.searches => tally.find_status(),
+        None => tally.status(command.shown),
     }
 }
 
@@ -190,7 +199,7 @@ fn is_in_vain(has_paths: bool, tally: Tally) -> bool {
 }
 
 /// Scans the files of a walk of paths, of which there are some or none.
-fn scan_walk<A: Allocator + Copy, T: Tree, W: Write, E: Write>(
+fn scan_walk<A: Allocator + Copy, T: Tree, W: Write, E: Write, F: Replace>(
     alloc: A,
     command: Command<'_>,
     tree: &T,
@@ -198,8 +207,9 @@ fn scan_walk<A: Allocator + Copy, T: Tree, W: Write, E: Write>(
     walk: &mut Walk<A>,
     out: &mut W,
     err: &mut E,
+    files: &mut F,
 ) -> Ending<CallError<A>> {
-    match run(alloc, command, tree, walk, out, err) {
+    match run(alloc, command, tree, walk, out, err, files) {
         Ok(tally) if is_in_vain(has_paths, tally) => Ending::Failed(CallError::NoFile),
         Ok(tally) => match status_of(command, tally) {
             0 => Ending::Done,
@@ -212,23 +222,24 @@ fn scan_walk<A: Allocator + Copy, T: Tree, W: Write, E: Write>(
 }
 
 /// Scans the files that paths name.
-fn scan_paths<A: Allocator + Copy, T: Tree, W: Write, E: Write>(
+fn scan_paths<A: Allocator + Copy, T: Tree, W: Write, E: Write, F: Replace>(
     alloc: A,
     command: Command<'_>,
     tree: &T,
     paths: &mut Vec<String<A>, A>,
     out: &mut W,
     err: &mut E,
+    files: &mut F,
 ) -> Ending<CallError<A>> {
     let has_paths = !paths.is_empty();
     match Walk::of_paths(alloc, paths) {
-        Ok(mut walk) => scan_walk(alloc, command, tree, has_paths, &mut walk, out, err),
+        Ok(mut walk) => scan_walk(alloc, command, tree, has_paths, &mut walk, out, err, files),
         Err(_) => Ending::Failed(CallError::Walk(WalkError::OutOfMemory)),
     }
 }
 
 /// Scans the files that paths name; where there are none, `.` or standard input.
-fn scan_named<A: Allocator + Copy, T: Tree, W: Write, E: Write>(
+fn scan_named<A: Allocator + Copy, T: Tree, W: Write, E: Write, F: Replace>(
     alloc: A,
     command: Command<'_>,
     is_terminal: bool,
@@ -236,9 +247,10 @@ fn scan_named<A: Allocator + Copy, T: Tree, W: Write, E: Write>(
     paths: &mut Vec<String<A>, A>,
     out: &mut W,
     err: &mut E,
+    files: &mut F,
 ) -> Ending<CallError<A>> {
     match add_usual(alloc, is_terminal, paths) {
-        Ok(()) => scan_paths(alloc, command, tree, paths, out, err),
+        Ok(()) => scan_paths(alloc, command, tree, paths, out, err, files),
         Err(_) => Ending::Failed(CallError::Walk(WalkError::OutOfMemory)),
     }
 }
@@ -252,17 +264,18 @@ fn list_error<A: Allocator + Copy>(alloc: A, file: &str, why: PathError) -> Endi
 }
 
 /// Scans the files that paths name, and those that files name.
-fn scan_listed<A: Allocator + Copy, T: Tree, W: Write, E: Write>(
+fn scan_listed<A: Allocator + Copy, T: Tree, W: Write, E: Write, F: Replace>(
     alloc: A,
     command: Command<'_>,
-    files: &[&str],
+    lists: &[&str],
     tree: &T,
     paths: &mut Vec<String<A>, A>,
     out: &mut W,
     err: &mut E,
+    files: &mut F,
 ) -> Ending<CallError<A>> {
-    match push_all_listed(alloc, tree, files, paths) {
-        Ok(()) => scan_paths(alloc, command, tree, paths, out, err),
+    match push_all_listed(alloc, tree, lists, paths) {
+        Ok(()) => scan_paths(alloc, command, tree, paths, out, err, files),
         Err(unread) => list_error(alloc, unread.file, unread.why),
     }
 }
@@ -279,9 +292,10 @@ fn usual_unless<'a>(extensions: &'a [&'a str]) -> &'a [&'a str] {
     }
 }
 
-/// The command with the texts that it looks for, with what it selects, and the files that name paths.
+/// The command with the texts that it looks for, with what it selects, the files that name paths, and the rules of the style.
 fn selecting<'a>(
     command: Command<'a>,
+    rules: Style,
     finds: &'a [&'a str],
     extensions: &'a [&'a str],
     excludes: &'a [&'a str],
@@ -314,18 +328,21 @@ fn selecting<'a>(
         tells_stats: command.tells_stats,
         restyle: command.restyle,
         style: command.style,
+        rules,
         macros: command.macros,
     }
 }
 
-/// Scans what the words ask for.
-fn scan_asked<A: Allocator + Copy, T: Tree, W: Write, E: Write>(
+/// Scans what the words ask for, by the rules of a style where literals are written anew.
+fn scan_asked<A: Allocator + Copy, T: Tree, W: Write, E: Write, F: Replace>(
     alloc: A,
     asked: Asked<'_, A>,
+    rules: Style,
     is_terminal: bool,
     tree: &T,
     out: &mut W,
     err: &mut E,
+    files: &mut F,
 ) -> Ending<CallError<A>> {
     let Asked {
         command,
@@ -338,32 +355,86 @@ fn scan_asked<A: Allocator + Copy, T: Tree, W: Write, E: Write>(
     } = asked;
     let command = selecting(
         command,
+        rules,
         finds.as_slice(),
         extensions.as_slice(),
         excludes.as_slice(),
         lists.as_slice(),
     );
-    let files = command.files_from;
-    if files.is_empty() {
-        scan_named(alloc, command, is_terminal, tree, &mut paths, out, err)
+    let named = command.files_from;
+    if named.is_empty() {
+        scan_named(
+            alloc,
+            command,
+            is_terminal,
+            tree,
+            &mut paths,
+            out,
+            err,
+            files,
+        )
     } else {
-        scan_listed(alloc, command, files, tree, &mut paths, out, err)
+        scan_listed(alloc, command, named, tree, &mut paths, out, err, files)
     }
 }
 
-/// Does what the words ask for.
-fn answer<A: Allocator + Copy, T: Tree, W: Write, E: Write>(
+/// How a call ends where the file holds no rules of a style.
+fn style_error<A: Allocator + Copy>(
+    alloc: A,
+    file: &str,
+    error: StyleError,
+) -> Ending<CallError<A>> {
+    match visible_text(alloc, file) {
+        Ok(shown) => Ending::Failed(CallError::Style(shown, error)),
+        Err(_) => Ending::Failed(CallError::Walk(WalkError::OutOfMemory)),
+    }
+}
+
+/// How a call ends where the rules of a style can't be had.
+fn rules_error<A: Allocator + Copy>(
+    alloc: A,
+    file: &str,
+    error: RulesError,
+) -> Ending<CallError<A>> {
+    match error {
+        RulesError::Unread(why) => list_error(alloc, file, why),
+        RulesError::Style(error) => style_error(alloc, file, error),
+    }
+}
+
+/// Scans what the words ask for, by the rules of the style that they name.
+fn scan_styled<A: Allocator + Copy, T: Tree, W: Write, E: Write, F: Replace>(
     alloc: A,
     asked: Asked<'_, A>,
     is_terminal: bool,
     tree: &T,
     out: &mut W,
     err: &mut E,
+    files: &mut F,
+) -> Ending<CallError<A>> {
+    let Some(file) = asked.command.style else {
+        return scan_asked(alloc, asked, default_style(), is_terminal, tree, out, err, files);
+    };
+    match rules_in(alloc, tree, file) {
+        Ok(rules) => scan_asked(alloc, asked, rules, is_terminal, tree, out, err, files),
+        Err(error) => rules_error(alloc, file, error),
+    }
+}
+
+/// Does what the words ask for.
+fn answer<A: Allocator + Copy, T: Tree, W: Write, E: Write, F: Replace>(
+    alloc: A,
+    asked: Asked<'_, A>,
+    is_terminal: bool,
+    tree: &T,
+    out: &mut W,
+    err: &mut E,
+    files: &mut F,
 ) -> Ending<CallError<A>> {
     match asked.command.wish {
         Wish::Help => write_text(out, HELP),
         Wish::Version => write_text(out, VERSION),
-        Wish::Scan | Wish::Files => scan_asked(alloc, asked, is_terminal, tree, out, err),
+        Wish::Scan | Wish::Files => scan_styled(alloc, asked, is_terminal, tree, out, err, files),
     }
 }
 
@@ -374,19 +445,20 @@ pub fn out_of_memory<A: Allocator>() -> Ending<CallError<A>> {
 }
 
 /// A call of the program with these arguments, its own name the first.
-pub fn call<A: Allocator + Copy, T: Tree, W: Write, E: Write>(
+pub fn call<A: Allocator + Copy, T: Tree, W: Write, E: Write, F: Replace>(
     alloc: A,
     args: &[String<A>],
     console: Console,
     tree: &T,
     out: &mut W,
     err: &mut E,
+    files: &mut F,
 ) -> Ending<CallError<A>> {
     let [_, words @ ..] = args else {
         return Ending::Failed(CallError::NoArguments);
     };
     match asked_by(alloc, console.has_colors, words) {
-        Ok(asked) => answer(alloc, asked, console.input_is_terminal, tree, out, err),
+        Ok(asked) => answer(alloc, asked, console.input_is_terminal, tree, out, err, files),
         Err(error) => Ending::Failed(CallError::Word(error)),
     }
 }

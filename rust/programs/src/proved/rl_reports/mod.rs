@@ -8,12 +8,16 @@ mod flags;
 mod listed;
 mod meant;
 mod report;
+mod restyling;
+mod rules;
 mod runs;
 mod stats;
+mod visits;
 mod words;
 
 pub use crate::rl_reports::command::{Command, Console, Macros, Output, PlaceForm, Restyling, Wish};
 pub use crate::rl_reports::ending::{CallError, HELP, VERSION, call, out_of_memory};
-pub use crate::rl_reports::report::{Report, report_of};
+pub use crate::rl_reports::report::Report;
 pub use crate::rl_reports::runs::{RunStop, Tally, run};
+pub use crate::rl_reports::visits::report_of;
 pub use crate::rl_reports::words::WordError;

@@ -1,11 +1,10 @@
 // Rendered from crates/rl_reports/src/report.rt by tools/render, which erases contracts: change that file, and render anew.
-//! What is reported of what a walk visits.
+//! What is reported of a text, of a file that is listed, and of what can't be read.
 
 use crate::rattle_std::prelude::{String, Vec};
-use crate::rl_reports::clash::lists_files;
 use crate::rl_reports::command::{Command, Output, PlaceForm};
 use crate::rl_reports::stats::asked_count;
-use crate::rl_files::{PathError, Tree, Visit, push_visible};
+use crate::rl_files::{PathError, push_visible};
 use crate::rl_sources::{
     Context, Form, Options, Paint, Place, ScanError, Shown, is_json, push_painted,
     push_source_error, scan,
@@ -18,7 +17,7 @@ pub struct Report<A: Allocator = Global> {
     /// On standard output.
     pub out: Vec<u8, A>,
     /// On standard error.
-    pub errors: String<A>,
+    pub errors: Vec<u8, A>,
     /// Whether a text was read.
     pub read: bool,
     /// Whether something was found.
@@ -34,7 +33,7 @@ pub(crate) struct Scanned<A: Allocator = Global> {
 }
 
 /// Whether a path is standard input.
-fn is_input(path: &str) -> bool {
+pub(crate) fn is_input(path: &str) -> bool {
     path == "-"
 }
 
@@ -46,7 +45,7 @@ pub(crate) fn visible_text<A: Allocator>(alloc: A, text: &str) -> Result<String<
 }
 
 /// Whether the places in a file are printed by lines and columns.
-fn is_by_line(form: PlaceForm, path: &str) -> bool {
+pub(crate) fn is_by_line(form: PlaceForm, path: &str) -> bool {
     match form {
         PlaceForm::Usual => !is_input(path),
         PlaceForm::Bytes => false,
@@ -65,7 +64,7 @@ pub(crate) fn is_alarm(shown: Shown<'_>) -> bool {
 }
 
 /// What stands before each place in a file, whose path is printed so; nothing before those of standard input.
-fn path_before<'a>(path: &str, shown: &'a str) -> Option<&'a str> {
+pub(crate) fn path_before<'a>(path: &str, shown: &'a str) -> Option<&'a str> {
     if is_input(path) {
         return None;
     }
@@ -73,7 +72,7 @@ fn path_before<'a>(path: &str, shown: &'a str) -> Option<&'a str> {
 }
 
 /// How a path is written which is printed so: itself, where that is asked for.
-fn path_in<'a>(is_exact: bool, path: &'a str, shown: Option<&'a str>) -> Option<&'a str> {
+pub(crate) fn path_in<'a>(is_exact: bool, path: &'a str, shown: Option<&'a str>) -> Option<&'a str> {
     if is_exact && shown.is_some() {
         return Some(path);
     }
@@ -210,9 +209,10 @@ fn push_path_line<A: Allocator>(
 }
 
 /// What is printed of the lines of a file, of whose path this is printed.
-fn written<A: Allocator + Copy>(
+pub(crate) fn written<A: Allocator + Copy>(
     alloc: A,
-    command: Command<'_>,
+    output: Output,
+    nul: bool,
     form: Form,
     path: Option<&str>,
     lines: Vec<u8, A>,
@@ -220,9 +220,8 @@ fn written<A: Allocator + Copy>(
     if lines.is_empty() {
         return Ok(lines);
     }
-    let nul = command.nul_after_paths;
     let mut line = String::new(alloc);
-    match command.output {
+    match output {
         Output::Lines => return Ok(lines),
         Output::Count => {
             push_count_line(&mut line, nul, form, path, count_lines(lines.as_slice()))?
@@ -234,7 +233,7 @@ fn written<A: Allocator + Copy>(
 }
 
 /// What is reported of a source.
-fn report_text<A: Allocator + Copy>(
+pub(crate) fn report_text<A: Allocator + Copy>(
     alloc: A,
     command: Command<'_>,
     path: &str,
@@ -248,11 +247,13 @@ fn report_text<A: Allocator + Copy>(
     let asked = command.tells_stats;
     let count = asked_count(alloc, asked, options, text, scanned.lines.as_slice())?;
     let found = !scanned.lines.is_empty();
-    let named = path_in(command.nul_after_paths, path, before);
-    let out = written(alloc, command, options.form, named, scanned.lines)?;
+    let nul = command.nul_after_paths;
+    let named = path_in(nul, path, before);
+    let lines = scanned.lines;
+    let out = written(alloc, command.output, nul, options.form, named, lines)?;
     Ok(Report {
         out,
-        errors,
+        errors: errors.into_bytes(),
         read: true,
         found,
         count,
@@ -260,7 +261,7 @@ fn report_text<A: Allocator + Copy>(
 }
 
 /// What is reported of a path that can't be read.
-fn report_error<A: Allocator + Copy>(
+pub(crate) fn report_error<A: Allocator + Copy>(
     alloc: A,
     path: &str,
     error: PathError,
@@ -270,24 +271,11 @@ fn report_error<A: Allocator + Copy>(
     writeln!(&mut errors, ": {error}")?;
     Ok(Report {
         out: Vec::new(alloc),
-        errors,
+        errors: errors.into_bytes(),
         read: false,
         found: false,
         count: 0,
     })
-}
-
-/// What is reported of a file whose bytes these are.
-fn report_bytes<A: Allocator + Copy>(
-    alloc: A,
-    command: Command<'_>,
-    path: &str,
-    bytes: &[u8],
-) -> Result<Report<A>, AllocError> {
-    match crate::rattle_std::str::from_utf8(bytes) {
-        Ok(text) => report_text(alloc, command, path, text),
-        Err(error) => report_error(alloc, path, PathError::NotUtf8(error.valid_up_to())),
-    }
 }
 
 /// What is printed of a file that is listed, of whose path this is printed.
@@ -305,7 +293,7 @@ fn listed<A: Allocator>(
 }
 
 /// What is reported of a file that is listed, and not read.
-fn report_listed<A: Allocator + Copy>(
+pub(crate) fn report_listed<A: Allocator + Copy>(
     alloc: A,
     command: Command<'_>,
     path: &str,
@@ -316,47 +304,9 @@ fn report_listed<A: Allocator + Copy>(
     let line = listed(alloc, command, named)?;
     Ok(Report {
         out: line.into_bytes(),
-        errors: String::new(alloc),
+        errors: Vec::new(alloc),
         read: false,
         found: true,
         count: 0,
     })
-}
-
-/// What is reported of a file, whose bytes are let go before the next is read.
-fn report_file<A: Allocator + Copy, T: Tree>(
-    alloc: A,
-    command: Command<'_>,
-    tree: &T,
-    path: &str,
-) -> Result<Report<A>, AllocError> {
-    let bytes = match tree.bytes(alloc, path) {
-        Ok(bytes) => bytes,
-        Err(error) => return report_error(alloc, path, error),
-    };
-    match report_bytes(alloc, command, path, bytes.as_slice()) {
-        Ok(report) => Ok(report),
-        Err(_) => report_error(alloc, path, PathError::OutOfMemory),
-    }
-}
-
-/// What is reported of what a walk visits: of a file what is printed of its text, or its path where files are listed; of what
-/// can't be read one line.
-///
-/// # Errors
-///
-/// An allocation failure, where not even that line could be made.
-pub fn report_of<A: Allocator + Copy, T: Tree>(
-    alloc: A,
-    command: Command<'_>,
-    tree: &T,
-    visit: &Visit<A>,
-) -> Result<Report<A>, AllocError> {
-    match visit {
-        Visit::File(path) if lists_files(command.wish) => {
-            report_listed(alloc, command, path.as_str())
-        }
-        Visit::File(path) => report_file(alloc, command, tree, path.as_str()),
-        Visit::Failed(path, error) => report_error(alloc, path.as_str(), *error),
-    }
 }

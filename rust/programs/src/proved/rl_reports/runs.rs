@@ -1,10 +1,11 @@
 // Rendered from crates/rl_reports/src/runs.rt by tools/render, which erases contracts: change that file, and render anew.
 //! A run over a walk.
 
-use crate::rl_reports::command::Command;
-use crate::rl_reports::report::{Report, is_alarm, report_of};
+use crate::rl_reports::command::{Command, Restyling};
+use crate::rl_reports::report::{Report, is_alarm};
 use crate::rl_reports::stats::write_stats;
-use crate::rl_files::{Tree, Visit, Walk, WalkError};
+use crate::rl_reports::visits::report_of;
+use crate::rl_files::{Replace, Tree, Visit, Walk, WalkError};
 use crate::rl_program::{WriteError, write_bytes};
 use crate::rl_sources::Shown;
 use crate::rattle_std::alloc::Allocator;
@@ -53,7 +54,7 @@ impl Tally {
             read: one_if(report.read),
             with_findings: one_if(report.found),
             findings: report.count as u64,
-            with_errors: one_if(!report.errors.as_bytes().is_empty()),
+            with_errors: one_if(!report.errors.is_empty()),
         }
     }
 
@@ -99,6 +100,18 @@ impl Tally {
             (false, false) => 1,
         }
     }
+
+    /// The status that a run ends with in which literals are written anew, and which found this: 2 where an error was reported; else 1
+    /// where something would change; else 0.
+    pub fn restyle_status(self, restyling: Restyling) -> u8 {
+        if self.has_errors() {
+            return 2;
+        }
+        match restyling {
+            Restyling::Check | Restyling::Diff if self.has_findings() => 1,
+            _ => 0,
+        }
+    }
 }
 
 /// How many it is: one or none.
@@ -107,24 +120,25 @@ fn one_if(is: bool) -> u64 {
 }
 
 /// What is told of errors: nothing, where that isn't wanted.
-fn told_errors<'a>(command: Command<'_>, errors: &'a str) -> &'a [u8] {
+fn told_errors<'a>(command: Command<'_>, errors: &'a [u8]) -> &'a [u8] {
     if command.tells_errors {
-        errors.as_bytes()
+        errors
     } else {
         b"".as_slice()
     }
 }
 
 /// Writes what is reported of what a walk visits.
-fn write_report<A: Allocator + Copy, T: Tree, W: Write, E: Write>(
+fn write_report<A: Allocator + Copy, T: Tree, W: Write, E: Write, F: Replace>(
     alloc: A,
     command: Command<'_>,
     tree: &T,
     visit: &Visit<A>,
     out: &mut W,
     err: &mut E,
+    files: &mut F,
 ) -> Result<Tally, RunStop> {
-    let report = match report_of(alloc, command, tree, visit) {
+    let report = match report_of(alloc, command, tree, files, visit) {
         Ok(report) => report,
         Err(_) => return Err(RunStop::Walk(WalkError::OutOfMemory)),
     };
@@ -132,7 +146,7 @@ fn write_report<A: Allocator + Copy, T: Tree, W: Write, E: Write>(
         Ok(()) => {}
         Err(error) => return Err(RunStop::Write(error)),
     }
-    match write_bytes(err, told_errors(command, report.errors.as_str())) {
+    match write_bytes(err, told_errors(command, report.errors.as_slice())) {
         Ok(()) => {}
         Err(error) => return Err(RunStop::Write(error)),
     }
@@ -144,20 +158,21 @@ fn write_report<A: Allocator + Copy, T: Tree, W: Write, E: Write>(
 /// # Errors
 ///
 /// Where the walk ended early, or a write failed; a beginning of what is reported was written then.
-fn write_reports<A: Allocator + Copy, T: Tree, W: Write, E: Write>(
+fn write_reports<A: Allocator + Copy, T: Tree, W: Write, E: Write, F: Replace>(
     alloc: A,
     command: Command<'_>,
     tree: &T,
     walk: &mut Walk<A>,
     out: &mut W,
     err: &mut E,
+    files: &mut F,
 ) -> Result<Tally, RunStop> {
     let mut tally = Tally::new();
     for _ in 0..u64::MAX {
         match walk.next(alloc, command.selection, tree) {
             Err(error) => return Err(RunStop::Walk(error)),
             Ok(None) => return Ok(tally),
-            Ok(Some(visit)) => match write_report(alloc, command, tree, &visit, out, err) {
+            Ok(Some(visit)) => match write_report(alloc, command, tree, &visit, out, err, files) {
                 Ok(more) => tally = tally.and(more),
                 Err(stop) => return Err(stop),
             },
@@ -173,15 +188,16 @@ fn write_reports<A: Allocator + Copy, T: Tree, W: Write, E: Write>(
 ///
 /// Where the walk ended early, or a write failed; a beginning of what is reported was written then, and where that is all, a
 /// beginning of what is told after it.
-pub fn run<A: Allocator + Copy, T: Tree, W: Write, E: Write>(
+pub fn run<A: Allocator + Copy, T: Tree, W: Write, E: Write, F: Replace>(
     alloc: A,
     command: Command<'_>,
     tree: &T,
     walk: &mut Walk<A>,
     out: &mut W,
     err: &mut E,
+    files: &mut F,
 ) -> Result<Tally, RunStop> {
-    let tally = match write_reports(alloc, command, tree, walk, out, err) {
+    let tally = match write_reports(alloc, command, tree, walk, out, err, files) {
         Ok(tally) => tally,
         Err(stop) => return Err(stop),
     };

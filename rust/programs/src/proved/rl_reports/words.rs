@@ -13,6 +13,7 @@ use crate::rl_reports::meant::{meant_by, option_part};
 use crate::rl_reports::report::visible_text;
 use crate::rl_files::Selection;
 use crate::rl_sources::{Edition, Matching, Shown, Spelling, names};
+use crate::rl_styles::default_style;
 use crate::rl_tokens::text::split_char;
 use crate::rattle_std::alloc::{AllocError, Allocator, Global};
 use crate::rattle_std::fmt;
@@ -543,6 +544,7 @@ fn first_command<'a>(has_colors: bool) -> Command<'a> {
         tells_stats: false,
         restyle: None,
         style: None,
+        rules: default_style(),
         macros: Macros::Skip,
     }
 }

@@ -8,4 +8,5 @@ mod texts;
 mod whole;
 
 pub use crate::rl_restyled::edit::{Edit, Macros, RestyleError, Restyled};
+pub use crate::rl_restyled::slices::between;
 pub use crate::rl_restyled::whole::restyle;

@@ -2,6 +2,6 @@
 //! Pieces of texts.
 
 /// What stands between two places of a text.
-pub(crate) fn between(text: &str, lo: usize, hi: usize) -> &str {
+pub fn between(text: &str, lo: usize, hi: usize) -> &str {
     &text[lo..hi]
 }

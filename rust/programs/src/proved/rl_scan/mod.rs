@@ -47,6 +47,7 @@ pub fn main(rt: HostRuntime) -> ExitCode {
         &Host { rt: &rt },
         &mut rt.stdout(),
         &mut rt.stderr(),
+        &mut Host { rt: &rt },
     );
     finish(&rt, ending)
 }

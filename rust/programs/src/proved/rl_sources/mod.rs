@@ -20,6 +20,7 @@ mod search;
 mod step;
 
 pub use crate::rl_sources::options::{Matching, Options, Shown, Spelling, names};
+pub use crate::rl_sources::place::place_of;
 pub use crate::rl_sources::reason::push_source_error;
 pub use crate::rl_sources::scan_error::ScanError;
 pub use crate::rl_sources::scanner::scan;

@@ -9,7 +9,7 @@ use crate::rattle_std::alloc::{AllocError, Allocator};
 
 /// The place of the bytes from `lo` to `hi`, where the rest of the text begins at the first.
 #[inline(always)]
-pub(crate) fn place_of<'t>(
+pub fn place_of<'t>(
     options: &Options<'_>,
     places: &mut Places<'t>,
     rest: &'t str,

@@ -1,0 +1,77 @@
+// Rendered from crates/rl_reports/src/visits.rt by tools/render, which erases contracts: change that file, and render anew.
+//! What is reported of what a walk visits.
+
+use crate::rl_reports::clash::lists_files;
+use crate::rl_reports::command::Command;
+use crate::rl_reports::report::{Report, report_error, report_listed, report_text};
+use crate::rl_reports::restyling::report_restyled;
+use crate::rl_files::{PathError, Replace, Tree, Visit};
+use crate::rattle_std::alloc::{AllocError, Allocator};
+
+/// What is reported of a text, whose literals may be written anew.
+fn report_wanted<A: Allocator + Copy, F: Replace>(
+    alloc: A,
+    command: Command<'_>,
+    files: &mut F,
+    path: &str,
+    text: &str,
+) -> Result<Report<A>, AllocError> {
+    match command.restyle {
+        Some(restyling) => report_restyled(alloc, command, restyling, files, path, text),
+        None => report_text(alloc, command, path, text),
+    }
+}
+
+/// What is reported of a file whose bytes these are.
+fn report_bytes<A: Allocator + Copy, F: Replace>(
+    alloc: A,
+    command: Command<'_>,
+    files: &mut F,
+    path: &str,
+    bytes: &[u8],
+) -> Result<Report<A>, AllocError> {
+    match crate::rattle_std::str::from_utf8(bytes) {
+        Ok(text) => report_wanted(alloc, command, files, path, text),
+        Err(error) => report_error(alloc, path, PathError::NotUtf8(error.valid_up_to())),
+    }
+}
+
+/// What is reported of a file, whose bytes are let go before the next is read.
+fn report_file<A: Allocator + Copy, T: Tree, F: Replace>(
+    alloc: A,
+    command: Command<'_>,
+    tree: &T,
+    files: &mut F,
+    path: &str,
+) -> Result<Report<A>, AllocError> {
+    let bytes = match tree.bytes(alloc, path) {
+        Ok(bytes) => bytes,
+        Err(error) => return report_error(alloc, path, error),
+    };
+    match report_bytes(alloc, command, files, path, bytes.as_slice()) {
+        Ok(report) => Ok(report),
+        Err(_) => report_error(alloc, path, PathError::OutOfMemory),
+    }
+}
+
+/// What is reported of what a walk visits: of a file what is printed of its text, or its path where files are listed; of what
+/// can't be read one line. Where it is written anew, its new bytes are handed on.
+///
+/// # Errors
+///
+/// An allocation failure, where not even that line could be made; nothing is handed on then.
+pub fn report_of<A: Allocator + Copy, T: Tree, F: Replace>(
+    alloc: A,
+    command: Command<'_>,
+    tree: &T,
+    files: &mut F,
+    visit: &Visit<A>,
+) -> Result<Report<A>, AllocError> {
+    match visit {
+        Visit::File(path) if lists_files(command.wish) => {
+            report_listed(alloc, command, path.as_str())
+        }
+        Visit::File(path) => report_file(alloc, command, tree, files, path.as_str()),
+        Visit::Failed(path, error) => report_error(alloc, path.as_str(), *error),
+    }
+}
