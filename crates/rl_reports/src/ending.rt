@@ -51,11 +51,13 @@ What is printed: every literal; or one of --bad, --hidden, --only; or --find
       --no-stray       a character that begins no token is an error
 
 Literals written anew, in place of that: one of --fix, --check, --diff
-      --fix            writes files anew
+      --fix            writes files whose literals the style writes otherwise,
+                       and prints how many; prints standard input anew
       --check          prints what would change
       --diff           the same, as a unified diff
-      --style FILE     by the rules in FILE
-      --macros WHICH   skip or all; those in calls of macros; else skip
+      --style FILE     the rules in FILE; else no needless escapes of quotes, the
+                       fewest hashes of raw strings, 1.0 for 1., 1e5 for 1E5
+      --macros WHICH   skip or all: literals in macro calls; else skip
 
 Which files are read:
       --all            hidden directories and `target` too
@@ -100,17 +102,20 @@ Lines:
   PATH:LINE:COLUMN: KIND VALUE SUFFIX
   PATH:LINE:COLUMN: error: REASON: PIECE
   PATH:LINE:COLUMN: U+202E RIGHT-TO-LEFT OVERRIDE
+  PATH:LINE:COLUMN: OLD -> NEW
   LO..HI KIND VALUE SUFFIX
 
 Status:
   0  all was read
-  1  --bad or --hidden found something, or --find nothing
+  1  --bad or --hidden found something, or --find nothing; with --check or
+     --diff something would change
   2  wrong arguments, no file to read, or one that can't be read to its end: it
      has a line on standard error, and the others are still read
 
 Examples:
   rl_scan --bad src
   rl_scan -wie todo src tests
+  rl_scan --check src
   git ls-files -z '*.rs' | rl_scan --hidden --files-from -
 ";
 
@@ -457,11 +462,7 @@ fn scan_asked<A: Allocator + Copy, T: Tree, W: Write, E: Write, F: Replace>(
 }
 
 /// How a call ends where the file holds no rules of a style.
-fn style_error<A: Allocator + Copy>(
-    alloc: A,
-    file: &str,
-    error: StyleError,
-) -> Ending<CallError<A>>
+fn style_error<A: Allocator + Copy>(alloc: A, file: &str, error: StyleError) -> Ending<CallError<A>>
     ensures { IsStyleError file.now error result }
 {
     match visible_text(alloc, file) {
@@ -471,11 +472,7 @@ fn style_error<A: Allocator + Copy>(
 }
 
 /// How a call ends where the rules of a style can't be had.
-fn rules_error<A: Allocator + Copy>(
-    alloc: A,
-    file: &str,
-    error: RulesError,
-) -> Ending<CallError<A>>
+fn rules_error<A: Allocator + Copy>(alloc: A, file: &str, error: RulesError) -> Ending<CallError<A>>
     ensures { IsRulesError file.now error result }
 {
     match error {
@@ -504,7 +501,16 @@ fn scan_styled<A: Allocator + Copy, T: Tree, W: Write, E: Write, F: Replace>(
     }) result }
 {
     let Some(file) = asked.command.style else {
-        return scan_asked(alloc, asked, default_style(), is_terminal, tree, out, err, files);
+        return scan_asked(
+            alloc,
+            asked,
+            default_style(),
+            is_terminal,
+            tree,
+            out,
+            err,
+            files,
+        );
     };
     match rules_in(alloc, tree, file) {
         Ok(rules) => scan_asked(alloc, asked, rules, is_terminal, tree, out, err, files),
@@ -569,7 +575,15 @@ pub fn call<A: Allocator + Copy, T: Tree, W: Write, E: Write, F: Replace>(
         return Ending::Failed(CallError::NoArguments);
     };
     match asked_by(alloc, console.has_colors, words) {
-        Ok(asked) => answer(alloc, asked, console.input_is_terminal, tree, out, err, files),
+        Ok(asked) => answer(
+            alloc,
+            asked,
+            console.input_is_terminal,
+            tree,
+            out,
+            err,
+            files,
+        ),
         Err(error) => Ending::Failed(CallError::Word(error)),
     }
 }

@@ -5,11 +5,13 @@ ghost use Rattle.std.specs.Str.{chars};
 ghost use Rattle.rl_restyled.specs.Edits.{edit_told};
 ghost use Rattle.rl_restyled.specs.Places.{StandIn};
 ghost use Rattle.rl_reports.specs.Reports.{in_report};
-ghost use Rattle.rl_reports.specs.Visits.{Reports};
+ghost use Rattle.rl_reports.specs.Visits.{IsReported};
 ghost use Rattle.rl_reports.specs.Restyling.{AreChangeBytes, IsChanged, IsChecked, IsCompared, IsFixed, IsReplaced, IsRestyledReport, PrintsAlone, PrintsRejections, fixed_output as output_of_fixed};
 
 use crate::command::{Command, Output, Restyling};
-use crate::report::{Report, is_by_line, is_input, path_before, path_in, report_error, visible_text, written};
+use crate::report::{
+    Report, is_by_line, is_input, path_before, path_in, report_error, visible_text, written,
+};
 use rl_files::Replace;
 use rl_fixes::{Outcome, judging, push_changes, push_diff, written_anew};
 use rl_restyled::Restyled;
@@ -42,7 +44,13 @@ fn change_lines<A: Allocator + Copy>(
         (map edit_told restyled.now.edits.items) lines.items) }
 {
     let mut lines = String::new(alloc);
-    push_changes(&mut lines, options, command.form, text, restyled.edits.as_slice())?;
+    push_changes(
+        &mut lines,
+        options,
+        command.form,
+        text,
+        restyled.edits.as_slice(),
+    )?;
     Ok(lines.into_bytes())
 }
 
@@ -60,7 +68,14 @@ fn report_checked<A: Allocator + Copy>(
         (map edit_told restyled.now.edits.items) (in_report r)) }
 {
     let lines = change_lines(alloc, command, options, text, restyled)?;
-    let out = written(alloc, command.output, command.nul_after_paths, command.form, path, lines)?;
+    let out = written(
+        alloc,
+        command.output,
+        command.nul_after_paths,
+        command.form,
+        path,
+        lines,
+    )?;
     Ok(report_out(alloc, out, !restyled.edits.is_empty()))
 }
 
@@ -80,7 +95,14 @@ fn report_compared<A: Allocator + Copy>(
     push_diff(&mut lines, path, text, new)?;
     let lines = lines.into_bytes();
     let found = !lines.is_empty();
-    let out = written(alloc, command.output, command.nul_after_paths, command.form, named, lines)?;
+    let out = written(
+        alloc,
+        command.output,
+        command.nul_after_paths,
+        command.form,
+        named,
+        lines,
+    )?;
     Ok(report_out(alloc, out, found))
 }
 
@@ -103,7 +125,7 @@ fn report_replaced<A: Allocator + Copy, F: Replace>(
     new: &str,
     out: Vec<u8, A>,
 ) -> Result<Report<A>, AllocError>
-    ensures reports { IfOk result (λ r. Reports (IsReplaced path.now text.now new.now out.items)
+    ensures reports { IfOk result (λ r. IsReported (IsReplaced path.now text.now new.now out.items)
         r (F.handed files.old) (F.handed files.new)) }
     ensures kept { OnErr result (F.handed files.new ≡ F.handed files.old) }
 {
@@ -125,7 +147,7 @@ fn report_fixed<A: Allocator + Copy, F: Replace>(
     restyled: Restyled<A>,
 ) -> Result<Report<A>, AllocError>
     requires { StandIn (chars text.now) (map edit_told restyled.edits.items) }
-    ensures reports { IfOk result (λ r. Reports (IsFixed command.entry options.entry path.now named.entry text.now
+    ensures reports { IfOk result (λ r. IsReported (IsFixed command.entry options.entry path.now named.entry text.now
         (string_bytes restyled.text) (map edit_told restyled.edits.items))
         r (F.handed files.old) (F.handed files.new)) }
     ensures kept { OnErr result (F.handed files.new ≡ F.handed files.old) }
@@ -138,7 +160,14 @@ fn report_fixed<A: Allocator + Copy, F: Replace>(
     }
     let lines = change_lines(alloc, command, options, text, &restyled)?;
     let output = fixed_output(command.output);
-    let out = written(alloc, output, command.nul_after_paths, command.form, named, lines)?;
+    let out = written(
+        alloc,
+        output,
+        command.nul_after_paths,
+        command.form,
+        named,
+        lines,
+    )?;
     report_replaced(alloc, files, path, text, restyled.text.as_str(), out)
 }
 
@@ -155,14 +184,21 @@ fn report_change<A: Allocator + Copy, F: Replace>(
     restyled: Restyled<A>,
 ) -> Result<Report<A>, AllocError>
     requires { StandIn (chars text.now) (map edit_told restyled.edits.items) }
-    ensures reports { IfOk result (λ r. Reports (IsChanged restyling command.entry options.entry path.now named.entry
+    ensures reports { IfOk result (λ r. IsReported (IsChanged restyling command.entry options.entry path.now named.entry
         text.now (string_bytes restyled.text) (map edit_told restyled.edits.items))
         r (F.handed files.old) (F.handed files.new)) }
     ensures kept { OnErr result (F.handed files.new ≡ F.handed files.old) }
 {
     match restyling {
         Restyling::Check => report_checked(alloc, command, options, named, text, &restyled),
-        Restyling::Diff => report_compared(alloc, command, path, named, text, restyled.text.as_str()),
+        Restyling::Diff => report_compared(
+            alloc,
+            command,
+            path,
+            named,
+            text,
+            restyled.text.as_str(),
+        ),
         Restyling::Fix => report_fixed(alloc, command, options, files, path, named, text, restyled),
     }
 }
@@ -189,7 +225,7 @@ pub(crate) fn report_restyled<A: Allocator + Copy, F: Replace>(
     path: &str,
     text: &str,
 ) -> Result<Report<A>, AllocError>
-    ensures reports { IfOk result (λ r. Reports (IsRestyledReport restyling command.entry path.now text.now)
+    ensures reports { IfOk result (λ r. IsReported (IsRestyledReport restyling command.entry path.now text.now)
         r (F.handed files.old) (F.handed files.new)) }
     ensures kept { OnErr result (F.handed files.new ≡ F.handed files.old) }
 {

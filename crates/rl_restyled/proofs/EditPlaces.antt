@@ -23,8 +23,13 @@ stand_on text front old new at (w ∷ ws) (None ∷ es) is at_is (gap, after, ne
 stand_on text front old new at (w ∷ ws) (Some written ∷ es) is at_is (gap, after, new_after, old_is, w_at, new_is, others) =
     let text_is : text ≡ (front ++ gap) ++ (source_text w.token ++ after) = is ∙ ap (λ z. front ++ z) old_is
     ∙ sym (append_assoc front gap (source_text w.token ++ after)) in
-    let ends : source_end w ≡ byte_len ((front ++ gap) ++ source_text w.token) = omega (arith, w_at, at_is,
-    byte_len-append front gap, byte_len-append (front ++ gap) (source_text w.token)) in (
+    let ends : source_end w ≡ byte_len ((front ++ gap) ++ source_text w.token) = omega (
+      arith,
+      w_at,
+      at_is,
+      byte_len-append front gap,
+      byte_len-append (front ++ gap) (source_text w.token),
+    ) in (
       (
         source_text w.token,
         record {
@@ -36,7 +41,7 @@ stand_on text front old new at (w ∷ ws) (Some written ∷ es) is at_is (gap, a
         },
       ),
       stand_on text ((front ++ gap) ++ source_text w.token) after new_after (source_end w) ws es
-      (text_is ∙ sym (append_assoc (front ++ gap) (source_text w.token) after)) ends others,
+          (text_is ∙ sym (append_assoc (front ++ gap) (source_text w.token) after)) ends others,
     )
 
 -- those of a source in a style

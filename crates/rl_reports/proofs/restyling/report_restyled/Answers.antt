@@ -44,11 +44,14 @@ returns-clause-reports g c =
       c.path_in-named.ensures,
       rw c.is_by_line.ensures at c.judging-options.ensures,
       outcome.0,
-      inr (refl, (
-        string_bytes c.in-Restyled.restyled.text,
-        map edit_told c.in-Restyled.restyled.edits.items,
-        IsUtf8-string_bytes c.in-Restyled.restyled.text,
-        outcome.1,
-        is,
-      )),
+      inr (
+        refl,
+        (
+          string_bytes c.in-Restyled.restyled.text,
+          map edit_told c.in-Restyled.restyled.edits.items,
+          IsUtf8-string_bytes c.in-Restyled.restyled.text,
+          outcome.1,
+          is,
+        ),
+      ),
     )) c.report_change.ensures.reports

@@ -3,7 +3,9 @@
 
 use crate::rattle_std::prelude::{String, Vec};
 use crate::rl_reports::command::{Command, Output, Restyling};
-use crate::rl_reports::report::{Report, is_by_line, is_input, path_before, path_in, report_error, visible_text, written};
+use crate::rl_reports::report::{
+    Report, is_by_line, is_input, path_before, path_in, report_error, visible_text, written,
+};
 use crate::rl_files::Replace;
 use crate::rl_fixes::{Outcome, judging, push_changes, push_diff, written_anew};
 use crate::rl_restyled::Restyled;
@@ -30,7 +32,13 @@ fn change_lines<A: Allocator + Copy>(
     restyled: &Restyled<A>,
 ) -> Result<Vec<u8, A>, AllocError> {
     let mut lines = String::new(alloc);
-    push_changes(&mut lines, options, command.form, text, restyled.edits.as_slice())?;
+    push_changes(
+        &mut lines,
+        options,
+        command.form,
+        text,
+        restyled.edits.as_slice(),
+    )?;
     Ok(lines.into_bytes())
 }
 
@@ -44,7 +52,14 @@ fn report_checked<A: Allocator + Copy>(
     restyled: &Restyled<A>,
 ) -> Result<Report<A>, AllocError> {
     let lines = change_lines(alloc, command, options, text, restyled)?;
-    let out = written(alloc, command.output, command.nul_after_paths, command.form, path, lines)?;
+    let out = written(
+        alloc,
+        command.output,
+        command.nul_after_paths,
+        command.form,
+        path,
+        lines,
+    )?;
     Ok(report_out(alloc, out, !restyled.edits.is_empty()))
 }
 
@@ -61,7 +76,14 @@ fn report_compared<A: Allocator + Copy>(
     push_diff(&mut lines, path, text, new)?;
     let lines = lines.into_bytes();
     let found = !lines.is_empty();
-    let out = written(alloc, command.output, command.nul_after_paths, command.form, named, lines)?;
+    let out = written(
+        alloc,
+        command.output,
+        command.nul_after_paths,
+        command.form,
+        named,
+        lines,
+    )?;
     Ok(report_out(alloc, out, found))
 }
 
@@ -107,7 +129,14 @@ fn report_fixed<A: Allocator + Copy, F: Replace>(
     }
     let lines = change_lines(alloc, command, options, text, &restyled)?;
     let output = fixed_output(command.output);
-    let out = written(alloc, output, command.nul_after_paths, command.form, named, lines)?;
+    let out = written(
+        alloc,
+        output,
+        command.nul_after_paths,
+        command.form,
+        named,
+        lines,
+    )?;
     report_replaced(alloc, files, path, text, restyled.text.as_str(), out)
 }
 
@@ -125,7 +154,14 @@ fn report_change<A: Allocator + Copy, F: Replace>(
 ) -> Result<Report<A>, AllocError> {
     match restyling {
         Restyling::Check => report_checked(alloc, command, options, named, text, &restyled),
-        Restyling::Diff => report_compared(alloc, command, path, named, text, restyled.text.as_str()),
+        Restyling::Diff => report_compared(
+            alloc,
+            command,
+            path,
+            named,
+            text,
+            restyled.text.as_str(),
+        ),
         Restyling::Fix => report_fixed(alloc, command, options, files, path, named, text, restyled),
     }
 }
