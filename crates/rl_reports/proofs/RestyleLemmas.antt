@@ -12,7 +12,7 @@ use Rattle.rl_style.specs.declared.style.Style.{Style}
 use Rattle.rl_reports.specs.declared.report.Report.{Report}
 use Rattle.rl_reports.specs.Reports.{IsErrorReport, in_report, with_handed}
 use Rattle.rl_reports.specs.Restyling.{IsReplaced, PrintsAlone}
-use Rattle.rl_reports.specs.Visits.{IsReported}
+use Rattle.rl_reports.specs.Visits.{ReportsAs}
 use Rattle.rl_reports.proofs.Handing.{hands_none}
 
 -- what is new in a text stands in it
@@ -37,6 +37,6 @@ prints_handing out r p prints = record {
 -- the file can't be written
 pub unreplaced : {A E : Type 0} (path text new out : List ℕ) (why : PathError) (r : Result (Report A) E)
     (old now : Option (List Replacement)) → now ≡ old → IfOk r (λ p. IsErrorReport path why (in_report p))
-    → IfOk r (λ p. IsReported (IsReplaced path text new out) p old now)
+    → IfOk r (λ p. ReportsAs (IsReplaced path text new out) p old now)
 unreplaced path text new out why (Ok p) old now same is = ([], inr (why, is), same ∙ hands_none old)
 unreplaced path text new out why (Err e) old now same is = tt

@@ -14,7 +14,7 @@ use Rattle.rl_files.proofs.WalkLemmas.{some_visits}
 use Rattle.rl_reports.specs.declared.command.Command.{Command}
 use Rattle.rl_reports.specs.declared.runs.Tally.{Tally}
 use Rattle.rl_reports.specs.Reports.{Findings, HandsOn, with_handed}
-use Rattle.rl_reports.specs.Visits.{AreReports, IsReport, IsReported, Totals, both_of, nothing, totals_of}
+use Rattle.rl_reports.specs.Visits.{AreReports, IsReport, ReportsAs, Totals, both_of, nothing, totals_of}
 use Rattle.rl_reports.specs.declared.report.Report.{Report}
 use Rattle.rl_reports.proofs.Handing.{hands_both, hands_none, written_on}
 use Rattle.rl_reports.specs.Runs.{Streams, both_tallies, shown_errors, IsWritten, WritesReport, WritesReports, WritesSome, WritesFirst, WritesFront, WritesWalk}
@@ -233,7 +233,7 @@ ran_some command (Some w) old mid new visit o0 o1 o2 e0 e1 e2 h0 h1 h2 before ra
 -- the first write failed
 pub out_failed : {A : Type 0} (command : Command) (holds : Option World) (visit : Visited) (one : Report A)
     (o0 o1 e0 : Option (List ℕ)) (h0 h1 : Option (List Replacement))
-    → IfSome holds (λ w. IsReported (IsReport command w visit) one h0 h1) → AppendsBeginning o0 o1 one.out.items
+    → IfSome holds (λ w. ReportsAs (IsReport command w visit) one h0 h1) → AppendsBeginning o0 o1 one.out.items
     → IfSome holds (λ w. WritesSome command w visit (written_on o0 o1 e0 e0 h0 h1))
 out_failed command None visit one o0 o1 e0 h0 h1 is begun = tt
 out_failed command (Some w) visit one o0 o1 e0 h0 h1 (handed, is, on) begun =
@@ -242,7 +242,7 @@ out_failed command (Some w) visit one o0 o1 e0 h0 h1 (handed, is, on) begun =
 -- the second write failed
 pub err_failed : {A : Type 0} (command : Command) (holds : Option World) (visit : Visited) (one : Report A)
     (o0 o1 e0 e1 : Option (List ℕ)) (h0 h1 : Option (List Replacement))
-    → IfSome holds (λ w. IsReported (IsReport command w visit) one h0 h1) → Appends o0 o1 one.out.items
+    → IfSome holds (λ w. ReportsAs (IsReport command w visit) one h0 h1) → Appends o0 o1 one.out.items
     → AppendsBeginning e0 e1 (shown_errors command one.errors.items)
     → IfSome holds (λ w. WritesSome command w visit (written_on o0 o1 e0 e1 h0 h1))
 err_failed command None visit one o0 o1 e0 e1 h0 h1 is all begun = tt
@@ -252,7 +252,7 @@ err_failed command (Some w) visit one o0 o1 e0 e1 h0 h1 (handed, is, on) all beg
 -- all was written
 pub all_written : {A : Type 0} (command : Command) (holds : Option World) (visit : Visited) (one : Report A)
     (o0 o1 e0 e1 : Option (List ℕ)) (h0 h1 : Option (List Replacement)) (tally : Tally)
-    → IfSome holds (λ w. IsReported (IsReport command w visit) one h0 h1) → Appends o0 o1 one.out.items
+    → IfSome holds (λ w. ReportsAs (IsReport command w visit) one h0 h1) → Appends o0 o1 one.out.items
     → Appends e0 e1 (shown_errors command one.errors.items) → tally ≡ tally_of (totals_of (with_handed [] one))
     → IfSome holds (λ w. WritesReport command w visit (written_on o0 o1 e0 e1 h0 h1) tally)
 all_written command None visit one o0 o1 e0 e1 h0 h1 tally is out err tally_is = tt

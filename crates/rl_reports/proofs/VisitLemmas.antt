@@ -10,36 +10,36 @@ use Rattle.rl_files.specs.declared.tree.PathError.TheVariants.{OutOfMemory}
 use Rattle.rl_reports.specs.declared.command.Command.{Command}
 use Rattle.rl_reports.specs.declared.report.Report.{Report}
 use Rattle.rl_reports.specs.Reports.{Findings, IsErrorReport, IsListReport, IsNotUtf8, in_report}
-use Rattle.rl_reports.specs.Visits.{IsBytesReport, IsReadReport, IsReport, IsWantedReport, IsReported}
+use Rattle.rl_reports.specs.Visits.{IsBytesReport, IsReadReport, IsReport, IsWantedReport, ReportsAs}
 use Rattle.rl_reports.specs.Words.{lists_files}
 use Rattle.rl_reports.proofs.Handing.{hands_none}
 
 -- it is reported so, and nothing was handed on
 pub unhanded : {A E : Type 0} (IsThis : Findings → Type 0) (r : Result (Report A) E)
     (old new : Option (List Replacement)) → new ≡ old → IfOk r (λ p. IsThis (in_report p))
-    → IfOk r (λ p. IsReported IsThis p old new)
+    → IfOk r (λ p. ReportsAs IsThis p old new)
 unhanded IsThis (Ok p) old new same is = ([], is, same ∙ hands_none old)
 unhanded IsThis (Err e) old new same is = tt
 
 -- what is so is so in another way
 pub reports_as : {A E : Type 0} (IsThis IsThat : Findings → Type 0) (r : Result (Report A) E)
     (old new : Option (List Replacement)) → ((f : Findings) → IsThis f → IsThat f)
-    → IfOk r (λ p. IsReported IsThis p old new) → IfOk r (λ p. IsReported IsThat p old new)
+    → IfOk r (λ p. ReportsAs IsThis p old new) → IfOk r (λ p. ReportsAs IsThat p old new)
 reports_as IsThis IsThat (Ok p) old new so (handed, is, on) = (handed, so _ is, on)
 reports_as IsThis IsThat (Err e) old new so is = tt
 
 -- what is no text
 pub no_text_reported : {A E : Type 0} (command : Command) (path bytes : List ℕ) (why : PathError)
     (r : Result (Report A) E) (h : Option (List Replacement)) → IsNotUtf8 bytes why
-    → IfOk r (λ p. IsErrorReport path why (in_report p)) → IfOk r (λ p. IsReported (IsBytesReport command path bytes) p h h)
+    → IfOk r (λ p. IsErrorReport path why (in_report p)) → IfOk r (λ p. ReportsAs (IsBytesReport command path bytes) p h h)
 no_text_reported command path bytes why (Ok p) h no_text is = ([], inr (why, no_text, is), hands_none h)
 no_text_reported command path bytes why (Err e) h no_text is = tt
 
 -- a file that was read
 pub was_read : {A : Type 0} (command : Command) (holds : Option World) (path bytes : List ℕ) (p : Report A)
     (old new : Option (List Replacement)) → IfSome holds (λ w. w.bytes path ≡ Ok bytes)
-    → IsReported (IsBytesReport command path bytes) p old new
-    → IfSome holds (λ w. IsReported (IsReadReport command w path) p old new)
+    → ReportsAs (IsBytesReport command path bytes) p old new
+    → IfSome holds (λ w. ReportsAs (IsReadReport command w path) p old new)
 was_read command None path bytes p old new found is = tt
 was_read command (Some w) path bytes p old new found (handed, inl (utf8, is), on) =
     (handed, inl (bytes, found, utf8, is), on)
@@ -51,7 +51,7 @@ pub was_unread : {A E : Type 0} (command : Command) (holds : Option World) (path
     (r : Result (Report A) E) (old new : Option (List Replacement)) → new ≡ old
     → (why ≡ OutOfMemory) ⊎ IfSome holds (λ w. w.bytes path ≡ Err why)
     → IfOk r (λ p. IsErrorReport path why (in_report p))
-    → IfOk r (λ p. IfSome holds (λ w. IsReported (IsReadReport command w path) p old new))
+    → IfOk r (λ p. IfSome holds (λ w. ReportsAs (IsReadReport command w path) p old new))
 was_unread command holds path why (Err e) old new same unread is = tt
 was_unread command None path why (Ok p) old new same unread is = tt
 was_unread command (Some w) path why (Ok p) old new same (inl memory) is =
@@ -63,22 +63,22 @@ was_unread command (Some w) path why (Ok p) old new same (inr unread) is =
 pub listed_reported : {A E : Type 0} (command : Command) (holds : Option World) (path : List ℕ)
     (r : Result (Report A) E) (h : Option (List Replacement)) → lists_files command.wish ≡ true
     → IfOk r (λ p. IsListReport command path (in_report p))
-    → IfOk r (λ p. IfSome holds (λ w. IsReported (IsReport command w (FileAt path)) p h h))
+    → IfOk r (λ p. IfSome holds (λ w. ReportsAs (IsReport command w (FileAt path)) p h h))
 listed_reported command holds path (Err e) h lists is = tt
 listed_reported command None path (Ok p) h lists is = tt
 listed_reported command (Some w) path (Ok p) h lists is = ([], inl (lists, is), hands_none h)
 
 pub read_reported : {A E : Type 0} (command : Command) (holds : Option World) (path : List ℕ)
     (r : Result (Report A) E) (old new : Option (List Replacement)) → lists_files command.wish ≡ false
-    → IfOk r (λ p. IfSome holds (λ w. IsReported (IsReadReport command w path) p old new))
-    → IfOk r (λ p. IfSome holds (λ w. IsReported (IsReport command w (FileAt path)) p old new))
+    → IfOk r (λ p. IfSome holds (λ w. ReportsAs (IsReadReport command w path) p old new))
+    → IfOk r (λ p. IfSome holds (λ w. ReportsAs (IsReport command w (FileAt path)) p old new))
 read_reported command holds path (Err e) old new reads is = tt
 read_reported command None path (Ok p) old new reads is = tt
 read_reported command (Some w) path (Ok p) old new reads (handed, is, on) = (handed, inr (reads, is), on)
 
 pub failed_reported : {A E : Type 0} (command : Command) (holds : Option World) (path : List ℕ) (why : PathError)
     (r : Result (Report A) E) (h : Option (List Replacement)) → IfOk r (λ p. IsErrorReport path why (in_report p))
-    → IfOk r (λ p. IfSome holds (λ w. IsReported (IsReport command w (ErrorAt path why)) p h h))
+    → IfOk r (λ p. IfSome holds (λ w. ReportsAs (IsReport command w (ErrorAt path why)) p h h))
 failed_reported command holds path why (Err e) h is = tt
 failed_reported command None path why (Ok p) h is = tt
 failed_reported command (Some w) path why (Ok p) h is = ([], is, hands_none h)

@@ -39,9 +39,9 @@ IsReport command w (FileAt path) printed =
 IsReport command w (ErrorAt path why) printed = IsErrorReport path why printed
 
 -- what is reported is this, and what it hands on was handed on
-abbrev pub IsReported : {A : Type 0} → (Findings → Type 0) → Report A → Option (List Replacement)
+abbrev pub ReportsAs : {A : Type 0} → (Findings → Type 0) → Report A → Option (List Replacement)
     → Option (List Replacement) → Type 0
-IsReported IsThis report old new =
+ReportsAs IsThis report old new =
     (handed : List Replacement) × IsThis (with_handed handed report) × HandsOn old new handed
 
 -- What is written of all that is visited, what is handed on, how much that is, how many texts were read, how many have findings, how many

@@ -5,7 +5,7 @@ ghost use Rattle.std.specs.Str.{chars};
 ghost use Rattle.rl_restyled.specs.Edits.{edit_told};
 ghost use Rattle.rl_restyled.specs.Places.{StandIn};
 ghost use Rattle.rl_reports.specs.Reports.{in_report};
-ghost use Rattle.rl_reports.specs.Visits.{IsReported};
+ghost use Rattle.rl_reports.specs.Visits.{ReportsAs};
 ghost use Rattle.rl_reports.specs.Restyling.{AreChangeBytes, IsChanged, IsChecked, IsCompared, IsFixed, IsReplaced, IsRestyledReport, PrintsAlone, PrintsRejections, fixed_output as output_of_fixed};
 
 use crate::command::{Command, Output, Restyling};
@@ -125,7 +125,7 @@ fn report_replaced<A: Allocator + Copy, F: Replace>(
     new: &str,
     out: Vec<u8, A>,
 ) -> Result<Report<A>, AllocError>
-    ensures reports { IfOk result (λ r. IsReported (IsReplaced path.now text.now new.now out.items)
+    ensures reports { IfOk result (λ r. ReportsAs (IsReplaced path.now text.now new.now out.items)
         r (F.handed files.old) (F.handed files.new)) }
     ensures kept { OnErr result (F.handed files.new ≡ F.handed files.old) }
 {
@@ -147,7 +147,7 @@ fn report_fixed<A: Allocator + Copy, F: Replace>(
     restyled: Restyled<A>,
 ) -> Result<Report<A>, AllocError>
     requires { StandIn (chars text.now) (map edit_told restyled.edits.items) }
-    ensures reports { IfOk result (λ r. IsReported (IsFixed command.entry options.entry path.now named.entry text.now
+    ensures reports { IfOk result (λ r. ReportsAs (IsFixed command.entry options.entry path.now named.entry text.now
         (string_bytes restyled.text) (map edit_told restyled.edits.items))
         r (F.handed files.old) (F.handed files.new)) }
     ensures kept { OnErr result (F.handed files.new ≡ F.handed files.old) }
@@ -184,7 +184,7 @@ fn report_change<A: Allocator + Copy, F: Replace>(
     restyled: Restyled<A>,
 ) -> Result<Report<A>, AllocError>
     requires { StandIn (chars text.now) (map edit_told restyled.edits.items) }
-    ensures reports { IfOk result (λ r. IsReported (IsChanged restyling command.entry options.entry path.now named.entry
+    ensures reports { IfOk result (λ r. ReportsAs (IsChanged restyling command.entry options.entry path.now named.entry
         text.now (string_bytes restyled.text) (map edit_told restyled.edits.items))
         r (F.handed files.old) (F.handed files.new)) }
     ensures kept { OnErr result (F.handed files.new ≡ F.handed files.old) }
@@ -225,7 +225,7 @@ pub(crate) fn report_restyled<A: Allocator + Copy, F: Replace>(
     path: &str,
     text: &str,
 ) -> Result<Report<A>, AllocError>
-    ensures reports { IfOk result (λ r. IsReported (IsRestyledReport restyling command.entry path.now text.now)
+    ensures reports { IfOk result (λ r. ReportsAs (IsRestyledReport restyling command.entry path.now text.now)
         r (F.handed files.old) (F.handed files.new)) }
     ensures kept { OnErr result (F.handed files.new ≡ F.handed files.old) }
 {

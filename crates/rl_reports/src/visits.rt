@@ -3,7 +3,7 @@
 ghost use Rattle.std.specs.Prelude.{◌≡◌, OnErr, IfOk, IfSome};
 ghost use Rattle.std.specs.Str.{IsUtf8};
 ghost use Rattle.rl_files.specs.Walks.{visited};
-ghost use Rattle.rl_reports.specs.Visits.{IsBytesReport, IsReadReport, IsReport, IsWantedReport, IsReported};
+ghost use Rattle.rl_reports.specs.Visits.{IsBytesReport, IsReadReport, IsReport, IsWantedReport, ReportsAs};
 
 use crate::clash::lists_files;
 use crate::command::Command;
@@ -20,7 +20,7 @@ fn report_wanted<A: Allocator + Copy, F: Replace>(
     path: &str,
     text: &str,
 ) -> Result<Report<A>, AllocError>
-    ensures reports { IfOk result (λ r. IsReported (IsWantedReport command.entry.restyle command.entry path.now text.now)
+    ensures reports { IfOk result (λ r. ReportsAs (IsWantedReport command.entry.restyle command.entry path.now text.now)
         r (F.handed files.old) (F.handed files.new)) }
     ensures kept { OnErr result (F.handed files.new ≡ F.handed files.old) }
 {
@@ -38,7 +38,7 @@ fn report_bytes<A: Allocator + Copy, F: Replace>(
     path: &str,
     bytes: &[u8],
 ) -> Result<Report<A>, AllocError>
-    ensures reports { IfOk result (λ r. IsReported (IsBytesReport command.entry path.now bytes.now)
+    ensures reports { IfOk result (λ r. ReportsAs (IsBytesReport command.entry path.now bytes.now)
         r (F.handed files.old) (F.handed files.new)) }
     ensures kept { OnErr result (F.handed files.new ≡ F.handed files.old) }
 {
@@ -57,7 +57,7 @@ fn report_file<A: Allocator + Copy, T: Tree, F: Replace>(
     path: &str,
 ) -> Result<Report<A>, AllocError>
     ensures reports { IfOk result (λ r. IfSome (T.holds tree.now)
-        (λ w. IsReported (IsReadReport command.entry w path.now) r (F.handed files.old) (F.handed files.new))) }
+        (λ w. ReportsAs (IsReadReport command.entry w path.now) r (F.handed files.old) (F.handed files.new))) }
     ensures kept { OnErr result (F.handed files.new ≡ F.handed files.old) }
 {
     let bytes = match tree.bytes(alloc, path) {
@@ -84,7 +84,7 @@ pub fn report_of<A: Allocator + Copy, T: Tree, F: Replace>(
     visit: &Visit<A>,
 ) -> Result<Report<A>, AllocError>
     ensures reports { IfOk result (λ r. IfSome (T.holds tree.now)
-        (λ w. IsReported (IsReport command.entry w (visited visit.now)) r (F.handed files.old) (F.handed files.new))) }
+        (λ w. ReportsAs (IsReport command.entry w (visited visit.now)) r (F.handed files.old) (F.handed files.new))) }
     ensures kept { OnErr result (F.handed files.new ≡ F.handed files.old) }
 {
     match visit {
