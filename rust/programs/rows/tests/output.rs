@@ -232,10 +232,16 @@ fn sarif() {
              \"endLine\":{end_line},\"endColumn\":{end_column}}}}}}}]}}"
         )
     };
+    let rule = |id: &str, text: &str| {
+        format!("{{\"id\":\"{id}\",\"shortDescription\":{{\"text\":\"{text}\"}}}}")
+    };
     let expected = format!(
         "{{\"version\":\"2.1.0\",\"$schema\":\"https://json.schemastore.org/sarif-2.1.0.json\",\"runs\":[{{\"tool\":{{\"driver\":\
-         {{\"name\":\"rl_scan\",\"rules\":[{{\"id\":\"hidden\"}},{{\"id\":\"unknown-escape\"}},{{\"id\":\"unknown-suffix\"}}]}}}},\
+         {{\"name\":\"rl_scan\",\"rules\":[{},{},{}]}}}},\
          \"columnKind\":\"unicodeCodePoints\",\"results\":[{},{},{}]}}]}}\n",
+        rule("hidden", "a character that turns or hides text"),
+        rule("unknown-escape", "unknown escape"),
+        rule("unknown-suffix", "unknown suffix"),
         result(
             "unknown-escape",
             "unknown escape: \\\\q",

@@ -50,8 +50,8 @@ Literals written anew, in place of that: one of --fix, --check, --diff
                        and prints how many; prints standard input anew
       --check          prints what would change
       --diff           the same, as a unified diff
-      --style FILE     the rules in FILE; else no needless escapes of quotes, the
-                       fewest hashes of raw strings, 1.0 for 1., 1e5 for 1E5
+      --style FILE     the rules in FILE; else no needless escapes of quotes, no
+                       needless hashes, 1.0 for 1., and 1e5 for 1E5
       --macros WHICH   skip or all: literals in macro calls; else skip
 
 Which files are read:
