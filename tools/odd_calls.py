@@ -39,10 +39,11 @@ def with_streams(source, call):
 # ---- calls of rl_scan
 
 # Which literals are printed, in which form, whether lines are counted, and more; a word without hyphens takes something.
-WHICH = [[], [], [], ['--bad'], ['--bad'], ['--hidden'], ['--hidden'], ['only'], ['find'], ['find', '-i'], ['find', 'only', '-w']]
+WHICH = [[], [], [], ['--bad'], ['--bad'], ['--hidden'], ['--hidden'], ['only'], ['find'], ['find', '-i'], ['find', 'only', '-w'],
+         ['--check'], ['--diff'], ['--check', '--macros=all']]
 FORMS = [[], [], [], ['--lines'], ['--bytes'], ['--text'], ['--json'], ['--json', '--lines'], ['--text', '--bytes']]
 COUNTS = [[]] * 20 + [['-c'], ['--count'], ['-l'], ['--files-with-matches'], ['-q'], ['--quiet'], ['-iw'], ['-lq']]
-MORE = [[]] * 5 + [['--no-stray'], ['color'], ['color'], ['color', '--no-stray'], ['--all'], ['extension']]
+MORE = [[]] * 5 + [['--no-stray'], ['color'], ['color'], ['color', '--no-stray'], ['--all'], ['extension'], ['--stats']]
 TAKEN = {
     'only': ['Str', 'ByteStr', 'CStr', 'Byte', 'Char', 'Int', 'Float', 'Bool', 'Verbatim', 'str', 'INT', 'str,int', 'cstr,Byte,CHAR'],
     'find': ['a', 'room', 'o', 'b', '\n', '\u00e9', '\\', '"', ' ', '=', '-', '1', '\u202e', '\U0001f600', '114', 'a=b'],
