@@ -96,6 +96,17 @@ def twice(folder):
 
 
 @case
+def a_closed_output(folder):
+    write(folder / "a.rs"), write(folder / "b.rs")
+    reader, writer = os.pipe()
+    os.close(reader)
+    done = subprocess.run([PROGRAM, "--fix", folder], stdout=writer, stderr=subprocess.PIPE, timeout=60, check=False)
+    os.close(writer)
+    expect_run((done.returncode, done.stderr.decode()), 2, "write failed")
+    expect((folder / "b.rs").read_bytes() == OLD, "the second file is written")
+
+
+@case
 def permissions_stay(folder):
     for mode in (0o640, 0o600, 0o755, 0o666, 0o200 | 0o444):
         path = write(folder / "a.rs", mode=mode)

@@ -16,6 +16,8 @@ use Rattle.rl_reports.specs.declared.command.Wish.{Wish}
 use Rattle.rl_reports.specs.declared.command.Wish.TheVariants.{Scan, Help, Version, Files}
 use Rattle.rl_reports.specs.declared.command.Command.{Command}
 use Rattle.rl_reports.specs.declared.command.Console.{Console}
+use Rattle.rl_reports.specs.declared.command.Restyling.{Restyling}
+use Rattle.rl_reports.specs.declared.command.Restyling.TheVariants.{Fix}
 use Rattle.rl_reports.specs.declared.runs.Tally.{Tally}
 use Rattle.rl_reports.specs.declared.words.WordError.{WordError}
 use Rattle.rl_reports.specs.declared.ending.CallError.{CallError}
@@ -86,6 +88,18 @@ IsUnwritten Closed = ⊤
 IsUnwritten (Failed Write) = ⊤
 IsUnwritten _ = ⊥
 
+-- what is asked for is that files are written anew
+abbrev pub asks_to_fix : Option Restyling → Bool
+asks_to_fix (Some Fix) = true
+asks_to_fix _ = false
+
+-- A run ends so where a write failed. Where files are written anew, a closed output is an error too: the files after it
+-- stay as they are.
+abbrev pub IsCutShort : {B : Type 0} → Option Restyling → Ending (CallError B) → Type 0
+IsCutShort restyle Closed = asks_to_fix restyle ≡ false
+IsCutShort restyle (Failed Write) = ⊤
+IsCutShort restyle _ = ⊥
+
 -- the call ends with the error that memory ran out
 abbrev pub EndsWithoutMemory : {B : Type 0} → Ending (CallError B) → Type 0
 EndsWithoutMemory (Failed error) = call_error_line error ≡ codes "rl_scan: out of memory"
@@ -110,6 +124,8 @@ EndsRun command holds has_paths spots streams (Failed NoArguments) = ⊥
 EndsRun command holds has_paths spots streams (Failed (Word error)) = ⊥
 EndsRun command holds has_paths spots streams (Failed (NoList file why)) = ⊥
 EndsRun command holds has_paths spots streams (Failed (NoStyle file error)) = ⊥
+EndsRun command holds has_paths spots streams Closed =
+    (asks_to_fix command.restyle ≡ false) × IfSome holds (λ w. WritesFront command w spots streams)
 EndsRun command holds has_paths spots streams _ = IfSome holds (λ w. WritesFront command w spots streams)
 
 -- the same of what paths name

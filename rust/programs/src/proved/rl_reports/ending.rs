@@ -3,7 +3,7 @@
 
 use crate::rattle_std::prelude::{String, Vec};
 use crate::rl_reports::clash::lists_files;
-use crate::rl_reports::command::{Command, Console, Wish};
+use crate::rl_reports::command::{Command, Console, Restyling, Wish};
 use crate::rl_reports::listed::push_all_listed;
 use crate::rl_reports::report::visible_text;
 use crate::rl_reports::rules::{RulesError, rules_in};
@@ -32,8 +32,9 @@ What is printed: every literal; or one of --bad, --hidden, --only; or --find
                        open, and why
       --any-suffix     of --bad: literals may have any suffix and value, as
                        macros may take 1u9; else those of Rust's types alone
-      --edition YEAR   of --bad: 2015, 2018, 2021 or 2024, by which words and
-                       hashes right before a quote are reserved; else 2021
+      --edition YEAR   of --bad, and of literals written anew: 2015, 2018, 2021
+                       or 2024, by which words and hashes right before a quote
+                       are reserved; else 2021
       --hidden         characters that turn or hide text, such as U+202E,
                        wherever they stand
       --only KIND,..   literals of these kinds: Str ByteStr CStr Byte Char Int
@@ -52,7 +53,8 @@ Literals written anew, in place of that: one of --fix, --check, --diff
       --diff           the same, as a unified diff
       --style FILE     the rules in FILE; else no needless escapes of quotes, no
                        needless hashes, 1.0 for 1., and 1e5 for 1E5
-      --macros WHICH   skip or all: literals in macro calls; else skip
+      --macros WHICH   skip or all: literals in macro calls, macro_rules! and
+                       attributes; else skip
 
 Which files are read:
       --all            hidden directories and `target` too
@@ -80,7 +82,7 @@ How it is printed:
                        the same, with NUM lines after
       --color WHEN     auto, always or never; auto is on a terminal, unless
                        NO_COLOR is set or TERM is dumb
-  -c, --count          how many lines each file has
+  -c, --count          how many lines each file has, where it has some
   -l, --files-with-matches
                        the path of each file that has lines
   -Z, --null           of -c, -l and --files: NUL after the path
@@ -104,8 +106,9 @@ Status:
   0  all was read
   1  --bad or --hidden found something, or --find nothing; with --check or
      --diff something would change
-  2  wrong arguments, no file to read, or one that can't be read to its end: it
-     has a line on standard error, and the others are still read
+  2  wrong arguments, no file to read, or one that can't be read to its end, or
+     isn't written anew since Rust rejects it: it has a line on standard error,
+     and the others are still read
 
 Examples:
   rl_scan --bad src
@@ -162,6 +165,15 @@ fn unwritten<A: Allocator>(error: WriteError) -> Ending<CallError<A>> {
     match error {
         WriteError::Closed => Ending::Closed,
         WriteError::Failed => Ending::Failed(CallError::Write),
+    }
+}
+
+/// How a failed write ends a run. Where files are written anew, a closed output is an error too: the files after it stay
+/// as they are.
+fn cut_short<A: Allocator>(restyle: Option<Restyling>, error: WriteError) -> Ending<CallError<A>> {
+    match (error, restyle) {
+        (WriteError::Failed, _) | (WriteError::Closed, Some(Restyling::Fix)) => Ending::Failed(CallError::Write),
+        (WriteError::Closed, _) => Ending::Closed,
     }
 }
 
@@ -222,7 +234,7 @@ fn scan_walk<A: Allocator + Copy, T: Tree, W: Write, E: Write, F: Replace>(
             _ => Ending::Reported,
         },
         Err(RunStop::Walk(error)) => Ending::Failed(CallError::Walk(error)),
-        Err(RunStop::Write(error)) => unwritten(error),
+        Err(RunStop::Write(error)) => cut_short(command.restyle, error),
     }
 }
 
