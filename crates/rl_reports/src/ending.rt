@@ -191,7 +191,9 @@ fn cut_short<A: Allocator>(restyle: Option<Restyling>, error: WriteError) -> End
     ensures { IsCutShort restyle result }
 {
     match (error, restyle) {
-        (WriteError::Failed, _) | (WriteError::Closed, Some(Restyling::Fix)) => Ending::Failed(CallError::Write),
+        (WriteError::Failed, _) | (WriteError::Closed, Some(Restyling::Fix)) => Ending::Failed(
+            CallError::Write,
+        ),
         (WriteError::Closed, _) => Ending::Closed,
     }
 }

@@ -172,7 +172,9 @@ fn unwritten<A: Allocator>(error: WriteError) -> Ending<CallError<A>> {
 /// as they are.
 fn cut_short<A: Allocator>(restyle: Option<Restyling>, error: WriteError) -> Ending<CallError<A>> {
     match (error, restyle) {
-        (WriteError::Failed, _) | (WriteError::Closed, Some(Restyling::Fix)) => Ending::Failed(CallError::Write),
+        (WriteError::Failed, _) | (WriteError::Closed, Some(Restyling::Fix)) => Ending::Failed(
+            CallError::Write,
+        ),
         (WriteError::Closed, _) => Ending::Closed,
     }
 }
