@@ -2,7 +2,7 @@
 #
 #     rl_scan --json --bad src | jq -s -f tools/sarif.jq
 #
-# Columns are counted in characters. Standard input has no path: its artifact is `-`. What objects don't hold may be said:
+# Columns are counted in characters. The object of `--stats` is passed over. Standard input has no path: its artifact is `-`. What objects don't hold may be said:
 # `--arg version "$(rl_scan -V)"`, the program's version; `--arg status N`, how it ended, without which no invocation is told:
 #
 #     rl_scan --json --bad src > found; jq -s --arg status $? --arg version "$(rl_scan -V)" -f tools/sarif.jq found
@@ -31,7 +31,8 @@ def rules: group_by(rule) | map({id: (.[0] | rule), shortDescription: {text: (.[
 def driver: {name: "rl_scan"} + ($ARGS.named.version | if . then {version: split(" ")[-1]} else {} end);
 def invocations:
   $ARGS.named.status | if . then {invocations: [tonumber | {executionSuccessful: (. < 2), exitCode: .}]} else {} end;
-{
+map(select(has("files_with_findings") | not))
+| {
   version: "2.1.0",
   "$schema": "https://json.schemastore.org/sarif-2.1.0.json",
   runs: [{
