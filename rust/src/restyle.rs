@@ -68,7 +68,7 @@ pub fn restyle(text: &str, style: Style) -> Restyles<'_> {
 }
 
 impl<'t> Restyles<'t> {
-    /// Whether literals in macro calls, macros' definitions and attributes stay as they are; `false` unless said. By tokens alone: what
+    /// Whether literals in macro calls, `macro_rules!` and attributes stay as they are; `false` unless said. By tokens alone: what
     /// stands inside of the brackets after a name and `!`, after `macro_rules! name`, and after `#` and `#!`.
     ///
     /// ```

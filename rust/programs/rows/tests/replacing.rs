@@ -1,6 +1,10 @@
 //! Files that are replaced as a whole: the system's, and what is kept in memory. `tools/fixing.py` tries more with the system.
 #![cfg(target_os = "linux")]
 
+#[path = "../../tests/directory/mod.rs"]
+mod directory;
+
+use directory::Directory;
 use navyspindle_programs::rattle_std::alloc::Global;
 use navyspindle_programs::rattle_std::rt::HostRuntime;
 use navyspindle_programs::rattle_std::vec::Vec as List;
@@ -9,15 +13,11 @@ use navyspindle_programs::rl_files::{
 };
 use std::fs;
 use std::os::unix::fs::{symlink, PermissionsExt};
-use std::path::PathBuf;
+use std::path::Path;
 
 /// An empty directory of this test's.
-fn directory(name: &str) -> PathBuf {
-    let path = PathBuf::from(env!("CARGO_TARGET_TMPDIR")).join("replacing");
-    let path = path.join(name);
-    let _ = fs::remove_dir_all(&path);
-    fs::create_dir_all(&path).expect("the directory can be made");
-    path
+fn directory(name: &str) -> Directory {
+    Directory::new("replacing", name)
 }
 
 /// The error of replacing the file at the path, in words; nothing where it is replaced.
@@ -29,7 +29,7 @@ fn replaced(path: &str, old: &[u8], new: &[u8]) -> String {
     }
 }
 
-fn names_in(directory: &PathBuf) -> Vec<String> {
+fn names_in(directory: &Path) -> Vec<String> {
     let entries = fs::read_dir(directory).expect("the directory is there");
     let name_of = |entry: fs::DirEntry| entry.file_name().to_string_lossy().into_owned();
     let mut names: Vec<String> = entries.flatten().map(name_of).collect();
@@ -75,7 +75,8 @@ fn what_is_not_replaced_stays() {
 
 #[test]
 fn what_is_read_can_be_replaced() {
-    let path = directory("read").join("a.rs");
+    let here = directory("read");
+    let path = here.join("a.rs");
     fs::write(&path, "a\0\u{ff}").expect("the file can be written");
     let path = path.to_str().expect("a text");
     let rt = HostRuntime::new();

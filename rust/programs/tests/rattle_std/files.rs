@@ -1,5 +1,6 @@
 //! Files, directories and the environment of Linux.
 
+use crate::directory::Directory;
 use crate::fakes::{list_of, text, told};
 use crate::rattle_std::env::{self, VarError};
 use crate::rattle_std::fs::{
@@ -12,16 +13,12 @@ use crate::rattle_std::rt::HostRuntime;
 use std::ffi::OsStr;
 use std::os::unix::ffi::OsStrExt;
 use std::os::unix::fs::{symlink, PermissionsExt};
-use std::path::{Path, PathBuf};
+use std::path::Path;
 use std::{fs, vec};
 
 /// An empty directory of this test's.
-fn directory(name: &str) -> PathBuf {
-    let path = PathBuf::from(env!("CARGO_TARGET_TMPDIR")).join("rattle_std");
-    let path = path.join(name);
-    let _ = fs::remove_dir_all(&path);
-    fs::create_dir_all(&path).expect("the directory can be made");
-    path
+fn directory(name: &str) -> Directory {
+    Directory::new("rattle_std", name)
 }
 
 /// What opening the path as a file, and listing it as a directory, answer.
@@ -267,7 +264,8 @@ fn files_that_are_made() {
 
 #[test]
 fn files_that_are_filled() {
-    let path = path_in(&directory("filled"), "file");
+    let here = directory("filled");
+    let path = path_in(&here, "file");
     let rt = HostRuntime::new();
     let mut options = OpenOptions::new();
     let options = options.write(true).create_new(true);

@@ -3,6 +3,9 @@
 //! Each expected value is what a program in Rattle printed that makes the same calls. Where the stand-in is narrower on purpose,
 //! the test says so.
 
+#[cfg(target_os = "linux")]
+#[path = "../directory/mod.rs"]
+mod directory;
 mod fakes;
 #[cfg(target_os = "linux")]
 mod files;
